@@ -1,0 +1,14 @@
+#![tactic(auto)]
+//! Events, letters, and the trait of models whose processes execute events and can take them back.
+//!
+//! What a run of a model means is defined here once, in `specs/System.antt`: time is sliced, each slice is sorted, and
+//! nothing else is said of how it is computed. The one-thread run, a logical process and the world of all processes all
+//! state their contracts by those definitions.
+
+mod event;
+mod model;
+mod refusal;
+
+pub use event::{END, Event, Letter};
+pub use model::{Model, Outcome, in_order};
+pub use refusal::{NoMemory, Refusal};

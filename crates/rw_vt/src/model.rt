@@ -1,0 +1,138 @@
+ghost use Rattle.std.specs.Prelude.{◌≡◌, ◌≤◌, ◌<◌, ℕ, Bool, true, List, ◌++◌, OnOk, IfOk, IsTrue, ◌↔◌, All};
+ghost use Rattle.std.specs.declared.cmp.Ordering.TheVariants.{Equal};
+ghost use Rattle.std.specs.Cmp.{IsTotalOrder};
+ghost use Rattle.rw_vt.specs.Order.{event_cmp, AtMost};
+ghost use Rattle.rw_vt.specs.Valid.{IsInRange, IsSentBy};
+ghost use Rattle.rw_vt.specs.declared.event.Event.{Event};
+
+use crate::event::Event;
+use crate::refusal::{NoMemory, Refusal};
+use std::alloc::Global;
+
+/// Processes, numbered from 0, that execute events and can take them back by reverse computation (Carothers, Perumalla
+/// and Fujimoto 1999).
+///
+/// Each implementation proves the five laws that optimistic execution rests on: an accepted `execute` is the model's
+/// `step`; every send is valid and strictly later (`future`); `reverse` gives back the very state (its clause `before`);
+/// well-formedness is kept (`keeps`) and bodies that compare as equal are the same (`same`); an undo record is no
+/// larger than its bound (`light`).
+pub trait Model {
+    /// What one process keeps.
+    type State: Drop;
+
+    /// What an event says.
+    type Body: Ord + Copy;
+
+    /// What takes one execution back.
+    type Undo: Drop;
+
+    /// How many processes there are.
+    ghost process_count: { Self → ℕ };
+
+    /// The events that may be handed to the process that they name.
+    ghost is_valid: { Self → Event Self.Body → Bool };
+
+    /// The states that process p may be in.
+    ghost IsWellFormed: { Self → ℕ → Self.State → Type 0 };
+
+    /// The states that can take no further event.
+    ghost is_exhausted: { Self → Self.State → Bool };
+
+    /// The state of process p after an event, and what it sends, in order.
+    ghost step: { Self → ℕ → Self.State → Event Self.Body → Self.State × List (Event Self.Body) };
+
+    /// An undo record links the state of process p before an event, the event, and the state after it.
+    ghost Links: { Self → ℕ → Self.State → Event Self.Body → Self.Undo → Self.State → Type 0 };
+
+    /// How many entries an undo record has.
+    ghost weight: { Self.Undo → ℕ };
+
+    /// How many it may have, by the states before and after.
+    ghost weight_bound: { Self → ℕ → Self.State → Self.State → ℕ };
+
+    /// How many processes there are. Takes no memory.
+    fn processes(&self) -> u32
+        ensures { result ≡ process_count self.now };
+
+    /// Whether an event may be handed to the process that it names. Takes no memory.
+    fn valid(&self, event: &Event<Self::Body>) -> bool
+        ensures { result ≡ is_valid self.now event.now };
+
+    /// Whether a state can take no further event. Takes no memory.
+    fn exhausted(&self, state: &Self::State) -> bool
+        ensures { result ≡ is_exhausted self.now state.now };
+
+    /// Executes an event at the process that it names, and appends what it sends to `out`, in order.
+    ///
+    /// Refused as `Exhausted` exactly where `exhausted` holds of the state, which is tested first; as `Memory` only
+    /// where memory was refused. After a refusal nothing is said of `state` and `out`: drop them.
+    fn execute(
+        &self,
+        alloc: Global,
+        process: u32,
+        state: &mut Self::State,
+        event: &Event<Self::Body>,
+        out: &mut Vec<Event<Self::Body>>,
+    ) -> Result<Self::Undo, Refusal>
+        requires process { process < process_count self.now }
+        requires well_formed { IsWellFormed self.now process state.old }
+        requires valid { is_valid self.now event.now ≡ true }
+        requires here { event.now.to ≡ process }
+        ensures state { OnOk result (state.new ≡ (step self.now process state.old event.now).0) }
+        ensures sends { OnOk result (out.new.items ≡ out.old.items ++ (step self.now process state.old event.now).1) }
+        ensures links { IfOk result (λ undo. Links self.now process state.old event.now undo state.new) }
+        ensures exhausted { (result ≡ Err Refusal.Exhausted) ↔ (is_exhausted self.now state.old ≡ true) };
+
+    /// Takes an execution back: given the state after it, the event and its undo record, gives the very state before.
+    ///
+    /// After a refusal nothing is said of `state`: drop it.
+    fn reverse(
+        &self,
+        alloc: Global,
+        process: u32,
+        state: &mut Self::State,
+        event: &Event<Self::Body>,
+        undo: Self::Undo,
+    ) -> Result<(), NoMemory>
+        requires process { process < process_count self.now }
+        requires linked { (before : Self.State) × IsWellFormed self.now process before × Links self.now process before event.now undo state.old }
+        requires valid { is_valid self.now event.now ≡ true }
+        requires here { event.now.to ≡ process }
+        ensures before { OnOk result ((before : Self.State) → IsWellFormed self.now process before → Links self.now process before event.now undo state.old → state.new ≡ before) };
+
+    /// A valid event's fields are in their ranges, its time is before the end, and it goes to a process.
+    ghost ranges: { (m : Self) (e : Event Self.Body) → is_valid m e ≡ true → IsInRange (process_count m) e };
+
+    /// A step keeps a state well formed.
+    ghost keeps: { (m : Self) (p : ℕ) (s : Self.State) (e : Event Self.Body) → IsWellFormed m p s → is_valid m e ≡ true → e.to ≡ p → IsWellFormed m p (step m p s e).0 };
+
+    /// Each send is valid, comes from the process, and is strictly later.
+    ghost future: { (m : Self) (p : ℕ) (s : Self.State) (e : Event Self.Body) → IsWellFormed m p s → is_valid m e ≡ true → e.to ≡ p → All (λ f. IsSentBy p e f × (is_valid m f ≡ true)) (step m p s e).1 };
+
+    /// Bodies that compare as equal are the same.
+    ghost same: { (a b : Self.Body) → Self.Body.cmp a b ≡ Equal → a ≡ b };
+
+    /// An undo record that links has no more entries than its bound.
+    ghost light: { (m : Self) (p : ℕ) (before after : Self.State) (e : Event Self.Body) (undo : Self.Undo) → Links m p before e undo after → weight undo ≤ weight_bound m p before after };
+}
+
+/// What a whole run leaves: for each process the events that it executed, in order, and its state.
+#[derive(Drop)]
+pub struct Outcome<M: Model> {
+    /// The executed events of each process.
+    pub journals: Vec<Vec<Event<M::Body>>>,
+    /// The last state of each process.
+    pub states: Vec<M::State>,
+}
+
+/// Whether two events of a model stand in order: `a` is not greater than `b`. Takes no memory.
+///
+/// Its contract states what is known of that order for every model: it is total, and events that compare as equal are
+/// the same event.
+pub fn in_order<M: Model>(_model: &M, a: &Event<M::Body>, b: &Event<M::Body>) -> bool
+    ensures answer { IsTrue result ↔ AtMost (event_cmp M.Body.cmp) a.now b.now }
+    ensures total { IsTotalOrder (event_cmp M.Body.cmp) }
+    ensures exact { (e f : Event M.Body) → event_cmp M.Body.cmp e f ≡ Equal → e ≡ f }
+{
+    a.cmp(b).is_le()
+}
