@@ -48,6 +48,6 @@ impl From<NoMemory> for Refusal {
     ghost from_gives = { λ _ refusal. refusal ≡ Memory };
 
     fn from(_error: NoMemory) -> Refusal {
-        Refusal::Memory
+        Self::Memory
     }
 }

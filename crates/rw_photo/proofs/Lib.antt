@@ -1,0 +1,2 @@
+pub mod Reversing
+pub mod ValidRows

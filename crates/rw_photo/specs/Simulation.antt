@@ -1,0 +1,21 @@
+-- The caches of a configuration, at work on a trace.
+use Rattle.std.specs.Prelude.{◌+◌, List, replicate}
+use Rattle.rw_vt.specs.Order.{event_cmp}
+use Rattle.rw_vt.specs.System.{System, map_from}
+use Rattle.rw_trace.specs.declared.Row.{Row}
+use Rattle.rw_photo.specs.declared.body.Body.{Body}
+use Rattle.rw_photo.specs.declared.config.Config.{Config}
+use Rattle.rw_photo.specs.contracts.body.BodyOrd.TheImpl as order
+use Rattle.rw_photo.specs.Cache.{Cache, start}
+use Rattle.rw_photo.specs.Events.{is_valid, request_of, step}
+
+-- each cache starts with nothing, the rows of the trace are the requests from outside, and each event does its step
+abbrev pub simulation : Config → List Row → System Cache Body
+simulation c rows =
+    record {
+      order = event_cmp order.ghosts.cmp;
+      step = step c;
+      valid = is_valid c;
+      starts = replicate (c.edges + c.origins) start;
+      initial = map_from 0 request_of rows;
+    }

@@ -1,0 +1,10 @@
+/// What happens at a cache. Sizes are in bytes, 1 to 4294967295.
+#[derive(Clone, Copy, Debug, PartialEq, Eq, PartialOrd, Ord)]
+pub enum Body {
+    /// A user asks an edge for an object.
+    Request { object: u64, size: u64 },
+    /// An edge asks an origin for an object that it lacks.
+    Miss { object: u64, size: u64, edge: u32 },
+    /// An origin sends an edge the object that it asked for.
+    Fill { object: u64, size: u64 },
+}

@@ -1,0 +1,75 @@
+ghost use Rattle.std.specs.Prelude.{◌≡◌, ◌+◌, ◌≤◌, ◌<◌, ◌%◌, IsSome, IsTrue, IfSome, ◌↔◌};
+ghost use Rattle.rw_photo.specs.Ranges.{IsConfig, IsDelay};
+
+/// How many edges and origins there are, and how long what they send is on its way.
+#[derive(Clone, Copy, Debug)]
+pub struct Config {
+    /// Edge caches, 1 to 256: processes 0 to `edges - 1`.
+    pub edges: u32,
+    /// Origin caches, 1 to 64: the processes behind the edges. Object `o` is asked of origin `o mod origins`.
+    pub origins: u32,
+    /// From an edge to an origin, in ticks, 1 to 1048576.
+    pub up: u64,
+    /// From an origin to an edge, in ticks, 1 to 1048576.
+    pub down: u64,
+    /// From an origin to the backend and back, in ticks, 1 to 1048576.
+    pub back: u64,
+    ghost in_range: { IsConfig edges origins up down back },
+}
+
+impl Config {
+    /// The most edges.
+    pub const MAX_EDGES: u32 = 256;
+
+    /// The most origins.
+    pub const MAX_ORIGINS: u32 = 64;
+
+    /// The longest delay, in ticks.
+    pub const MAX_DELAY: u64 = 1_048_576;
+
+    /// A configuration; None exactly where a number is out of its range. Takes no memory.
+    pub fn new(edges: u32, origins: u32, up: u64, down: u64, back: u64) -> Option<Config>
+        ensures found { IsSome result ↔ IsConfig edges origins up down back }
+        ensures edges { IfSome result (λ c. c.edges ≡ edges) }
+        ensures origins { IfSome result (λ c. c.origins ≡ origins) }
+        ensures up { IfSome result (λ c. c.up ≡ up) }
+        ensures down { IfSome result (λ c. c.down ≡ down) }
+        ensures back { IfSome result (λ c. c.back ≡ back) }
+    {
+        let counts = (1..=Self::MAX_EDGES).contains(&edges)
+            && (1..=Self::MAX_ORIGINS).contains(&origins);
+        let delays = is_delay(up) && is_delay(down) && is_delay(back);
+        if counts && delays {
+            Some(Config {
+                edges,
+                origins,
+                up,
+                down,
+                back,
+            })
+        } else {
+            None
+        }
+    }
+
+    /// How many edges there are. Takes no memory.
+    pub fn edges(&self) -> u32
+        ensures { result ≡ self.now.edges }
+    {
+        self.edges
+    }
+
+    /// How many origins there are. Takes no memory.
+    pub fn origins(&self) -> u32
+        ensures { result ≡ self.now.origins }
+    {
+        self.origins
+    }
+}
+
+/// Whether a delay is in its range.
+fn is_delay(ticks: u64) -> bool
+    ensures { IsTrue result ↔ IsDelay ticks }
+{
+    (1..=Config::MAX_DELAY).contains(&ticks)
+}

@@ -1,0 +1,36 @@
+ghost use Rattle.std.specs.Prelude.{◌≡◌, ℕ, true, All, IfOk};
+ghost use Rattle.rw_vt.specs.System.{map_from};
+ghost use Rattle.rw_trace.specs.Laws.{IsRow};
+ghost use Rattle.rw_photo.specs.Events.{is_valid, request_of};
+
+use crate::body::Body;
+use crate::config::Config;
+use rw_trace::Row;
+use rw_vt::{Event, NoMemory};
+use std::alloc::Global;
+
+/// The requests of a trace, in its order: row n is event number n from outside.
+///
+/// Rows in the ranges of a trace of the configuration's edges give valid events.
+pub fn requests(alloc: Global, rows: &[Row]) -> Result<Vec<Event<Body>>, NoMemory>
+    ensures events { IfOk result (λ es. es.items ≡ map_from 0 request_of rows.now) }
+    ensures valid { IfOk result (λ es. (c : Config) → All (IsRow c.edges) rows.now → All (λ e. is_valid c e ≡ true) es.items) }
+{
+    let mut events = Vec::with_capacity(alloc, rows.len())?;
+    for (number, row) in rows.iter().enumerate() {
+        let Row {
+            time,
+            edge,
+            object,
+            size,
+        } = *row;
+        events.push(Event {
+            time,
+            source: 0,
+            number: number as u64,
+            to: edge,
+            body: Body::Request { object, size },
+        })?;
+    }
+    Ok(events)
+}

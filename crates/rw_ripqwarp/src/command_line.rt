@@ -1,0 +1,115 @@
+use crate::options::{Options, program};
+use crate::output::Out;
+use crate::simulation::{Mode, SimFault, simulate};
+use crate::source::{Source, SourceFault};
+use clap::error::ErrorKind;
+use std::alloc::{AllocError, Global};
+use std::io::Write;
+
+/// Why the program did not do what its words ask, each shown as one line.
+#[derive(Debug, Drop, thiserror::Error)]
+pub(crate) enum Fault {
+    /// The command line is not one of the program's, or asks for help.
+    #[error("{0}")]
+    CommandLine(clap::Error),
+    /// The options are out of their ranges.
+    #[error("plan")]
+    Plan,
+    /// The trace cannot be read.
+    #[error("{0}")]
+    Source(SourceFault),
+    /// The run has no report.
+    #[error("{0}")]
+    Run(SimFault),
+}
+
+impl Fault {
+    /// The exit status that tells it.
+    pub(crate) fn status(&self) -> u8 {
+        match self {
+            Fault::CommandLine(error) if error.kind() == ErrorKind::OutOfMemory => 5,
+            Fault::CommandLine(_) | Fault::Plan => 2,
+            Fault::Source(SourceFault::Read) => 4,
+            Fault::Source(SourceFault::Memory) | Fault::Run(SimFault::Memory) => 5,
+            Fault::Run(SimFault::Trace(_)) => 3,
+            Fault::Run(SimFault::Exhausted) => 7,
+            Fault::Run(SimFault::Output) => 8,
+        }
+    }
+}
+
+/// Does what the program's words ask, its name first, and answers the exit status.
+///
+/// The report, or help, goes to `out`. A fault goes to `err` as one line; where that fails it is ignored.
+///
+/// | Status | Meaning |
+/// |---|---|
+/// | 0 | done, also after help |
+/// | 2 | the command line |
+/// | 3 | the trace was refused |
+/// | 4 | the trace cannot be read |
+/// | 5 | memory |
+/// | 7 | a cache is exhausted |
+/// | 8 | output failed |
+pub fn command<S: Source, W: Write, E: Write>(
+    alloc: Global,
+    words: Vec<String>,
+    source: &mut S,
+    out: &mut Out<W>,
+    err: &mut E,
+) -> u8 {
+    match attempt(alloc, words.as_slice(), source, out) {
+        Ok(()) => 0,
+        Err(fault) => {
+            tell(alloc, &fault, err);
+            fault.status()
+        }
+    }
+}
+
+/// Does what the words ask.
+fn attempt<'a, S: Source, W: Write>(
+    alloc: Global,
+    words: &'a [String],
+    source: &mut S,
+    out: &mut Out<W>,
+) -> Result<(), Fault> {
+    let program = program(alloc)?;
+    let matches = match program.try_get_matches_from(words) {
+        Ok(matches) => matches,
+        Err(error) if error.use_stderr() => return Err(Fault::CommandLine(error)),
+        Err(help) => return print(alloc, &help, out),
+    };
+    let options = matches
+        .subcommand_matches("serial")
+        .and_then(Options::of)
+        .ok_or(Fault::Plan)?;
+    let bytes = source.bytes(alloc, options.trace).map_err(Fault::Source)?;
+    simulate(alloc, bytes.as_slice(), &options.config, Mode::Serial, out).map_err(Fault::Run)
+}
+
+/// Prints help.
+fn print<W: Write>(alloc: Global, help: &clap::Error, out: &mut Out<W>) -> Result<(), Fault> {
+    let text = format!(in alloc; "{help}")?;
+    if out.write_text(text.as_bytes()) {
+        Ok(())
+    } else {
+        Err(Fault::Run(SimFault::Output))
+    }
+}
+
+/// Writes a fault as one line; a writer that fails is let be.
+pub(crate) fn tell<E: Write>(alloc: Global, fault: &Fault, err: &mut E) {
+    let _ = match format!(in alloc; "{fault}") {
+        Ok(text) => err.write_all(text.trim_end().as_bytes()),
+        Err(_) => err.write_all(b"memory"),
+    };
+    let _ = err.write_all(b"\n");
+    let _ = err.flush();
+}
+
+impl From<AllocError> for Fault {
+    fn from(_error: AllocError) -> Fault {
+        Fault::Source(SourceFault::Memory)
+    }
+}

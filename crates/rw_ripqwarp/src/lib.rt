@@ -1,0 +1,17 @@
+#![tactic(auto)]
+//! The program as a library: from the bytes of a trace to the bytes of a report, and the command line around it.
+
+mod command_line;
+mod options;
+mod output;
+mod simulation;
+mod source;
+#[cfg(test)]
+mod tests;
+mod text;
+
+pub use command_line::command;
+pub use output::Out;
+pub use simulation::{Mode, SimFault, simulate};
+pub use source::{Source, SourceFault};
+pub use text::report;

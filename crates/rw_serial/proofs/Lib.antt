@@ -1,0 +1,5 @@
+pub mod Complete
+pub mod Lists
+pub mod Midrun
+pub mod Queue
+pub mod Sanity

@@ -1,0 +1,163 @@
+-- What is read is what the format says.
+use Rattle.std.proofs.Common.{◌≡◌, ◌≤◌, ◌+◌, ◌-◌, ◌*◌, ◌^◌, ℕ, List, [], ◌∷◌, ◌++◌, length, Bool, true, false, Option, Some, None, nat_lt, nat_le, Ok, Err, Result, refl, arith, sym, ◌∙◌, ap}
+use Rattle.std.specs.Prelude.{◌==◌, ◌||◌, ◌<◌, All, IsSomeAnd, IfErr}
+use Rattle.std.proofs.lemmas.List.Elements.{All-cons, All-nil}
+use Rattle.std.specs.Char.{is_ascii_digit}
+use Rattle.std.specs.List.{list_all}
+use Rattle.std.proofs.lemmas.List.Sums.{AllPass-from_list_all, list_all-from_AllPass}
+use Rattle.std.proofs.lemmas.Grind.{common_steps}
+use Rattle.std.proofs.Math.Nat.{pow-succ'}
+use Rattle.csv.specs.Records.{field_at}
+use Rattle.rw_trace.proofs.Numbers.{is-number}
+use Rattle.rw_trace.specs.Laws.{IsNumber, IsRow, IsTrace, Lacks, WriteRows, Writes, WritesRow, decimal}
+use Rattle.rw_trace.specs.Trace.{column_of, is_header, number_in, number_of, row_of, rows_of, trace_of, value_after}
+use Rattle.rw_trace.specs.declared.Row.{Row}
+use Rattle.rw_trace.specs.declared.TraceFault.{TraceFault}
+use Rattle.rw_trace.specs.declared.TraceFault.TheVariants as fault
+
+-- digits after a value shift it
+pub shifted : (n v : ℕ) (f : List ℕ) → value_after n f ≡ Some v → (v ≡ n * 10 ^ length f + decimal f) × (list_all is_ascii_digit f ≡ true)
+unfolding value_after decimal
+shifted n v [] h = (grind (arith, common_steps), refl)
+shifted n v (b ∷ bs) h = by (is_ascii_digit b) refl (shifted (n * 10 + (b - 48)) v bs)
+  where
+    by : (d : Bool) → is_ascii_digit b ≡ d
+        → (value_after (n * 10 + (b - 48)) bs ≡ Some v → (v ≡ (n * 10 + (b - 48)) * 10 ^ length bs + decimal bs) × (list_all is_ascii_digit bs ≡ true))
+        → (v ≡ n * 10 ^ length (b ∷ bs) + decimal (b ∷ bs)) × (list_all is_ascii_digit (b ∷ bs) ≡ true)
+    by true e more =
+        let (value, digits) = more (rw e at h) in
+        (rw (value, pow-succ' 10 (length bs)) (omega arith), rw e digits)
+    by false e more = let no = rw e at h in cc
+
+-- what a field writes
+pub number-law : (f : List ℕ) (n : ℕ) → number_of f ≡ Some n → IsNumber f n
+unfolding number_of
+number-law f n h = by ((length f == 0) || nat_lt 20 (length f)) (value_after 0 f) refl refl
+  where
+    by : (b : Bool) (o : Option ℕ) → ((length f == 0) || nat_lt 20 (length f)) ≡ b → value_after 0 f ≡ o → IsNumber f n
+    by true o e g = let no = rw e at h in cc
+    by false None e g = let no = rw (e, g) at h in cc
+    by false (Some v) e g = fit (nat_lt v (2 ^ 64)) refl
+      where
+        fit : (c : Bool) → nat_lt v (2 ^ 64) ≡ c → IsNumber f n
+        fit true i =
+            let k : Some v ≡ Some n = rw (e, g, i) at h in
+            let same : v ≡ n = cc in
+            let (value, digits) = shifted 0 v f g in
+            record { some = grind (arith, common_steps); few = grind (arith, common_steps); digits = AllPass-from_list_all is_ascii_digit f digits; value = sym same ∙ value ∙ grind (arith, common_steps); fits = grind (arith, common_steps) }
+        fit false i = let no = rw (e, g, i) at h in cc
+
+-- no record, and no row
+pub none-written : (edges : ℕ) → WriteRows edges [] []
+unfolding WriteRows
+none-written edges = tt
+
+-- one more record, and its row
+pub write-more : (edges : ℕ) (rs : List (List (List ℕ))) (ws : List Row) (r : List (List ℕ)) (w : Row) → WriteRows edges rs ws → WritesRow edges r w
+    → WriteRows edges (rs ++ r ∷ []) (ws ++ w ∷ [])
+unfolding WriteRows
+write-more edges [] [] r w h k = (k, tt)
+write-more edges [] (x ∷ ws) r w h k = absurd h
+write-more edges (q ∷ rs) [] r w h k = absurd h
+write-more edges (q ∷ rs) (x ∷ ws) r w h k = (h.0, write-more edges rs ws r w h.1 k)
+
+-- digits that all are digits have a value
+pub valued : (n : ℕ) (f : List ℕ) → list_all is_ascii_digit f ≡ true → value_after n f ≡ Some (n * 10 ^ length f + decimal f)
+unfolding value_after decimal
+valued n [] h = grind (arith, common_steps)
+valued n (b ∷ bs) h = by (is_ascii_digit b) refl (valued (n * 10 + (b - 48)) bs)
+  where
+    by : (d : Bool) → is_ascii_digit b ≡ d
+        → (list_all is_ascii_digit bs ≡ true → value_after (n * 10 + (b - 48)) bs ≡ Some ((n * 10 + (b - 48)) * 10 ^ length bs + decimal bs))
+        → value_after n (b ∷ bs) ≡ Some (n * 10 ^ length (b ∷ bs) + decimal (b ∷ bs))
+    by true e more =
+        let same : (n * 10 + (b - 48)) * 10 ^ length bs + decimal bs ≡ n * 10 ^ length (b ∷ bs) + decimal (b ∷ bs) = rw (pow-succ' 10 (length bs)) (omega arith) in
+        rw e (more (rw e at h) ∙ ap (λ (m : ℕ). Some m) same)
+    by false e more = let no = rw e at h in cc
+
+-- a field that writes a number is read as it
+pub number-complete : (f : List ℕ) (n : ℕ) → IsNumber f n → number_of f ≡ Some n
+number-complete f n h =
+    let value : value_after 0 f ≡ Some n = valued 0 f (list_all-from_AllPass is_ascii_digit f h.digits) ∙ ap (λ (m : ℕ). Some m) (grind (arith, common_steps, h.value)) in
+    is-number f n (grind (arith, common_steps, h.some)) h.few h.fits value
+
+-- a column that writes a number is read as it
+pub column-complete : (row column n : ℕ) (fields : List (List ℕ)) → Writes fields column n → column_of row column fields ≡ Ok n
+unfolding column_of
+column-complete row column n fields h = by (field_at fields column) refl h
+  where
+    by : (o : Option (List ℕ)) → field_at fields column ≡ o → IsSomeAnd o (λ f. IsNumber f n) → column_of row column fields ≡ Ok n
+    by None e k = absurd k
+    by (Some f) e k = rw (e, number-complete f n k) refl
+
+-- a record that writes a row is read as it
+pub row-complete : (edges n : ℕ) (fields : List (List ℕ)) (row : Row) → WritesRow edges fields row → row_of edges n fields ≡ Ok row
+unfolding row_of
+row-complete edges n fields row h =
+    let four : (length fields == 4) ≡ true = grind (arith, common_steps, h.four) in
+    let t = column-complete n 0 row.time fields h.time in
+    let e = column-complete n 1 row.edge fields h.edge in
+    let o = column-complete n 2 row.object fields h.object in
+    let s = column-complete n 3 row.size fields h.size in
+    let early : nat_le row.time (2 ^ 39) ≡ true = grind (arith, common_steps, h.time_within) in
+    let known : nat_lt row.edge edges ≡ true = grind (arith, common_steps, h.edge_within) in
+    let some : nat_lt 0 row.size ≡ true = grind (arith, common_steps, h.size_above) in
+    let small : nat_lt row.size (2 ^ 32) ≡ true = grind (arith, common_steps, h.size_within) in
+    rw (four, t, early, e, known, o, s, some, small) refl
+
+-- records that write rows are read as them
+pub rows-complete : (edges most n : ℕ) (rs : List (List (List ℕ))) (ws : List Row) → WriteRows edges rs ws → n + length ws ≤ most → rows_of edges most n rs ≡ Ok ws
+unfolding WriteRows rows_of
+rows-complete edges most n [] [] h k = refl
+rows-complete edges most n [] (w ∷ ws) h k = absurd h
+rows-complete edges most n (r ∷ rs) [] h k = absurd h
+rows-complete edges most n (r ∷ rs) (w ∷ ws) h k =
+    let other : (n == most) ≡ false = grind (arith, common_steps) in
+    rw (other, row-complete edges n r w h.0, rows-complete edges most (n + 1) rs ws h.1 (omega arith)) refl
+
+-- a trace is read as its rows
+pub trace-complete : (edges most : ℕ) (recs : List (List (List ℕ))) (rows : List Row) → IsTrace edges most recs rows → trace_of edges most recs ≡ Ok rows
+unfolding trace_of
+trace-complete edges most recs rows h = rw (h.parts, h.headed) (rows-complete edges most 0 h.body rows h.written (omega (arith, h.few)))
+
+-- what is refused is no trace
+pub no_trace : (edges most : ℕ) (recs : List (List (List ℕ))) (e : TraceFault) → trace_of edges most recs ≡ Err e → (rows : List Row) → ¬ (IsTrace edges most recs rows)
+no_trace edges most recs e h rows t = let both = sym (trace-complete edges most recs rows t) ∙ h in cc
+
+-- a fault behind the header is that of the trace
+pub behind : (edges most : ℕ) (recs rs : List (List (List ℕ))) (h : List (List ℕ)) (e : TraceFault) → recs ≡ h ∷ rs → is_header h ≡ true → rows_of edges most 0 rs ≡ Err e
+    → trace_of edges most recs ≡ Err e
+unfolding trace_of
+behind edges most recs rs h e parts headed k = rw (parts, headed) k
+
+-- the fault of a column that is refused
+named : (row column : ℕ) (fields : List (List ℕ)) (e : TraceFault) → column_of row column fields ≡ Err e → e ≡ fault.Number row column
+unfolding column_of
+named row column fields e h = by (number_in (field_at fields column)) refl
+  where
+    by : (o : Option ℕ) → number_in (field_at fields column) ≡ o → e ≡ fault.Number row column
+    by None k = let same = rw k at h in cc
+    by (Some n) k = let same = rw k at h in cc
+
+-- what a column that is refused tells
+pub column-told : (row column : ℕ) (fields : List (List ℕ)) (r : Result ℕ TraceFault) → r ≡ column_of row column fields
+    → IfErr r (λ e. (e ≡ fault.Number row column) × Lacks fields column)
+column-told row column fields (Ok n) h = tt
+column-told row column fields (Err e) h =
+    (named row column fields e (sym h), λ n w. let both = sym (column-complete row column n fields w) ∙ sym h in cc)
+
+-- a number that a column writes fits 64 bits
+fits-written : (o : Option (List ℕ)) (n : ℕ) → IsSomeAnd o (λ f. IsNumber f n) → n < 2 ^ 64
+fits-written None n h = absurd h
+fits-written (Some f) n h = h.fits
+
+-- rows that are written are in their ranges
+pub rows-in_range : (edges : ℕ) (recs : List (List (List ℕ))) (rows : List Row) → WriteRows edges recs rows → All (IsRow edges) rows
+unfolding WriteRows
+rows-in_range edges [] [] h = All-nil (IsRow edges)
+rows-in_range edges [] (w ∷ ws) h = absurd h
+rows-in_range edges (r ∷ rs) [] h = absurd h
+rows-in_range edges (r ∷ rs) (w ∷ ws) h =
+    All-cons (IsRow edges) w ws
+    (record { time = h.0.time_within; edge = h.0.edge_within; object = fits-written (field_at r 2) w.object h.0.object; some = h.0.size_above; few = h.0.size_within })
+    (rows-in_range edges rs ws h.1)

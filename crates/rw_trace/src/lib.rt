@@ -1,0 +1,272 @@
+#![tactic(auto)]
+//! The rows of a trace, read from the bytes of a CSV text.
+//!
+//! The records are those that the `csv` crate gives: comma and double quote, nothing trimmed, a byte order mark at the
+//! start taken off. The first one is the header `time,edge,object,size`; each further one is a row. What a trace means is
+//! `trace_of` of `specs/Trace.antt`; `specs/Laws.antt` says the same in the words of the format.
+
+ghost use Rattle.std.specs.Prelude.{All, List, ◌≡◌, ◌≢◌, ◌≤◌, ◌^◌, ◌∷◌, [], Ok, Err, Some, IfOk, IfSome, length, IfErr, MatchBool, MatchResult, true};
+ghost use Rattle.csv.specs.Reading.{error_kind, stops_reader};
+ghost use Rattle.csv.specs.Records.{fields_of};
+ghost use Rattle.rw_trace.specs.Laws.{IsFaultOf, IsFirstFault, IsNumber, IsRow, IsTrace, IsWrong, Lacks, WriteRows, Writes, WritesRow};
+ghost use Rattle.rw_trace.specs.Trace.{column_of, is_header, is_text_at, number_of, row_of, rows_of, trace_of};
+ghost use Rattle.rw_trace.specs.Unread.{Steady, records_of, unread};
+ghost use Rattle.rw_trace.specs.declared.Row.{Row};
+ghost use Rattle.rw_trace.specs.declared.TraceFault.TheVariants.{Memory, Number};
+
+use csv::{ByteRecord, Error, ErrorKind, Reader, ReaderBuilder};
+use std::alloc::Global;
+
+/// One request of a trace.
+#[derive(Clone, Copy, PartialEq, Eq, Debug)]
+pub struct Row {
+    /// When, in ticks: at most 2^39.
+    pub time: u64,
+    /// At which edge cache, from 0.
+    pub edge: u32,
+    /// For which object.
+    pub object: u64,
+    /// The object's size in bytes: 1 to 2^32 - 1.
+    pub size: u64,
+}
+
+/// Why a trace is refused, each shown as one line. Rows and columns are numbered from 0.
+#[derive(Debug, Drop, thiserror::Error)]
+pub enum TraceFault {
+    /// There is no record, or the first one is not the header.
+    #[error("trace: header")]
+    Header,
+    /// The row has not four fields.
+    #[error("trace: row {0}: length")]
+    RowLength(u64),
+    /// The field at this row and column is not 1 to 20 ASCII digits of a value below 2^64.
+    #[error("trace: row {0} column {1}: number")]
+    Number(u64, u64),
+    /// The row's time is over 2^39.
+    #[error("trace: row {0}: time")]
+    TimeRange(u64),
+    /// The row's edge is not below the number of edges.
+    #[error("trace: row {0}: edge")]
+    EdgeRange(u64),
+    /// The row's size is 0 or over 2^32 - 1.
+    #[error("trace: row {0}: size")]
+    SizeRange(u64),
+    /// There are more rows than the reader takes, and no earlier one is at fault.
+    #[error("trace: too many rows")]
+    TooManyRows,
+    /// A request for memory was refused.
+    #[error("memory")]
+    Memory,
+}
+
+/// The greatest time of a row, in ticks.
+const MAX_TIME: u64 = 1 << 39;
+
+/// The greatest size of a row, in bytes.
+const MAX_SIZE: u64 = (1 << 32) - 1;
+
+/// The most rows that `read` takes.
+const MAX_ROWS: u64 = 1 << 24;
+
+/// The most digits of a number.
+const MAX_DIGITS: usize = 20;
+
+/// The number that a field writes, if it writes one.
+#[tactic(auto, using(crate::proofs::Numbers::number_rules), unfolding(crate::specs::Trace::number_of))]
+fn number(field: &[u8]) -> Option<u64>
+    ensures value { result ≡ number_of field.now }
+    ensures law { IfSome result (λ n. IsNumber field.now n) }
+{
+    if field.is_empty() || field.len() > MAX_DIGITS {
+        return None;
+    }
+    let mut value: u64 = 0;
+    for byte in field {
+        if !byte.is_ascii_digit() {
+            return None;
+        }
+        value = value.checked_mul(10)?.checked_add(u64::from(*byte - b'0'))?;
+    }
+    Some(value)
+}
+
+/// The number at a column of a row.
+#[tactic(auto, unfolding(crate::specs::Trace::column_of))]
+fn number_at(fields: &ByteRecord, row: u64, column: u8) -> Result<u64, TraceFault>
+    ensures value { result ≡ column_of row column (fields_of fields.now) }
+    ensures law { IfOk result (λ n. Writes (fields_of fields.now) column n) }
+    ensures wrong { IfErr result (λ e. (e ≡ Number row column) × Lacks (fields_of fields.now) column) }
+{
+    let fault = TraceFault::Number(row, u64::from(column));
+    match fields.get(usize::from(column)) {
+        Some(field) => number(field).ok_or(fault),
+        None => Err(fault),
+    }
+}
+
+/// The row that a record writes.
+#[tactic(auto, unfolding(crate::specs::Trace::row_of))]
+fn row_at(fields: &ByteRecord, edges: u32, row: u64) -> Result<Row, TraceFault>
+    ensures value { result ≡ row_of edges row (fields_of fields.now) }
+    ensures law { IfOk result (λ r. WritesRow edges (fields_of fields.now) r) }
+    ensures wrong { IfErr result (λ e. IsWrong edges row (fields_of fields.now) e) }
+{
+    if fields.len() != 4 {
+        return Err(TraceFault::RowLength(row));
+    }
+    let time = number_at(fields, row, 0)?;
+    if time > MAX_TIME {
+        return Err(TraceFault::TimeRange(row));
+    }
+    let edge = number_at(fields, row, 1)?;
+    if edge >= u64::from(edges) {
+        return Err(TraceFault::EdgeRange(row));
+    }
+    let object = number_at(fields, row, 2)?;
+    let size = number_at(fields, row, 3)?;
+    if size == 0 || size > MAX_SIZE {
+        return Err(TraceFault::SizeRange(row));
+    }
+    Ok(Row {
+        time,
+        edge: edge as u32,
+        object,
+        size,
+    })
+}
+
+/// Whether a field is this text.
+#[tactic(auto, unfolding(crate::specs::Trace::is_text_at))]
+fn is_field(fields: &ByteRecord, column: usize, text: &[u8]) -> bool
+    ensures { result ≡ is_text_at column text.now (fields_of fields.now) }
+{
+    match fields.get(column) {
+        Some(field) => field == text,
+        None => false,
+    }
+}
+
+/// Whether a record is the header of a trace.
+#[tactic(auto, unfolding(crate::specs::Trace::is_header))]
+fn is_header_record(fields: &ByteRecord) -> bool
+    ensures { result ≡ is_header (fields_of fields.now) }
+{
+    fields.len() == 4
+        && is_field(fields, 0, b"time")
+        && is_field(fields, 1, b"edge")
+        && is_field(fields, 2, b"object")
+        && is_field(fields, 3, b"size")
+}
+
+/// The fault of a read that memory, or the reader underneath, refused.
+fn refusal(error: Error) -> TraceFault
+    requires { stops_reader (error_kind error) ≡ true }
+    ensures { result ≡ Memory }
+{
+    match error.into_kind() {
+        ErrorKind::Io(_) | ErrorKind::OutOfMemory => TraceFault::Memory,
+        _ => unreachable!(),
+    }
+}
+
+/// The next record into `fields`, and whether there was one.
+fn next(reader: &mut Reader<&[u8]>, fields: &mut ByteRecord) -> Result<bool, TraceFault>
+    requires { Steady reader.old }
+    ensures steady { IfOk result (λ found. found ≡ true → Steady reader.new) }
+    ensures gives { IfOk result (λ found. MatchBool found (unread reader.old ≡ fields_of fields.new ∷ unread reader.new) (unread reader.old ≡ [])) }
+    ensures refused { IfErr result (λ e. e ≡ Memory) }
+{
+    match reader.read_byte_record(fields) {
+        Ok(found) => Ok(found),
+        Err(error) => Err(refusal(error)),
+    }
+}
+
+/// A reader of the records of these bytes.
+#[tactic(auto, unfolding(crate::specs::Unread::unread))]
+fn open(alloc: Global, bytes: &[u8]) -> Reader<&[u8]>
+    ensures steady { Steady result }
+    ensures all { unread result ≡ records_of bytes.now }
+{
+    ReaderBuilder::new()
+        .has_headers(false)
+        .flexible(true)
+        .from_reader(alloc, bytes)
+}
+
+/// The rows of the records that are left, or the first fault among them.
+#[tactic(auto, using(crate::proofs::Rows::row_rules))]
+fn rows_left(
+    alloc: Global,
+    reader: &mut Reader<&[u8]>,
+    fields: &mut ByteRecord,
+    edges: u32,
+    most: u64,
+) -> Result<Vec<Row>, TraceFault>
+    requires { Steady reader.old }
+    ensures rows { IfOk result (λ v. rows_of edges most 0 (unread reader.old) ≡ Ok v.items) }
+    ensures law { IfOk result (λ v. WriteRows edges (unread reader.old) v.items × (length v.items ≤ most)) }
+    ensures ranges { IfOk result (λ v. All (IsRow edges) v.items) }
+    ensures fault { IfErr result (λ e. e ≢ Memory → rows_of edges most 0 (unread reader.old) ≡ Err e) }
+    ensures first { IfErr result (λ e. e ≢ Memory → IsFirstFault edges most (unread reader.old) e) }
+{
+    let mut rows = Vec::new(alloc);
+    for at in 0..most {
+        if !next(reader, fields)? {
+            return Ok(rows);
+        }
+        let one = row_at(fields, edges, at)?;
+        if rows.push(one).is_err() {
+            return Err(TraceFault::Memory);
+        }
+    }
+    if next(reader, fields)? {
+        return Err(TraceFault::TooManyRows);
+    }
+    Ok(rows)
+}
+
+/// The rows of a trace, or its first fault, where row `most` and all behind it are one row too many.
+///
+/// The first faulty row answers; within it first its length, then its columns from the left, in each the number before
+/// its range. `Memory` is answered where a request for memory was refused, and nothing is said of the trace then.
+#[tactic(auto, unfolding(crate::specs::Trace::trace_of))]
+pub fn read_up_to(
+    alloc: Global,
+    bytes: &[u8],
+    edges: u32,
+    most: u64,
+) -> Result<Vec<Row>, TraceFault>
+    requires { most ≤ 2 ^ 24 }
+    ensures rows { IfOk result (λ v. trace_of edges most (records_of bytes.now) ≡ Ok v.items) }
+    ensures law { IfOk result (λ v. IsTrace edges most (records_of bytes.now) v.items) }
+    ensures ranges { IfOk result (λ v. All (IsRow edges) v.items) }
+    ensures fault { IfErr result (λ e. e ≢ Memory → trace_of edges most (records_of bytes.now) ≡ Err e) }
+    ensures refused { IfErr result (λ e. e ≢ Memory → (rows : List Row) → ¬ (IsTrace edges most (records_of bytes.now) rows)) }
+    ensures first { IfErr result (λ e. e ≢ Memory → IsFaultOf edges most (records_of bytes.now) e) }
+{
+    let mut reader = open(alloc, bytes);
+    let mut fields = ByteRecord::new(alloc);
+    if !next(&mut reader, &mut fields)? {
+        return Err(TraceFault::Header);
+    }
+    if !is_header_record(&fields) {
+        return Err(TraceFault::Header);
+    }
+    rows_left(alloc, &mut reader, &mut fields, edges, most)
+}
+
+/// The rows of a trace of at most 2^24 rows, or its first fault, as [`read_up_to`] gives them.
+pub fn read(alloc: Global, bytes: &[u8], edges: u32) -> Result<Vec<Row>, TraceFault>
+    ensures rows { IfOk result (λ v. trace_of edges (2 ^ 24) (records_of bytes.now) ≡ Ok v.items) }
+    ensures fault { IfErr result (λ e. e ≢ Memory → trace_of edges (2 ^ 24) (records_of bytes.now) ≡ Err e) }
+    ensures law { IfOk result (λ v. IsTrace edges (2 ^ 24) (records_of bytes.now) v.items) }
+    ensures ranges { IfOk result (λ v. All (IsRow edges) v.items) }
+    ensures refused { IfErr result (λ e. e ≢ Memory → (rows : List Row) → ¬ (IsTrace edges (2 ^ 24) (records_of bytes.now) rows)) }
+    ensures first { IfErr result (λ e. e ≢ Memory → IsFaultOf edges (2 ^ 24) (records_of bytes.now) e) }
+{
+    read_up_to(alloc, bytes, edges, MAX_ROWS)
+}
+
+#[cfg(test)]
+mod tests;
