@@ -121,6 +121,19 @@ module _ {X : Type 0} where
       (λ h. rw h s.1)
       (λ h. rw h (all-remove_entry (λ y. nat_cmp e.0 y ≡ Less) es k s.0, sorted-remove_entry es k s.1))
 
+  -- nothing is at a key that is before all others
+  lookup_before : (es : List (ℕ × X)) (k : ℕ) → AllByRecursion (λ y. nat_cmp k y ≡ Less) (keys_of es) → lookup (is_at (nat_cmp k)) es ≡ None
+  lookup_before [] k all = refl
+  lookup_before (e ∷ es) k all = rw all.0 (lookup_before es k all.1)
+
+  pub lookup-remove_entry : (es : List (ℕ × X)) (k : ℕ) → IsStrictlySortedBy nat_cmp (keys_of es) → lookup (is_at (nat_cmp k)) (remove_entry (is_at (nat_cmp k)) es) ≡ None
+  lookup-remove_entry [] k s = refl
+  lookup-remove_entry (e ∷ es) k s =
+      by_cases (nat_cmp k e.0)
+      (λ h. rw h (rw h (lookup-remove_entry es k (sorted_tail nat_cmp e.0 (keys_of es) s))))
+      (λ h. rw h (let key : k ≡ e.0 = ranked k e.0 Equal (sym h) in rw key (lookup_before es e.0 (sorted_head nat_cmp e.0 (keys_of es) s))))
+      (λ h. rw h (rw h (lookup-remove_entry es k (sorted_tail nat_cmp e.0 (keys_of es) s))))
+
   pub values-insert_entry : (P : X → Type 0) (es : List (ℕ × X)) (k : ℕ) (v : X) → All P (values_of es) → P v → All P (values_of (insert_entry nat_cmp es k v))
   values-insert_entry P es k v all here = All-values-insert_entry nat_cmp k v P es all here
 

@@ -1,0 +1,10 @@
+pub mod Laws
+pub mod Sums
+pub mod Fills
+pub mod Serials
+pub mod Kept
+pub mod Grown
+pub mod Moved
+pub mod Starts
+pub mod Tails
+pub mod Firsts

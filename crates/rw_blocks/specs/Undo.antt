@@ -1,0 +1,87 @@
+-- Undoing a primitive by its mark.
+use Rattle.std.specs.Prelude.{◌≡◌, ℕ, ◌+◌, ◌-◌, ◌≤◌, ◌<◌, Bool, true, false, List, [], ◌∷◌, ◌++◌, length, take, drop, slice_get, slice_set, insert, remove, None, IsSome, IsSomeAnd}
+use Rattle.rw_blocks.specs.declared.Kind.{Kind}
+use Rattle.rw_blocks.specs.declared.Mark.{Mark}
+use Rattle.rw_blocks.specs.declared.Mark.TheVariants.{Add, Remove, Rehome, Replace, Seal, TakeOut, Split, Merge}
+use Rattle.rw_blocks.specs.State.{QueueState, SectionState, section_at, active_of, row_at, row_or}
+use Rattle.rw_blocks.specs.Primitives.{with_row, with_section, with_active, after_remove, section_joining}
+use Rattle.rw_blocks.specs.Loose.{IsLoose}
+
+-- ---- sections
+abbrev pub front_of : List (ℕ × Kind) → ℕ
+front_of [] = 0
+front_of (e ∷ es) = e.0
+
+-- the front block of the sealed list is active again
+abbrev pub section_unsealing : Kind → SectionState → SectionState
+section_unsealing kind s = record (with_active kind (front_of s.sealed) s) { sealed = drop 1 s.sealed }
+
+abbrev pub drop_unless : Bool → List (ℕ × Kind) → List (ℕ × Kind)
+drop_unless true es = es
+drop_unless false es = drop 1 es
+
+-- the sections that were merged: the upper one with its first `count` sealed blocks, and the lower one
+abbrev pub upper_of : ℕ → SectionState → SectionState
+upper_of count s = record s { sealed = take count s.sealed }
+
+abbrev pub lower_of : ℕ → ℕ → ℕ → Bool → Bool → SectionState → SectionState
+lower_of count device virtual_block device_vanished virtual_vanished s =
+    record {
+      active_device = device;
+      active_virtual = virtual_block;
+      sealed = drop_unless virtual_vanished (drop_unless device_vanished (drop count s.sealed));
+    }
+
+-- ---- the queue before the primitive that gave the mark, from the one after it
+abbrev pub undo_of : Mark → QueueState → QueueState
+undo_of (Add o) q = after_remove q o
+undo_of (Remove o r) q = with_row q o r
+undo_of (Rehome o h p) q = with_row q o (record { size = (row_or q o).size; home = h; place = p })
+undo_of (Replace o p) q = with_row q o (record (row_or q o) { place = p })
+undo_of (Seal i kind) q =
+    record q { sections = slice_set q.sections i (section_unsealing kind (section_at q i)); next = q.next - 1 }
+undo_of (TakeOut i p b kind) q =
+    let s = section_at q i in with_section q i (record s { sealed = insert s.sealed p (b, kind) })
+undo_of (Split i) q =
+    let s = section_at q i in
+    let lower = section_at q (i + 1) in
+    record q {
+      sections = slice_set (remove q.sections (i + 1)) i (record s { sealed = s.sealed ++ lower.sealed });
+      next = q.next - 2;
+    }
+undo_of (Merge i n d v device_vanished virtual_vanished) q =
+    let s = section_at q i in
+    record q {
+      sections = insert (slice_set q.sections i (upper_of n s)) (i + 1) (lower_of n d v device_vanished virtual_vanished s);
+    }
+
+-- what the mark speaks of is there
+abbrev pub Matches : Mark → QueueState → Type 0
+Matches (Add o) q = IsSome (row_at q o)
+Matches (Remove o r) q = row_at q o ≡ None
+Matches (Rehome o h p) q = IsSome (row_at q o)
+Matches (Replace o p) q = IsSome (row_at q o)
+Matches (Seal i kind) q =
+    (i < length q.sections)
+    × (IsSomeAnd (slice_get (section_at q i).sealed 0) (λ e. e.1 ≡ kind))
+    × (active_of kind (section_at q i) + 1 ≡ q.next)
+Matches (TakeOut i p b kind) q = (i < length q.sections) × (p ≤ length (section_at q i).sealed)
+Matches (Split i) q =
+    (i + 1 < length q.sections)
+    × ((section_at q (i + 1)).active_device + 2 ≡ q.next)
+    × ((section_at q (i + 1)).active_virtual + 1 ≡ q.next)
+Matches (Merge i n d v device_vanished virtual_vanished) q =
+    (i < length q.sections)
+    × (n ≤ length (section_at q i).sealed)
+    × (section_joining device_vanished virtual_vanished (upper_of n (section_at q i)) (lower_of n d v device_vanished virtual_vanished (section_at q i)) ≡ section_at q i)
+
+-- the mark can be undone on this state: it is loose, and so is the state before
+pub record IsUndoable (m : Mark) (q : QueueState) : Type 0 where
+  pub loose : IsLoose q
+  pub matches : Matches m q
+  pub before : IsLoose (undo_of m q)
+
+-- the mark takes the state after back to the one before
+pub record Undoes (m : Mark) (before after : QueueState) : Type 0 where
+  pub can : IsUndoable m after
+  pub back : undo_of m after ≡ before

@@ -1,0 +1,88 @@
+#![tactic(auto)]
+//! The priority queue of RIPQ (Tang, Huang, Lloyd, Kumar and Li, FAST 2015) as data, and primitives that undo
+//! themselves (reverse computation: Carothers, Perumalla and Fujimoto, 1999).
+//!
+//! A queue is a list of sections from head to tail. Each section has an active device block, an active virtual block
+//! and a list of sealed blocks. A block is only a serial: what it holds is said by the rows, one for each object that
+//! is stored. Each primitive changes one thing and gives a [`Mark`], by which [`Queue::undo`] takes it back.
+
+mod queue;
+mod section;
+mod shape;
+#[cfg(test)]
+mod tests;
+
+pub use queue::Queue;
+pub use rw_vt::NoMemory;
+pub use shape::Shape;
+
+/// Whether a block takes flash, or only records a raised priority.
+#[derive(Clone, Copy, Debug, PartialEq, Eq)]
+pub enum Kind {
+    /// The block gathers objects and is written to flash whole.
+    Device,
+    /// The block takes no flash: it is a place in the queue for objects whose bytes lie elsewhere.
+    Virtual,
+}
+
+/// Where an object lies.
+#[derive(Clone, Copy, Debug, PartialEq, Eq)]
+pub struct Place {
+    /// The object's size, in bytes: from 1 to the block size.
+    pub size: u64,
+    /// The serial of the device block that holds its bytes.
+    pub home: u64,
+    /// The serial of the block that gives its priority: its home, or a virtual block.
+    pub place: u64,
+}
+
+/// What undoes one primitive: only what the undoing of its change needs and the state after does not say.
+#[derive(Clone, Copy, Debug, PartialEq, Eq)]
+pub enum Mark {
+    /// Of `add`: the object that came.
+    Add {
+        object: u64,
+    },
+    /// Of `remove`: the object that left, and its row.
+    Remove {
+        object: u64,
+        row: Place,
+    },
+    /// Of `rehome`: the object's home and place before.
+    Rehome {
+        object: u64,
+        home: u64,
+        place: u64,
+    },
+    /// Of `replace`: the object's place before.
+    Replace {
+        object: u64,
+        place: u64,
+    },
+    /// Of `seal`: where the block was sealed, and of which kind it is.
+    Seal {
+        section: usize,
+        kind: Kind,
+    },
+    /// Of `take_out`: the block, and where it stood.
+    TakeOut {
+        section: usize,
+        position: usize,
+        serial: u64,
+        kind: Kind,
+    },
+    /// Of `split`: the upper section of the two.
+    Split {
+        section: usize,
+    },
+    /// Of `merge`: the upper section, how many sealed blocks it had, and of the lower section the active blocks and
+    /// whether each of them vanished.
+    Merge {
+        section: usize,
+        upper_sealed: usize,
+        lower_device: u64,
+        lower_virtual: u64,
+        device_vanished: bool,
+        virtual_vanished: bool,
+    },
+}

@@ -1,0 +1,55 @@
+// The shape of a queue.
+ghost use Rattle.std.specs.Prelude.{◌≡◌, ◌↔◌, IsSome, IfSome};
+ghost use Rattle.rw_blocks.specs.State.{IsShape};
+
+use std::marker::Model;
+
+/// The shape of a queue, which never changes.
+#[derive(Clone, Copy)]
+pub struct Shape {
+    sections: u64,
+    block: u64,
+    blocks: u64,
+}
+
+impl Model for Shape {
+    ghost use Rattle.rw_blocks.specs.State.{Limits, IsShape};
+
+    ghost Value = { Limits };
+
+    ghost view = { λ s. record { sections = s.sections; block = s.block; blocks = s.blocks } };
+
+    ghost invariant = { λ s. IsShape s.sections s.block s.blocks };
+
+    ghost inverse = { λ s. record { sections = s.sections; block = s.block; blocks = s.blocks } };
+}
+
+impl Shape {
+    /// The shape with at most `sections` sections (1 to 16), blocks of `block` bytes (1 to 268435456) and at most
+    /// `blocks` sealed device blocks (1 to 65536). `None` exactly where one of the three is out of its range.
+    pub fn new(sections: u64, block: u64, blocks: u64) -> Option<Shape>
+        ensures in_range { IsSome result ↔ IsShape sections block blocks }
+        ensures shape { IfSome result (λ s. s ≡ record { sections = sections; block = block; blocks = blocks }) }
+    {
+        if (1..=16).contains(&sections)
+            && (1..=268435456).contains(&block)
+            && (1..=65536).contains(&blocks)
+        {
+            Some(Shape {
+                sections,
+                block,
+                blocks,
+            })
+        } else {
+            None
+        }
+    }
+
+    /// The three numbers, as `new` takes them.
+    pub(crate) fn limits(&self) -> (u64, u64, u64)
+        ensures shape { result ≡ (self.now.sections, self.now.block, self.now.blocks) }
+        ensures in_range { IsShape result.0 result.1 result.2 }
+    {
+        (self.sections, self.block, self.blocks)
+    }
+}

@@ -1,0 +1,23 @@
+use Rattle.std.proofs.Common.{◌<◌, length, subst, sym, ap}
+use Rattle.std.proofs.lemmas.Result.{on_ok_weaker, IfErr-weaker}
+use Rattle.rw_exchange.specs.Rings.{HasCapacity}
+use Rattle.rw_exchange.specs.Ports.{sent_to}
+use Rattle.rw_exchange.proofs.Ends.{sends, sends_nothing, sent_is, within_outs, same_sent}
+use Rattle.rw_exchange.proofs.port.Port.send.Goals as goal
+
+pub returns-clause-ok : goal.returns-clause-ok
+returns-clause-ok g c = on_ok_weaker c.push.result
+    (λ e. sends c.self.inside.worker c.self.inside.capacity c.self.inside.outs.items c.self.inside.ins.items c.args.self.now c.self.view_is c.args.to c.index_mut.result.now c.push.new.lane c.args.letter (within_outs c.self.inside.worker c.self.inside.capacity c.self.inside.outs.items c.self.inside.ins.items c.args.self.now c.self.view_is c.args.to c.requires.other.0) c.index_mut.ensures.value c.push.ensures.ring e) c.push.ensures.ok
+
+pub returns-clause-err : goal.returns-clause-err
+returns-clause-err g c = IfErr-weaker c.push.result _ _
+    (λ x e. (e.0, sends_nothing c.self.inside.worker c.self.inside.capacity c.self.inside.outs.items c.self.inside.ins.items c.args.self.now c.self.view_is c.args.to c.index_mut.result.now c.push.new.lane (within_outs c.self.inside.worker c.self.inside.capacity c.self.inside.outs.items c.self.inside.ins.items c.args.self.now c.self.view_is c.args.to c.requires.other.0) c.index_mut.ensures.value c.push.ensures.ring e.1)) c.push.ensures.err
+
+pub returns-clause-succeeds : goal.returns-clause-succeeds
+returns-clause-succeeds g c =
+    let within : c.args.to < length c.self.inside.outs.items = within_outs c.self.inside.worker c.self.inside.capacity c.self.inside.outs.items c.self.inside.ins.items c.args.self.now c.self.view_is c.args.to c.requires.other.0 in
+    let had : HasCapacity c.self.inside.capacity c.index_mut.result.now = subst (HasCapacity c.self.inside.capacity) (sym c.index_mut.ensures.value) (c.self.invariant.2 c.args.to c.index_mut.result.now within) in
+    λ h. (c.push.ensures.capacity c.self.inside.capacity had).1 (subst (λ z. length z < c.self.inside.capacity) (sent_is c.self.inside.worker c.self.inside.capacity c.self.inside.outs.items c.self.inside.ins.items c.args.self.now c.self.view_is c.args.to c.index_mut.result.now within c.index_mut.ensures.value) (subst (λ z. length (sent_to c.args.self.now c.args.to) < z) (ap (λ f. f.capacity) (sym c.self.view_is)) h))
+
+pub returns-clause-same : goal.returns-clause-same
+returns-clause-same g c = same_sent c.push.result c.args.self.now _ c.args.to c.args.letter (returns-clause-ok g c) (returns-clause-err g c)

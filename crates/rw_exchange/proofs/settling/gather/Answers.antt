@@ -1,0 +1,63 @@
+use Rattle.std.proofs.Common.{◌≡◌, ℕ, ◌+◌, ◌<◌, List, [], ◌∷◌, ◌++◌, map, length, subst, sym, ap, ◌∙◌, arith, vec_len, get_or, None}
+use Rattle.std.proofs.lemmas.List.{map_push, length-map, append_assoc, length-append, map-append, get_or_at}
+use Rattle.rw_exchange.specs.Rings.{cell, in_table, out_ring, out_rings, out_sent, received_table}
+use Rattle.rw_exchange.specs.Ports.{entry}
+use Rattle.rw_exchange.proofs.Settles.{fifo_more, others_more}
+use Rattle.rw_exchange.proofs.settling.gather.Goals as goal
+
+pub loop-out-preserved : goal.loop-out-preserved
+loop-out-preserved g c =
+    let inv = c.loop-out.invariant in
+    let n = vec_len c.loop-out.lists in
+    let out = c.in-Some.out in
+    let list = c.in_ok-list.list in
+    let r : c.loop-out.out-iterator.rest.items ≡ out ∷ c.next.new.self.rest.items = c.in-Some.ensures.steps.0 in
+    let more : c.push_reserved.new.self.items ≡ c.loop-out.lists.items ++ list ∷ [] = c.push_reserved.ensures.items in
+    let row : c.loop-out.yielded ++ (out ∷ c.next.new.self.rest.items) ≡ c.args.row.items = ap (λ z. c.loop-out.yielded ++ z) (sym r) ∙ inv.walked in
+    let sent : get_or (map out_sent c.args.row.items) n [] ≡ out_sent out = ap (λ z. get_or (map out_sent z) n []) (sym row)
+    ∙ (ap (λ z. get_or z n []) (map-append out_sent c.loop-out.yielded (out ∷ c.next.new.self.rest.items)) ∙ get_or_at (map out_sent c.loop-out.yielded) (out_sent out) (map out_sent c.next.new.self.rest.items) [] n (length-map c.loop-out.yielded out_sent ∙ inv.done)) in
+    let at : c.len-in-loop-out.result ≡ n = c.len-in-loop-out.ensures in
+    let len : vec_len c.push_reserved.new.self ≡ n + 1 = c.push_reserved.ensures.len in
+    let recv0 = received_table c.args.columns.now.items in
+    let recv = received_table c.loop-out.columns.items in
+    let recv' = received_table c.rest_at.new.columns.items in
+    let rows : (k : ℕ) → (k ≡ n → ⊥) → get_or recv' k [] ≡ get_or recv k [] = λ k ne. c.rest_at.ensures.rows k (λ e. ne (e ∙ at)) in
+    let v : List (List _) = map (λ v. v.items) c.loop-out.lists.items in
+    let same : get_or recv n [] ≡ get_or recv0 n [] = inv.untouched n (omega arith) in
+    record {
+      room = c.push_reserved.ensures.capacity ∙ inv.room;
+      count = omega (arith, ap length r, inv.count);
+      walked = append_assoc c.loop-out.yielded (out ∷ []) c.next.new.self.rest.items ∙ row;
+      done = length-append c.loop-out.yielded (out ∷ []) ∙ omega (arith, inv.done);
+      columns = c.rest_at.ensures.length ∙ inv.columns;
+      rings = c.rest_at.ensures.rings ∙ inv.rings;
+      fifo = λ j lt. fifo_more n c.args.own recv0 recv v _ (map out_sent c.args.row.items) list.items (out_sent out) (length-map c.loop-out.lists.items (λ v. v.items) ∙ sym c.loop-out.lists.ok.0) (ap (map (λ v. v.items)) more ∙ map_push (λ v. v.items) c.loop-out.lists.items list) inv.fifo same
+          (ap (λ k. entry recv k c.args.own ++ list.items) (sym at) ∙ c.in_ok-list.ensures.fifo) sent j (subst (λ z. j < z) len lt);
+      untouched = λ j le. rows j (λ e. omega arith) ∙ inv.untouched j (omega arith);
+      others = others_more n c.args.own recv0 recv recv' rows (λ k ne. ap (λ m. entry recv' m k) (sym at) ∙ (c.rest_at.ensures.places k ne ∙ ap (λ m. entry recv m k) at)) inv.others;
+    }
+
+pub rest_at-requires-clause-paired : goal.rest_at-requires-clause-paired
+rest_at-requires-clause-paired g c =
+    let inv = c.loop-out.invariant in
+    let n = vec_len c.loop-out.lists in
+    let out = c.in-Some.out in
+    let r : c.loop-out.out-iterator.rest.items ≡ out ∷ c.next.new.self.rest.items = c.in-Some.ensures.steps.0 in
+    let row : c.loop-out.yielded ++ (out ∷ c.next.new.self.rest.items) ≡ c.args.row.items = ap (λ z. c.loop-out.yielded ++ z) (sym r) ∙ inv.walked in
+    let ring : get_or (out_rings c.args.row.items) n None ≡ out_ring out = ap (λ z. get_or (out_rings z) n None) (sym row)
+    ∙ (ap (λ z. get_or z n None) (map-append out_ring c.loop-out.yielded (out ∷ c.next.new.self.rest.items)) ∙ get_or_at (out_rings c.loop-out.yielded) (out_ring out) (out_rings c.next.new.self.rest.items) None n (length-map c.loop-out.yielded out_ring ∙ inv.done)) in
+    let at : c.len-in-loop-out.result ≡ n = c.len-in-loop-out.ensures in
+    let within : n < vec_len c.args.row = omega (arith, ap length r, inv.count) in
+    sym ring ∙ (c.requires.paired n within ∙ (ap (λ t. cell t n c.args.own) (sym inv.rings) ∙ ap (λ k. cell (in_table c.loop-out.columns.items) k c.args.own) (sym at)))
+
+pub rest_at-requires-clause-within : goal.rest_at-requires-clause-within
+rest_at-requires-clause-within g c =
+    let inv = c.loop-out.invariant in
+    let n = vec_len c.loop-out.lists in
+    let r = c.in-Some.ensures.steps.0 in
+    let at : c.len-in-loop-out.result ≡ n = c.len-in-loop-out.ensures in
+    let within : n < vec_len c.args.row = omega (arith, ap length r, inv.count) in
+    let deep = c.requires.deep n within in (
+      omega (arith, inv.columns, c.requires.length),
+      subst (λ k. c.args.own < length (get_or (in_table c.loop-out.columns.items) k [])) (sym at) (subst (λ t. c.args.own < length (get_or t n [])) (sym inv.rings) deep),
+    )

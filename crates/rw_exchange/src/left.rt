@@ -1,0 +1,61 @@
+//! What is left in the rings at the end.
+ghost use Rattle.std.specs.Prelude.{◌≡◌, length, map};
+ghost use Rattle.rw_exchange.specs.Ports.{entry};
+
+use rw_vt::Letter;
+use std::marker::Model;
+
+/// The letters that were left in the rings of an opening, oldest first, by sender and receiver.
+///
+/// A contract sees a list for each sender, which has a list of letters for each receiver.
+#[derive(Drop)]
+pub struct Left<B> {
+    lists: Vec<Vec<Vec<Letter<B>>>>,
+}
+
+impl<B> Model for Left<B> {
+    ghost use Rattle.std.specs.Prelude.{List, map};
+    ghost use Rattle.rw_vt.specs.declared.event.Letter.{Letter};
+
+    ghost Value = { List (List (List (Letter B))) };
+
+    ghost view = { λ l. map (λ row. map (λ list. list.items) row.items) l.lists.items };
+}
+
+impl<B: Copy> Left<B> {
+    // The lists by sender and receiver.
+    pub(crate) fn of(lists: Vec<Vec<Vec<Letter<B>>>>) -> Left<B>
+        ensures { result ≡ map (λ row. map (λ list. list.items) row.items) lists.items }
+    {
+        Left { lists }
+    }
+
+    /// How many workers the rings were for. Takes no memory.
+    pub fn workers(&self) -> usize
+        ensures count { result ≡ length self.now }
+    {
+        self.lists.len()
+    }
+
+    /// The letters that were left on the way from one worker to another, oldest first; none where there is no such
+    /// worker. Takes no memory.
+    pub fn between(&self, from: usize, to: usize) -> &[Letter<B>]
+        ensures letters { result.now ≡ entry self.now from to }
+    {
+        let Some(row) = self.lists.get(from) else {
+            return &[];
+        };
+        let Some(list) = row.get(to) else {
+            return &[];
+        };
+        list.as_slice()
+    }
+
+    /// All lists, by sender and then by receiver. Takes no memory.
+    pub fn into_lists(self) -> Vec<Vec<Vec<Letter<B>>>>
+        ensures lists { map (λ row. map (λ list. list.items) row.items) result.items ≡ self }
+    {
+        let Left { lists } = self;
+        lists
+    }
+}

@@ -1,0 +1,20 @@
+#![tactic(auto)]
+//! Rings between workers: one for each ordered pair of different workers, each for letters in the order of their sending.
+//!
+//! Every worker of a round owns one [`Port`], which may move to a thread of its own. Nothing waits: a letter that a ring
+//! has no room for comes back to its sender, and what is still in the rings when the round is over is given out by
+//! [`settle`]. No letter is lost, repeated or made up.
+
+mod build;
+mod lane;
+mod left;
+mod opening;
+mod port;
+mod settling;
+#[cfg(test)]
+mod tests;
+
+pub use left::Left;
+pub use opening::open;
+pub use port::Port;
+pub use settling::settle;

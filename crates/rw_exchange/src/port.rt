@@ -1,0 +1,120 @@
+//! A worker's port.
+ghost use Rattle.std.specs.Prelude.{◌≡◌, ◌≢◌, ℕ, ◌<◌, length, map, slice_index_or, All, IsSome, IsOk, OnOk, IfErr, IfSome, IfNone};
+ghost use Rattle.rw_exchange.specs.Rings.{out_rings, in_rings, out_sent, in_received, HasCapacity};
+ghost use Rattle.rw_exchange.specs.Ports.{IsOther, SamePort, sent_to, having_sent, having_received};
+
+use crate::lane;
+use rtrb::{Consumer, Producer};
+use rw_vt::Letter;
+use std::marker::Model;
+
+/// One worker's ends of the rings between it and each other worker.
+///
+/// A contract sees the worker, the capacity of the rings, which rings they are, and all letters that were sent to and
+/// received from each worker. A port may move to a thread of its own.
+#[derive(Drop)]
+pub struct Port<B> {
+    worker: usize,
+    capacity: usize,
+    outs: Vec<Option<Producer<Letter<B>>>>,
+    ins: Vec<Option<Consumer<Letter<B>>>>,
+}
+
+impl<B> Model for Port<B> {
+    ghost use Rattle.std.specs.Prelude.{◌≡◌, ◌≢◌, ℕ, ◌<◌, length, map, slice_index_or, None, IsSome, All};
+    ghost use Rattle.rw_vt.specs.declared.event.Letter.{Letter};
+    ghost use Rattle.rw_exchange.specs.Ports.{PortState};
+    ghost use Rattle.rw_exchange.specs.Rings.{out_ring, in_ring, out_sent, in_received, HasCapacity};
+
+    ghost Value = { PortState (Letter B) };
+
+    ghost view = { λ p. record { worker = p.worker; capacity = p.capacity; out = map out_ring p.outs.items; into = map in_ring p.ins.items; sent = map out_sent p.outs.items; received = map in_received p.ins.items } };
+
+    ghost invariant = { λ p. (length p.ins.items ≡ length p.outs.items)
+        × ((k : ℕ) → k < length p.outs.items → k ≢ p.worker → IsSome (slice_index_or p.outs.items k None) × IsSome (slice_index_or p.ins.items k None))
+        × All (HasCapacity p.capacity) p.outs.items };
+}
+
+impl<B: Copy> Port<B> {
+    // The ends of one worker.
+    pub(crate) fn of(
+        worker: usize,
+        capacity: usize,
+        outs: Vec<Option<Producer<Letter<B>>>>,
+        ins: Vec<Option<Consumer<Letter<B>>>>,
+    ) -> Port<B>
+        requires same { length ins.items ≡ length outs.items }
+        requires others { (k : ℕ) → k < length outs.items → k ≢ worker → IsSome (slice_index_or outs.items k None) × IsSome (slice_index_or ins.items k None) }
+        requires capacity { All (HasCapacity capacity) outs.items }
+        ensures numbers { (result.worker ≡ worker) × (result.capacity ≡ capacity) }
+        ensures rings { (result.out ≡ out_rings outs.items) × (result.into ≡ in_rings ins.items) }
+        ensures lists { (result.sent ≡ map out_sent outs.items) × (result.received ≡ map in_received ins.items) }
+    {
+        Port {
+            worker,
+            capacity,
+            outs,
+            ins,
+        }
+    }
+
+    // The ends, by worker.
+    pub(crate) fn into_ends(
+        self,
+    ) -> (
+        Vec<Option<Producer<Letter<B>>>>,
+        Vec<Option<Consumer<Letter<B>>>>,
+    )
+        ensures rings { (out_rings result.0.items ≡ self.out) × (in_rings result.1.items ≡ self.into) }
+        ensures lists { (map out_sent result.0.items ≡ self.sent) × (map in_received result.1.items ≡ self.received) }
+    {
+        let Port {
+            worker: _,
+            capacity: _,
+            outs,
+            ins,
+        } = self;
+        (outs, ins)
+    }
+
+    /// The worker whose port it is, counted from 0. Takes no memory.
+    pub fn worker(&self) -> usize
+        ensures worker { result ≡ self.now.worker }
+    {
+        self.worker
+    }
+
+    /// How many workers there are. Takes no memory.
+    pub fn workers(&self) -> usize
+        ensures rings { (result ≡ length self.now.out) × (result ≡ length self.now.into) }
+        ensures lists { (result ≡ length self.now.sent) × (result ≡ length self.now.received) }
+    {
+        self.outs.len()
+    }
+
+    /// Sends a letter to another worker, or hands it back where the ring is not known to have room.
+    ///
+    /// It succeeds while fewer letters were sent to that worker in all than the ring has slots. Takes no memory and never
+    /// waits.
+    pub fn send(&mut self, to: usize, letter: Letter<B>) -> Result<(), Letter<B>>
+        requires other { IsOther self.old to }
+        ensures ok { OnOk result (self.new ≡ having_sent self.old to letter) }
+        ensures err { IfErr result (λ back. (back ≡ letter) × (self.new ≡ self.old)) }
+        ensures succeeds { length (sent_to self.old to) < self.old.capacity → IsOk result }
+        ensures same { SamePort self.old self.new }
+    {
+        lane::push(&mut self.outs[to], letter)
+    }
+
+    /// The next letter from another worker, in the order of sending, or `None` where none was seen.
+    ///
+    /// That a letter that was sent is seen is tested, not proved. Takes no memory and never waits.
+    pub fn receive(&mut self, from: usize) -> Option<Letter<B>>
+        requires other { IsOther self.old from }
+        ensures some { IfSome result (λ letter. self.new ≡ having_received self.old from letter) }
+        ensures none { IfNone result (self.new ≡ self.old) }
+        ensures same { SamePort self.old self.new }
+    {
+        lane::pop(&mut self.ins[from])
+    }
+}

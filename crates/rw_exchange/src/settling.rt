@@ -1,0 +1,131 @@
+//! What is left in the rings at the end.
+ghost use Rattle.std.specs.Prelude.{◌≡◌, ◌≢◌, ℕ, ◌+◌, ◌≤◌, ◌<◌, [], ◌∷◌, ◌++◌, length, map, slice_index_or, All, IfOk, OnOk, vec_len};
+ghost use Rattle.rtrb.specs.Ring.{sent, received, IsPair, SameConsumer};
+ghost use Rattle.rw_exchange.specs.Ports.{entry, IsOpening, outs_of, intos_of, sent_between, received_between};
+ghost use Rattle.rw_exchange.specs.Rings.{cell, out_ring, in_ring, out_rings, out_sent, in_received, out_table, in_table, sent_table, received_table};
+
+use crate::{Left, Port};
+use rtrb::{Consumer, Producer};
+use rw_vt::{Letter, NoMemory};
+use std::alloc::Global;
+
+// What is left in a ring whose ends are both here.
+fn drain<T: Drop>(
+    alloc: Global,
+    producer: &mut Producer<T>,
+    consumer: &mut Consumer<T>,
+) -> Result<Vec<T>, NoMemory>
+    requires { IsPair producer.old consumer.old }
+    ensures same { SameConsumer consumer.old consumer.new }
+    ensures fifo { IfOk result (λ v. received consumer.old ++ v.items ≡ sent producer.old) }
+{
+    let count = consumer.slots_beside(producer);
+    let mut left = Vec::with_capacity(alloc, count)?;
+    for _ in 0..count {
+        left.push_reserved(consumer.pop_known());
+    }
+    Ok(left)
+}
+
+// What is left in a ring, or nothing where there is none.
+fn rest<T: Drop>(
+    alloc: Global,
+    out: Option<Producer<T>>,
+    end: &mut Option<Consumer<T>>,
+) -> Result<Vec<T>, NoMemory>
+    requires { out_ring out ≡ in_ring end.old }
+    ensures ring { in_ring end.new ≡ in_ring end.old }
+    ensures fifo { IfOk result (λ v. in_received end.old ++ v.items ≡ out_sent out) }
+{
+    match (out, end) {
+        (Some(mut producer), Some(consumer)) => drain(alloc, &mut producer, consumer),
+        (_, _) => Ok(Vec::new(alloc)),
+    }
+}
+
+// The same for the end of row j and place i.
+fn rest_at<T: Drop>(
+    alloc: Global,
+    out: Option<Producer<T>>,
+    columns: &mut Vec<Vec<Option<Consumer<T>>>>,
+    j: usize,
+    i: usize,
+) -> Result<Vec<T>, NoMemory>
+    requires within { (j < vec_len columns.old) × (i < length (slice_index_or (in_table columns.old.items) j [])) }
+    requires paired { out_ring out ≡ cell (in_table columns.old.items) j i }
+    ensures length { vec_len columns.new ≡ vec_len columns.old }
+    ensures rings { in_table columns.new.items ≡ in_table columns.old.items }
+    ensures fifo { IfOk result (λ v. entry (received_table columns.old.items) j i ++ v.items ≡ out_sent out) }
+    ensures rows { (k : ℕ) → k ≢ j → slice_index_or (received_table columns.new.items) k [] ≡ slice_index_or (received_table columns.old.items) k [] }
+    ensures places { (k : ℕ) → k ≢ i → entry (received_table columns.new.items) j k ≡ entry (received_table columns.old.items) j k }
+{
+    let column = &mut columns[j];
+    rest(alloc, out, &mut column[i])
+}
+
+// What is left in the rings of one sender.
+fn gather<T: Drop>(
+    alloc: Global,
+    row: Vec<Option<Producer<T>>>,
+    columns: &mut Vec<Vec<Option<Consumer<T>>>>,
+    own: usize,
+) -> Result<Vec<Vec<T>>, NoMemory>
+    requires length { vec_len row ≡ vec_len columns.old }
+    requires deep { (j : ℕ) → j < vec_len row → own < length (slice_index_or (in_table columns.old.items) j []) }
+    requires paired { (j : ℕ) → j < vec_len row → slice_index_or (out_rings row.items) j None ≡ cell (in_table columns.old.items) j own }
+    ensures rings { OnOk result (in_table columns.new.items ≡ in_table columns.old.items) }
+    ensures length { IfOk result (λ l. vec_len l ≡ vec_len row) }
+    ensures fifo { IfOk result (λ l. (j : ℕ) → j < vec_len row → entry (received_table columns.old.items) j own ++ slice_index_or (map (λ v. v.items) l.items) j [] ≡ slice_index_or (map out_sent row.items) j []) }
+    ensures others { OnOk result ((j i : ℕ) → i ≢ own → entry (received_table columns.new.items) j i ≡ entry (received_table columns.old.items) j i) }
+{
+    let mut lists = Vec::with_capacity(alloc, row.len())?;
+    for out in row {
+        let list = rest_at(alloc, out, columns, lists.len(), own)?;
+        lists.push_reserved(list);
+    }
+    Ok(lists)
+}
+
+// The ends of all ports.
+fn parts<B: Copy>(
+    alloc: Global,
+    ports: Vec<Port<B>>,
+) -> Result<
+    (
+        Vec<Vec<Option<Producer<Letter<B>>>>>,
+        Vec<Vec<Option<Consumer<Letter<B>>>>>,
+    ),
+    NoMemory,
+>
+    ensures rings { IfOk result (λ r. (out_table r.0.items ≡ outs_of ports.items) × (in_table r.1.items ≡ intos_of ports.items)) }
+    ensures lists { IfOk result (λ r. (sent_table r.0.items ≡ map (λ f. f.sent) ports.items) × (received_table r.1.items ≡ map (λ f. f.received) ports.items)) }
+{
+    let mut rows = Vec::with_capacity(alloc, ports.len())?;
+    let mut columns = Vec::with_capacity(alloc, ports.len())?;
+    for port in ports {
+        let (outs, ins) = port.into_ends();
+        rows.push_reserved(outs);
+        columns.push_reserved(ins);
+    }
+    Ok((rows, columns))
+}
+
+/// Ends an opening, given all its ports in order: the letters that are still in the rings.
+///
+/// For each ordered pair of workers, what was received followed by what is left is what was sent, letter by letter and in
+/// order. Refused only where memory is; the letters that were left are then gone.
+pub fn settle<B: Copy>(alloc: Global, ports: Vec<Port<B>>) -> Result<Left<B>, NoMemory>
+    requires opening { IsOpening ports.items }
+    ensures count { IfOk result (λ left. length left ≡ vec_len ports) }
+    ensures wide { IfOk result (λ left. All (λ row. length row ≡ vec_len ports) left) }
+    ensures fifo { IfOk result (λ left. (from to : ℕ) → from < vec_len ports → to < vec_len ports → received_between ports.items from to ++ entry left from to ≡ sent_between ports.items from to) }
+    ensures own { IfOk result (λ left. (worker : ℕ) → worker < vec_len ports → entry left worker worker ≡ []) }
+{
+    let mut lists = Vec::with_capacity(alloc, ports.len())?;
+    let (rows, mut columns) = parts(alloc, ports)?;
+    for row in rows {
+        let list = gather(alloc, row, &mut columns, lists.len())?;
+        lists.push_reserved(list);
+    }
+    Ok(Left::of(lists))
+}
