@@ -9,12 +9,15 @@ use std::io::Write;
 /// Why the program did not do what its words ask, each shown as one line.
 #[derive(Debug, Drop, thiserror::Error)]
 pub(crate) enum Fault {
-    /// The command line is not one of the program's, or asks for help.
+    /// The command line is not one of the program's.
     #[error("{0}")]
     CommandLine(clap::Error),
     /// The options are out of their ranges.
     #[error("plan")]
     Plan,
+    /// A request for memory was refused.
+    #[error("memory")]
+    Memory,
     /// The trace cannot be read.
     #[error("{0}")]
     Source(SourceFault),
@@ -27,11 +30,10 @@ impl Fault {
     /// The exit status that tells it.
     pub(crate) fn status(&self) -> u8 {
         match self {
-            Fault::CommandLine(error) if error.kind() == ErrorKind::OutOfMemory => 5,
             Fault::CommandLine(_) | Fault::Plan => 2,
-            Fault::Source(SourceFault::Read) => 4,
-            Fault::Source(SourceFault::Memory) | Fault::Run(SimFault::Memory) => 5,
             Fault::Run(SimFault::Trace(_)) => 3,
+            Fault::Source(SourceFault::Read) => 4,
+            Fault::Memory | Fault::Source(SourceFault::Memory) | Fault::Run(SimFault::Memory) => 5,
             Fault::Run(SimFault::Exhausted) => 7,
             Fault::Run(SimFault::Output) => 8,
         }
@@ -77,8 +79,7 @@ fn attempt<'a, S: Source, W: Write>(
     let program = program(alloc)?;
     let matches = match program.try_get_matches_from(words) {
         Ok(matches) => matches,
-        Err(error) if error.use_stderr() => return Err(Fault::CommandLine(error)),
-        Err(help) => return print(alloc, &help, out),
+        Err(error) => return answer(alloc, error, out),
     };
     let options = matches
         .subcommand_matches("serial")
@@ -88,10 +89,16 @@ fn attempt<'a, S: Source, W: Write>(
     simulate(alloc, bytes.as_slice(), &options.config, Mode::Serial, out).map_err(Fault::Run)
 }
 
-/// Prints help.
-fn print<W: Write>(alloc: Global, help: &clap::Error, out: &mut Out<W>) -> Result<(), Fault> {
-    let text = format!(in alloc; "{help}")?;
-    if out.write_text(text.as_bytes()) {
+/// Deals with what `clap` answers in place of a command: help, which is printed, or a fault.
+fn answer<W: Write>(alloc: Global, error: clap::Error, out: &mut Out<W>) -> Result<(), Fault> {
+    if error.kind() == ErrorKind::OutOfMemory {
+        return Err(Fault::Memory);
+    }
+    if error.use_stderr() {
+        return Err(Fault::CommandLine(error));
+    }
+    let help = format!(in alloc; "{error}")?;
+    if out.write_text(help.as_bytes()) {
         Ok(())
     } else {
         Err(Fault::Run(SimFault::Output))
@@ -110,6 +117,6 @@ pub(crate) fn tell<E: Write>(alloc: Global, fault: &Fault, err: &mut E) {
 
 impl From<AllocError> for Fault {
     fn from(_error: AllocError) -> Fault {
-        Fault::Source(SourceFault::Memory)
+        Fault::Memory
     }
 }

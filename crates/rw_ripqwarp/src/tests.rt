@@ -89,6 +89,7 @@ fn each_fault_is_one_line_and_a_status(rt: HostRuntime) {
             4
         )
     );
+    assert!(rt; is_told(alloc, Fault::Memory, "memory\n", 5));
     assert!(rt; is_told(alloc, Fault::Source(SourceFault::Memory), "memory\n", 5));
     assert!(rt; is_told(alloc, Fault::Run(SimFault::Memory), "memory\n", 5));
     assert!(rt; is_told(alloc, Fault::Run(SimFault::Exhausted), "exhausted\n", 7));
