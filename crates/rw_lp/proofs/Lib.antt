@@ -1,0 +1,13 @@
+pub mod Holding
+pub mod Splits
+pub mod GivenOut
+pub mod Turns
+pub mod Committing
+pub mod Plain
+mod Edits
+pub mod Bridges
+mod Chains
+mod Orders
+mod Lasts
+mod Arriving
+mod Balance

@@ -1,0 +1,86 @@
+use Rattle.std.proofs.Common.{◌≡◌, ◌<◌, true, false, List, [], ◌++◌, refl, sym, ap, ◌∙◌, subst, append-nil}
+use Rattle.rw_vt.specs.declared.event.Letter.{Letter}
+use Rattle.rw_vt.specs.Letters.{letters_of}
+use Rattle.rw_vt.specs.Order.{event_cmp, copies, Has, without}
+use Rattle.rw_vt.proofs.EventOrder.{events_exact}
+use Rattle.rw_vt.proofs.Sorting.{IsExactOrder, Has-head}
+use Rattle.rw_vt.proofs.Bags.{Each-without}
+use Rattle.rw_lp.specs.declared.step.StepFault.TheVariants.{Straggler}
+use Rattle.rw_lp.specs.declared.step.Answer.TheVariants.{Done, Refused}
+use Rattle.rw_lp.specs.Past.{Past}
+use Rattle.rw_lp.specs.Process.{Process, executed, execute_next}
+use Rattle.rw_lp.specs.Calls.{LogicalProcess, process_of, rules, Took}
+use Rattle.rw_lp.proofs.Bridges.{is_straggler, is_executed}
+use Rattle.rw_lp.proofs.Orders.{without_head}
+use Rattle.rw_lp.proofs.Balance.{unchanged, execution_balanced}
+use Rattle.rw_lp.specs.Sound.{Change}
+use Rattle.rw_lp.proofs.lp.Lp.execute_next.Goals as goal
+
+pub returns-then-is_past-clause-turn : goal.returns-then-is_past-clause-turn
+returns-then-is_past-clause-turn g c =
+    let x = process_of c.self.inside.history c.self.inside.pending c.self.inside.debts in
+    let head = c.in-Some.ensures.first in
+    let late = sym c.is_past.ensures ∙ c.if-is_past.true in
+    subst (λ (w : LogicalProcess g.row.M.Denot g.row.M-State.Denot g.row.M-Body.Denot). (given : List (Letter g.row.M-Body.Denot)) × (c.args.out.now.items ≡ c.args.out.now.items ++ given) × Took w.process w.process (Refused Straggler) given (execute_next (rules g.M.Model g.M.Body.Ord.cmp w.model) w.number w.process)) c.self.view_is
+    ([], sym (append-nil c.args.out.now.items), is_straggler (rules g.M.Model g.M.Body.Ord.cmp x.model) x.number x.process c.in-Some.first.now head.0 head.1 late)
+
+pub execute-requires-clause-valid : goal.execute-requires-clause-valid
+execute-requires-clause-valid g c =
+    let o : IsExactOrder (event_cmp g.M.Body.Ord.cmp) = events_exact (record { total = g.met.M.Body.Ord.total; same = g.met.M.Model.same }) in
+    let head = c.in-Some.ensures.first in
+    (c.self.invariant c.in-Some.first.now (subst (λ l. 0 < copies (event_cmp g.M.Body.Ord.cmp) c.in-Some.first.now l) (sym head.1) (Has-head o c.in-Some.first.now head.0))).0
+
+pub execute-requires-clause-here : goal.execute-requires-clause-here
+execute-requires-clause-here g c =
+    let o : IsExactOrder (event_cmp g.M.Body.Ord.cmp) = events_exact (record { total = g.met.M.Body.Ord.total; same = g.met.M.Model.same }) in
+    let head = c.in-Some.ensures.first in
+    (c.self.invariant c.in-Some.first.now (subst (λ l. 0 < copies (event_cmp g.M.Body.Ord.cmp) c.in-Some.first.now l) (sym head.1) (Has-head o c.in-Some.first.now head.0))).1
+
+pub invariant_of-lp : goal.invariant_of-lp
+invariant_of-lp g c = λ e k.
+    let o : IsExactOrder (event_cmp g.M.Body.Ord.cmp) = events_exact (record { total = g.met.M.Body.Ord.total; same = g.met.M.Model.same }) in
+    subst (λ (w : Past g.row.M.Denot g.row.M-State.Denot g.row.M-Body.Denot). (g.M.Model.is_valid w.model e ≡ true) × (e.to ≡ w.number)) (sym c.in_ok-history.ensures.after)
+    (Each-without o (λ e. (g.M.Model.is_valid c.self.inside.history.model e ≡ true) × (e.to ≡ c.self.inside.history.number)) c.in-Some.first.now c.self.inside.pending c.self.invariant e (subst (λ l. Has (event_cmp g.M.Body.Ord.cmp) l e) c.take-taken.ensures.rest k))
+
+pub returns-clause-turn : goal.returns-clause-turn
+returns-clause-turn g c =
+    let o : IsExactOrder (event_cmp g.M.Body.Ord.cmp) = events_exact (record { total = g.met.M.Body.Ord.total; same = g.met.M.Model.same }) in
+    let x = process_of c.self.inside.history c.self.inside.pending c.self.inside.debts in
+    let y = rules g.M.Model g.M.Body.Ord.cmp x.model in
+    let e = c.in-Some.first.now in
+    let head = c.in-Some.ensures.first in
+    let late = sym c.is_past.ensures ∙ c.if-is_past.false in
+    let given : List (Letter g.row.M-Body.Denot) = letters_of false (y.step x.number x.process.state e).1 in
+    let rest : c.take-taken.new.self ≡ head.0 = c.take-taken.ensures.rest ∙ ap (without (event_cmp g.M.Body.Ord.cmp) e) head.1 ∙ without_head o e head.0 in
+    let now : Process g.row.M-State.Denot g.row.M-Body.Denot = (process_of c.in_ok-history.history c.take-taken.new.self c.self.inside.debts).process in
+    let is : now ≡ executed y x.number x.process e head.0 [] =
+    ap (λ (h : Past g.row.M.Denot g.row.M-State.Denot g.row.M-Body.Denot). (process_of h c.take-taken.new.self c.self.inside.debts).process) c.in_ok-history.ensures.after
+    ∙ ap (λ l. executed y x.number x.process e l []) rest in
+    subst (λ (w : LogicalProcess g.row.M.Denot g.row.M-State.Denot g.row.M-Body.Denot). (given : List (Letter g.row.M-Body.Denot)) × (c.execute.new.out.items ≡ c.args.out.now.items ++ given) × Took w.process now Done given (execute_next (rules g.M.Model g.M.Body.Ord.cmp w.model) w.number w.process)) c.self.view_is
+    (given, c.in_ok-history.ensures.sent, is_executed y x.number x.process e head.0 head.1 late refl now given is refl)
+
+pub returns-in_default-clause-balance : goal.returns-in_default-clause-balance
+returns-in_default-clause-balance g c =
+    let o : IsExactOrder (event_cmp g.M.Body.Ord.cmp) = events_exact (record { total = g.met.M.Body.Ord.total; same = g.met.M.Model.same }) in
+    ([], sym (append-nil c.args.out.now.items), unchanged (rules g.M.Model g.M.Body.Ord.cmp c.args.self.model) o c.args.self.number c.args.self.process c.args.self.process refl)
+
+pub returns-then-is_past-clause-balance : goal.returns-then-is_past-clause-balance
+returns-then-is_past-clause-balance g c =
+    let o : IsExactOrder (event_cmp g.M.Body.Ord.cmp) = events_exact (record { total = g.met.M.Body.Ord.total; same = g.met.M.Model.same }) in
+    ([], sym (append-nil c.args.out.now.items), unchanged (rules g.M.Model g.M.Body.Ord.cmp c.args.self.model) o c.args.self.number c.args.self.process c.args.self.process refl)
+
+pub returns-clause-balance : goal.returns-clause-balance
+returns-clause-balance g c =
+    let o : IsExactOrder (event_cmp g.M.Body.Ord.cmp) = events_exact (record { total = g.met.M.Body.Ord.total; same = g.met.M.Model.same }) in
+    let x = process_of c.self.inside.history c.self.inside.pending c.self.inside.debts in
+    let y = rules g.M.Model g.M.Body.Ord.cmp x.model in
+    let e = c.in-Some.first.now in
+    let head = c.in-Some.ensures.first in
+    let given : List (Letter g.row.M-Body.Denot) = letters_of false (y.step x.number x.process.state e).1 in
+    let rest : c.take-taken.new.self ≡ head.0 = c.take-taken.ensures.rest ∙ ap (without (event_cmp g.M.Body.Ord.cmp) e) head.1 ∙ without_head o e head.0 in
+    let now : Process g.row.M-State.Denot g.row.M-Body.Denot = (process_of c.in_ok-history.history c.take-taken.new.self c.self.inside.debts).process in
+    let is : now ≡ executed y x.number x.process e head.0 [] =
+    ap (λ (h : Past g.row.M.Denot g.row.M-State.Denot g.row.M-Body.Denot). (process_of h c.take-taken.new.self c.self.inside.debts).process) c.in_ok-history.ensures.after
+    ∙ ap (λ l. executed y x.number x.process e l []) rest in
+    subst (λ (w : LogicalProcess g.row.M.Denot g.row.M-State.Denot g.row.M-Body.Denot). (given : List (Letter g.row.M-Body.Denot)) × (c.execute.new.out.items ≡ c.args.out.now.items ++ given) × Change (rules g.M.Model g.M.Body.Ord.cmp w.model) w.number w.process now [] given) c.self.view_is
+    (given, c.in_ok-history.ensures.sent, execution_balanced y o x.number x.process now e head.0 given c.in_ok-history.ensures.fold refl head.1 is refl)

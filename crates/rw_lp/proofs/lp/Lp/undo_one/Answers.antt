@@ -1,0 +1,63 @@
+use Rattle.std.proofs.Common.{◌≡◌, true, List, [], ◌++◌, sym, ap, ◌∙◌, subst}
+use Rattle.rw_vt.specs.declared.event.Letter.{Letter}
+use Rattle.rw_vt.specs.Order.{event_cmp, Has}
+use Rattle.rw_vt.proofs.EventOrder.{events_exact}
+use Rattle.rw_vt.proofs.Sorting.{IsExactOrder}
+use Rattle.rw_vt.proofs.Bags.{Each-insert}
+use Rattle.rw_lp.specs.declared.step.Answer.TheVariants.{Done}
+use Rattle.rw_lp.specs.Past.{Past}
+use Rattle.rw_lp.specs.Process.{Process, undone, undo_one}
+use Rattle.rw_lp.specs.Calls.{LogicalProcess, process_of, rules, Took}
+use Rattle.rw_lp.proofs.Bridges.{is_undone}
+use Rattle.rw_lp.proofs.Balance.{undoing_balanced}
+use Rattle.rw_lp.specs.Sound.{Change}
+use Rattle.rw_vt.specs.System.{after}
+use Rattle.rw_lp.specs.Past.{TookBack, IsTakenBack}
+use Rattle.rw_lp.proofs.lp.Lp.undo_one.Goals as goal
+
+pub invariant_of-lp : goal.invariant_of-lp
+invariant_of-lp g c = λ e k.
+    let back = c.in_ok-history.ensures.back in
+    let none = subst (λ r. TookBack g.M.Model c.self.inside.history c.in_ok-history.history r back.0) c.in_default.is back.2 in
+    subst (λ (w : Past g.row.M.Denot g.row.M-State.Denot g.row.M-Body.Denot). (g.M.Model.is_valid w.model e ≡ true) × (e.to ≡ w.number)) (sym none.1) (c.self.invariant e k)
+
+pub invariant_of-lp-2 : goal.invariant_of-lp-2
+invariant_of-lp-2 g c = λ e k.
+    let o : IsExactOrder (event_cmp g.M.Body.Ord.cmp) = events_exact (record { total = g.met.M.Body.Ord.total; same = g.met.M.Model.same }) in
+    let back = c.in_ok-history.ensures.back in
+    let last : IsTakenBack g.M.Model c.self.inside.history c.in_ok-history.history c.in-Some.event back.0 = subst (λ r. TookBack g.M.Model c.self.inside.history c.in_ok-history.history r back.0) c.in-Some.is back.2 in
+    subst (λ (w : Past g.row.M.Denot g.row.M-State.Denot g.row.M-Body.Denot). (g.M.Model.is_valid w.model e ≡ true) × (e.to ≡ w.number)) (sym last.rest)
+    (Each-insert o (λ e. (g.M.Model.is_valid c.self.inside.history.model e ≡ true) × (e.to ≡ c.self.inside.history.number)) c.in-Some.event c.self.inside.pending (last.valid, last.here) c.self.invariant e (subst (λ l. Has (event_cmp g.M.Body.Ord.cmp) l e) c.in_ok-put.ensures.ok k))
+
+pub returns-clause-turn : goal.returns-clause-turn
+returns-clause-turn g c =
+    let back = c.in_ok-history.ensures.back in
+    let last : IsTakenBack g.M.Model c.self.inside.history c.in_ok-history.history c.in-Some.event back.0 = subst (λ r. TookBack g.M.Model c.self.inside.history c.in_ok-history.history r back.0) c.in-Some.is back.2 in
+    let x = process_of c.self.inside.history c.self.inside.pending c.self.inside.debts in
+    let y = rules g.M.Model g.M.Body.Ord.cmp x.model in
+    let e = c.in-Some.event in
+    let front = c.in_ok-history.history.processed in
+    let now : Process g.row.M-State.Denot g.row.M-Body.Denot = (process_of c.in_ok-history.history c.put.new.self c.self.inside.debts).process in
+    let past : Past g.row.M.Denot g.row.M-State.Denot g.row.M-Body.Denot = record { model = x.model; number = x.number; start = x.process.start; committed = x.process.committed; processed = front; state = after (y.step x.number) x.process.start (x.process.committed ++ front) } in
+    let is : now ≡ undone y x.number x.process front e [] =
+    ap (λ (h : Past g.row.M.Denot g.row.M-State.Denot g.row.M-Body.Denot). (process_of h c.put.new.self c.self.inside.debts).process) last.rest
+    ∙ ap (λ l. (process_of past l c.self.inside.debts).process) c.in_ok-put.ensures.ok in
+    subst (λ (w : LogicalProcess g.row.M.Denot g.row.M-State.Denot g.row.M-Body.Denot). (given : List (Letter g.row.M-Body.Denot)) × (c.undo.new.out.items ≡ c.args.out.now.items ++ given) × Took w.process now Done given (undo_one (rules g.M.Model g.M.Body.Ord.cmp w.model) w.number w.process)) c.self.view_is
+    (back.0, back.1, is_undone y x.number x.process front e last.last now back.0 is last.sent)
+
+pub returns-clause-balance : goal.returns-clause-balance
+returns-clause-balance g c =
+    let o : IsExactOrder (event_cmp g.M.Body.Ord.cmp) = events_exact (record { total = g.met.M.Body.Ord.total; same = g.met.M.Model.same }) in
+    let back = c.in_ok-history.ensures.back in
+    let last : IsTakenBack g.M.Model c.self.inside.history c.in_ok-history.history c.in-Some.event back.0 = subst (λ r. TookBack g.M.Model c.self.inside.history c.in_ok-history.history r back.0) c.in-Some.is back.2 in
+    let x = process_of c.self.inside.history c.self.inside.pending c.self.inside.debts in
+    let y = rules g.M.Model g.M.Body.Ord.cmp x.model in
+    let e = c.in-Some.event in
+    let front = c.in_ok-history.history.processed in
+    let now : Process g.row.M-State.Denot g.row.M-Body.Denot = (process_of c.in_ok-history.history c.put.new.self c.self.inside.debts).process in
+    let past : Past g.row.M.Denot g.row.M-State.Denot g.row.M-Body.Denot = record { model = x.model; number = x.number; start = x.process.start; committed = x.process.committed; processed = front; state = after (y.step x.number) x.process.start (x.process.committed ++ front) } in
+    let is : now ≡ undone y x.number x.process front e [] =
+    ap (λ (h : Past g.row.M.Denot g.row.M-State.Denot g.row.M-Body.Denot). (process_of h c.put.new.self c.self.inside.debts).process) last.rest
+    ∙ ap (λ l. (process_of past l c.self.inside.debts).process) c.in_ok-put.ensures.ok in
+    subst (λ (w : LogicalProcess g.row.M.Denot g.row.M-State.Denot g.row.M-Body.Denot). (given : List (Letter g.row.M-Body.Denot)) × (c.undo.new.out.items ≡ c.args.out.now.items ++ given) × Change (rules g.M.Model g.M.Body.Ord.cmp w.model) w.number w.process now [] given) c.self.view_is
+    (back.0, back.1, undoing_balanced y o x.number x.process now front e back.0 last.last is last.sent)

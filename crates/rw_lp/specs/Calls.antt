@@ -1,0 +1,55 @@
+-- What contracts see of a logical process, and what a call on it answers against the turn that it is to take.
+use Rattle.std.specs.Prelude.{◌≡◌, ℕ, min, List, [], ◌∷◌}
+use Rattle.std.specs.declared.cmp.Ordering.{Ordering}
+use Rattle.rw_vt.specs.declared.event.Event.{Event}
+use Rattle.rw_vt.specs.declared.event.Letter.{Letter}
+use Rattle.rw_vt.specs.declared.model.Model.{Ghosts}
+use Rattle.rw_vt.specs.System.{System, system}
+use Rattle.rw_vt.specs.Order.{in_order}
+use Rattle.rw_lp.specs.declared.step.Answer.{Answer}
+use Rattle.rw_lp.specs.declared.step.Answer.TheVariants.{Done, Refused}
+use Rattle.rw_lp.specs.Past.{Past}
+use Rattle.rw_lp.specs.Process.{Process, Turn, Turned, Stays}
+
+-- a process, with the model that it runs and its number there
+pub record LogicalProcess (M S B : Type 0) : Type 0 where
+  pub model : M
+  pub number : ℕ
+  pub process : Process S B
+
+-- what was done, with what is pending and owed
+abbrev pub process_of : {M S B : Type 0} → Past M S B → List (Event B) → List (Event B) → LogicalProcess M S B
+process_of x pending debts =
+    record {
+      model = x.model;
+      number = x.number;
+      process = record { start = x.start; committed = x.committed; processed = x.processed; pending = pending; debts = debts; held = []; state = x.state };
+    }
+
+-- how processes of the model m step, whatever their starts are
+abbrev pub rules : {M S B U : Type 0} → Ghosts M S B U → (B → B → Ordering) → M → System S B
+rules model order m = system model order m [] []
+
+-- a process that has done nothing yet, and to which these events are to come
+abbrev pub unstarted : {S B : Type 0} → (Event B → Event B → Ordering) → S → List (Event B) → Process S B
+unstarted cmp start initial = record { start = start; committed = []; processed = []; pending = in_order cmp initial; debts = []; held = []; state = start }
+
+-- from x the call came to z with this answer and gave these letters out, as the turn says
+abbrev pub Took : {S B : Type 0} → Process S B → Process S B → Answer → List (Letter B) → Turn S B → Type 0
+Took x z a given (Turned after out) = (z ≡ after) × (a ≡ Done) × (given ≡ out)
+Took x z a given (Stays fault) = (z ≡ x) × (a ≡ Refused fault) × (given ≡ [])
+
+-- what a delivery takes up: the letter, unless it is refused
+abbrev pub came : {B : Type 0} → Answer → Letter B → List (Letter B)
+came Done l = l ∷ []
+came (Refused fault) l = []
+
+-- the turn is taken
+abbrev pub IsTaken : {S B : Type 0} → Turn S B → Type 0
+IsTaken (Turned after out) = Unit {0}
+IsTaken (Stays fault) = ⊥
+
+-- the least of m and the times of these events
+abbrev pub least : {B : Type 0} → ℕ → List (Event B) → ℕ
+least m [] = m
+least m (e ∷ es) = min e.time (least m es)

@@ -1,0 +1,6 @@
+pub mod HeldMessages
+pub mod Process
+pub mod Sound
+pub mod Past
+pub mod Calls
+pub mod Arrival

@@ -1,0 +1,53 @@
+-- What a process has done, and the records that take it back (reverse computation: Carothers, Perumalla and Fujimoto 1999).
+use Rattle.std.specs.Prelude.{◌≡◌, ◌<◌, ℕ, true, List, [], ◌∷◌, ◌++◌, Option, Some, None}
+use Rattle.std.specs.declared.cmp.Ordering.{Ordering}
+use Rattle.rw_vt.specs.declared.event.Event.{Event}
+use Rattle.rw_vt.specs.declared.event.Letter.{Letter}
+use Rattle.rw_vt.specs.declared.model.Model.{Ghosts}
+use Rattle.rw_vt.specs.Order.{IsAscending}
+use Rattle.rw_vt.specs.Letters.{letters_of}
+use Rattle.rw_vt.specs.System.{after}
+use Rattle.rw_lp.specs.declared.undo_record.UndoRecord.{UndoRecord}
+
+-- a process of a model: its number, where it started, what it did, and where that led
+pub record Past (M S B : Type 0) : Type 0 where
+  pub model : M
+  pub number : ℕ
+  pub start : S
+  pub committed : List (Event B)
+  pub processed : List (Event B)
+  pub state : S
+
+-- the record takes back event e, which process p may execute in the state before
+pub record IsRecordOf {M S B U : Type 0} (model : Ghosts M S B U) (m : M) (p : ℕ) (before : S) (e : Event B) (r : UndoRecord B U) : Type 0 where
+  pub valid : model.is_valid m e ≡ true
+  pub here : e.to ≡ p
+  pub sends : r.sends.items ≡ (model.step m p before e).1
+  pub links : model.Links m p before e r.undo (model.step m p before e).0
+
+-- from the state s these events, each with its record, lead to the state t
+abbrev pub Leads : {M S B U : Type 0} → Ghosts M S B U → M → ℕ → S → List (Event B) → List (UndoRecord B U) → S → Type 0
+Leads model m p s [] [] t = t ≡ s
+Leads model m p s [] (r ∷ rs) t = ⊥
+Leads model m p s (e ∷ es) [] t = ⊥
+Leads model m p s (e ∷ es) (r ∷ rs) t = IsRecordOf model m p s e r × Leads model m p (model.step m p s e).0 es rs t
+
+-- from a well-formed start the committed events and then the processed ones, which are in order, lead to the state, and each processed one can be taken back
+pub record IsLinked {M S B U : Type 0} (model : Ghosts M S B U) (cmp : Event B → Event B → Ordering) (x : Past M S B) (records : List (UndoRecord B U)) : Type 0 where
+  pub number : x.number < model.process_count x.model
+  pub well_formed : model.IsWellFormed x.model x.number (after (model.step x.model x.number) x.start x.committed)
+  pub leads : Leads model x.model x.number (after (model.step x.model x.number) x.start x.committed) x.processed records x.state
+  pub order : IsAscending cmp x.processed
+
+-- the last processed event e of x is taken back, which leads to z and gives these letters out
+pub record IsTakenBack {M S B U : Type 0} (model : Ghosts M S B U) (x z : Past M S B) (e : Event B) (given : List (Letter B)) : Type 0 where
+  pub last : x.processed ≡ z.processed ++ e ∷ []
+  pub rest : z ≡ record { model = x.model; number = x.number; start = x.start; committed = x.committed; processed = z.processed; state = after (model.step x.model x.number) x.start (x.committed ++ z.processed) }
+  pub valid : model.is_valid x.model e ≡ true
+  pub here : e.to ≡ x.number
+  pub sent : given ≡ letters_of true (model.step x.model x.number (after (model.step x.model x.number) x.start (x.committed ++ z.processed)) e).1
+
+-- the last processed event of x, if there is one, is taken back
+abbrev pub TookBack : {M S B U : Type 0} → Ghosts M S B U → Past M S B → Past M S B → Option (Event B) → List (Letter B) → Type 0
+TookBack model x z None given = (x.processed ≡ []) × (z ≡ x) × (given ≡ [])
+TookBack model x z (Some e) given = IsTakenBack model x z e given

@@ -1,0 +1,10 @@
+use rw_vt::Event;
+
+/// A message that an undone event sent and that is not cancelled yet (lazy cancellation). No call holds one back so far.
+#[derive(Clone, Copy, Debug, PartialEq, Eq)]
+pub struct Held<B> {
+    /// The event that was undone, which is pending again.
+    pub undone: Event<B>,
+    /// The message that it had sent.
+    pub message: Event<B>,
+}

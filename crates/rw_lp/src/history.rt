@@ -1,0 +1,202 @@
+ghost use Rattle.std.specs.Prelude.{◌≡◌, ◌<◌, ◌≤◌, ◌++◌, ◌∷◌, ◌↔◌, true, false, List, [], IfOk, IfErr, OnOk, filter, nat_lt, nat_le, length};
+ghost use Rattle.std.specs.List.{position_or_len};
+ghost use Rattle.rw_vt.specs.Order.{event_cmp, has, IsAscending};
+ghost use Rattle.rw_vt.specs.Letters.{letters_of};
+ghost use Rattle.rw_vt.specs.System.{after};
+ghost use Rattle.rw_vt.specs.declared.event.Letter.{Letter};
+ghost use Rattle.rw_vt.specs.declared.refusal.Refusal.TheVariants.{Memory};
+ghost use Rattle.rw_lp.specs.Process.{is_less_than_last, split_last};
+ghost use Rattle.rw_lp.specs.Past.{Past, IsLinked, TookBack};
+
+use crate::bags::holds;
+use crate::letters::give;
+use crate::undo_record::UndoRecord;
+use rw_vt::{Event, Letter, Model as VtModel, Refusal};
+use std::alloc::Global;
+use std::marker::Model;
+use std::snapshot::Snapshot;
+
+/// What a process has done: the committed events, which stay, and then the processed ones, each with the record that
+/// takes it back, and the state that they lead to.
+#[derive(Drop)]
+pub struct History<M: VtModel> {
+    model: Snapshot<M>,
+    number: u32,
+    start: Snapshot<M::State>,
+    committed: Vec<Event<M::Body>>,
+    processed: Vec<Event<M::Body>>,
+    records: Vec<UndoRecord<M::Body, M::Undo>>,
+    state: M::State,
+}
+
+impl<M: VtModel> Model for History<M> {
+    ghost Value = { Past M M.State M.Body };
+
+    ghost view = { λ x. record { model = x.model.value; number = x.number; start = x.start.value; committed = x.committed.items; processed = x.processed.items; state = x.state } };
+
+    ghost invariant = { λ x. IsLinked M.Model (event_cmp M.Body.cmp) (record { model = x.model.value; number = x.number; start = x.start.value; committed = x.committed.items; processed = x.processed.items; state = x.state }) x.records.items };
+}
+
+impl<M: VtModel> History<M> {
+    /// Process `number` of the model, in its start state.
+    pub fn new(alloc: Global, model: &M, number: u32, start: M::State) -> History<M>
+        requires number { number < M.process_count model.now }
+        requires start { M.IsWellFormed model.now number start }
+        ensures is { result ≡ record { model = model.now; number = number; start = start; committed = []; processed = []; state = start } }
+    {
+        History {
+            model: Snapshot::of(model),
+            number,
+            start: Snapshot::of(&start),
+            committed: Vec::new(alloc),
+            processed: Vec::new(alloc),
+            records: Vec::new(alloc),
+            state: start,
+        }
+    }
+
+    /// Whether the event is less than the last done one: a straggler.
+    pub fn is_past(&self, event: &Event<M::Body>) -> bool
+        ensures { result ≡ is_less_than_last (event_cmp M.Body.cmp) event.now (split_last (self.now.committed ++ self.now.processed)) }
+    {
+        if let Some((last, _front)) = self.processed.split_last() {
+            return last.cmp(event).is_gt();
+        }
+        if let Some((last, _front)) = self.committed.split_last() {
+            return last.cmp(event).is_gt();
+        }
+        false
+    }
+
+    /// Executes an event that is not a straggler, and appends messages of its sends to `out`.
+    pub fn execute(
+        self,
+        alloc: Global,
+        model: &M,
+        event: Event<M::Body>,
+        out: &mut Vec<Letter<M::Body>>,
+    ) -> Result<History<M>, Refusal>
+        requires model { model.now ≡ self.model }
+        requires valid { M.is_valid self.model event ≡ true }
+        requires here { event.to ≡ self.number }
+        requires late { is_less_than_last (event_cmp M.Body.cmp) event (split_last (self.committed ++ self.processed)) ≡ false }
+        ensures after { IfOk result (λ h. h ≡ record { model = self.model; number = self.number; start = self.start; committed = self.committed; processed = self.processed ++ event ∷ []; state = (M.step self.model self.number self.state event).0 }) }
+        ensures sent { OnOk result (out.new.items ≡ out.old.items ++ letters_of false (M.step self.model self.number self.state event).1) }
+        ensures exhausted { (result ≡ Err Refusal.Exhausted) ↔ (M.is_exhausted self.model self.state ≡ true) }
+        ensures fold { OnOk result (self.state ≡ after (M.step self.model self.number) self.start (self.committed ++ self.processed)) }
+    {
+        let mut history = self;
+        let mut sends = Vec::new(alloc);
+        let undo = model.execute(
+            alloc,
+            history.number,
+            &mut history.state,
+            &event,
+            &mut sends,
+        )?;
+        give(out, sends.as_slice(), false)?;
+        history.processed.push(event)?;
+        history.records.push(UndoRecord { sends, undo })?;
+        Ok(history)
+    }
+
+    /// Takes the last processed event back, and appends anti-messages of its sends to `out`, in order. Where no event
+    /// is processed, nothing changes.
+    pub fn undo(
+        self,
+        alloc: Global,
+        model: &M,
+        out: &mut Vec<Letter<M::Body>>,
+    ) -> Result<(History<M>, Option<Event<M::Body>>), Refusal>
+        requires model { model.now ≡ self.model }
+        ensures back { IfOk result (λ r. (given : List (Letter M.Body)) × (out.new.items ≡ out.old.items ++ given) × TookBack M.Model self r.0 r.1 given) }
+        ensures memory { IfErr result (λ e. e ≡ Memory) }
+    {
+        let mut history = self;
+        let Some(event) = history.processed.pop() else {
+            return Ok((history, None));
+        };
+        let Some(UndoRecord { sends, undo }) = history.records.pop() else {
+            unreachable!();
+        };
+        model.reverse(alloc, history.number, &mut history.state, &event, undo)?;
+        give(out, sends.as_slice(), true)?;
+        Ok((history, Some(event)))
+    }
+
+    /// Commits the processed events of time below `time`, and drops the records that would take them back.
+    pub fn commit(self, time: u64) -> Result<History<M>, Refusal>
+        ensures committed { IfOk result (λ h. h ≡ record { model = self.model; number = self.number; start = self.start; committed = self.committed ++ filter (λ e. nat_lt e.time time) self.processed; processed = filter (λ e. nat_le time e.time) self.processed; state = self.state }) }
+        ensures done { IfOk result (λ h. h.committed ++ h.processed ≡ self.committed ++ self.processed) }
+        ensures memory { IfErr result (λ e. e ≡ Memory) }
+    {
+        let mut history = self;
+        let count = count_before(history.processed.as_slice(), time);
+        let rest = history.processed.split_off(count)?;
+        history.committed.append(&mut history.processed)?;
+        history.processed = rest;
+        history.records = history.records.split_off(count)?;
+        Ok(history)
+    }
+
+    /// Whether a copy of the event is processed.
+    pub fn holds(&self, event: Event<M::Body>) -> bool
+        ensures { result ≡ has (event_cmp M.Body.cmp) event self.now.processed }
+    {
+        holds(&self.processed, event)
+    }
+
+    /// The committed events. Takes no memory.
+    pub fn committed(&self) -> &[Event<M::Body>]
+        ensures { result.now ≡ self.now.committed }
+    {
+        &self.committed
+    }
+
+    /// The processed events that are not committed. Takes no memory.
+    pub fn processed(&self) -> &[Event<M::Body>]
+        ensures is { result.now ≡ self.now.processed }
+        ensures order { IsAscending (event_cmp M.Body.cmp) self.now.processed }
+    {
+        &self.processed
+    }
+
+    /// The state after all of them. Takes no memory.
+    pub fn state(&self) -> &M::State
+        ensures is { result.now ≡ self.now.state }
+        ensures fold { self.now.state ≡ after (M.step self.now.model self.now.number) self.now.start (self.now.committed ++ self.now.processed) }
+    {
+        &self.state
+    }
+
+    /// The committed events and the state. Takes no memory.
+    pub fn into_outcome(self) -> (Vec<Event<M::Body>>, M::State)
+        ensures { (result.0.items ≡ self.committed) × (result.1 ≡ self.state) }
+    {
+        let History {
+            model: _,
+            number: _,
+            start: _,
+            committed,
+            processed: _,
+            records: _,
+            state,
+        } = self;
+        (committed, state)
+    }
+}
+
+/// How many events at the front have times below `time`.
+fn count_before<B>(events: &[Event<B>], time: u64) -> usize
+    ensures first { result ≡ position_or_len (λ e. nat_le time e.time) events.now }
+    ensures within { result ≤ length events.now }
+{
+    let mut count = 0;
+    for event in events {
+        if time <= event.time {
+            return count;
+        }
+        count += 1;
+    }
+    count
+}

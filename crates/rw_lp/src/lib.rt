@@ -1,0 +1,33 @@
+#![tactic(auto)]
+//! A logical process of Time Warp (Jefferson 1985): it executes ahead of the others, and takes back what it did too early.
+//!
+//! [`Lp`] keeps what it did with the records that take it back, its pending events and its debts. Each call is one step
+//! of the relation that `specs/Process.antt` defines, or, for `arrive`, the fewest undoings and a delivery. Nothing here
+//! knows what a model's events mean: all rests on the laws of [`rw_vt::Model`].
+
+ghost use Rattle.std.specs.Prelude.{◌≡◌, ℕ, List, slice_get, Some};
+ghost use Rattle.rw_vt.specs.declared.event.Event.{Event};
+ghost use Rattle.rw_vt.specs.System.{system, IsReady};
+ghost use Rattle.rw_lp.specs.Process.{Process};
+ghost use Rattle.rw_lp.specs.Sound.{SoundAt, KeepsAll};
+
+mod bag;
+mod bags;
+mod held;
+mod history;
+mod letters;
+mod lp;
+mod step;
+mod undo_record;
+
+pub use held::Held;
+pub use lp::Lp;
+use rw_vt::Model;
+pub use step::{Answer, StepFault};
+
+/// Each step of a sound process keeps it sound. It changes what is done and pending, less what is owed, by exactly
+/// the letter that came, and what its done events sent by exactly the letters that it gives out. This is the law of the
+/// definitions that the calls of [`Lp`] meet, for every model; the call itself does nothing.
+pub fn every_turn<M: Model>()
+    ensures { (m : M) (starts : List M.State) (initial : List (Event M.Body)) (g p : ℕ) (x : Process M.State M.Body) → IsReady M.Model m starts initial → slice_get starts p ≡ Some x.start → SoundAt (system M.Model M.Body.cmp m starts initial) g p x → KeepsAll (system M.Model M.Body.cmp m starts initial) g p x }
+{}

@@ -1,0 +1,286 @@
+ghost use Rattle.std.specs.Prelude.{◌≡◌, ◌<◌, ◌≤◌, ◌++◌, ◌∷◌, ◌↔◌, ◌^◌, true, false, List, [], IfOk, IfErr, MatchOption, All};
+ghost use Rattle.rw_vt.specs.Order.{event_cmp, AtMost, Each, Has, IsAscending};
+ghost use Rattle.rw_vt.specs.System.{after};
+ghost use Rattle.rw_vt.specs.declared.event.Event.{Event};
+ghost use Rattle.rw_vt.specs.declared.event.Letter.{Letter};
+ghost use Rattle.rw_vt.specs.declared.refusal.Refusal.TheVariants.{Memory};
+ghost use Rattle.rw_lp.specs.Process.{Process, done, deliver, execute_next, undo_one, collect};
+ghost use Rattle.rw_lp.specs.Calls.{LogicalProcess, process_of, rules, unstarted, Took, came, least};
+ghost use Rattle.rw_lp.specs.Sound.{Change};
+ghost use Rattle.rw_lp.specs.Arrival.{Arrived, is_barred};
+
+use crate::bag::Bag;
+use crate::bags::{ends_after, holds};
+use crate::history::History;
+use crate::step::{Answer, StepFault};
+use rw_vt::{Event, Letter, Model as VtModel, Refusal};
+use std::alloc::Global;
+use std::marker::Model;
+
+/// A logical process of a model (Jefferson 1985): it executes its pending events in order, ahead of the other
+/// processes, and takes back what it did too early.
+///
+/// Its events are done, first those committed and then those processed, or pending. A debt is an anti-message that
+/// came before its message. Contracts see a process with its model and its number, and name its start, which no running
+/// code reads. Each call that takes a model takes the one that `new` took. A call that is refused with a [`Refusal`]
+/// hands nothing back, and nothing is then said of `out`.
+#[derive(Drop)]
+pub struct Lp<M: VtModel> {
+    history: History<M>,
+    pending: Bag<M>,
+    debts: Bag<M>,
+}
+
+impl<M: VtModel> Model for Lp<M> {
+    ghost Value = { LogicalProcess M M.State M.Body };
+
+    ghost view = { λ x. process_of x.history x.pending x.debts };
+
+    ghost invariant = { λ x. Each (event_cmp M.Body.cmp) (λ e. (M.is_valid x.history.model e ≡ true) × (e.to ≡ x.history.number)) x.pending };
+}
+
+impl<M: VtModel> Lp<M> {
+    /// Process `number` of the model in its start state, with these events pending. Refused only as `Memory`.
+    pub fn new(
+        alloc: Global,
+        model: &M,
+        number: u32,
+        start: M::State,
+        initial: Vec<Event<M::Body>>,
+    ) -> Result<Lp<M>, Refusal>
+        requires number { number < M.process_count model.now }
+        requires start { M.IsWellFormed model.now number start }
+        requires initial { All (λ e. (M.is_valid model.now e ≡ true) × (e.to ≡ number)) initial.items }
+        ensures opened { IfOk result (λ lp. lp ≡ record { model = model.now; number = number; process = unstarted (event_cmp M.Body.cmp) start initial.items }) }
+        ensures memory { IfErr result (λ e. e ≡ Memory) }
+    {
+        let pending = Bag::from_events(initial)?;
+        Ok(Lp {
+            history: History::new(alloc, model, number, start),
+            pending,
+            debts: Bag::new(alloc),
+        })
+    }
+
+    /// A letter comes: a message and its anti-message annihilate, whichever comes first (Jefferson 1985).
+    ///
+    /// Whole events are compared, and equal copies count. A message takes one equal debt away, or else its event becomes
+    /// pending. An anti-message takes one equal pending event away; or else `StillDone` is answered where its event is processed,
+    /// and the process is as it was; or else it becomes a debt. Refused only as `Memory`.
+    pub fn deliver(self, letter: Letter<M::Body>) -> Result<(Lp<M>, Answer), Refusal>
+        requires valid { M.is_valid self.model letter.event ≡ true }
+        requires here { letter.event.to ≡ self.number }
+        ensures same { IfOk result (λ r. (r.0.model ≡ self.model) × (r.0.number ≡ self.number)) }
+        ensures turn { IfOk result (λ r. Took self.process r.0.process r.1 [] (deliver (event_cmp M.Body.cmp) letter self.process)) }
+        ensures balance { IfOk result (λ r. Change (rules M.Model M.Body.cmp self.model) self.number self.process r.0.process (came r.1 letter) []) }
+        ensures memory { IfErr result (λ e. e ≡ Memory) }
+    {
+        let mut lp = self;
+        let event = letter.event;
+        if letter.anti {
+            if lp.pending.take(event) {
+                return Ok((lp, Answer::Done));
+            }
+            if lp.history.holds(event) {
+                return Ok((lp, Answer::Refused(StepFault::StillDone)));
+            }
+            lp.debts.put(event)?;
+            return Ok((lp, Answer::Done));
+        }
+        if lp.debts.take(event) {
+            return Ok((lp, Answer::Done));
+        }
+        lp.pending.put(event)?;
+        Ok((lp, Answer::Done))
+    }
+
+    /// Executes the least pending event, and appends messages of its sends to `out`, in order.
+    ///
+    /// Answers `NothingPending`, or `Straggler` where that event is less than the last done one; the process and `out` are
+    /// then as they were. Refused as `Exhausted` only where the model's state can take no further event.
+    pub fn execute_next(
+        self,
+        alloc: Global,
+        model: &M,
+        out: &mut Vec<Letter<M::Body>>,
+    ) -> Result<(Lp<M>, Answer), Refusal>
+        requires model { model.now ≡ self.model }
+        ensures same { IfOk result (λ r. (r.0.model ≡ self.model) × (r.0.number ≡ self.number)) }
+        ensures turn { IfOk result (λ r. (given : List (Letter M.Body)) × (out.new.items ≡ out.old.items ++ given) × Took self.process r.0.process r.1 given (execute_next (rules M.Model M.Body.cmp self.model) self.number self.process)) }
+        ensures balance { IfOk result (λ r. (given : List (Letter M.Body)) × (out.new.items ≡ out.old.items ++ given) × Change (rules M.Model M.Body.cmp self.model) self.number self.process r.0.process [] given) }
+        ensures exhausted { result ≡ Err Refusal.Exhausted → M.is_exhausted self.model self.process.state ≡ true }
+    {
+        let Some(first) = self.pending.first() else {
+            return Ok((self, Answer::Refused(StepFault::NothingPending)));
+        };
+        let event = *first;
+        if self.history.is_past(&event) {
+            return Ok((self, Answer::Refused(StepFault::Straggler)));
+        }
+        let Lp {
+            history,
+            mut pending,
+            debts,
+        } = self;
+        let _taken = pending.take(event);
+        let history = history.execute(alloc, model, event, out)?;
+        let lp = Lp {
+            history,
+            pending,
+            debts,
+        };
+        Ok((lp, Answer::Done))
+    }
+
+    /// Takes the last processed event back: it is pending again, and anti-messages of its sends are appended to `out`, in
+    /// order.
+    ///
+    /// Answers `NothingToUndo` where no event is processed that is not committed; the process and `out` are then as they
+    /// were. By reverse computation (Carothers, Perumalla and Fujimoto 1999). Refused only as `Memory`.
+    pub fn undo_one(
+        self,
+        alloc: Global,
+        model: &M,
+        out: &mut Vec<Letter<M::Body>>,
+    ) -> Result<(Lp<M>, Answer), Refusal>
+        requires model { model.now ≡ self.model }
+        ensures same { IfOk result (λ r. (r.0.model ≡ self.model) × (r.0.number ≡ self.number)) }
+        ensures turn { IfOk result (λ r. (given : List (Letter M.Body)) × (out.new.items ≡ out.old.items ++ given) × Took self.process r.0.process r.1 given (undo_one (rules M.Model M.Body.cmp self.model) self.number self.process)) }
+        ensures balance { IfOk result (λ r. (given : List (Letter M.Body)) × (out.new.items ≡ out.old.items ++ given) × Change (rules M.Model M.Body.cmp self.model) self.number self.process r.0.process [] given) }
+        ensures memory { IfErr result (λ e. e ≡ Memory) }
+    {
+        let Lp {
+            history,
+            mut pending,
+            debts,
+        } = self;
+        let (history, undone) = history.undo(alloc, model, out)?;
+        let Some(event) = undone else {
+            let lp = Lp {
+                history,
+                pending,
+                debts,
+            };
+            return Ok((lp, Answer::Refused(StepFault::NothingToUndo)));
+        };
+        pending.put(event)?;
+        let lp = Lp {
+            history,
+            pending,
+            debts,
+        };
+        Ok((lp, Answer::Done))
+    }
+
+    /// A letter arrives: the fewest undoings are made after which it is accepted and, if it is a message, no processed event
+    /// is greater than it; then it is delivered (Jefferson 1985: rollback). Anti-messages of what the undone events sent
+    /// are appended to `out`, in the order of the undoings. Refused only as `Memory`.
+    pub fn arrive(
+        self,
+        alloc: Global,
+        model: &M,
+        letter: Letter<M::Body>,
+        out: &mut Vec<Letter<M::Body>>,
+    ) -> Result<Lp<M>, Refusal>
+        requires model { model.now ≡ self.model }
+        requires valid { M.is_valid self.model letter.event ≡ true }
+        requires here { letter.event.to ≡ self.number }
+        ensures same { IfOk result (λ lp. (lp.model ≡ self.model) × (lp.number ≡ self.number)) }
+        ensures arrived { IfOk result (λ lp. (given : List (Letter M.Body)) × (out.new.items ≡ out.old.items ++ given) × Arrived (rules M.Model M.Body.cmp self.model) self.number letter self.process lp.process given) }
+        ensures balance { IfOk result (λ lp. (given : List (Letter M.Body)) × (out.new.items ≡ out.old.items ++ given) × Change (rules M.Model M.Body.cmp self.model) self.number self.process lp.process (letter ∷ []) given) }
+        ensures memory { IfErr result (λ e. e ≡ Memory) }
+    {
+        let mut lp = self;
+        'undoing: while lp.is_barred(&letter) {
+            let (undone, _answer) = lp.undo_one(alloc, model, out)?;
+            lp = undone;
+        }
+        let (lp, _answer) = lp.deliver(letter)?;
+        Ok(lp)
+    }
+
+    /// Whether the letter cannot come before the last processed event is undone.
+    fn is_barred(&self, letter: &Letter<M::Body>) -> bool
+        ensures is { result ≡ is_barred (event_cmp M.Body.cmp) letter.now self.now.process }
+        ensures order { IsAscending (event_cmp M.Body.cmp) self.now.process.processed }
+    {
+        let processed = self.history.processed();
+        if letter.anti {
+            holds(processed, letter.event) && !self.pending.holds(letter.event)
+        } else {
+            ends_after(processed, &letter.event)
+        }
+    }
+
+    /// Commits the processed events of time below `time`, in ticks, and drops what would take them back: fossil collection
+    /// (Jefferson 1985). No pending event and no debt may be earlier than `time`. Refused only as `Memory`.
+    pub fn collect(self, time: u64) -> Result<Lp<M>, Refusal>
+        requires pending { Each (event_cmp M.Body.cmp) (λ e. time ≤ e.time) self.process.pending }
+        requires debts { Each (event_cmp M.Body.cmp) (λ e. time ≤ e.time) self.process.debts }
+        ensures collected { IfOk result (λ lp. lp ≡ record { model = self.model; number = self.number; process = collect time self.process }) }
+        ensures done { IfOk result (λ lp. done lp.process ≡ done self.process) }
+        ensures memory { IfErr result (λ e. e ≡ Memory) }
+    {
+        let Lp {
+            history,
+            pending,
+            debts,
+        } = self;
+        let history = history.commit(time)?;
+        Ok(Lp {
+            history,
+            pending,
+            debts,
+        })
+    }
+
+    /// The least time of pending events and debts, in ticks, or [`END`](rw_vt::END) if there is none. Takes no memory.
+    pub fn least(&self) -> u64
+        ensures { result ≡ least (least (2 ^ 40) self.now.process.debts) self.now.process.pending }
+    {
+        self.pending.least().min(self.debts.least())
+    }
+
+    /// The least pending event, which `execute_next` would execute. Takes no memory.
+    pub fn next(&self) -> Option<&Event<M::Body>>
+        ensures first { MatchOption result (self.now.process.pending ≡ []) (λ e. (rest : List (Event M.Body)) × (self.now.process.pending ≡ e.now ∷ rest)) }
+        ensures least { MatchOption result (self.now.process.pending ≡ []) (λ e. Has (event_cmp M.Body.cmp) self.now.process.pending e.now × Each (event_cmp M.Body.cmp) (λ a. AtMost (event_cmp M.Body.cmp) e.now a) self.now.process.pending) }
+    {
+        self.pending.first()
+    }
+
+    /// The committed events, in order. Takes no memory.
+    pub fn journal(&self) -> &[Event<M::Body>]
+        ensures { result.now ≡ self.now.process.committed }
+    {
+        self.history.committed()
+    }
+
+    /// The processed events that are not committed, in order. Takes no memory.
+    pub fn processed(&self) -> &[Event<M::Body>]
+        ensures { result.now ≡ self.now.process.processed }
+    {
+        self.history.processed()
+    }
+
+    /// The state, which is the fold of the done events from the start. Takes no memory.
+    pub fn state(&self) -> &M::State
+        ensures is { result.now ≡ self.now.process.state }
+        ensures fold { self.now.process.state ≡ after (M.step self.now.model self.now.number) self.now.process.start (done self.now.process) }
+    {
+        self.history.state()
+    }
+
+    /// The committed events and the state, by value. Takes no memory.
+    pub fn into_outcome(self) -> (Vec<Event<M::Body>>, M::State)
+        ensures journal { result.0.items ≡ self.process.committed }
+        ensures state { result.1 ≡ self.process.state }
+    {
+        let Lp {
+            history,
+            pending: _,
+            debts: _,
+        } = self;
+        history.into_outcome()
+    }
+}
