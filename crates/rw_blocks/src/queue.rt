@@ -4,8 +4,9 @@ ghost use Rattle.std.specs.Option.{option_map};
 ghost use Rattle.rw_blocks.specs.State.{QueueState, IsShape, start_of, row_at, row_or, section_at, active_of, sealed_block};
 ghost use Rattle.rw_blocks.specs.Sums.{total, bytes_held, rows_homed, rows_placed, has_kind, fill, bytes_in, bytes, below};
 ghost use Rattle.rw_blocks.specs.Loose.{IsLoose, IsWellFormed, IsFree, count, block_count, sealed_devices};
-ghost use Rattle.rw_blocks.specs.Primitives.{after_add, after_remove, after_rehome, after_replace, after_seal, after_take_out, after_split, after_merge};
+ghost use Rattle.rw_blocks.specs.Primitives.{after_add, after_remove, after_rehome, after_replace, after_seal, after_take_out, after_split, after_merge, with_row};
 ghost use Rattle.rw_blocks.specs.Undo.{undo_of, IsUndoable, Undoes};
+ghost use Rattle.rw_blocks.specs.declared.Mark.TheVariants.{Split};
 ghost use Rattle.rw_blocks.specs.Questions.{first_home, first_place, section_of, last_block, IsLastSealed};
 
 use crate::section::Section;
@@ -474,17 +475,10 @@ impl Queue {
                 object,
                 home,
                 place,
-            } => {
-                let size = self.row(object).unwrap().size;
-                self.rows.insert(object, Place { size, home, place })?;
-            }
+            } => self.move_back(object, home, place)?,
             Mark::Replace { object, place } => {
-                let Place {
-                    size,
-                    home,
-                    place: _,
-                } = self.row(object).unwrap();
-                self.rows.insert(object, Place { size, home, place })?;
+                let home = self.row(object).unwrap().home;
+                self.move_back(object, home, place)?;
             }
             Mark::Seal { section, kind } => {
                 self.sections[section].unseal(kind);
@@ -495,14 +489,8 @@ impl Queue {
                 position,
                 serial,
                 kind,
-            } => {
-                self.sections[section].put_back(position, serial, kind)?;
-            }
-            Mark::Split { section } => {
-                let lower = self.sections.remove(section + 1);
-                self.sections[section].append(lower)?;
-                self.next -= 2;
-            }
+            } => self.sections[section].put_back(position, serial, kind)?,
+            Mark::Split { section } => self.unsplit(section)?,
             Mark::Merge {
                 section,
                 upper_sealed,
@@ -511,8 +499,7 @@ impl Queue {
                 device_vanished,
                 virtual_vanished,
             } => {
-                let upper = &mut self.sections[section];
-                let lower = upper.part(
+                let lower = self.sections[section].part(
                     upper_sealed,
                     lower_device,
                     lower_virtual,
@@ -522,6 +509,28 @@ impl Queue {
                 self.sections.insert(section + 1, lower)?;
             }
         }
+        Ok(())
+    }
+
+    /// An object's home and place are again what they were.
+    fn move_back(&mut self, object: u64, home: u64, place: u64) -> Result<(), NoMemory>
+        requires { IsSome (row_at self.old object) }
+        ensures { OnOk result (self.new ≡ with_row self.old object (record { size = (row_or self.old object).size; home = home; place = place })) }
+    {
+        let size = self.row(object).unwrap().size;
+        self.rows.insert(object, Place { size, home, place })?;
+        Ok(())
+    }
+
+    /// The lower section of a split goes back into the upper one, and its active blocks were never made.
+    fn unsplit(&mut self, section: usize) -> Result<(), NoMemory>
+        requires there { section + 1 < length self.old.sections }
+        requires serials { 2 ≤ self.old.next }
+        ensures { OnOk result (self.new ≡ undo_of (Split section) self.old) }
+    {
+        let lower = self.sections.remove(section + 1);
+        self.sections[section].append(lower)?;
+        self.next -= 2;
         Ok(())
     }
 }

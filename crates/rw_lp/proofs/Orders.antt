@@ -140,6 +140,12 @@ module _ {B : Type 0} {cmp : Event B → Event B → Ordering} (o : IsExactOrder
       let same : x ≡ y = cc in
       least_first m y ys up ∙ ap (λ (e : Event B). min e.time m) (sym same)
 
+-- no event is earlier than the least
+pub least_each : {B : Type 0} {cmp : Event B → Event B → Ordering} → IsExactOrder cmp → (m : ℕ) (xs : List (Event B)) → Each cmp (λ e. least m xs ≤ e.time) xs
+least_each o m [] = Each-nil o (λ e. m ≤ e.time)
+least_each o m (x ∷ xs) =
+    Each-cons o (λ e. least m (x ∷ xs) ≤ e.time) x xs (omega arith) (λ e k. let late = least_each o m xs e k in omega arith)
+
 -- the least of two lists
 pub least_both : {B : Type 0} (m : ℕ) (xs ys : List (Event B)) → least (least m ys) xs ≡ min (least m xs) (least m ys)
 least_both m [] ys = go (below m ys)

@@ -236,7 +236,9 @@ impl<M: VtModel> Lp<M> {
 
     /// The least time of pending events and debts, in ticks, or [`END`](rw_vt::END) if there is none. Takes no memory.
     pub fn least(&self) -> u64
-        ensures { result ≡ least (least (2 ^ 40) self.now.process.debts) self.now.process.pending }
+        ensures is { result ≡ least (least (2 ^ 40) self.now.process.debts) self.now.process.pending }
+        ensures pending { Each (event_cmp M.Body.cmp) (λ e. result ≤ e.time) self.now.process.pending }
+        ensures debts { Each (event_cmp M.Body.cmp) (λ e. result ≤ e.time) self.now.process.debts }
     {
         self.pending.least().min(self.debts.least())
     }

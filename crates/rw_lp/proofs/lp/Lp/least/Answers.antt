@@ -1,9 +1,24 @@
-use Rattle.std.proofs.Common.{◌≡◌, sym, ap, ◌∙◌, subst, min}
+use Rattle.std.proofs.Common.{◌≡◌, ◌≤◌, sym, ap, ◌∙◌, subst, min, arith}
+use Rattle.rw_vt.specs.Order.{event_cmp, Each}
+use Rattle.rw_vt.proofs.EventOrder.{events_exact}
+use Rattle.rw_vt.proofs.Sorting.{IsExactOrder}
 use Rattle.rw_lp.specs.Calls.{LogicalProcess, least}
-use Rattle.rw_lp.proofs.Orders.{least_both}
+use Rattle.rw_lp.proofs.Orders.{least_both, least_each}
 use Rattle.rw_lp.proofs.lp.Lp.least.Goals as goal
 
-pub returns : goal.returns
-returns g c =
+pub returns-clause-is : goal.returns-clause-is
+returns-clause-is g c =
     subst (λ (w : LogicalProcess g.row.M.Denot g.row.M-State.Denot g.row.M-Body.Denot). c.min.result ≡ least (least 1099511627776 w.process.debts) w.process.pending) c.self.view_is
     (c.min.ensures ∙ ap (λ n. min n c.least-2.result) c.least.ensures ∙ ap (min (least 1099511627776 c.self.inside.pending)) c.least-2.ensures ∙ sym (least_both 1099511627776 c.self.inside.pending c.self.inside.debts))
+
+pub returns-clause-pending : goal.returns-clause-pending
+returns-clause-pending g c =
+    let o : IsExactOrder (event_cmp g.M.Body.Ord.cmp) = events_exact (record { total = g.met.M.Body.Ord.total; same = g.met.M.Model.same }) in
+    subst (λ (w : LogicalProcess g.row.M.Denot g.row.M-State.Denot g.row.M-Body.Denot). Each (event_cmp g.M.Body.Ord.cmp) (λ e. c.min.result ≤ e.time) w.process.pending) c.self.view_is
+    (λ e k. let late = least_each o 1099511627776 c.self.inside.pending e k in omega (arith, c.min.ensures, c.least.ensures))
+
+pub returns-clause-debts : goal.returns-clause-debts
+returns-clause-debts g c =
+    let o : IsExactOrder (event_cmp g.M.Body.Ord.cmp) = events_exact (record { total = g.met.M.Body.Ord.total; same = g.met.M.Model.same }) in
+    subst (λ (w : LogicalProcess g.row.M.Denot g.row.M-State.Denot g.row.M-Body.Denot). Each (event_cmp g.M.Body.Ord.cmp) (λ e. c.min.result ≤ e.time) w.process.debts) c.self.view_is
+    (λ e k. let late = least_each o 1099511627776 c.self.inside.debts e k in omega (arith, c.min.ensures, c.least-2.ensures))

@@ -1,0 +1,9 @@
+#![tactic(auto)]
+//! Worked examples that cross crates, each as a test: what is expected comes from the definitions, worked by hand.
+
+#[cfg(test)]
+mod desk;
+#[cfg(test)]
+mod edge_process;
+#[cfg(test)]
+mod station_process;

@@ -1,0 +1,152 @@
+#![tactic(auto)]
+//! Two stations that pass parcels to and fro: a small lawful model, on which generic code is tried beside the photo caches.
+
+use rw_vt::{END, Event, Model as VtModel, NoMemory, Refusal};
+use std::alloc::Global;
+
+/// Two stations, processes 0 and 1. Each parcel is passed on to the other one, `delay` ticks later, as long as that is before
+/// the end of time.
+#[derive(Clone, Copy, Debug)]
+pub struct Relay {
+    /// How long a parcel is on its way, in ticks, at least 1.
+    pub delay: u64,
+    ghost positive: { 0 < delay },
+}
+
+/// What a station keeps.
+#[derive(Clone, Copy, Debug, Default, PartialEq, Eq)]
+pub struct Station {
+    /// The amounts of all parcels that came, added modulo 2^64.
+    pub sum: u64,
+    /// The amount of the one that came last.
+    pub last: u32,
+    /// How many parcels it passed on, modulo 2^64.
+    pub sends: u64,
+}
+
+/// What comes to a station.
+#[derive(Clone, Copy, Debug, PartialEq, Eq, PartialOrd, Ord)]
+pub struct Parcel {
+    /// How much there is of it.
+    pub amount: u32,
+}
+
+/// What a parcel's coming destroyed, and which way it went.
+#[derive(Clone, Copy, Debug)]
+pub struct Track {
+    /// The amount that had come last before.
+    pub last: u32,
+    /// Whether the parcel was passed on.
+    pub sent: bool,
+}
+
+ghost use Rattle.std.specs.Prelude.{◌≡◌, ◌≤◌, ◌<◌, IsSome, IfSome, ◌↔◌};
+
+impl Relay {
+    /// A relay; None exactly where the delay is 0. Takes no memory.
+    pub fn new(delay: u64) -> Option<Relay>
+        ensures found { IsSome result ↔ 1 ≤ delay }
+        ensures delay { IfSome result (λ relay. relay.delay ≡ delay) }
+    {
+        if delay == 0 {
+            return None;
+        }
+        Some(Relay { delay })
+    }
+}
+
+impl VtModel for Relay {
+    type State = Station;
+
+    type Body = Parcel;
+
+    type Undo = Track;
+
+    ghost use Rattle.std.specs.Prelude.{ℕ, nat_le, Bool, ◌^◌};
+    ghost use Rattle.std.proofs.Common.{arith};
+    ghost use Rattle.rw_relay.specs.Parcels.{is_sound_event, IsStation, relay_step, IsTrackOf, relay_keeps, relay_future, relay_ranges, parcel_same};
+
+    ghost process_count = { λ _. 2 };
+
+    ghost is_valid = { λ _ e. is_sound_event e };
+
+    ghost IsWellFormed = { λ _ _ s. IsStation s };
+
+    ghost is_exhausted = { λ _ s. nat_le (2 ^ 62) s.sends };
+
+    ghost step = { relay_step };
+
+    ghost Links = { IsTrackOf };
+
+    ghost weight = { λ _. 1 };
+
+    ghost weight_bound = { λ _ _ _ _. 1 };
+
+    fn processes(&self) -> u32 {
+        2
+    }
+
+    fn valid(&self, event: &Event<Parcel>) -> bool {
+        let _number = event.number;
+        let _amount = event.body.amount;
+        event.time < END && event.source <= 2 && event.to < 2
+    }
+
+    fn exhausted(&self, state: &Station) -> bool {
+        state.sends >= 1 << 62
+    }
+
+    fn execute(
+        &self,
+        _alloc: Global,
+        process: u32,
+        state: &mut Station,
+        event: &Event<Parcel>,
+        out: &mut Vec<Event<Parcel>>,
+    ) -> Result<Track, Refusal> {
+        if self.exhausted(state) {
+            return Err(Refusal::Exhausted);
+        }
+        let last = state.last;
+        let sent = self.delay < END - event.time;
+        if sent {
+            out.push(Event {
+                time: event.time + self.delay,
+                source: process + 1,
+                number: state.sends,
+                to: 1 - process,
+                body: event.body,
+            })?;
+            state.sends = state.sends.wrapping_add(1);
+        }
+        state.sum = state.sum.wrapping_add(event.body.amount as u64);
+        state.last = event.body.amount;
+        Ok(Track { last, sent })
+    }
+
+    fn reverse(
+        &self,
+        _alloc: Global,
+        _process: u32,
+        state: &mut Station,
+        event: &Event<Parcel>,
+        undo: Track,
+    ) -> Result<(), NoMemory> {
+        state.sum = state.sum.wrapping_sub(event.body.amount as u64);
+        state.last = undo.last;
+        if undo.sent {
+            state.sends = state.sends.wrapping_sub(1);
+        }
+        Ok(())
+    }
+
+    ghost ranges = { relay_ranges };
+
+    ghost keeps = { relay_keeps };
+
+    ghost future = { relay_future };
+
+    ghost same = { parcel_same };
+
+    ghost light = { λ _ _ _ _ _ _ _. Prim.omega arith };
+}
