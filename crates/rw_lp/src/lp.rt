@@ -4,6 +4,7 @@ ghost use Rattle.rw_vt.specs.System.{after};
 ghost use Rattle.rw_vt.specs.declared.event.Event.{Event};
 ghost use Rattle.rw_vt.specs.declared.event.Letter.{Letter};
 ghost use Rattle.rw_vt.specs.declared.refusal.Refusal.TheVariants.{Memory};
+ghost use Rattle.rw_lp.specs.HeldMessages.{held_messages};
 ghost use Rattle.rw_lp.specs.Process.{Process, done, deliver, execute_next, undo_one, collect};
 ghost use Rattle.rw_lp.specs.Calls.{LogicalProcess, process_of, rules, unstarted, Took, came, least};
 ghost use Rattle.rw_lp.specs.Sound.{Change};
@@ -234,9 +235,10 @@ impl<M: VtModel> Lp<M> {
         })
     }
 
-    /// The least time of pending events and debts, in ticks, or [`END`](rw_vt::END) if there is none. Takes no memory.
+    /// The least time of pending events, debts and held messages, in ticks, or [`END`](rw_vt::END) if there is none. Takes no
+    /// memory.
     pub fn least(&self) -> u64
-        ensures is { result ≡ least (least (2 ^ 40) self.now.process.debts) self.now.process.pending }
+        ensures is { result ≡ least (least (least (2 ^ 40) (held_messages self.now.process.held)) self.now.process.debts) self.now.process.pending }
         ensures pending { Each (event_cmp M.Body.cmp) (λ e. result ≤ e.time) self.now.process.pending }
         ensures debts { Each (event_cmp M.Body.cmp) (λ e. result ≤ e.time) self.now.process.debts }
     {

@@ -1,0 +1,27 @@
+pub mod Lookups
+pub mod OnTheirWay
+pub mod Starts
+pub mod Exact
+pub mod Outstanding
+pub mod Frame
+pub mod Steps
+pub mod Collecting
+pub mod Opened
+pub mod Outcomes
+pub mod Schedules
+mod Examples
+pub mod Refusals
+pub mod Growing
+pub mod Sums
+pub mod Rounds
+pub mod Made
+pub mod Wholes
+pub mod Collects
+pub mod Inboxes
+pub mod Kept
+pub mod Runs
+pub mod Openings
+pub mod Exactly
+pub mod Quiet
+pub mod PutBack
+pub mod Floors

@@ -1,0 +1,148 @@
+-- From what a body did with one process to the step that it made.
+use Rattle.std.proofs.Common.{◌≡◌, ℕ, zero, suc, true, List, [], ◌∷◌, ◌++◌, length, map, take, drop, refl, sym, ap, ◌∙◌, subst, append-nil, inl, inr, Option, Some, None}
+use Rattle.std.specs.Prelude.{◌⊎◌, slice_get, slice_set}
+use Rattle.std.specs.Option.{option_map}
+use Rattle.std.specs.declared.cmp.Ordering.{Ordering}
+use Rattle.std.proofs.lemmas.Bool.{cases_eq}
+use Rattle.std.proofs.lemmas.List.{map-set, length-map}
+use Rattle.std.proofs.lemmas.Option.{slice_get-map}
+use Rattle.rw_vt.specs.declared.event.Event.{Event}
+use Rattle.rw_vt.specs.declared.event.Letter.{Letter}
+use Rattle.rw_vt.specs.declared.model.Model.{Ghosts}
+use Rattle.rw_vt.specs.Order.{event_cmp}
+use Rattle.rw_vt.specs.System.{System, system}
+use Rattle.rw_lp.specs.declared.step.Answer.{Answer}
+use Rattle.rw_lp.specs.declared.step.Answer.TheVariants.{Done, Refused}
+use Rattle.rw_lp.specs.Process as process
+use Rattle.rw_lp.specs.Process.{Process, Turn, Turned, Stays, execute_least, execute_next, undo_last, undo_one, split_last}
+use Rattle.rw_lp.specs.Calls.{LogicalProcess, rules, Took}
+use Rattle.rw_world.specs.declared.parts.Parts.{Parts}
+use Rattle.rw_world.specs.declared.step.Step.{Step}
+use Rattle.rw_world.specs.declared.step.Step.TheVariants.{Execute, Undo, Deliver}
+use Rattle.rw_world.specs.WorldState.{WorldState}
+use Rattle.rw_world.specs.Steps.{turned, turn, remove_at, deliver_to, deliver, apply}
+use Rattle.rw_world.specs.Calls.{system_of, with_world, world_of, simulation_of, AreNumbered, IsWhole, Made, ExecutesAt}
+use Rattle.rw_world.proofs.Lookups.{get-set_same, get-set_other, set_there}
+
+-- a list without the one at a place, in two parts
+pub remove_at_is : {A : Type 0} (xs : List A) (i : ℕ) → take i xs ++ drop (suc i) xs ≡ remove_at xs i
+remove_at_is [] zero = refl
+remove_at_is [] (suc i) = refl
+remove_at_is (x ∷ xs) zero = refl
+remove_at_is (x ∷ xs) (suc i) = ap (λ l. x ∷ l) (remove_at_is xs i)
+
+module _ {S B : Type 0} (w : WorldState S B) (p : ℕ) (u v : Process S B) (answer : Answer) (at : slice_get w.processes p ≡ Some u) where
+  -- the world after process p took a turn, by what the process did
+  pub turned_is : (given : List (Letter B)) (t : Turn S B) → Took u v answer given t → turned w p w.letters t ≡ (record { processes = slice_set w.processes p v; letters = w.letters ++ given; collected = w.collected }, answer)
+  turned_is given (Turned after out) k = rw (k.0, k.1, k.2) refl
+  turned_is given (Stays f) k = let same = set_there w.processes p u at in rw (k.0, k.1, k.2, same, append-nil w.letters) refl
+
+  -- the same where a letter was taken up, and nothing given out
+  pub delivered_is : (left : List (Letter B)) (t : Turn S B) → answer ≡ Done → Took u v answer [] t → turned w p left t ≡ (record { processes = slice_set w.processes p v; letters = left; collected = w.collected }, answer)
+  delivered_is left (Turned after out) done k = rw (k.0, k.1, sym k.2, append-nil left) refl
+  delivered_is left (Stays f) done k = let never : Done ≡ Refused f = sym done ∙ k.1 in cc
+
+  pub undelivered_is : (left : List (Letter B)) (t : Turn S B) → (answer ≡ Done → ⊥) → Took u v answer [] t → turned w p left t ≡ (record { processes = slice_set w.processes p v; letters = w.letters; collected = w.collected }, answer)
+  undelivered_is left (Turned after out) not_done k = absurd (not_done k.1)
+  undelivered_is left (Stays f) not_done k = let same = set_there w.processes p u at in rw (k.0, k.1, same) refl
+
+-- starts and initial events say nothing of a turn
+module _ {M S B U : Type 0} (model : Ghosts M S B U) (order : B → B → Ordering) (m : M) (starts : List S) (initial : List (Event B)) (p : ℕ) (x : Process S B) where
+  execute_by_rules : execute_next (rules model order m) p x ≡ execute_next (system model order m starts initial) p x
+  execute_by_rules = go x.pending
+    where
+      go : (es : List (Event B)) → execute_least (rules model order m) p x es ≡ execute_least (system model order m starts initial) p x es
+      go [] = refl
+      go (e ∷ es) = refl
+
+  undo_by_rules : undo_one (rules model order m) p x ≡ undo_one (system model order m starts initial) p x
+  undo_by_rules = go (split_last x.processed)
+    where
+      go : (o : Option (List (Event B) × Event B)) → undo_last (rules model order m) p x o ≡ undo_last (system model order m starts initial) p x o
+      go None = refl
+      go (Some r) = refl
+
+-- process p of the parts x, which was `old`, is `new` in the parts z
+module _ {M S B U : Type 0} (model : Ghosts M S B U) (order : B → B → Ordering) (x z : Parts M S B U) (whole : IsWhole model order x)
+    (same_model : z.model ≡ x.model) (same_starts : z.starts ≡ x.starts) (same_initial : z.initial ≡ x.initial) (same_collected : z.collected ≡ x.collected)
+    (p : ℕ) (old new : LogicalProcess M S B) (there : slice_get x.processes.items p ≡ Some old) (same : (new.model ≡ old.model) × (new.number ≡ old.number)) (back : z.processes.items ≡ slice_set x.processes.items p new) where
+  process_there : slice_get (world_of x).processes p ≡ Some old.process
+  process_there = slice_get-map (λ l. l.process) x.processes.items p ∙ ap (option_map (λ l. l.process)) there
+
+  numbered_still : AreNumbered x.model (slice_set x.processes.items p new)
+  numbered_still q l at = go (cases_eq q p)
+    where
+      go : (q ≡ p) ⊎ (q ≡ p → ⊥) → (l.model ≡ x.model) × (l.number ≡ q)
+      go (inl here) =
+          let is : Some l ≡ Some new = sym at ∙ ap (slice_get (slice_set x.processes.items p new)) here ∙ get-set_same x.processes.items p old new there in
+          let l_is : l ≡ new = cc in
+          let known = whole.numbered p old there in
+          (ap (λ a. a.model) l_is ∙ same.0 ∙ known.0, ap (λ a. a.number) l_is ∙ same.1 ∙ known.1 ∙ sym here)
+      go (inr other) = whole.numbered q l (sym (get-set_other x.processes.items p q new other) ∙ at)
+
+  pub made : (step : Step) (answer : Answer) (ls : List (Letter B)) → z.letters.items ≡ ls → apply (system_of model order (simulation_of x)) (world_of x) step ≡ (record { processes = slice_set (world_of x).processes p new.process; letters = ls; collected = x.collected }, answer) → Made model order x z step answer
+  made step answer ls is eq =
+      let now : WorldState S B = record { processes = slice_set (world_of x).processes p new.process; letters = ls; collected = x.collected } in
+      let processes_are : map (λ l. l.process) z.processes.items ≡ slice_set (world_of x).processes p new.process = ap (map (λ l. l.process)) back ∙ map-set (λ l. l.process) x.processes.items p new in
+      let world_is : world_of z ≡ now = rw (processes_are, is, same_collected) refl in
+      record {
+        world = rw (same_model, same_starts, same_initial, world_is) (ap (λ r. with_world (simulation_of x) r.0) (sym eq));
+        answered = sym (ap (λ r. r.1) eq);
+        numbered = subst (λ m. AreNumbered m z.processes.items) (sym same_model) (subst (AreNumbered x.model) (sym back) numbered_still);
+      }
+
+  pub made_execute : (answer : Answer) (given : List (Letter B)) → z.letters.items ≡ x.letters.items ++ given → Took old.process new.process answer given (execute_next (rules model order old.model) old.number old.process) → Made model order x z (Execute p) answer
+  made_execute answer given is took =
+      let known = whole.numbered p old there in
+      let y : System S B = system_of model order (simulation_of x) in
+      let by_model = subst (λ m. Took old.process new.process answer given (execute_next (rules model order m) old.number old.process)) known.0 took in
+      let by_number = subst (λ n. Took old.process new.process answer given (execute_next (rules model order x.model) n old.process)) known.1 by_model in
+      let turn_taken = subst (Took old.process new.process answer given) (execute_by_rules model order x.model x.starts.value.items x.initial.value.items p old.process) by_number in
+      made (Execute p) answer (x.letters.items ++ given) is
+      (ap (turn (world_of x) p (execute_next y p)) process_there ∙ turned_is (world_of x) p old.process new.process answer process_there given (execute_next y p old.process) turn_taken)
+
+  pub made_undo : (answer : Answer) (given : List (Letter B)) → z.letters.items ≡ x.letters.items ++ given → Took old.process new.process answer given (undo_one (rules model order old.model) old.number old.process) → Made model order x z (Undo p) answer
+  made_undo answer given is took =
+      let known = whole.numbered p old there in
+      let y : System S B = system_of model order (simulation_of x) in
+      let by_model = subst (λ m. Took old.process new.process answer given (undo_one (rules model order m) old.number old.process)) known.0 took in
+      let by_number = subst (λ n. Took old.process new.process answer given (undo_one (rules model order x.model) n old.process)) known.1 by_model in
+      let turn_taken = subst (Took old.process new.process answer given) (undo_by_rules model order x.model x.starts.value.items x.initial.value.items p old.process) by_number in
+      made (Undo p) answer (x.letters.items ++ given) is
+      (ap (turn (world_of x) p (undo_one y p)) process_there ∙ turned_is (world_of x) p old.process new.process answer process_there given (undo_one y p old.process) turn_taken)
+
+  -- letter i, which goes to p, comes
+  module _ (i : ℕ) (letter : Letter B) (letter_there : slice_get x.letters.items i ≡ Some letter) (to : letter.event.to ≡ p) (answer : Answer) (took : Took old.process new.process answer [] (process.deliver (event_cmp order) letter old.process)) where
+    deliver_is : apply (system_of model order (simulation_of x)) (world_of x) (Deliver i) ≡ turned (world_of x) p (remove_at x.letters.items i) (process.deliver (event_cmp order) letter old.process)
+    deliver_is =
+        let y : System S B = system_of model order (simulation_of x) in
+        ap (deliver y (world_of x) i) letter_there
+        ∙ ap (λ q. deliver_to y (world_of x) i letter (slice_get (world_of x).processes q)) to
+        ∙ ap (deliver_to y (world_of x) i letter) process_there
+        ∙ ap (λ q. turned (world_of x) q (remove_at x.letters.items i) (process.deliver (event_cmp order) letter old.process)) to
+
+    pub made_deliver : answer ≡ Done → z.letters.items ≡ take i x.letters.items ++ drop (suc i) x.letters.items → Made model order x z (Deliver i) answer
+    made_deliver done is = made (Deliver i) answer (remove_at x.letters.items i) (is ∙ remove_at_is x.letters.items i)
+        (deliver_is ∙ delivered_is (world_of x) p old.process new.process answer process_there (remove_at x.letters.items i) (process.deliver (event_cmp order) letter old.process) done took)
+
+    pub made_no_delivery : (answer ≡ Done → ⊥) → z.letters.items ≡ x.letters.items → Made model order x z (Deliver i) answer
+    made_no_delivery not_done is = made (Deliver i) answer x.letters.items is
+        (deliver_is ∙ undelivered_is (world_of x) p old.process new.process answer process_there (remove_at x.letters.items i) (process.deliver (event_cmp order) letter old.process) not_done took)
+
+module _ {M S B U : Type 0} (model : Ghosts M S B U) (order : B → B → Ordering) (x : Parts M S B U) (whole : IsWhole model order x) where
+  -- one process a start
+  pub processes_count : length x.processes.items ≡ model.process_count x.model
+  processes_count =
+      sym (length-map x.processes.items (λ l. l.process))
+      ∙ sym (length-map (world_of x).processes (λ u. u.start))
+      ∙ ap length whole.sound.starts
+      ∙ whole.ready.enough
+
+  pub exhausted_at : (p : ℕ) (old : LogicalProcess M S B) → slice_get x.processes.items p ≡ Some old → model.is_exhausted old.model old.process.state ≡ true → ExecutesAt (world_of x) (model.is_exhausted x.model) (Execute p)
+  exhausted_at p old there h = record {
+    number = p;
+    process = old.process;
+    executes = refl;
+    there = slice_get-map (λ l. l.process) x.processes.items p ∙ ap (option_map (λ l. l.process)) there;
+    passes = subst (λ m. model.is_exhausted m old.process.state ≡ true) (whole.numbered p old there).0 h;
+  }

@@ -1,0 +1,74 @@
+use Rattle.std.proofs.Common.{◌≡◌, ◌∷◌, ℕ, suc, ◌<◌, ◌+◌, [], ◌++◌, true, length, map, get_or, refl, sym, ap, ◌∙◌, subst, arith}
+use Rattle.std.specs.Prelude.{filter, ◌==◌}
+use Rattle.std.proofs.lemmas.List.Elements.{All-same}
+use Rattle.rw_vt.specs.Order.{event_cmp}
+use Rattle.rw_vt.specs.System.{system, map_from}
+use Rattle.rw_lp.specs.Calls.{LogicalProcess, unstarted}
+use Rattle.rw_world.specs.WorldState.{opened_at}
+use Rattle.rw_world.proofs.Inboxes.{all_to, drop_head, first_of, rest_of, opened_more}
+use Rattle.rw_world.proofs.opening.open_processes.Goals as goal
+
+pub by_destination-requires : goal.by_destination-requires
+by_destination-requires g c = record {
+  inside = λ k d within. subst (λ n. (get_or c.args.events.now k d).to < n) (sym c.processes-count.ensures) (g.met.M.Model.ranges c.args.model.now (get_or c.args.events.now k d) (c.requires.ready.valid k d within)).to;
+}
+
+pub loop-start-init : goal.loop-start-init
+loop-start-init g c =
+    let starts : c.into_iter-start-iterator.result.rest.items ≡ c.args.starts.items = c.into_iter-start-iterator.ensures.into_iter_gives.0 in
+    let boxes = c.into_iter-inboxes.ensures.rest in
+    let as_many : length c.into_iter-start-iterator.result.rest.items ≡ c.processes-count.result = ap length starts ∙ c.requires.ready.enough ∙ sym c.processes-count.ensures in
+    record {
+      room = omega arith;
+      boxes = ap length boxes ∙ c.in_ok-by_destination.ensures.len ∙ sym as_many;
+      left = starts;
+      sorted_out = λ k within.
+          let there : k < c.processes-count.result = omega (arith, ap length boxes, c.in_ok-by_destination.ensures.len) in
+          let n : k ≡ 0 + k = omega arith in
+          ap (λ l. get_or (map (λ j. j.items) l) k []) boxes ∙ c.in_ok-by_destination.ensures.each k there ∙ ap (λ n. filter (λ e. e.to == n) c.args.events.now) n;
+      opened = rw (c.in_ok-processes.ensures.items, starts) refl;
+    }
+
+pub new-requires-clause-start : goal.new-requires-clause-start
+new-requires-clause-start g c =
+    let r : c.loop-start.start-iterator.rest.items ≡ c.in-Some.start ∷ c.next.new.self.rest.items = c.in-Some.ensures.steps.0 in
+    c.requires.ready.well_formed c.loop-start.number c.in-Some.start (drop_head c.args.starts.items c.loop-start.number c.in-Some.start c.next.new.self.rest.items (sym c.loop-start.invariant.left ∙ r)).0
+
+pub new-requires-clause-initial : goal.new-requires-clause-initial
+new-requires-clause-initial g c =
+    let n = c.loop-start.number in
+    let q : c.loop-start.inboxes.rest.items ≡ c.in-Some-next.inbox ∷ c.next-in-loop-start.new.self.rest.items = c.in-Some-next.ensures.items in
+    let inbox = first_of (λ j. j.items) c.loop-start.inboxes.rest.items c.in-Some-next.inbox c.next-in-loop-start.new.self.rest.items (λ k. filter (λ e. e.to == (n + k)) c.args.events.now) q c.loop-start.invariant.sorted_out in
+    let z : n + 0 ≡ n = omega arith in
+    let mine : c.in-Some-next.inbox.items ≡ filter (λ e. e.to == n) c.args.events.now = inbox ∙ ap (λ m. filter (λ e. e.to == m) c.args.events.now) z in
+    All-same (λ e. (g.M.Model.is_valid c.args.model.now e ≡ true) × (e.to ≡ n)) _ _ mine (all_to (λ e. g.M.Model.is_valid c.args.model.now e ≡ true) n c.args.events.now c.requires.ready.valid)
+
+pub loop-start-preserved : goal.loop-start-preserved
+loop-start-preserved g c =
+    let n = c.loop-start.number in
+    let known = c.loop-start.invariant in
+    let start = c.in-Some.start in
+    let rest = c.next.new.self.rest.items in
+    let made = c.loop-start.processes.items in
+    let y = system g.M.Model g.M.Body.Ord.cmp c.args.model.now c.args.starts.items c.args.events.now in
+    let opened : ℕ → g.row.M-State.Denot → LogicalProcess g.row.M.Denot g.row.M-State.Denot g.row.M-Body.Denot = λ q s. record { model = c.args.model.now; number = q; process = opened_at y q s } in
+    let r : c.loop-start.start-iterator.rest.items ≡ start ∷ rest = c.in-Some.ensures.steps.0 in
+    let q : c.loop-start.inboxes.rest.items ≡ c.in-Some-next.inbox ∷ c.next-in-loop-start.new.self.rest.items = c.in-Some-next.ensures.items in
+    let inbox = first_of (λ j. j.items) c.loop-start.inboxes.rest.items c.in-Some-next.inbox c.next-in-loop-start.new.self.rest.items (λ k. filter (λ e. e.to == (n + k)) c.args.events.now) q known.sorted_out in
+    let z : n + 0 ≡ n = omega arith in
+    let mine : c.in-Some-next.inbox.items ≡ filter (λ e. e.to == n) c.args.events.now = inbox ∙ ap (λ m. filter (λ e. e.to == m) c.args.events.now) z in
+    let is : c.in_ok-new.field-0 ≡ opened n start = c.in_ok-new.ensures.opened ∙ ap (λ l. let p : LogicalProcess g.row.M.Denot g.row.M-State.Denot g.row.M-Body.Denot = record { model = c.args.model.now; number = n; process = unstarted (event_cmp g.M.Body.Ord.cmp) start l } in p) mine in
+    record {
+      room = omega (arith, known.room, ap length r);
+      boxes = omega (arith, known.boxes, ap length r, ap length q);
+      left = sym (drop_head c.args.starts.items n start rest (sym known.left ∙ r)).1;
+      sorted_out = λ k within.
+          let further : n + suc k ≡ n + 1 + k = omega arith in
+          rest_of (λ j. j.items) c.loop-start.inboxes.rest.items c.in-Some-next.inbox c.next-in-loop-start.new.self.rest.items (λ k. filter (λ e. e.to == (n + k)) c.args.events.now) q known.sorted_out k within
+          ∙ ap (λ m. filter (λ e. e.to == m) c.args.events.now) further;
+      opened =
+          ap (λ l. l ++ map_from (n + 1) opened rest) (c.in_ok-push.ensures.items ∙ ap (λ p. made ++ p ∷ []) is)
+          ∙ sym (opened_more opened made n start rest)
+          ∙ ap (λ l. made ++ map_from n opened l) (sym r)
+          ∙ known.opened;
+    }

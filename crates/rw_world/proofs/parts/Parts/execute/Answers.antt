@@ -1,0 +1,22 @@
+use Rattle.std.proofs.Common.{◌≡◌, length, refl, sym, ap, ◌∙◌, arith, Err}
+use Rattle.std.proofs.lemmas.Result.{err_from_is_err_and}
+use Rattle.std.proofs.lemmas.Option.{slice_get_read}
+use Rattle.rw_vt.specs.declared.refusal.Refusal.TheVariants.{Exhausted}
+use Rattle.rw_world.proofs.Made.{made_execute, exhausted_at}
+use Rattle.rw_world.proofs.parts.Parts.execute.Goals as goal
+
+pub returns-in_err-process-clause-exhausted : goal.returns-in_err-process-clause-exhausted
+returns-in_err-process-clause-exhausted g c = λ e.
+    let there = slice_get_read c.args.self.now.processes.items (length c.args.self.now.processes.items) c.args.p c.swap_remove-process.result refl (omega arith) c.swap_remove-process.ensures.value in
+    let p = err_from_is_err_and c.from_residual.result c.from_residual.ensures.1 in
+    let same : Err p.0 ≡ Err Exhausted = sym p.1 ∙ e in
+    let cause : p.0 ≡ Exhausted = cc in
+    exhausted_at g.M.Model g.M.Body.Ord.cmp c.args.self.now c.requires.whole c.args.p c.swap_remove-process.result there (c.in_err-process.ensures.exhausted (ap Err (sym p.2 ∙ cause)))
+
+pub returns-clause-made : goal.returns-clause-made
+returns-clause-made g c =
+    let there = slice_get_read c.args.self.now.processes.items (length c.args.self.now.processes.items) c.args.p c.swap_remove-process.result refl (omega arith) c.swap_remove-process.ensures.value in
+    let turn = c.in_ok-process.ensures.turn in
+    made_execute g.M.Model g.M.Body.Ord.cmp c.args.self.now _ c.requires.whole refl refl refl refl c.args.p c.swap_remove-process.result c.in_ok-process.process there c.in_ok-process.ensures.same
+    (c.in_ok-put_back.ensures.back c.args.self.now.processes.items c.swap_remove-process.result (omega arith) c.swap_remove-process.ensures.items)
+    c.in_ok-process.answer turn.0 turn.1 turn.2

@@ -1,0 +1,12 @@
+use Rattle.std.proofs.Common.{length, refl, arith}
+use Rattle.std.proofs.lemmas.Option.{slice_get_read}
+use Rattle.rw_world.proofs.Made.{made_undo}
+use Rattle.rw_world.proofs.parts.Parts.undo.Goals as goal
+
+pub returns-clause-made : goal.returns-clause-made
+returns-clause-made g c =
+    let there = slice_get_read c.args.self.now.processes.items (length c.args.self.now.processes.items) c.args.p c.swap_remove-process.result refl (omega arith) c.swap_remove-process.ensures.value in
+    let turn = c.in_ok-process.ensures.turn in
+    made_undo g.M.Model g.M.Body.Ord.cmp c.args.self.now _ c.requires.whole refl refl refl refl c.args.p c.swap_remove-process.result c.in_ok-process.process there c.in_ok-process.ensures.same
+    (c.in_ok-put_back.ensures.back c.args.self.now.processes.items c.swap_remove-process.result (omega arith) c.swap_remove-process.ensures.items)
+    c.in_ok-process.answer turn.0 turn.1 turn.2

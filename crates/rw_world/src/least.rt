@@ -1,0 +1,27 @@
+ghost use Rattle.std.specs.Prelude.{◌≡◌, ◌^◌, map};
+ghost use Rattle.rw_world.specs.WorldState.{least_of_letters, least_of_processes};
+
+use rw_lp::Lp;
+use rw_vt::{END, Letter, Model as VtModel};
+
+/// The least time of pending events and debts of these processes, in ticks, or the end of time.
+pub fn least_of_processes<M: VtModel>(processes: &[Lp<M>]) -> u64
+    ensures { result ≡ least_of_processes (2 ^ 40) (map (λ l. l.process) processes.now) }
+{
+    let mut least = END;
+    for process in processes {
+        least = least.min(process.least());
+    }
+    least
+}
+
+/// The least of this time and the times of these letters, in ticks.
+pub fn least_of_letters<B>(start: u64, letters: &[Letter<B>]) -> u64
+    ensures { result ≡ least_of_letters start letters.now }
+{
+    let mut least = start;
+    for letter in letters {
+        least = least.min(letter.event.time);
+    }
+    least
+}

@@ -1,0 +1,62 @@
+ghost use Rattle.std.specs.Prelude.{◌≡◌, ◌<◌, ◌==◌, ℕ, [], IfOk, IfErr, All, filter, length, map, replicate, slice_index_or};
+ghost use Rattle.rw_vt.specs.System.{IsReady, map_from, system};
+ghost use Rattle.rw_vt.specs.declared.refusal.Refusal.TheVariants.{Memory};
+ghost use Rattle.rw_world.specs.WorldState.{opened_at};
+
+use rw_lp::Lp;
+use rw_vt::{Event, Model as VtModel, Refusal};
+use std::alloc::{AllocError, Global};
+
+/// A process for each start, numbered from 0, with those of the initial events that go to it pending. Refused only as
+/// `Memory`.
+pub fn open_processes<M: VtModel>(
+    alloc: Global,
+    model: &M,
+    starts: Vec<M::State>,
+    events: &[Event<M::Body>],
+) -> Result<Vec<Lp<M>>, Refusal>
+    requires ready { IsReady M.Model model.now starts.items events.now }
+    ensures opened { IfOk result (λ v. v.items ≡ map_from 0 (λ q s. record { model = model.now; number = q; process = opened_at (system M.Model M.Body.cmp model.now starts.items events.now) q s }) starts.items) }
+    ensures memory { IfErr result (λ e. e ≡ Memory) }
+{
+    let count = model.processes();
+    let mut inboxes = by_destination(alloc, count as usize, events)?.into_iter();
+    let mut processes = Vec::with_capacity(alloc, count as usize)?;
+    let mut number = 0;
+    for start in starts {
+        let Some(inbox) = inboxes.next() else {
+            unreachable!();
+        };
+        processes.push(Lp::new(alloc, model, number, start, inbox)?)?;
+        number += 1;
+    }
+    Ok(processes)
+}
+
+/// The events that go to each of so many processes, in the order in which they stand.
+fn by_destination<B: Copy>(
+    alloc: Global,
+    count: usize,
+    events: &[Event<B>],
+) -> Result<Vec<Vec<Event<B>>>, AllocError>
+    requires inside { All (λ e. e.to < count) events.now }
+    ensures len { IfOk result (λ v. length v.items ≡ count) }
+    ensures each { IfOk result (λ v. (q : ℕ) → q < count → slice_index_or (map (λ l. l.items) v.items) q [] ≡ filter (λ e. e.to == q) events.now) }
+{
+    let mut lists = empty_lists(alloc, count)?;
+    for event in events {
+        lists[event.to as usize].push(*event)?;
+    }
+    Ok(lists)
+}
+
+/// As many empty lists.
+fn empty_lists<T: Drop>(alloc: Global, count: usize) -> Result<Vec<Vec<T>>, AllocError>
+    ensures { IfOk result (λ v. map (λ l. l.items) v.items ≡ replicate count []) }
+{
+    let mut lists = Vec::with_capacity(alloc, count)?;
+    for _list in 0..count {
+        lists.push(Vec::new(alloc))?;
+    }
+    Ok(lists)
+}
