@@ -25,15 +25,24 @@ impl Model for Shape {
 }
 
 impl Shape {
+    /// The most sections.
+    pub const MAX_SECTIONS: u64 = 16;
+
+    /// The largest block, in bytes.
+    pub const MAX_BLOCK: u64 = 268_435_456;
+
+    /// The most sealed device blocks.
+    pub const MAX_BLOCKS: u64 = 65_536;
+
     /// The shape with at most `sections` sections (1 to 16), blocks of `block` bytes (1 to 268435456) and at most
     /// `blocks` sealed device blocks (1 to 65536). `None` exactly where one of the three is out of its range.
     pub fn new(sections: u64, block: u64, blocks: u64) -> Option<Shape>
         ensures in_range { IsSome result ↔ IsShape sections block blocks }
         ensures shape { IfSome result (λ s. s ≡ record { sections = sections; block = block; blocks = blocks }) }
     {
-        if (1..=16).contains(&sections)
-            && (1..=268435456).contains(&block)
-            && (1..=65536).contains(&blocks)
+        if (1..=Self::MAX_SECTIONS).contains(&sections)
+            && (1..=Self::MAX_BLOCK).contains(&block)
+            && (1..=Self::MAX_BLOCKS).contains(&blocks)
         {
             Some(Shape {
                 sections,

@@ -1,7 +1,7 @@
 // One edge process of the photo caches, with nothing stored: it executes two requests ahead, a fill comes late and is
 // cancelled again, an anti-message comes before its message, and the past is committed.
 use crate::desk::{Call, Desk};
-use rw_photo::{Body, Config, Photo};
+use rw_photo::{Body, Config, Photo, Policy, Shape};
 use rw_vt::{END, Event, Letter};
 use std::alloc::Global;
 use std::test::Fail;
@@ -56,7 +56,8 @@ fn anti(event: Event<Body>) -> Letter<Body> {
 
 /// The edge, to which two requests are to come.
 fn opened(alloc: Global) -> Result<Desk<Photo>, Fail> {
-    let config = Config::new(1, 1, 3, 3, 10).ok_or("config")?;
+    let shape = Shape::new(1, 10, 1).ok_or("shape")?;
+    let config = Config::new(1, 1, Policy::Off, shape, shape, 3, 3, 10).ok_or("config")?;
     let photo = Photo::new(config);
     let start = photo.start(alloc, 0)?;
     let mut initial = Vec::new(alloc);

@@ -6,4 +6,6 @@ mod desk;
 #[cfg(test)]
 mod edge_process;
 #[cfg(test)]
+mod fill_at_start;
+#[cfg(test)]
 mod station_process;

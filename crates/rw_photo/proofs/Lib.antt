@@ -1,2 +1,3 @@
 pub mod Reversing
 pub mod ValidRows
+pub mod Stores

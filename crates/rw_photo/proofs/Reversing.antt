@@ -1,107 +1,125 @@
 -- An event and then its undoing give back the cache.
-use Rattle.std.proofs.Common.{◌≡◌, ℕ, ◌^◌, ◌<◌, true, false, Option, Some, None, refl, ◌∙◌, ap, arith}
+use Rattle.std.proofs.Common.{◌≡◌, ℕ, ◌^◌, ◌<◌, Bool, true, false, List, Option, Some, None, refl, sym, ◌∙◌, ap, subst, arith, length}
 use Rattle.std.specs.Prelude.{is_some, unwrap_or}
+use Rattle.std.specs.List.Sorted.{IsStrictlySortedBy}
+use Rattle.std.specs.Map.{keys_of, lookup, remove_entry}
+use Rattle.std.specs.BTreeMap.{is_at}
 use Rattle.std.specs.Ordering.{nat_cmp}
-use Rattle.std.specs.Map.{lookup}
-use Rattle.std.specs.BTreeMap.{insert_entry, is_at}
 use Rattle.rw_vt.specs.declared.event.Event.{Event}
-use Rattle.rw_vt.proofs.Entries.{found-value, insert_entry-insert_entry, insert_entry-remove_entry, insert_entry-same, lookup-insert_entry, remove_entry-insert_entry}
+use Rattle.rw_vt.proofs.Entries.{insert_entry-insert_entry, insert_entry-remove_entry, insert_entry-same, remove_entry-insert_entry, remove_entry-none}
+use Rattle.rw_ripq.specs.Trail.{Leads, rewind_of}
+use Rattle.rw_ripq.specs.Weight.{IsShort}
 use Rattle.rw_photo.specs.declared.body.Body.{Body}
-use Rattle.rw_photo.specs.declared.body.Body.TheVariants.{Request, Miss, Fill}
-use Rattle.rw_photo.specs.declared.config.Config.{Config}
 use Rattle.rw_photo.specs.declared.counters.Counters.{Counters}
+use Rattle.rw_photo.specs.declared.photo.Deed.{Deed}
 use Rattle.rw_photo.specs.declared.undo.Undo.{Undo}
-use Rattle.rw_photo.specs.Counts.{AreCounts, plus, minus, missed, coalesced, answered, unmissed, uncoalesced, unanswered}
-use Rattle.rw_photo.specs.Cache.{Cache, IsWellFormed, waiting}
-use Rattle.rw_photo.specs.Events.{happened, step, requested, asked, filled, joined}
-use Rattle.rw_photo.specs.Undoing.{TakesBack, one_less, unhappened, unrequested, unfilled, unsent}
+use Rattle.rw_photo.specs.Counts.{AreCounts, added, minus, one_if, plus, taken_off}
+use Rattle.rw_photo.specs.Cache.{Cache, waiting, with_waiting}
+use Rattle.rw_photo.specs.Events.{Happening, after, object_of}
+use Rattle.rw_photo.specs.Deeds.{HasDone, list_of}
+use Rattle.rw_photo.specs.Undoing.{TakesBack, before, some_if, waiting_before}
 
 minus-plus : (n k : ℕ) → n < 2 ^ 64 → k < 2 ^ 64 → minus (plus n k) k ≡ n
 minus-plus n k a b = omega arith
 
-unmissed-missed : (k : Counters) → AreCounts k → unmissed (missed k) ≡ k
-unmissed-missed k a i = record k { requests = minus-plus k.requests 1 a.requests (omega arith) i; misses = minus-plus k.misses 1 a.misses (omega arith) i }
-
-uncoalesced-coalesced : (k : Counters) → AreCounts k → uncoalesced (coalesced k) ≡ k
-uncoalesced-coalesced k a i =
-    record k {
-      requests = minus-plus k.requests 1 a.requests (omega arith) i;
-      misses = minus-plus k.misses 1 a.misses (omega arith) i;
-      coalesced = minus-plus k.coalesced 1 a.coalesced (omega arith) i;
+taken_off-added : (k d : Counters) → AreCounts k → AreCounts d → taken_off (added k d) d ≡ k
+taken_off-added k d a b i =
+    record {
+      requests = minus-plus k.requests d.requests a.requests b.requests i;
+      hits = minus-plus k.hits d.hits a.hits b.hits i;
+      misses = minus-plus k.misses d.misses a.misses b.misses i;
+      coalesced = minus-plus k.coalesced d.coalesced a.coalesced b.coalesced i;
+      late = minus-plus k.late d.late a.late b.late i;
+      bypassed = minus-plus k.bypassed d.bypassed a.bypassed b.bypassed i;
+      inserted = minus-plus k.inserted d.inserted a.inserted b.inserted i;
+      evicted = minus-plus k.evicted d.evicted a.evicted b.evicted i;
+      reinserted = minus-plus k.reinserted d.reinserted a.reinserted b.reinserted i;
+      promoted = minus-plus k.promoted d.promoted a.promoted b.promoted i;
+      writes = minus-plus k.writes d.writes a.writes b.writes i;
+      splits = minus-plus k.splits d.splits a.splits b.splits i;
+      merges = minus-plus k.merges d.merges a.merges b.merges i;
     }
 
-unanswered-answered : (k : Counters) (n : ℕ) → AreCounts k → n < 2 ^ 64 → unanswered (answered k n) n ≡ k
-unanswered-answered k n a l i = record k { late = minus-plus k.late n a.late l i }
+-- whatever the object's requests became, they wait again as they did
+waiting-back : (m : List (ℕ × ℕ)) (o : ℕ) (old now : Option ℕ) → IsStrictlySortedBy nat_cmp (keys_of m) → lookup (is_at (nat_cmp o)) m ≡ old
+    → with_waiting (with_waiting m o now) o old ≡ m
+waiting-back m o (Some n) (Some k) up is = insert_entry-insert_entry m o k n ∙ insert_entry-same m o n up is
+waiting-back m o (Some n) None up is = insert_entry-remove_entry m o n up is
+waiting-back m o None (Some k) up is = remove_entry-insert_entry m o k is
+waiting-back m o None None up is = ap (remove_entry (is_at (nat_cmp o))) (remove_entry-none m o is) ∙ remove_entry-none m o is
 
-made : (s t : Cache) → s.awaited ≡ t.awaited → s.sends ≡ t.sends → s.counters ≡ t.counters → s ≡ t
-made s t a b c i = record { awaited = a i; sends = b i; counters = c i }
+pub some_if-of : (w : Option ℕ) → some_if (is_some w) (unwrap_or w 0) ≡ w
+some_if-of (Some n) = refl
+some_if-of None = refl
 
--- a request that was the first
-first_back : (c : Config) (p : ℕ) (s : Cache) (t o z : ℕ) → IsWellFormed s → waiting s o ≡ None → unrequested (requested c p s t o z None).0 o false ≡ s
-first_back c p s t o z w none =
-    made (unrequested (requested c p s t o z None).0 o false) s
-    (remove_entry-insert_entry s.awaited o 1 none)
-    (minus-plus s.sends 1 w.sends (omega arith))
-    (unmissed-missed s.counters w.counters)
+one-sent : {A : Type 0} (o : Option A) → length (list_of o) ≡ one_if (is_some o)
+one-sent (Some x) = refl
+one-sent None = refl
 
--- the count of an object that others wait for
-less_back : (s t : Cache) (o n : ℕ) → IsWellFormed s → waiting s o ≡ Some n → t.awaited ≡ insert_entry nat_cmp s.awaited o (plus n 1) → (one_less t o (waiting t o)).awaited ≡ s.awaited
-less_back s t o n w is made =
-    let fits : n < 2 ^ 64 = found-value (λ m. m < 2 ^ 64) s.awaited o n w.waiting is in
-    let found : waiting t o ≡ Some (plus n 1) = ap (λ es. lookup (is_at (nat_cmp o)) es) made ∙ lookup-insert_entry s.awaited o (plus n 1) in
-    ap (λ m. (one_less t o m).awaited) found
-    ∙ ap (λ m. insert_entry nat_cmp t.awaited o m) (minus-plus n 1 fits (omega arith))
-    ∙ ap (λ es. insert_entry nat_cmp es o n) made
-    ∙ insert_entry-insert_entry s.awaited o (plus n 1) n
-    ∙ insert_entry-same s.awaited o n w.ascending is
+waiting-same : (m : List (ℕ × ℕ)) (o : ℕ) (w : Option ℕ) → IsStrictlySortedBy nat_cmp (keys_of m) → lookup (is_at (nat_cmp o)) m ≡ w → with_waiting m o w ≡ m
+waiting-same m o (Some n) up is = insert_entry-same m o n up is
+waiting-same m o None up is = remove_entry-none m o is
 
-one_less-sends : (s : Cache) (o : ℕ) (w : Option ℕ) → (one_less s o w).sends ≡ s.sends
-one_less-sends s o (Some n) = refl
-one_less-sends s o None = refl
+-- a deed that leaves alone who waits
+pub queue_deed : (h : Happening) (s now : Cache) (o : ℕ) (d : Deed) → IsStrictlySortedBy nat_cmp (keys_of s.awaited) → h.waiting ≡ waiting s o
+    → now ≡ record s { queue = h.queue } → d.counted ≡ h.counts → list_of d.send ≡ h.sent → Leads d.trail s.queue now.queue → IsShort d.trail s.queue now.queue
+    → HasDone h s o d now
+queue_deed h s now o d up wait is counted sent leads short =
+    record {
+      changed = is ∙ ap (λ m. record s { queue = h.queue; awaited = m }) (sym (ap (with_waiting s.awaited o) wait ∙ waiting-same s.awaited o (waiting s o) up refl));
+      counted = counted;
+      sent = sent;
+      leads = leads;
+      short = short;
+    }
 
--- a request that joined others
-joined_back : (c : Config) (p : ℕ) (s : Cache) (t o z n : ℕ) → IsWellFormed s → waiting s o ≡ Some n → unrequested (requested c p s t o z (Some n)).0 o true ≡ s
-joined_back c p s t o z n w is =
-    made (unrequested (requested c p s t o z (Some n)).0 o true) s
-    (less_back s (joined s o (Some n)) o n w is refl)
-    (one_less-sends (joined s o (Some n)) o (waiting (joined s o (Some n)) o))
-    (uncoalesced-coalesced s.counters w.counters)
+made : (s t : Cache) → s.queue ≡ t.queue → s.awaited ≡ t.awaited → s.sends ≡ t.sends → s.counters ≡ t.counters → s ≡ t
+made s t q a b c i = record { queue = q i; awaited = a i; sends = b i; counters = c i }
 
--- a fill that answered requests
-filled_back : (s : Cache) (o n : ℕ) → IsWellFormed s → waiting s o ≡ Some n → unfilled (filled s o (Some n)).0 o true n ≡ s
-filled_back s o n w is =
-    made (unfilled (filled s o (Some n)).0 o true n) s
-    (insert_entry-remove_entry s.awaited o n w.ascending is)
-    refl
-    (unanswered-answered s.counters n w.counters (found-value (λ m. m < 2 ^ 64) s.awaited o n w.waiting is))
-
--- a miss at an origin
-asked_back : (c : Config) (p : ℕ) (s : Cache) (t o z g : ℕ) → IsWellFormed s → unsent (asked c p s t o z g).0 ≡ s
-asked_back c p s t o z g w = made (unsent (asked c p s t o z g).0) s refl (minus-plus s.sends 1 w.sends (omega arith)) (unmissed-missed s.counters w.counters)
-
-requested_back : (c : Config) (p : ℕ) (s : Cache) (t o z : ℕ) (w : Option ℕ) → IsWellFormed s → waiting s o ≡ w → unrequested (requested c p s t o z w).0 o (is_some w) ≡ s
-requested_back c p s t o z (Some n) w is = joined_back c p s t o z n w is
-requested_back c p s t o z None w is = first_back c p s t o z w is
-
-answered_back : (s : Cache) (o : ℕ) (w : Option ℕ) → IsWellFormed s → waiting s o ≡ w → unfilled (filled s o w).0 o (is_some w) (unwrap_or w 0) ≡ s
-answered_back s o (Some n) w is = filled_back s o n w is
-answered_back s o None w is = refl
-
--- what `execute` records of an event
-abbrev pub IsRecord : Cache → Body → Undo → Type 0
-IsRecord s (Request o z) u = u.awaited ≡ is_some (waiting s o)
-IsRecord s (Miss o z g) u = Unit {0}
-IsRecord s (Fill o z) u = (u.awaited ≡ is_some (waiting s o)) × (u.answered ≡ unwrap_or (waiting s o) 0)
-
--- the undo record that `execute` makes takes the step back
-pub takes_back : (c : Config) (p : ℕ) (s : Cache) (e : Event Body) (u : Undo) (after : Cache) → IsWellFormed s → after ≡ (step c p s e).0
-    → IsRecord s e.body u → TakesBack s e u after
-takes_back c p s e u after w is fits = record { back = ap (λ t. unhappened e.body u t) is ∙ by_body e.body u fits }
+-- a deed, once it is counted, is taken back by its record
+pub takes_back : (h : Happening) (s mid now : Cache) (e : Event Body) (d : Deed) (u : Undo)
+    → IsStrictlySortedBy nat_cmp (keys_of s.awaited) → s.sends < 2 ^ 64 → AreCounts s.counters → AreCounts d.counted
+    → HasDone h s (object_of e.body) d mid → now ≡ after s (object_of e.body) h
+    → u.trail ≡ d.trail → u.counted ≡ d.counted → u.sent ≡ is_some d.send → waiting_before u ≡ waiting s (object_of e.body)
+    → TakesBack s e u now
+takes_back h s mid now e d u up sends counters counts done is trail counted sent wait =
+    record {
+      back = made (before o u now) s queue awaited sent_back counters_back;
+      leads = subst (λ ms. Leads ms s.queue now.queue) (sym trail) (subst (Leads d.trail s.queue) queue_is done.leads);
+      short = subst (λ ms. IsShort ms s.queue now.queue) (sym trail) (subst (IsShort d.trail s.queue) queue_is done.short);
+    }
   where
-    by_body : (b : Body) (u : Undo) → IsRecord s b u → unhappened b u (happened c p s e.time b).0 ≡ s
-    by_body (Request o z) u f = ap (λ b. unrequested (requested c p s e.time o z (waiting s o)).0 o b) f ∙ requested_back c p s e.time o z (waiting s o) w refl
-    by_body (Miss o z g) u f = asked_back c p s e.time o z g w
-    by_body (Fill o z) u f =
-        ap (λ b. unfilled (filled s o (waiting s o)).0 o b u.answered) f.0
-        ∙ ap (λ n. unfilled (filled s o (waiting s o)).0 o (is_some (waiting s o)) n) f.1
-        ∙ answered_back s o (waiting s o) w refl
+    o : ℕ
+    o = object_of e.body
+
+    queue_is : mid.queue ≡ now.queue
+    queue_is = ap (λ (w : Cache). w.queue) done.changed ∙ sym (ap (λ (w : Cache). w.queue) is)
+
+    queue : rewind_of u.trail now.queue ≡ s.queue
+    queue = ap (λ ms. rewind_of ms now.queue) trail ∙ (ap (rewind_of d.trail) (sym queue_is) ∙ done.leads.back)
+
+    awaited : with_waiting now.awaited o (waiting_before u) ≡ s.awaited
+    awaited =
+        ap (λ (w : Cache). with_waiting w.awaited o (waiting_before u)) is
+        ∙ (ap (with_waiting (with_waiting s.awaited o h.waiting) o) wait ∙ waiting-back s.awaited o (waiting s o) h.waiting up refl)
+
+    one : one_if u.sent ≡ length h.sent
+    one = ap one_if sent ∙ (sym (one-sent d.send) ∙ ap length done.sent)
+
+    few : one_if u.sent < 2 ^ 64
+    few = go u.sent
+      where
+        go : (b : Bool) → one_if b < 2 ^ 64
+        go true = omega arith
+        go false = omega arith
+
+    sent_back : minus now.sends (one_if u.sent) ≡ s.sends
+    sent_back =
+        ap (λ (w : Cache). minus w.sends (one_if u.sent)) is
+        ∙ (ap (λ n. minus (plus s.sends n) (one_if u.sent)) (sym one) ∙ minus-plus s.sends (one_if u.sent) sends few)
+
+    counters_back : taken_off now.counters u.counted ≡ s.counters
+    counters_back =
+        ap (λ (w : Cache). taken_off w.counters u.counted) is
+        ∙ (ap (λ k. taken_off (added s.counters k) u.counted) (sym done.counted)
+        ∙ (ap (taken_off (added s.counters d.counted)) counted ∙ taken_off-added s.counters d.counted counters counts))

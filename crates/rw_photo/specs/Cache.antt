@@ -1,36 +1,62 @@
 -- What a cache keeps.
-use Rattle.std.specs.Prelude.{ℕ, List, [], Option, ◌<◌, ◌^◌, All}
+use Rattle.std.specs.Prelude.{◌≡◌, ℕ, List, [], Bool, Option, Some, None, ◌<◌, ◌^◌, nat_lt, nat_le, ◌||◌, All, is_some, cond}
 use Rattle.std.specs.List.Sorted.{IsStrictlySortedBy}
 use Rattle.std.specs.Map.{lookup, remove_entry, keys_of, values_of}
 use Rattle.std.specs.BTreeMap.{insert_entry, is_at}
 use Rattle.std.specs.Ordering.{nat_cmp}
+use Rattle.rw_blocks.specs.State.{QueueState, Limits, row_at, start_of}
+use Rattle.rw_blocks.specs.Loose.{IsWellFormed as IsWellFormedQueue}
+use Rattle.rw_ripq.specs.declared.Policy.TheVariants.{Off}
+use Rattle.rw_photo.specs.declared.config.Config.{Config}
 use Rattle.rw_photo.specs.declared.counters.Counters.{Counters}
 use Rattle.rw_photo.specs.Counts.{AreCounts, no_counts}
 
--- a cache: for each object on its way how many requests wait for it, by rising object; how many events it has sent; what it has counted
+-- a cache: its queue on flash; for each object on its way how many requests wait for it, by rising object; how many events
+-- it has sent; what it has counted
 pub record Cache : Type 0 where
+  pub queue : QueueState
   pub awaited : List (ℕ × ℕ)
   pub sends : ℕ
   pub counters : Counters
 
--- a cache to which nothing has happened
-abbrev pub start : Cache
-start = record { awaited = []; sends = 0; counters = no_counts }
+-- edges come first, then origins
+abbrev pub is_edge : Config → ℕ → Bool
+is_edge c p = nat_lt p c.edges
+
+-- the shape of the queue at process p
+abbrev pub shape_at : Config → ℕ → Limits
+shape_at c p = cond (is_edge c p) c.edge_shape c.origin_shape
+
+-- a cache to which nothing has happened, with a queue of this shape; so process p starts
+abbrev pub start_in : Limits → Cache
+start_in shape = record { queue = start_of shape; awaited = []; sends = 0; counters = no_counts }
+
+abbrev pub start : Config → ℕ → Cache
+start c p = start_in (shape_at c p)
+
+-- whether an object is stored
+abbrev pub is_stored : Cache → ℕ → Bool
+is_stored s o = is_some (row_at s.queue o)
 
 -- how many requests wait for an object, where it is awaited
 abbrev pub waiting : Cache → ℕ → Option ℕ
 waiting s o = lookup (is_at (nat_cmp o)) s.awaited
 
--- n requests wait for the object
-abbrev pub with_waiting : Cache → ℕ → ℕ → Cache
-with_waiting s o n = record s { awaited = insert_entry nat_cmp s.awaited o n }
+-- so many requests wait for the object, or it is not awaited
+abbrev pub with_waiting : List (ℕ × ℕ) → ℕ → Option ℕ → List (ℕ × ℕ)
+with_waiting m o (Some n) = insert_entry nat_cmp m o n
+with_waiting m o None = remove_entry (is_at (nat_cmp o)) m
 
--- the object is not awaited
-abbrev pub without_waiting : Cache → ℕ → Cache
-without_waiting s o = record s { awaited = remove_entry (is_at (nat_cmp o)) s.awaited }
+-- a cache that can take no further event: it has sent, or its queue has numbered, too much
+abbrev pub is_exhausted : Cache → Bool
+is_exhausted s = nat_le (2 ^ 62) s.sends || nat_le (2 ^ 62) s.queue.next
 
--- awaited objects ascend, and all counts fit their types: nothing else is asked
-pub record IsWellFormed (s : Cache) : Type 0 where
+-- the queue is well formed, in the shape of its kind, and empty where nothing is stored; awaited objects ascend, and all
+-- counts fit their types: nothing else is asked
+pub record IsWellFormed (c : Config) (p : ℕ) (s : Cache) : Type 0 where
+  pub queue : IsWellFormedQueue s.queue
+  pub shape : s.queue.shape ≡ shape_at c p
+  pub empty : c.policy ≡ Off → s.queue.rows ≡ []
   pub ascending : IsStrictlySortedBy nat_cmp (keys_of s.awaited)
   pub waiting : All (λ n. n < 2 ^ 64) (values_of s.awaited)
   pub sends : s.sends < 2 ^ 64

@@ -1,18 +1,17 @@
 -- The events of caches: which are valid, and what each does.
-use Rattle.std.specs.Prelude.{ℕ, ◌+◌, ◌%◌, ◌^◌, Bool, nat_lt, nat_le, ◌&&◌, List, [], ◌∷◌, Option, Some, None}
+use Rattle.std.specs.Prelude.{ℕ, ◌+◌, ◌%◌, ◌^◌, Bool, true, false, nat_lt, nat_le, ◌&&◌, List, [], ◌∷◌, length, Option, Some, None, unwrap_or}
 use Rattle.rw_vt.specs.declared.event.Event.{Event}
+use Rattle.rw_blocks.specs.State.{QueueState}
 use Rattle.rw_trace.specs.declared.Row.{Row}
 use Rattle.rw_photo.specs.declared.body.Body.{Body}
 use Rattle.rw_photo.specs.declared.body.Body.TheVariants.{Request, Miss, Fill}
 use Rattle.rw_photo.specs.declared.config.Config.{Config}
-use Rattle.rw_photo.specs.Counts.{plus, missed, coalesced, answered}
-use Rattle.rw_photo.specs.Cache.{Cache, waiting, with_waiting, without_waiting}
+use Rattle.rw_photo.specs.declared.counters.Counters.{Counters}
+use Rattle.rw_photo.specs.Counts.{plus, added, no_counts, one_miss, one_coalesced, answers}
+use Rattle.rw_photo.specs.Cache.{Cache, is_edge, is_stored, waiting, with_waiting}
+use Rattle.rw_photo.specs.Storing.{hit, stored}
 
 -- Valid events
-
--- edges come first, then origins
-abbrev pub is_edge : Config → ℕ → Bool
-is_edge c p = nat_lt p c.edges
 
 abbrev pub is_origin : Config → ℕ → Bool
 is_origin c p = nat_le c.edges p && nat_lt p (c.edges + c.origins)
@@ -32,47 +31,73 @@ is_valid c e = nat_lt e.source (2 ^ 32) && nat_lt e.number (2 ^ 64) && may_happe
 
 -- What each does
 
+abbrev pub object_of : Body → ℕ
+object_of (Request o z) = o
+object_of (Miss o z g) = o
+object_of (Fill o z) = o
+
+-- what an event does at a cache: the queue after it, how many requests then wait for its object, what it counts, and what it
+-- sends
+pub record Happening : Type 0 where
+  pub queue : QueueState
+  pub waiting : Option ℕ
+  pub counts : Counters
+  pub sent : List (Event Body)
+
 -- process p sends an event
-abbrev pub sent : ℕ → Cache → ℕ → ℕ → Body → Event Body
-sent p s time to body = record { time = time; source = p + 1; number = s.sends; to = to; body = body }
+abbrev pub sending : ℕ → Cache → ℕ → ℕ → Body → Event Body
+sending p s time to body = record { time = time; source = p + 1; number = s.sends; to = to; body = body }
 
 -- the origin that is asked for an object
 abbrev pub origin_of : Config → ℕ → ℕ
 origin_of c o = c.edges + o % c.origins
 
--- a request that misses waits for its object, with those that wait for it already or alone
-abbrev pub joined : Cache → ℕ → Option ℕ → Cache
-joined s o (Some n) = record (with_waiting s o (plus n 1)) { counters = coalesced s.counters }
-joined s o None = record (with_waiting s o 1) { counters = missed s.counters }
+-- a request that misses waits for its object, with those that wait for it already; the first asks the origin
+abbrev pub missed : Config → ℕ → Cache → ℕ → ℕ → ℕ → Option ℕ → Happening
+missed c p s t o z (Some n) = record { queue = s.queue; waiting = Some (plus n 1); counts = one_coalesced; sent = [] }
+missed c p s t o z None =
+    record { queue = s.queue; waiting = Some 1; counts = one_miss no_counts; sent = sending p s (t + c.up) (origin_of c o) (Miss o z p) ∷ [] }
 
--- a request misses: the first that waits for its object asks the origin
-abbrev pub requested : Config → ℕ → Cache → ℕ → ℕ → ℕ → Option ℕ → Cache × List (Event Body)
-requested c p s t o z (Some n) = (joined s o (Some n), [])
-requested c p s t o z None = (
-  record (joined s o None) { sends = plus s.sends 1 },
-  sent p s (t + c.up) (origin_of c o) (Miss o z p) ∷ [],
-)
+-- a request at an edge
+abbrev pub requested : Config → ℕ → Cache → ℕ → ℕ → ℕ → Bool → Happening
+requested c p s t o z true =
+    let h = hit c.policy s.queue o in record { queue = h.queue; waiting = waiting s o; counts = h.counts; sent = [] }
+requested c p s t o z false = missed c p s t o z (waiting s o)
 
--- a miss at an origin is fetched from the backend, and the edge is sent a fill
-abbrev pub asked : Config → ℕ → Cache → ℕ → ℕ → ℕ → ℕ → Cache × List (Event Body)
-asked c p s t o z g = (
-  record s { sends = plus s.sends 1; counters = missed s.counters },
-  sent p s (t + c.down + c.back) g (Fill o z) ∷ [],
-)
+-- a miss at an origin, which fetches what it lacks from the backend and stores it; the edge is sent a fill
+abbrev pub asked : Config → ℕ → Cache → ℕ → ℕ → ℕ → ℕ → Bool → Happening
+asked c p s t o z g true =
+    let h = hit c.policy s.queue o in
+    record { queue = h.queue; waiting = waiting s o; counts = h.counts; sent = sending p s (t + c.down) g (Fill o z) ∷ [] }
+asked c p s t o z g false =
+    let k = stored c.policy s.queue o z in
+    record { queue = k.queue; waiting = waiting s o; counts = one_miss k.counts; sent = sending p s (t + c.down + c.back) g (Fill o z) ∷ [] }
 
--- a fill answers the requests that wait for it, if any
-abbrev pub filled : Cache → ℕ → Option ℕ → Cache × List (Event Body)
-filled s o (Some n) = (record (without_waiting s o) { counters = answered s.counters n }, [])
-filled s o None = (s, [])
+-- a fill at an edge, which answers the requests that wait for it, if any, and stores what the edge lacks
+abbrev pub filled : Config → Cache → ℕ → ℕ → Bool → Happening
+filled c s o z true = record { queue = s.queue; waiting = None; counts = answers (unwrap_or (waiting s o) 0) no_counts; sent = [] }
+filled c s o z false =
+    let k = stored c.policy s.queue o z in
+    record { queue = k.queue; waiting = None; counts = answers (unwrap_or (waiting s o) 0) k.counts; sent = [] }
 
--- the state after what happens at process p at time t, and what is sent
-abbrev pub happened : Config → ℕ → Cache → ℕ → Body → Cache × List (Event Body)
-happened c p s t (Request o z) = requested c p s t o z (waiting s o)
-happened c p s t (Miss o z g) = asked c p s t o z g
-happened c p s t (Fill o z) = filled s o (waiting s o)
+-- what happens at process p at time t
+abbrev pub happening : Config → ℕ → Cache → ℕ → Body → Happening
+happening c p s t (Request o z) = requested c p s t o z (is_stored s o)
+happening c p s t (Miss o z g) = asked c p s t o z g (is_stored s o)
+happening c p s t (Fill o z) = filled c s o z (is_stored s o)
+
+-- the cache after it, which concerned object o
+abbrev pub after : Cache → ℕ → Happening → Cache
+after s o h =
+    record {
+      queue = h.queue;
+      awaited = with_waiting s.awaited o h.waiting;
+      sends = plus s.sends (length h.sent);
+      counters = added s.counters h.counts;
+    }
 
 abbrev pub step : Config → ℕ → Cache → Event Body → Cache × List (Event Body)
-step c p s e = happened c p s e.time e.body
+step c p s e = let h = happening c p s e.time e.body in (after s (object_of e.body) h, h.sent)
 
 -- From a trace
 

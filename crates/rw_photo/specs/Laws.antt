@@ -1,24 +1,35 @@
 -- The laws of the model: valid events are in their ranges, a step keeps a cache well formed, sends are valid and later,
 -- and bodies that compare as equal are the same.
-use Rattle.std.specs.Prelude.{◌≡◌, ℕ, ◌+◌, ◌^◌, ◌<◌, Bool, true, false, ◌&&◌, nat_lt, [], ◌∷◌, Option, Some, None, All, refl}
+use Rattle.std.specs.Prelude.{◌≡◌, ℕ, ◌+◌, ◌^◌, ◌<◌, ◌≤◌, Bool, true, false, ◌&&◌, nat_lt, List, [], ◌∷◌, Option, Some, None, All, refl, is_some}
 use Rattle.std.specs.declared.cmp.Ordering.{Ordering}
 use Rattle.std.specs.declared.cmp.Ordering.TheVariants.{Less, Equal, Greater}
+use Rattle.std.specs.List.Sorted.{IsStrictlySortedBy}
+use Rattle.std.specs.Map.{keys_of, values_of}
 use Rattle.std.specs.Ordering.{nat_cmp, ordering_then}
-use Rattle.std.proofs.Common.{arith, sym, ◌∙◌, ap}
+use Rattle.std.proofs.Common.{arith, sym, ◌∙◌, ap, true≢false}
 use Rattle.std.proofs.lemmas.Bool.Decides.{nat_tests}
 use Rattle.std.proofs.lemmas.Cmp.{ranked, by_ranked}
 use Rattle.std.proofs.lemmas.List.Elements.{All-cons, All-nil, All-weaker}
 use Rattle.rw_vt.specs.declared.event.Event.{Event}
 use Rattle.rw_vt.specs.Valid.{IsInRange, IsSentBy}
-use Rattle.rw_vt.proofs.Entries.{sorted-insert_entry, sorted-remove_entry, values-insert_entry, values-remove_entry}
+use Rattle.rw_vt.proofs.Entries.{found-value, sorted-insert_entry, sorted-remove_entry, values-insert_entry, values-remove_entry}
+use Rattle.rw_blocks.specs.State.{QueueState, row_at}
+use Rattle.rw_blocks.specs.Loose.{IsWellFormed as IsWellFormedQueue}
+use Rattle.rw_blocks.specs.declared.Place.{Place}
+use Rattle.rw_ripq.specs.declared.Policy.{Policy}
+use Rattle.rw_ripq.specs.declared.Policy.TheVariants.{Off, Lru, Slru3}
+use Rattle.rw_ripq.specs.Insert.{insert}
+use Rattle.rw_ripq.specs.Promote.{promote}
+use Rattle.rw_ripq.proofs.Laws.{InsertLaws, PromoteLaws, insert-laws, promote-laws}
 use Rattle.rw_photo.specs.declared.body.Body.{Body}
 use Rattle.rw_photo.specs.declared.body.Body.TheVariants.{Request, Miss, Fill}
 use Rattle.rw_photo.specs.contracts.body.BodyOrd.TheImpl as order
 use Rattle.rw_photo.specs.declared.config.Config.{Config}
 use Rattle.rw_photo.specs.declared.counters.Counters.{Counters}
-use Rattle.rw_photo.specs.Counts.{AreCounts, plus, missed, coalesced, answered}
-use Rattle.rw_photo.specs.Cache.{Cache, IsWellFormed, waiting}
-use Rattle.rw_photo.specs.Events.{is_valid, may_happen, happened, step, sent, origin_of, requested, filled, joined}
+use Rattle.rw_photo.specs.Counts.{AreCounts, added}
+use Rattle.rw_photo.specs.Cache.{Cache, IsWellFormed, is_stored, shape_at, waiting, with_waiting}
+use Rattle.rw_photo.specs.Storing.{hit, placed, stored}
+use Rattle.rw_photo.specs.Events.{Happening, asked, filled, happening, is_valid, may_happen, missed, object_of, origin_of, requested, sending, step}
 
 both : (a b : Bool) → (a && b) ≡ true → (a ≡ true) × (b ≡ true)
 both true b h = (refl, h)
@@ -37,94 +48,171 @@ valid_ranges c e v =
     let r = early c e.time e.to e.body parts.1 in
     record { time = r.0; source = grind (arith, nat_tests); number = grind (arith, nat_tests); to = r.1 }
 
--- A step keeps a cache well formed
+-- A step keeps a cache well formed, and its sends are valid, from the process, and strictly later
 
-pub missed-counts : (k : Counters) → AreCounts k → AreCounts (missed k)
-missed-counts k a = record { requests = omega arith; hits = a.hits; misses = omega arith; coalesced = a.coalesced; late = a.late; bypassed = a.bypassed; inserted = a.inserted; evicted = a.evicted; reinserted = a.reinserted; promoted = a.promoted; writes = a.writes; splits = a.splits; merges = a.merges }
+-- the queue of process p
+record IsQueueAt (c : Config) (p : ℕ) (q : QueueState) : Type 0 where
+  well_formed : IsWellFormedQueue q
+  shape : q.shape ≡ shape_at c p
+  empty : c.policy ≡ Off → q.rows ≡ []
 
-pub coalesced-counts : (k : Counters) → AreCounts k → AreCounts (coalesced k)
-coalesced-counts k a = record { requests = omega arith; hits = a.hits; misses = omega arith; coalesced = omega arith; late = a.late; bypassed = a.bypassed; inserted = a.inserted; evicted = a.evicted; reinserted = a.reinserted; promoted = a.promoted; writes = a.writes; splits = a.splits; merges = a.merges }
+queue-at : (c : Config) (p : ℕ) (s : Cache) → IsWellFormed c p s → IsQueueAt c p s.queue
+queue-at c p s w = record { well_formed = w.queue; shape = w.shape; empty = w.empty }
 
-pub answered-counts : (k : Counters) (n : ℕ) → AreCounts k → AreCounts (answered k n)
-answered-counts k n a = record { requests = a.requests; hits = a.hits; misses = a.misses; coalesced = a.coalesced; late = omega arith; bypassed = a.bypassed; inserted = a.inserted; evicted = a.evicted; reinserted = a.reinserted; promoted = a.promoted; writes = a.writes; splits = a.splits; merges = a.merges }
+-- an empty queue has no row
+none-stored : (q : QueueState) (o : ℕ) → q.rows ≡ [] → is_some (row_at q o) ≡ true → ⊥
+none-stored q o none there = let row : row_at q o ≡ None = rw none refl in absurd (true≢false (sym there ∙ ap is_some row))
 
-keeps-joined : (s : Cache) (o : ℕ) (w : Option ℕ) → IsWellFormed s → IsWellFormed (joined s o w)
-keeps-joined s o (Some n) w =
-    record {
-      ascending = sorted-insert_entry s.awaited o (plus n 1) w.ascending;
-      waiting = values-insert_entry (λ n. n < 2 ^ 64) s.awaited o (plus n 1) w.waiting (omega arith);
-      sends = w.sends;
-      counters = coalesced-counts s.counters w.counters;
-    }
-keeps-joined s o None w =
-    record {
-      ascending = sorted-insert_entry s.awaited o 1 w.ascending;
-      waiting = values-insert_entry (λ n. n < 2 ^ 64) s.awaited o 1 w.waiting (omega arith);
-      sends = w.sends;
-      counters = missed-counts s.counters w.counters;
-    }
+some-stored : (o : Option Place) → is_some o ≡ true → (r : Place) × (o ≡ Some r)
+some-stored (Some r) there = (r, refl)
+some-stored None there = cc
 
-keeps-requested : (c : Config) (p : ℕ) (s : Cache) (t o z : ℕ) (w : Option ℕ) → IsWellFormed s → IsWellFormed (requested c p s t o z w).0
-keeps-requested c p s t o z (Some n) w = keeps-joined s o (Some n) w
-keeps-requested c p s t o z None w =
-    let k = keeps-joined s o None w in
-    record { ascending = k.ascending; waiting = k.waiting; sends = omega arith; counters = k.counters }
+none-found : (o : Option Place) → is_some o ≡ false → o ≡ None
+none-found (Some r) there = cc
+none-found None there = refl
 
-keeps-filled : (s : Cache) (o : ℕ) (w : Option ℕ) → IsWellFormed s → IsWellFormed (filled s o w).0
-keeps-filled s o (Some n) w =
-    record {
-      ascending = sorted-remove_entry s.awaited o w.ascending;
-      waiting = values-remove_entry (λ n. n < 2 ^ 64) s.awaited o w.waiting;
-      sends = w.sends;
-      counters = answered-counts s.counters n w.counters;
-    }
-keeps-filled s o None w = w
+hit-at : (c : Config) (p : ℕ) (q : QueueState) (o : ℕ) → IsQueueAt c p q → is_some (row_at q o) ≡ true → IsQueueAt c p (hit c.policy q o).queue
+hit-at c p q o at there =
+    let found = some-stored (row_at q o) there in
+    let laws : PromoteLaws q o (promote c.policy q o) = promote-laws c.policy q o found.0 at.well_formed found.1 in
+    record { well_formed = laws.well_formed; shape = laws.shape ∙ at.shape; empty = λ off. absurd (none-stored q o (at.empty off) there) }
 
-keeps-happened : (c : Config) (p : ℕ) (s : Cache) (t : ℕ) (b : Body) → IsWellFormed s → IsWellFormed (happened c p s t b).0
-keeps-happened c p s t (Request o z) w = keeps-requested c p s t o z (waiting s o) w
-keeps-happened c p s t (Miss o z g) w = record { ascending = w.ascending; waiting = w.waiting; sends = omega arith; counters = missed-counts s.counters w.counters }
-keeps-happened c p s t (Fill o z) w = keeps-filled s o (waiting s o) w
+placed-at : (c : Config) (p : ℕ) (k : Policy) (q : QueueState) (o z : ℕ) → (c.policy ≡ Off → ⊥) → IsQueueAt c p q → row_at q o ≡ None → 1 ≤ z → IsQueueAt c p (placed k q o z).queue
+placed-at c p k q o z stores at new some = go (nat_lt q.shape.block z) refl
+  where
+    go : (b : Bool) → nat_lt q.shape.block z ≡ b → IsQueueAt c p (placed k q o z).queue
+    go true large = rw large at
+    go false small =
+        let laws : InsertLaws q o z (insert k q o z 1) = insert-laws k q o z 1 at.well_formed new some (grind (arith, nat_tests)) in
+        rw small (record { well_formed = laws.well_formed; shape = laws.shape ∙ at.shape; empty = λ off. absurd (stores off) })
 
-pub step_keeps : (c : Config) (p : ℕ) (s : Cache) (e : Event Body) → IsWellFormed s → is_valid c e ≡ true → e.to ≡ p → IsWellFormed (step c p s e).0
-step_keeps c p s e w v at = keeps-happened c p s e.time e.body w
+stored-at : (c : Config) (p : ℕ) (k : Policy) (q : QueueState) (o z : ℕ) → c.policy ≡ k → IsQueueAt c p q → row_at q o ≡ None → 1 ≤ z → IsQueueAt c p (stored k q o z).queue
+stored-at c p Off q o z is at new some = at
+stored-at c p Lru q o z is at new some = placed-at c p Lru q o z (λ off. let h : Lru ≡ Off = sym is ∙ off in cc) at new some
+stored-at c p Slru3 q o z is at new some = placed-at c p Slru3 q o z (λ off. let h : Slru3 ≡ Off = sym is ∙ off in cc) at new some
 
--- Sends are valid, from the process, and strictly later
+-- so many requests may wait
+abbrev WaitFew : Option ℕ → Type 0
+WaitFew (Some n) = n < 2 ^ 64
+WaitFew None = Unit {0}
+
+found-few : (s : Cache) (o : ℕ) (w : Option ℕ) → All (λ n. n < 2 ^ 64) (values_of s.awaited) → waiting s o ≡ w → WaitFew w
+found-few s o (Some n) all is = found-value (λ m. m < 2 ^ 64) s.awaited o n all is
+found-few s o None all is = tt
 
 -- what is said of one send
 abbrev Follows : Config → ℕ → ℕ → Event Body → Type 0
 Follows c p t f = (f.source ≡ p + 1) × (t < f.time) × (is_valid c f ≡ true)
 
+-- what is said of what happens at process p at time t
+record IsFine (c : Config) (p t : ℕ) (h : Happening) : Type 0 where
+  queue : IsQueueAt c p h.queue
+  waiting : WaitFew h.waiting
+  follow : All (Follows c p t) h.sent
+
 one : (P : Event Body → Type 0) (f : Event Body) → P f → All P (f ∷ [])
 one P f h = All-cons P f [] h (All-nil P)
 
 -- an origin is asked by a valid miss
-asks : (c : Config) (p : ℕ) (s : Cache) (t o z : ℕ) → IsWellFormed s → may_happen c t p (Request o z) ≡ true → Follows c p t (sent p s (t + c.up) (origin_of c o) (Miss o z p))
-asks c p s t o z w v = let r = c.in_range in let n = w.sends in (refl, omega arith, grind (arith, nat_tests))
+asks : (c : Config) (p : ℕ) (s : Cache) (t o z : ℕ) → s.sends < 2 ^ 64 → may_happen c t p (Request o z) ≡ true → Follows c p t (sending p s (t + c.up) (origin_of c o) (Miss o z p))
+asks c p s t o z n v = let r = c.in_range in (refl, omega arith, grind (arith, nat_tests))
 
--- an edge is answered by a valid fill
-answers : (c : Config) (p : ℕ) (s : Cache) (t o z g : ℕ) → IsWellFormed s → may_happen c t p (Miss o z g) ≡ true → Follows c p t (sent p s (t + c.down + c.back) g (Fill o z))
-answers c p s t o z g w v = let r = c.in_range in let n = w.sends in (refl, omega arith, grind (arith, nat_tests))
+-- an edge is answered by a valid fill, at once or after the backend
+answers-at_once : (c : Config) (p : ℕ) (s : Cache) (t o z g : ℕ) → s.sends < 2 ^ 64 → may_happen c t p (Miss o z g) ≡ true → Follows c p t (sending p s (t + c.down) g (Fill o z))
+answers-at_once c p s t o z g n v = let r = c.in_range in (refl, omega arith, grind (arith, nat_tests))
 
-future-requested : (c : Config) (p : ℕ) (s : Cache) (t o z : ℕ) (w : Option ℕ) → IsWellFormed s → may_happen c t p (Request o z) ≡ true → All (Follows c p t) (requested c p s t o z w).1
-future-requested c p s t o z (Some n) w v = All-nil (Follows c p t)
-future-requested c p s t o z None w v = one (Follows c p t) (sent p s (t + c.up) (origin_of c o) (Miss o z p)) (asks c p s t o z w v)
+answers-later : (c : Config) (p : ℕ) (s : Cache) (t o z g : ℕ) → s.sends < 2 ^ 64 → may_happen c t p (Miss o z g) ≡ true → Follows c p t (sending p s (t + c.down + c.back) g (Fill o z))
+answers-later c p s t o z g n v = let r = c.in_range in (refl, omega arith, grind (arith, nat_tests))
 
-future-filled : (c : Config) (p : ℕ) (s : Cache) (t o : ℕ) (w : Option ℕ) → All (Follows c p t) (filled s o w).1
-future-filled c p s t o (Some n) = All-nil (Follows c p t)
-future-filled c p s t o None = All-nil (Follows c p t)
+missed-fine : (c : Config) (p : ℕ) (s : Cache) (t o z : ℕ) (w : Option ℕ) → IsWellFormed c p s → may_happen c t p (Request o z) ≡ true → IsFine c p t (missed c p s t o z w)
+missed-fine c p s t o z (Some n) w v = record { queue = queue-at c p s w; waiting = omega arith; follow = All-nil (Follows c p t) }
+missed-fine c p s t o z None w v =
+    record { queue = queue-at c p s w; waiting = omega arith; follow = one (Follows c p t) (sending p s (t + c.up) (origin_of c o) (Miss o z p)) (asks c p s t o z w.sends v) }
 
-future-happened : (c : Config) (p : ℕ) (s : Cache) (t : ℕ) (b : Body) → IsWellFormed s → may_happen c t p b ≡ true → All (Follows c p t) (happened c p s t b).1
-future-happened c p s t (Request o z) w v = future-requested c p s t o z (waiting s o) w v
-future-happened c p s t (Miss o z g) w v = one (Follows c p t) (sent p s (t + c.down + c.back) g (Fill o z)) (answers c p s t o z g w v)
-future-happened c p s t (Fill o z) w v = future-filled c p s t o (waiting s o)
+requested-fine : (c : Config) (p : ℕ) (s : Cache) (t o z : ℕ) (b : Bool) → is_stored s o ≡ b → IsWellFormed c p s → may_happen c t p (Request o z) ≡ true → IsFine c p t (requested c p s t o z b)
+requested-fine c p s t o z true is w v =
+    record { queue = hit-at c p s.queue o (queue-at c p s w) is; waiting = found-few s o (waiting s o) w.waiting refl; follow = All-nil (Follows c p t) }
+requested-fine c p s t o z false is w v = missed-fine c p s t o z (waiting s o) w v
 
-pub step_future : (c : Config) (p : ℕ) (s : Cache) (e : Event Body) → IsWellFormed s → is_valid c e ≡ true → e.to ≡ p → All (λ f. IsSentBy p e f × (is_valid c f ≡ true)) (step c p s e).1
-step_future c p s e w v at =
+asked-fine : (c : Config) (p : ℕ) (s : Cache) (t o z g : ℕ) (b : Bool) → is_stored s o ≡ b → IsWellFormed c p s → may_happen c t p (Miss o z g) ≡ true → IsFine c p t (asked c p s t o z g b)
+asked-fine c p s t o z g true is w v =
+    record {
+      queue = hit-at c p s.queue o (queue-at c p s w) is;
+      waiting = found-few s o (waiting s o) w.waiting refl;
+      follow = one (Follows c p t) (sending p s (t + c.down) g (Fill o z)) (answers-at_once c p s t o z g w.sends v);
+    }
+asked-fine c p s t o z g false is w v =
+    record {
+      queue = stored-at c p c.policy s.queue o z refl (queue-at c p s w) (none-found (row_at s.queue o) is) (grind (arith, nat_tests));
+      waiting = found-few s o (waiting s o) w.waiting refl;
+      follow = one (Follows c p t) (sending p s (t + c.down + c.back) g (Fill o z)) (answers-later c p s t o z g w.sends v);
+    }
+
+filled-fine : (c : Config) (p : ℕ) (s : Cache) (t o z : ℕ) (b : Bool) → is_stored s o ≡ b → IsWellFormed c p s → may_happen c t p (Fill o z) ≡ true → IsFine c p t (filled c s o z b)
+filled-fine c p s t o z true is w v = record { queue = queue-at c p s w; waiting = tt; follow = All-nil (Follows c p t) }
+filled-fine c p s t o z false is w v =
+    record {
+      queue = stored-at c p c.policy s.queue o z refl (queue-at c p s w) (none-found (row_at s.queue o) is) (grind (arith, nat_tests));
+      waiting = tt;
+      follow = All-nil (Follows c p t);
+    }
+
+happening-fine : (c : Config) (p : ℕ) (s : Cache) (t : ℕ) (b : Body) → IsWellFormed c p s → may_happen c t p b ≡ true → IsFine c p t (happening c p s t b)
+happening-fine c p s t (Request o z) w v = requested-fine c p s t o z (is_stored s o) refl w v
+happening-fine c p s t (Miss o z g) w v = asked-fine c p s t o z g (is_stored s o) refl w v
+happening-fine c p s t (Fill o z) w v = filled-fine c p s t o z (is_stored s o) refl w v
+
+event-fine : (c : Config) (p : ℕ) (s : Cache) (e : Event Body) → IsWellFormed c p s → is_valid c e ≡ true → e.to ≡ p → IsFine c p e.time (happening c p s e.time e.body)
+event-fine c p s e w v at =
     let parts = both (nat_lt e.source (2 ^ 32) && nat_lt e.number (2 ^ 64)) (may_happen c e.time e.to e.body) v in
+    happening-fine c p s e.time e.body w (ap (λ q. may_happen c e.time q e.body) (sym at) ∙ parts.1)
+
+ascending-with : (m : List (ℕ × ℕ)) (o : ℕ) (w : Option ℕ) → IsStrictlySortedBy nat_cmp (keys_of m) → IsStrictlySortedBy nat_cmp (keys_of (with_waiting m o w))
+ascending-with m o (Some n) up = sorted-insert_entry m o n up
+ascending-with m o None up = sorted-remove_entry m o up
+
+few-with : (m : List (ℕ × ℕ)) (o : ℕ) (w : Option ℕ) → All (λ n. n < 2 ^ 64) (values_of m) → WaitFew w → All (λ n. n < 2 ^ 64) (values_of (with_waiting m o w))
+few-with m o (Some n) all few = values-insert_entry (λ n. n < 2 ^ 64) m o n all few
+few-with m o None all few = values-remove_entry (λ n. n < 2 ^ 64) m o all
+
+added-counts : (k d : Counters) → AreCounts (added k d)
+added-counts k d =
+    record {
+      requests = omega arith;
+      hits = omega arith;
+      misses = omega arith;
+      coalesced = omega arith;
+      late = omega arith;
+      bypassed = omega arith;
+      inserted = omega arith;
+      evicted = omega arith;
+      reinserted = omega arith;
+      promoted = omega arith;
+      writes = omega arith;
+      splits = omega arith;
+      merges = omega arith;
+    }
+
+pub step_keeps : (c : Config) (p : ℕ) (s : Cache) (e : Event Body) → IsWellFormed c p s → is_valid c e ≡ true → e.to ≡ p → IsWellFormed c p (step c p s e).0
+step_keeps c p s e w v at =
+    let h : Happening = happening c p s e.time e.body in
+    let fine : IsFine c p e.time h = event-fine c p s e w v at in
+    record {
+      queue = fine.queue.well_formed;
+      shape = fine.queue.shape;
+      empty = fine.queue.empty;
+      ascending = ascending-with s.awaited (object_of e.body) h.waiting w.ascending;
+      waiting = few-with s.awaited (object_of e.body) h.waiting w.waiting fine.waiting;
+      sends = omega arith;
+      counters = added-counts s.counters h.counts;
+    }
+
+pub step_future : (c : Config) (p : ℕ) (s : Cache) (e : Event Body) → IsWellFormed c p s → is_valid c e ≡ true → e.to ≡ p → All (λ f. IsSentBy p e f × (is_valid c f ≡ true)) (step c p s e).1
+step_future c p s e w v at =
     All-weaker (Follows c p e.time) (λ f. IsSentBy p e f × (is_valid c f ≡ true))
     (λ f h. (record { source = h.0; later = h.1 }, h.2))
     (step c p s e).1
-    (future-happened c p s e.time e.body w (ap (λ q. may_happen c e.time q e.body) (sym at) ∙ parts.1))
+    (event-fine c p s e w v at).follow
 
 -- Bodies that compare as equal are the same
 

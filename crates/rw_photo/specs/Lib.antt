@@ -1,7 +1,9 @@
 pub mod Ranges
 pub mod Counts
 pub mod Cache
+pub mod Storing
 pub mod Events
 pub mod Undoing
+pub mod Deeds
 pub mod Laws
 pub mod Simulation

@@ -1,37 +1,35 @@
 -- What takes an event back.
 use Rattle.std.specs.Prelude.{◌≡◌, ℕ, Bool, true, false, Option, Some, None}
 use Rattle.rw_vt.specs.declared.event.Event.{Event}
+use Rattle.rw_ripq.specs.Trail.{Leads, rewind_of}
+use Rattle.rw_ripq.specs.Weight.{IsShort}
 use Rattle.rw_photo.specs.declared.body.Body.{Body}
-use Rattle.rw_photo.specs.declared.body.Body.TheVariants.{Request, Miss, Fill}
 use Rattle.rw_photo.specs.declared.undo.Undo.{Undo}
-use Rattle.rw_photo.specs.Counts.{minus, unmissed, uncoalesced, unanswered}
-use Rattle.rw_photo.specs.Cache.{Cache, waiting, with_waiting, without_waiting}
+use Rattle.rw_photo.specs.Counts.{minus, taken_off, one_if}
+use Rattle.rw_photo.specs.Cache.{Cache, with_waiting}
+use Rattle.rw_photo.specs.Events.{object_of}
 
--- one request less waits for the object
-abbrev pub one_less : Cache → ℕ → Option ℕ → Cache
-one_less s o (Some n) = with_waiting s o (minus n 1)
-one_less s o None = s
+-- how many requests waited for the object before the event, where it was awaited
+abbrev pub some_if : Bool → ℕ → Option ℕ
+some_if true n = Some n
+some_if false n = None
 
--- one event less was sent
-abbrev pub unsent : Cache → Cache
-unsent s = record s { sends = minus s.sends 1; counters = unmissed s.counters }
+abbrev pub waiting_before : Undo → Option ℕ
+waiting_before u = some_if u.awaited u.waiting
 
--- a request that joined others leaves them; one that was the first takes its question back
-abbrev pub unrequested : Cache → ℕ → Bool → Cache
-unrequested s o true = let left = one_less s o (waiting s o) in record left { counters = uncoalesced s.counters }
-unrequested s o false = unsent (without_waiting s o)
+-- the cache before what happened to object o, by its undo record
+abbrev pub before : ℕ → Undo → Cache → Cache
+before o u s =
+    record {
+      queue = rewind_of u.trail s.queue;
+      awaited = with_waiting s.awaited o (waiting_before u);
+      sends = minus s.sends (one_if u.sent);
+      counters = taken_off s.counters u.counted;
+    }
 
--- the requests that a fill answered wait again
-abbrev pub unfilled : Cache → ℕ → Bool → ℕ → Cache
-unfilled s o true n = let left = with_waiting s o n in record left { counters = unanswered s.counters n }
-unfilled s o false n = s
-
--- the state before what happened, by its undo record
-abbrev pub unhappened : Body → Undo → Cache → Cache
-unhappened (Request o z) u s = unrequested s o u.awaited
-unhappened (Miss o z g) u s = unsent s
-unhappened (Fill o z) u s = unfilled s o u.awaited u.answered
-
--- the undo record takes the state after back to the one before
-pub record TakesBack (before : Cache) (e : Event Body) (u : Undo) (after : Cache) : Type 0 where
-  pub back : unhappened e.body u after ≡ before
+-- the undo record takes the cache after the event back to the one before; its trail leads the queue back, and is no longer
+-- than what the event changed there
+pub record TakesBack (old : Cache) (e : Event Body) (u : Undo) (now : Cache) : Type 0 where
+  pub back : before (object_of e.body) u now ≡ old
+  pub leads : Leads u.trail old.queue now.queue
+  pub short : IsShort u.trail old.queue now.queue

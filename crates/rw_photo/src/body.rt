@@ -1,3 +1,6 @@
+ghost use Rattle.std.specs.Prelude.{◌≡◌};
+ghost use Rattle.rw_photo.specs.Events.{object_of};
+
 /// What happens at a cache. Sizes are in bytes, 1 to 4294967295.
 #[derive(Clone, Copy, Debug, PartialEq, Eq, PartialOrd, Ord)]
 pub enum Body {
@@ -7,4 +10,16 @@ pub enum Body {
     Miss { object: u64, size: u64, edge: u32 },
     /// An origin sends an edge the object that it asked for.
     Fill { object: u64, size: u64 },
+}
+
+impl Body {
+    /// The object that it is about.
+    pub(crate) fn object(&self) -> u64
+        ensures { result ≡ object_of self.now }
+    {
+        match *self {
+            Body::Request { object, .. } | Body::Miss { object, .. } | Body::Fill { object, .. } =>
+                object,
+        }
+    }
 }

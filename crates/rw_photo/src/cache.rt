@@ -1,22 +1,27 @@
-ghost use Rattle.std.specs.Prelude.{◌≡◌, ◌+◌, ◌<◌, ◌^◌, true, OnOk, IfOk, is_some};
-ghost use Rattle.rw_photo.specs.Cache.{IsWellFormed, start, waiting};
-ghost use Rattle.rw_photo.specs.Counts.{plus, missed, unmissed};
-ghost use Rattle.rw_photo.specs.Events.{filled, joined, sent};
-ghost use Rattle.rw_photo.specs.Undoing.{unfilled, unrequested, unsent};
+ghost use Rattle.std.specs.Prelude.{◌≡◌, ◌≢◌, ◌+◌, ◌<◌, ◌≤◌, ◌^◌, true, false, None, OnOk, IfOk};
+ghost use Rattle.rw_blocks.specs.Loose.{IsWellFormed as IsWellFormedQueue};
+ghost use Rattle.rw_ripq.specs.Trail.{IsRewindable, Leads, rewind_of};
+ghost use Rattle.rw_ripq.specs.Weight.{IsShort};
+ghost use Rattle.rw_photo.specs.Cache.{is_stored, start_in, waiting, with_waiting};
+ghost use Rattle.rw_photo.specs.Counts.{added, minus, one_if, plus, taken_off};
+ghost use Rattle.rw_photo.specs.Events.{sending};
+ghost use Rattle.rw_photo.specs.Storing.{hit, stored};
 
 use crate::body::Body;
 use crate::counters::Counters;
+use rw_ripq::{Policy, Queue, Shape, Trail};
 use rw_vt::{Event, NoMemory};
 use std::alloc::Global;
 use std::collections::BTreeMap;
 use std::marker::Model;
 
-/// What one cache keeps: which objects are on their way to it and how many requests wait for each, how many events it
-/// has sent, and what it has counted.
+/// What one cache keeps: its queue on flash, which objects are on their way to it and how many requests wait for each, how
+/// many events it has sent, and what it has counted.
 ///
 /// Contracts see it as `Cache` of `specs/Cache.antt`.
 #[derive(Drop)]
 pub struct CacheState {
+    queue: Queue,
     awaited: BTreeMap<u64, u64>,
     sends: u64,
     counters: Counters,
@@ -27,20 +32,20 @@ impl Model for CacheState {
 
     ghost Value = { Cache };
 
-    ghost view = { λ s. record { awaited = s.awaited.entries; sends = s.sends; counters = s.counters } };
+    ghost view = { λ s. record { queue = s.queue; awaited = s.awaited.entries; sends = s.sends; counters = s.counters } };
 }
 
 impl CacheState {
-    /// A cache to which nothing has happened.
-    pub(crate) fn new(alloc: Global) -> CacheState
-        ensures start { result ≡ start }
-        ensures well_formed { IsWellFormed result }
+    /// A cache to which nothing has happened, with a queue of this shape.
+    pub(crate) fn new(alloc: Global, shape: Shape) -> Result<CacheState, NoMemory>
+        ensures { IfOk result (λ s. s ≡ start_in shape) }
     {
-        CacheState {
+        Ok(CacheState {
+            queue: Queue::new(alloc, shape)?,
             awaited: BTreeMap::new(alloc),
             sends: 0,
             counters: Counters::default(),
-        }
+        })
     }
 
     /// What the cache has counted. Takes no memory.
@@ -57,103 +62,144 @@ impl CacheState {
         self.sends
     }
 
-    /// Numbers an event that process `process` sends.
-    pub(crate) fn send(&mut self, process: u32, time: u64, to: u32, body: Body) -> Event<Body>
-        requires { process + 1 < 2 ^ 32 }
-        ensures event { result ≡ sent process self.old time to body }
-        ensures state { self.new ≡ record self.old { sends = plus self.old.sends 1 } }
+    /// The serial of the queue's next fresh block.
+    pub(crate) fn next_serial(&self) -> u64
+        ensures { result ≡ self.now.queue.next }
     {
-        let number = self.sends;
-        self.sends = number.wrapping_add(1);
+        self.queue.next_serial()
+    }
+
+    /// Whether an object is stored.
+    pub(crate) fn is_stored(&self, object: u64) -> bool
+        ensures { result ≡ is_stored self.now object }
+    {
+        rw_ripq::resident(&self.queue, object)
+    }
+
+    /// How many requests wait for an object, where it is awaited.
+    pub(crate) fn waiting(&self, object: u64) -> Option<u64>
+        ensures { result ≡ waiting self.now object }
+    {
+        self.awaited.get(&object).copied()
+    }
+
+    /// So many requests wait for the object, or it is not awaited.
+    pub(crate) fn set_waiting(&mut self, object: u64, waiting: Option<u64>) -> Result<(), NoMemory>
+        ensures { OnOk result (self.new ≡ record self.old { awaited = with_waiting self.old.awaited object waiting }) }
+    {
+        match waiting {
+            Some(count) => {
+                self.awaited.insert(object, count)?;
+            }
+            None => {
+                self.awaited.remove(&object);
+            }
+        }
+        Ok(())
+    }
+
+    /// A hit of an object that is stored: it is promoted. Hands back what takes that back, and what it counts.
+    pub(crate) fn hit(
+        &mut self,
+        alloc: Global,
+        policy: Policy,
+        object: u64,
+    ) -> Result<(Trail, Counters), NoMemory>
+        requires well_formed { IsWellFormedQueue self.old.queue }
+        requires stores { policy ≢ Policy.Off }
+        requires resident { is_stored self.old object ≡ true }
+        requires fresh { self.old.queue.next < 2 ^ 62 }
+        ensures queue { OnOk result (self.new ≡ record self.old { queue = (hit policy self.old.queue object).queue }) }
+        ensures counts { IfOk result (λ r. r.1 ≡ (hit policy self.old.queue object).counts) }
+        ensures leads { IfOk result (λ r. Leads r.0 self.old.queue self.new.queue) }
+        ensures short { IfOk result (λ r. IsShort r.0 self.old.queue self.new.queue) }
+    {
+        let Ok((trail, moved)) = rw_ripq::promote(alloc, &mut self.queue, policy, object) else {
+            return Err(NoMemory);
+        };
+        Ok((trail, Counters::of_hit(moved)))
+    }
+
+    /// Stores an object that is not stored, if it fits a block and anything is stored at all. Hands back what takes that
+    /// back, and what it counts.
+    #[tactic(auto, using(crate::proofs::Stores::store_laws))]
+    pub(crate) fn store(
+        &mut self,
+        alloc: Global,
+        policy: Policy,
+        object: u64,
+        size: u64,
+    ) -> Result<(Trail, Counters), NoMemory>
+        requires well_formed { IsWellFormedQueue self.old.queue }
+        requires new { is_stored self.old object ≡ false }
+        requires some { 1 ≤ size }
+        requires fresh { self.old.queue.next < 2 ^ 62 }
+        ensures queue { OnOk result (self.new ≡ record self.old { queue = (stored policy self.old.queue object size).queue }) }
+        ensures counts { IfOk result (λ r. r.1 ≡ (stored policy self.old.queue object size).counts) }
+        ensures leads { IfOk result (λ r. Leads r.0 self.old.queue self.new.queue) }
+        ensures short { IfOk result (λ r. IsShort r.0 self.old.queue self.new.queue) }
+    {
+        if policy == Policy::Off {
+            return Ok((Trail::new(alloc), Counters::default()));
+        }
+        let (_, block, _) = self.queue.shape();
+        if size > block {
+            return Ok((Trail::new(alloc), Counters::of_bypass()));
+        }
+        let Ok((trail, tally)) = rw_ripq::insert(alloc, &mut self.queue, policy, object, size, 1)
+        else {
+            return Err(NoMemory);
+        };
+        Ok((trail, Counters::of_insertion(tally)))
+    }
+
+    /// Takes back what happened to the queue.
+    pub(crate) fn rewind(&mut self, trail: Trail) -> Result<(), NoMemory>
+        requires { IsRewindable trail self.old.queue }
+        ensures { OnOk result (self.new ≡ record self.old { queue = rewind_of trail self.old.queue }) }
+    {
+        rw_ripq::rewind(&mut self.queue, trail)
+    }
+
+    /// Counts.
+    pub(crate) fn count(&mut self, counted: &Counters)
+        ensures { self.new ≡ record self.old { counters = added self.old.counters counted.now } }
+    {
+        self.counters.add(counted);
+    }
+
+    /// Takes off what was counted.
+    pub(crate) fn take_off(&mut self, counted: &Counters)
+        ensures { self.new ≡ record self.old { counters = taken_off self.old.counters counted.now } }
+    {
+        self.counters.take_off(counted);
+    }
+
+    /// Numbers an event that process `process` is to send.
+    pub(crate) fn sending(&self, process: u32, time: u64, to: u32, body: Body) -> Event<Body>
+        requires { process + 1 < 2 ^ 32 }
+        ensures { result ≡ sending process self.now time to body }
+    {
         Event {
             time,
             source: process + 1,
-            number,
+            number: self.sends,
             to,
             body,
         }
     }
 
-    /// Counts a request that misses.
-    pub(crate) fn miss(&mut self)
-        ensures { self.new ≡ record self.old { counters = missed self.old.counters } }
+    /// One event more was sent, if any was.
+    pub(crate) fn count_send(&mut self, sent: bool)
+        ensures { self.new ≡ record self.old { sends = plus self.old.sends (one_if sent) } }
     {
-        let counters = &mut self.counters;
-        counters.requests = counters.requests.wrapping_add(1);
-        counters.misses = counters.misses.wrapping_add(1);
+        self.sends = self.sends.wrapping_add(u64::from(sent));
     }
 
-    /// A request that misses waits for its object; whether others wait for it already.
-    pub(crate) fn wait(&mut self, object: u64) -> Result<bool, NoMemory>
-        ensures state { OnOk result (self.new ≡ joined self.old object (waiting self.old object)) }
-        ensures awaited { IfOk result (λ awaited. awaited ≡ is_some (waiting self.old object)) }
+    /// The event that was sent, if any was, was not.
+    pub(crate) fn take_send_back(&mut self, sent: bool)
+        ensures { self.new ≡ record self.old { sends = minus self.old.sends (one_if sent) } }
     {
-        let waiting = self.awaited.get(&object).copied();
-        let others = waiting.unwrap_or(0);
-        self.awaited.insert(object, others.wrapping_add(1))?;
-        self.miss();
-        if waiting.is_some() {
-            let counters = &mut self.counters;
-            counters.coalesced = counters.coalesced.wrapping_add(1);
-        }
-        Ok(waiting.is_some())
-    }
-
-    /// A fill answers the requests that wait for its object: how many, if it is awaited.
-    pub(crate) fn fill(&mut self, object: u64) -> Option<u64>
-        ensures state { self.new ≡ (filled self.old object (waiting self.old object)).0 }
-        ensures answered { result ≡ waiting self.old object }
-    {
-        let answered = self.awaited.remove(&object);
-        if let Some(count) = answered {
-            let counters = &mut self.counters;
-            counters.late = counters.late.wrapping_add(count);
-        }
-        answered
-    }
-
-    /// Takes a send and the miss that caused it back.
-    pub(crate) fn unsend(&mut self)
-        ensures { self.new ≡ unsent self.old }
-    {
-        self.sends = self.sends.wrapping_sub(1);
-        self.unmiss();
-    }
-
-    /// Takes a counted request that missed back.
-    fn unmiss(&mut self)
-        ensures { self.new ≡ record self.old { counters = unmissed self.old.counters } }
-    {
-        let counters = &mut self.counters;
-        counters.requests = counters.requests.wrapping_sub(1);
-        counters.misses = counters.misses.wrapping_sub(1);
-    }
-
-    /// Takes a waiting request back, which others had waited before or not.
-    pub(crate) fn unwait(&mut self, object: u64, awaited: bool) -> Result<(), NoMemory>
-        ensures { OnOk result (self.new ≡ unrequested self.old object awaited) }
-    {
-        if !awaited {
-            self.awaited.remove(&object);
-            self.unsend();
-            return Ok(());
-        }
-        if let Some(count) = self.awaited.get(&object).copied() {
-            self.awaited.insert(object, count.wrapping_sub(1))?;
-        }
-        self.unmiss();
-        let counters = &mut self.counters;
-        counters.coalesced = counters.coalesced.wrapping_sub(1);
-        Ok(())
-    }
-
-    /// Takes a fill back that answered this many requests.
-    pub(crate) fn unfill(&mut self, object: u64, answered: u64) -> Result<(), NoMemory>
-        ensures { OnOk result (self.new ≡ unfilled self.old object true answered) }
-    {
-        self.awaited.insert(object, answered)?;
-        let counters = &mut self.counters;
-        counters.late = counters.late.wrapping_sub(answered);
-        Ok(())
+        self.sends = self.sends.wrapping_sub(u64::from(sent));
     }
 }

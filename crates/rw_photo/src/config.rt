@@ -1,13 +1,21 @@
 ghost use Rattle.std.specs.Prelude.{◌≡◌, ◌+◌, ◌≤◌, ◌<◌, ◌%◌, IsSome, IsTrue, IfSome, ◌↔◌};
 ghost use Rattle.rw_photo.specs.Ranges.{IsConfig, IsDelay};
 
-/// How many edges and origins there are, and how long what they send is on its way.
-#[derive(Clone, Copy, Debug)]
+use rw_ripq::{Policy, Shape};
+
+/// How many edges and origins there are, what they store, and how long what they send is on its way.
+#[derive(Clone, Copy)]
 pub struct Config {
     /// Edge caches, 1 to 256: processes 0 to `edges - 1`.
     pub edges: u32,
     /// Origin caches, 1 to 64: the processes behind the edges. Object `o` is asked of origin `o mod origins`.
     pub origins: u32,
+    /// What is stored, and where it goes.
+    pub policy: Policy,
+    /// The shape of each edge's queue.
+    pub edge_shape: Shape,
+    /// The shape of each origin's queue.
+    pub origin_shape: Shape,
     /// From an edge to an origin, in ticks, 1 to 1048576.
     pub up: u64,
     /// From an origin to an edge, in ticks, 1 to 1048576.
@@ -28,10 +36,22 @@ impl Config {
     pub const MAX_DELAY: u64 = 1_048_576;
 
     /// A configuration; None exactly where a number is out of its range. Takes no memory.
-    pub fn new(edges: u32, origins: u32, up: u64, down: u64, back: u64) -> Option<Config>
+    pub fn new(
+        edges: u32,
+        origins: u32,
+        policy: Policy,
+        edge_shape: Shape,
+        origin_shape: Shape,
+        up: u64,
+        down: u64,
+        back: u64,
+    ) -> Option<Config>
         ensures found { IsSome result ↔ IsConfig edges origins up down back }
         ensures edges { IfSome result (λ c. c.edges ≡ edges) }
         ensures origins { IfSome result (λ c. c.origins ≡ origins) }
+        ensures policy { IfSome result (λ c. c.policy ≡ policy) }
+        ensures edge_shape { IfSome result (λ c. c.edge_shape ≡ edge_shape) }
+        ensures origin_shape { IfSome result (λ c. c.origin_shape ≡ origin_shape) }
         ensures up { IfSome result (λ c. c.up ≡ up) }
         ensures down { IfSome result (λ c. c.down ≡ down) }
         ensures back { IfSome result (λ c. c.back ≡ back) }
@@ -43,6 +63,9 @@ impl Config {
             Some(Config {
                 edges,
                 origins,
+                policy,
+                edge_shape,
+                origin_shape,
                 up,
                 down,
                 back,

@@ -1,3 +1,8 @@
+ghost use Rattle.std.specs.Prelude.{◌≡◌};
+ghost use Rattle.rw_photo.specs.Counts.{added, answers, taken_off, one_bypassed, one_coalesced, one_hit, one_inserted, one_miss};
+
+use rw_ripq::Tally;
+
 /// What one cache has counted; every count is modulo 2^64.
 #[derive(Clone, Copy, Debug, Default, PartialEq, Eq)]
 pub struct Counters {
@@ -27,4 +32,116 @@ pub struct Counters {
     pub splits: u64,
     /// Sections merged.
     pub merges: u64,
+}
+
+impl Counters {
+    /// A hit, which moved its object to another place or not.
+    pub(crate) fn of_hit(moved: bool) -> Counters
+        ensures { result ≡ one_hit moved }
+    {
+        Counters {
+            requests: 1,
+            hits: 1,
+            promoted: u64::from(moved),
+            ..Counters::default()
+        }
+    }
+
+    /// A miss whose object is on its way already.
+    pub(crate) fn of_coalesced() -> Counters
+        ensures { result ≡ one_coalesced }
+    {
+        Counters {
+            coalesced: 1,
+            ..Counters::default().with_miss()
+        }
+    }
+
+    /// The same, of a miss.
+    pub(crate) fn with_miss(self) -> Counters
+        ensures { result ≡ one_miss self }
+    {
+        Counters {
+            requests: 1,
+            misses: 1,
+            ..self
+        }
+    }
+
+    /// The same, of a fill that answers so many requests.
+    pub(crate) fn with_late(self, late: u64) -> Counters
+        ensures { result ≡ answers late self }
+    {
+        Counters { late, ..self }
+    }
+
+    /// An object that is too large for a block.
+    pub(crate) fn of_bypass() -> Counters
+        ensures { result ≡ one_bypassed }
+    {
+        Counters {
+            bypassed: 1,
+            ..Counters::default()
+        }
+    }
+
+    /// An object that was stored.
+    pub(crate) fn of_insertion(tally: Tally) -> Counters
+        ensures { result ≡ one_inserted tally }
+    {
+        let Tally {
+            evicted,
+            reinserted,
+            writes,
+            splits,
+            merges,
+        } = tally;
+        Counters {
+            inserted: 1,
+            evicted,
+            reinserted,
+            writes,
+            splits,
+            merges,
+            ..Counters::default()
+        }
+    }
+
+    /// Each count grows by what was counted, modulo 2^64. Takes no memory.
+    pub fn add(&mut self, counted: &Counters)
+        ensures { self.new ≡ added self.old counted.now }
+    {
+        self.requests = self.requests.wrapping_add(counted.requests);
+        self.hits = self.hits.wrapping_add(counted.hits);
+        self.misses = self.misses.wrapping_add(counted.misses);
+        self.coalesced = self.coalesced.wrapping_add(counted.coalesced);
+        self.late = self.late.wrapping_add(counted.late);
+        self.bypassed = self.bypassed.wrapping_add(counted.bypassed);
+        self.inserted = self.inserted.wrapping_add(counted.inserted);
+        self.evicted = self.evicted.wrapping_add(counted.evicted);
+        self.reinserted = self.reinserted.wrapping_add(counted.reinserted);
+        self.promoted = self.promoted.wrapping_add(counted.promoted);
+        self.writes = self.writes.wrapping_add(counted.writes);
+        self.splits = self.splits.wrapping_add(counted.splits);
+        self.merges = self.merges.wrapping_add(counted.merges);
+    }
+
+    /// Each count falls by what was counted.
+    pub(crate) fn take_off(&mut self, counted: &Counters)
+        ensures { self.new ≡ taken_off self.old counted.now }
+    {
+        self.requests = self.requests.wrapping_sub(counted.requests);
+        self.hits = self.hits.wrapping_sub(counted.hits);
+        self.misses = self.misses.wrapping_sub(counted.misses);
+        self.coalesced = self.coalesced.wrapping_sub(counted.coalesced);
+        self.late = self.late.wrapping_sub(counted.late);
+        self.bypassed = self.bypassed.wrapping_sub(counted.bypassed);
+        self.inserted = self.inserted.wrapping_sub(counted.inserted);
+        self.evicted = self.evicted.wrapping_sub(counted.evicted);
+        self.reinserted = self.reinserted.wrapping_sub(counted.reinserted);
+        self.promoted = self.promoted.wrapping_sub(counted.promoted);
+        self.writes = self.writes.wrapping_sub(counted.writes);
+        self.splits = self.splits.wrapping_sub(counted.splits);
+        self.merges = self.merges.wrapping_sub(counted.merges);
+    }
 }

@@ -1,19 +1,32 @@
-ghost use Rattle.std.specs.Prelude.{◌≡◌, IfOk, ◌<◌, ◌+◌, ◌^◌, ◌&&◌, nat_le, nat_lt};
-ghost use Rattle.rw_photo.specs.Cache.{IsWellFormed, start};
-ghost use Rattle.rw_photo.specs.Events.{is_edge, is_origin, origin_of};
+ghost use Rattle.std.specs.Prelude.{◌≡◌, ◌≤◌, IfOk, true, ◌<◌, ◌+◌, ◌^◌, ◌&&◌, nat_le, nat_lt};
+ghost use Rattle.rw_photo.specs.Cache.{IsWellFormed, is_edge, is_stored, shape_at, start};
+ghost use Rattle.rw_photo.specs.Deeds.{HasDone};
+ghost use Rattle.rw_photo.specs.Events.{asked, filled, happening, is_origin, is_valid, object_of, origin_of, requested};
 
 use crate::body::Body;
 use crate::cache::CacheState;
 use crate::config::Config;
+use crate::counters::Counters;
 use crate::undo::Undo;
+use rw_ripq::Trail;
 use rw_vt::{Event, Model as VtModel, NoMemory, Refusal};
 use std::alloc::Global;
 
 /// The model of the caches of a configuration: processes 0 to `edges - 1` are edges, then come the origins.
-#[derive(Clone, Copy, Debug)]
+#[derive(Clone, Copy)]
 pub struct Photo {
     /// The caches and the delays between them.
     pub config: Config,
+}
+
+/// What an event did to a cache, beside the change of its queue and of the requests that wait.
+struct Deed {
+    /// What takes the change of the queue back.
+    trail: Trail,
+    /// What it counts.
+    counted: Counters,
+    /// What it sends.
+    send: Option<Event<Body>>,
 }
 
 /// The latest time of a request, in ticks: 2^39.
@@ -22,8 +35,8 @@ const LAST_REQUEST: u64 = 1 << 39;
 /// The greatest size of an object, in bytes.
 const MAX_SIZE: u64 = (1 << 32) - 1;
 
-/// A cache that has sent this many events takes no further one.
-const MAX_SENDS: u64 = 1 << 62;
+/// A cache that has sent this many events, or given its blocks this many serials, takes no further event.
+const EXHAUSTED: u64 = 1 << 62;
 
 impl Photo {
     /// The model of a configuration. Takes no memory.
@@ -33,14 +46,19 @@ impl Photo {
         Photo { config }
     }
 
-    /// The state in which process `process` starts: nothing awaited, nothing sent, nothing counted.
+    /// The state in which process `process` starts: an empty queue in the shape of its kind, nothing awaited, nothing sent,
+    /// nothing counted.
     pub fn start(&self, alloc: Global, process: u32) -> Result<CacheState, NoMemory>
         requires { process < self.now.config.edges + self.now.config.origins }
-        ensures state { IfOk result (λ s. s ≡ start) }
-        ensures well_formed { IfOk result (λ s. IsWellFormed s) }
+        ensures state { IfOk result (λ s. s ≡ start self.now.config process) }
+        ensures well_formed { IfOk result (λ s. IsWellFormed self.now.config process s) }
     {
-        let _process = process;
-        Ok(CacheState::new(alloc))
+        let shape = if self.is_edge(process) {
+            self.config.edge_shape
+        } else {
+            self.config.origin_shape
+        };
+        CacheState::new(alloc, shape)
     }
 
     fn is_edge(&self, process: u32) -> bool
@@ -62,6 +80,151 @@ impl Photo {
     }
 }
 
+/// What each event does to the cache that it goes to, beside counting; the event is valid there.
+impl Photo {
+    fn happen(
+        &self,
+        alloc: Global,
+        process: u32,
+        state: &mut CacheState,
+        event: &Event<Body>,
+    ) -> Result<Deed, NoMemory>
+        requires well_formed { IsWellFormed self.now.config process state.old }
+        requires fresh { state.old.queue.next < 2 ^ 62 }
+        requires valid { is_valid self.now.config event.now ≡ true }
+        requires here { event.now.to ≡ process }
+        ensures { IfOk result (λ deed. HasDone (happening self.now.config process state.old event.now.time event.now.body) state.old (object_of event.now.body) deed state.new) }
+    {
+        let time = event.time;
+        match event.body {
+            Body::Request { object, size } => {
+                self.request(alloc, process, state, time, object, size)
+            }
+            Body::Miss { object, size, edge } => {
+                self.miss(alloc, process, state, time, object, size, edge)
+            }
+            Body::Fill { object, size } => self.fill(alloc, process, state, object, size),
+        }
+    }
+
+    /// A request at an edge. A hit promotes its object; a miss waits for it, and the first that waits asks the origin.
+    fn request(
+        &self,
+        alloc: Global,
+        process: u32,
+        state: &mut CacheState,
+        time: u64,
+        object: u64,
+        size: u64,
+    ) -> Result<Deed, NoMemory>
+        requires well_formed { IsWellFormed self.now.config process state.old }
+        requires fresh { state.old.queue.next < 2 ^ 62 }
+        requires early { time < 2 ^ 40 }
+        requires process { process < self.now.config.edges }
+        ensures { IfOk result (λ deed. HasDone (requested self.now.config process state.old time object size (is_stored state.old object)) state.old object deed state.new) }
+    {
+        if state.is_stored(object) {
+            let (trail, counted) = state.hit(alloc, self.config.policy, object)?;
+            return Ok(Deed {
+                trail,
+                counted,
+                send: None,
+            });
+        }
+        let trail = Trail::new(alloc);
+        if let Some(others) = state.waiting(object) {
+            state.set_waiting(object, Some(others.wrapping_add(1)))?;
+            return Ok(Deed {
+                trail,
+                counted: Counters::of_coalesced(),
+                send: None,
+            });
+        }
+        state.set_waiting(object, Some(1))?;
+        let question = Body::Miss {
+            object,
+            size,
+            edge: process,
+        };
+        let origin = self.origin_of(object);
+        Ok(Deed {
+            trail,
+            counted: Counters::default().with_miss(),
+            send: Some(state.sending(process, time + self.config.up, origin, question)),
+        })
+    }
+
+    /// A miss at an origin. A hit promotes its object; what the origin lacks is fetched from the backend and stored. The
+    /// edge is sent a fill.
+    fn miss(
+        &self,
+        alloc: Global,
+        process: u32,
+        state: &mut CacheState,
+        time: u64,
+        object: u64,
+        size: u64,
+        edge: u32,
+    ) -> Result<Deed, NoMemory>
+        requires well_formed { IsWellFormed self.now.config process state.old }
+        requires fresh { state.old.queue.next < 2 ^ 62 }
+        requires early { time < 2 ^ 40 }
+        requires process { process < self.now.config.edges + self.now.config.origins }
+        requires some { 1 ≤ size }
+        ensures { IfOk result (λ deed. HasDone (asked self.now.config process state.old time object size edge (is_stored state.old object)) state.old object deed state.new) }
+    {
+        let Config {
+            policy,
+            down,
+            back,
+            ..
+        } = self.config;
+        let answer = Body::Fill { object, size };
+        if state.is_stored(object) {
+            let (trail, counted) = state.hit(alloc, policy, object)?;
+            return Ok(Deed {
+                trail,
+                counted,
+                send: Some(state.sending(process, time + down, edge, answer)),
+            });
+        }
+        let (trail, counted) = state.store(alloc, policy, object, size)?;
+        Ok(Deed {
+            trail,
+            counted: counted.with_miss(),
+            send: Some(state.sending(process, time + down + back, edge, answer)),
+        })
+    }
+
+    /// A fill at an edge. It answers the requests that wait for it, if any, and what the edge lacks is stored.
+    fn fill(
+        &self,
+        alloc: Global,
+        process: u32,
+        state: &mut CacheState,
+        object: u64,
+        size: u64,
+    ) -> Result<Deed, NoMemory>
+        requires well_formed { IsWellFormed self.now.config process state.old }
+        requires fresh { state.old.queue.next < 2 ^ 62 }
+        requires some { 1 ≤ size }
+        ensures { IfOk result (λ deed. HasDone (filled self.now.config state.old object size (is_stored state.old object)) state.old object deed state.new) }
+    {
+        let answered = state.waiting(object).unwrap_or(0);
+        let (trail, counted) = if state.is_stored(object) {
+            (Trail::new(alloc), Counters::default())
+        } else {
+            state.store(alloc, self.config.policy, object, size)?
+        };
+        state.set_waiting(object, None)?;
+        Ok(Deed {
+            trail,
+            counted: counted.with_late(answered),
+            send: None,
+        })
+    }
+}
+
 /// Whether a size is in its range.
 fn is_size(size: u64) -> bool
     ensures { result ≡ (nat_le 1 size && nat_lt size (2 ^ 32)) }
@@ -76,9 +239,9 @@ impl VtModel for Photo {
 
     type Undo = Undo;
 
-    ghost use Rattle.std.specs.Prelude.{ℕ, nat_le, ◌^◌, ◌+◌, ◌≡◌};
-    ghost use Rattle.std.proofs.Common.{arith};
-    ghost use Rattle.rw_photo.specs.Cache.{IsWellFormed};
+    ghost use Rattle.std.specs.Prelude.{ℕ, nat_le, length, ◌^◌, ◌+◌, ◌*◌, ◌||◌, ◌≡◌};
+    ghost use Rattle.rw_ripq.specs.Weight.{gone_blocks, moved_rows};
+    ghost use Rattle.rw_photo.specs.Cache.{IsWellFormed, is_exhausted};
     ghost use Rattle.rw_photo.specs.Events.{is_valid, step};
     ghost use Rattle.rw_photo.specs.Undoing.{TakesBack};
     ghost use Rattle.rw_photo.specs.Laws.{valid_ranges, step_keeps, step_future, bodies_same};
@@ -87,17 +250,17 @@ impl VtModel for Photo {
 
     ghost is_valid = { λ m e. is_valid m.config e };
 
-    ghost IsWellFormed = { λ _ _ s. IsWellFormed s };
+    ghost IsWellFormed = { λ m p s. IsWellFormed m.config p s };
 
-    ghost is_exhausted = { λ _ s. nat_le (2 ^ 62) s.sends };
+    ghost is_exhausted = { λ _ s. is_exhausted s };
 
     ghost step = { λ m p s e. step m.config p s e };
 
     ghost Links = { λ _ _ before e undo after. TakesBack before e undo after };
 
-    ghost weight = { λ _. 0 };
+    ghost weight = { λ undo. length undo.trail };
 
-    ghost weight_bound = { λ _ _ _ _. 0 };
+    ghost weight_bound = { λ _ _ before after. 8 + 4 * moved_rows before.queue after.queue + gone_blocks before.queue after.queue };
 
     fn processes(&self) -> u32 {
         self.config.edges + self.config.origins
@@ -118,12 +281,12 @@ impl VtModel for Photo {
     }
 
     fn exhausted(&self, state: &CacheState) -> bool {
-        state.sends() >= MAX_SENDS
+        state.sends() >= EXHAUSTED || state.next_serial() >= EXHAUSTED
     }
 
     fn execute(
         &self,
-        _alloc: Global,
+        alloc: Global,
         process: u32,
         state: &mut CacheState,
         event: &Event<Body>,
@@ -132,42 +295,25 @@ impl VtModel for Photo {
         if self.exhausted(state) {
             return Err(Refusal::Exhausted);
         }
-        let Config { up, down, back, .. } = self.config;
-        let time = event.time;
-        match event.body {
-            Body::Request { object, size } => {
-                let awaited = state.wait(object)?;
-                if !awaited {
-                    let question = Body::Miss {
-                        object,
-                        size,
-                        edge: process,
-                    };
-                    let origin = self.origin_of(object);
-                    out.push(state.send(process, time + up, origin, question))?;
-                }
-                Ok(Undo {
-                    awaited,
-                    answered: 0,
-                })
-            }
-            Body::Miss { object, size, edge } => {
-                state.miss();
-                let answer = Body::Fill { object, size };
-                out.push(state.send(process, time + down + back, edge, answer))?;
-                Ok(Undo {
-                    awaited: false,
-                    answered: 0,
-                })
-            }
-            Body::Fill { object, .. } => {
-                let answered = state.fill(object);
-                Ok(Undo {
-                    awaited: answered.is_some(),
-                    answered: answered.unwrap_or(0),
-                })
-            }
+        let before = state.waiting(event.body.object());
+        let Deed {
+            trail,
+            counted,
+            send,
+        } = self.happen(alloc, process, state, event)?;
+        let sent = send.is_some();
+        state.count(&counted);
+        state.count_send(sent);
+        if let Some(event) = send {
+            out.push(event)?;
         }
+        Ok(Undo {
+            trail,
+            counted,
+            sent,
+            awaited: before.is_some(),
+            waiting: before.unwrap_or(0),
+        })
     }
 
     fn reverse(
@@ -178,19 +324,18 @@ impl VtModel for Photo {
         event: &Event<Body>,
         undo: Undo,
     ) -> Result<(), NoMemory> {
-        match event.body {
-            Body::Request { object, .. } => state.unwait(object, undo.awaited),
-            Body::Miss { .. } => {
-                state.unsend();
-                Ok(())
-            }
-            Body::Fill { object, .. } => {
-                if undo.awaited {
-                    state.unfill(object, undo.answered)?;
-                }
-                Ok(())
-            }
-        }
+        let Undo {
+            trail,
+            counted,
+            sent,
+            awaited,
+            waiting,
+        } = undo;
+        state.rewind(trail)?;
+        state.take_off(&counted);
+        state.take_send_back(sent);
+        let before = if awaited { Some(waiting) } else { None };
+        state.set_waiting(event.body.object(), before)
     }
 
     ghost ranges = { λ m. valid_ranges m.config };
@@ -201,5 +346,5 @@ impl VtModel for Photo {
 
     ghost same = { bodies_same };
 
-    ghost light = { λ _ _ _ _ _ _ _. Prim.omega arith };
+    ghost light = { λ _ _ _ _ _ _ links. links.short };
 }

@@ -1,10 +1,11 @@
 -- A report line by line.
-use Rattle.std.proofs.Common.{◌≡◌, ℕ, zero, suc, ◌+◌, ◌%◌, ◌^◌, ◌<◌, List, [], ◌∷◌, ◌++◌, refl, sym, ◌∙◌, ap, arith, map, take, get_or, length, add-zero, zero-add, append_assoc, append-nil}
-use Rattle.std.specs.Prelude.{sum_by, codes, decimal}
+use Rattle.std.proofs.Common.{◌≡◌, ℕ, zero, suc, ◌+◌, ◌%◌, ◌^◌, ◌<◌, List, [], ◌∷◌, ◌++◌, sym, ◌∙◌, ap, arith, map, take, get_or, length, add-zero, append_assoc, append-nil}
+use Rattle.std.specs.Prelude.{sum_by}
 use Rattle.std.proofs.lemmas.List.Sums.{sum_by-cons}
 use Rattle.rw_photo.specs.declared.config.Config.{Config}
 use Rattle.rw_photo.specs.declared.counters.Counters.{Counters}
-use Rattle.rw_ripqwarp.specs.Report.{added, cache_lines, line, name_of, total_of, totals}
+use Rattle.rw_photo.specs.Counts.{added}
+use Rattle.rw_ripqwarp.specs.Report.{cache_lines, line, name_of, total_of, totals}
 
 -- a line behind a text
 pub line-append : (text name : List ℕ) (k : Counters) → line (text ++ name) k ≡ text ++ line name k

@@ -1,10 +1,9 @@
 -- What the one-thread run asks and gives, at the caches of a configuration.
-use Rattle.std.proofs.Common.{◌≡◌, ℕ, zero, suc, ◌+◌, ◌^◌, List, [], ◌∷◌, Some, true, refl, sym, ◌∙◌, ap, subst, arith, length, replicate, map}
-use Rattle.std.proofs.lemmas.List.{length-replicate}
+use Rattle.std.proofs.Common.{◌≡◌, ℕ, zero, suc, ◌+◌, List, [], ◌∷◌, ◌++◌, Some, Result, Ok, Err, true, refl, sym, ◌∙◌, ap, subst, length}
+use Rattle.std.proofs.lemmas.List.FromFn.{length-map-range_with_len}
 use Rattle.std.specs.Prelude.{All, slice_get}
-use Rattle.std.proofs.lemmas.List.Elements.{All-head, All-tail}
 use Rattle.rw_vt.specs.declared.event.Event.{Event}
-use Rattle.rw_vt.specs.System.{System, IsOutcome, IsReady, Meets, after, below, map_from, system}
+use Rattle.rw_vt.specs.System.{System, IsOutcome, IsReady, after, below, map_from, system}
 use Rattle.rw_trace.specs.declared.Row.{Row}
 use Rattle.rw_photo.specs.declared.body.Body.{Body}
 use Rattle.rw_photo.specs.declared.config.Config.{Config}
@@ -13,40 +12,50 @@ use Rattle.rw_photo.specs.contracts.photo.PhotoVtModel.TheImpl as model
 use Rattle.rw_photo.specs.contracts.body.BodyOrd.TheImpl as order
 use Rattle.rw_photo.specs.Cache.{Cache, IsWellFormed, start}
 use Rattle.rw_photo.specs.Events.{is_valid, request_of}
-use Rattle.rw_photo.specs.Simulation.{simulation}
+use Rattle.rw_photo.specs.Simulation.{simulation, starts_of}
+use Rattle.rw_vt.specs.declared.refusal.Refusal.{Refusal}
+use Rattle.rw_vt.specs.declared.refusal.Refusal.TheVariants.{Memory, Exhausted}
+use Rattle.std.specs.Result.{IfErr, IsErrAnd}
+use Rattle.rw_ripqwarp.specs.declared.simulation.SimFault.{SimFault}
+use Rattle.rw_ripqwarp.specs.declared.simulation.SimFault.TheVariants as told
+use Rattle.rw_ripqwarp.specs.Faults.{sim_refusal_of}
 
--- what `All` says at one place
-at_place : {X : Type 0} (P : X → Type 0) (xs : List X) → All P xs → (i : ℕ) (x : X) → slice_get xs i ≡ Some x → P x
-at_place P [] all i x is = cc
-at_place P (y ∷ ys) all zero x is = let same : y ≡ x = cc in subst P same (All-head P y ys all)
-at_place P (y ∷ ys) all (suc i) x is = at_place P ys (All-tail P y ys all) i x is
+-- what is said of each place, with one more
+pub pushed : {X : Type 0} (P : ℕ → X → Type 0) (xs : List X) (x : X) → ((p : ℕ) (s : X) → slice_get xs p ≡ Some s → P p s) → P (length xs) x
+    → (p : ℕ) (s : X) → slice_get (xs ++ x ∷ []) p ≡ Some s → P p s
+pushed P [] x all new zero s is = let same : x ≡ s = cc in subst (P 0) same new
+pushed P [] x all new (suc p) s is = cc
+pushed P (y ∷ ys) x all new zero s is = all 0 s is
+pushed P (y ∷ ys) x all new (suc p) s is = pushed (λ q. P (suc q)) ys x (λ q t h. all (suc q) t h) new p s is
 
 length-map_from : {A C : Type 0} (k : ℕ) (f : ℕ → A → C) (xs : List A) → length (map_from k f xs) ≡ length xs
 length-map_from k f [] = refl
 length-map_from k f (x ∷ xs) = ap suc (length-map_from (k + 1) f xs)
 
 -- the caches are ready for a run
-pub ready : (m : Photo) (starts : List Cache) (initial : List (Event Body)) → starts ≡ replicate (m.config.edges + m.config.origins) start → All IsWellFormed starts
-    → All (λ e. is_valid m.config e ≡ true) initial → IsReady model.ghosts m starts initial
+pub ready : (m : Photo) (starts : List Cache) (initial : List (Event Body)) → starts ≡ starts_of m.config
+    → ((p : ℕ) (s : Cache) → slice_get starts p ≡ Some s → IsWellFormed m.config p s) → All (λ e. is_valid m.config e ≡ true) initial → IsReady model.ghosts m starts initial
 ready m starts initial is well valid =
-    record {
-      enough = ap length is ∙ length-replicate (m.config.edges + m.config.origins) start;
-      well_formed = λ p s there. at_place IsWellFormed starts well p s there;
-      valid = valid;
-    }
+    record { enough = ap length is ∙ length-map-range_with_len (start m.config) 0 (m.config.edges + m.config.origins); well_formed = well; valid = valid }
 
 -- the run is the simulation of the configuration
-pub simulates : (c : Config) (m : Photo) (rows : List Row) (starts : List Cache) (initial : List (Event Body)) → m.config ≡ c → starts ≡ replicate (m.config.edges + m.config.origins) start → initial ≡ map_from 0 request_of rows
+pub simulates : (c : Config) (m : Photo) (rows : List Row) (starts : List Cache) (initial : List (Event Body)) → m.config ≡ c → starts ≡ starts_of m.config → initial ≡ map_from 0 request_of rows
     → system model.ghosts order.ghosts.cmp m starts initial ≡ simulation c rows
 simulates c m rows starts initial config is given i =
     record {
       order = (simulation c rows).order;
       step = (simulation (config i) rows).step;
       valid = (simulation (config i) rows).valid;
-      starts = (is ∙ ap (λ k. replicate (k.edges + k.origins) start) config) i;
+      starts = (is ∙ ap starts_of config) i;
       initial = given i;
     }
 
 -- a state for each process
 pub length-states : {S B : Type 0} (y : System S B) (t : ℕ) (journals : List (List (Event B))) (states : List S) → IsOutcome y t journals states → length states ≡ length y.starts
 length-states y t journals states o = ap length o.states_are ∙ length-map_from 0 (λ q s. after (y.step q) s (below y t q)) y.starts
+
+-- a run is told as exhausted where its refusal is
+pub err-exhausted : {T : Type 0} (r : Result T SimFault) (e : Refusal) (X : Type 0) → IsErrAnd r (λ f. f ≡ sim_refusal_of e) → (e ≡ Exhausted → X) → IfErr r (λ f. f ≡ told.Exhausted → X)
+err-exhausted (Ok t) e X is h = tt
+err-exhausted (Err f) Memory X is h = λ same. let clash : told.Memory ≡ told.Exhausted = sym is ∙ same in cc
+err-exhausted (Err f) Exhausted X is h = λ same. h refl

@@ -1,5 +1,5 @@
 -- A text that goes out piece by piece.
-use Rattle.std.proofs.Common.{◌≡◌, ℕ, ◌+◌, List, ◌++◌, Option, Some, None, Result, Ok, Err, ◌<◌, ◌≤◌, sym, ◌∙◌, ap, arith, length, length-drop, take, drop, add-zero, append_assoc}
+use Rattle.std.proofs.Common.{◌≡◌, ℕ, ◌+◌, List, ◌++◌, Option, Some, None, Result, Ok, Err, ◌<◌, ◌≤◌, ◌∙◌, ap, arith, length, length-drop, take, drop, add-zero, append_assoc}
 use Rattle.std.specs.Result.{IfOk, result_unwrap_or}
 use Rattle.std.specs.Io.KnownBytes.{Appends, Keeps, WriteAppends}
 use Rattle.std.proofs.Math.Seq.{take-add}

@@ -1,7 +1,6 @@
 -- The text of a report.
-use Rattle.std.specs.Prelude.{ℕ, ◌+◌, ◌-◌, ◌%◌, ◌^◌, nat_lt, if◌then◌else◌, List, [], ◌∷◌, ◌++◌, codes, decimal, sum_by}
+use Rattle.std.specs.Prelude.{ℕ, ◌-◌, ◌%◌, ◌^◌, nat_lt, if◌then◌else◌, List, ◌++◌, codes, decimal, sum_by}
 use Rattle.rw_vt.specs.System.{map_from, flatten}
-use Rattle.rw_photo.specs.Counts.{plus}
 use Rattle.rw_photo.specs.declared.config.Config.{Config}
 use Rattle.rw_photo.specs.declared.counters.Counters.{Counters}
 
@@ -49,10 +48,6 @@ totals ks =
       splits = total_of (λ k. k.splits) ks;
       merges = total_of (λ k. k.merges) ks;
     }
-
--- one cache more
-abbrev pub added : Counters → Counters → Counters
-added t k = record { requests = plus t.requests k.requests; hits = plus t.hits k.hits; misses = plus t.misses k.misses; coalesced = plus t.coalesced k.coalesced; late = plus t.late k.late; bypassed = plus t.bypassed k.bypassed; inserted = plus t.inserted k.inserted; evicted = plus t.evicted k.evicted; reinserted = plus t.reinserted k.reinserted; promoted = plus t.promoted k.promoted; writes = plus t.writes k.writes; splits = plus t.splits k.splits; merges = plus t.merges k.merges }
 
 -- the lines of these caches, of which the first has this number
 abbrev pub cache_lines : Config → ℕ → List Counters → List ℕ

@@ -1,5 +1,5 @@
 -- From the bytes of a trace to the bytes of its report.
-use Rattle.std.specs.Prelude.{◌≡◌, ℕ, ◌^◌, nat_le, List, map, Ok}
+use Rattle.std.specs.Prelude.{◌≡◌, ℕ, ◌^◌, List, map, Ok}
 use Rattle.rw_vt.specs.declared.event.Event.{Event}
 use Rattle.rw_vt.specs.System.{IsOutcome, Meets}
 use Rattle.rw_trace.specs.declared.Row.{Row}
@@ -7,7 +7,7 @@ use Rattle.rw_trace.specs.Trace.{trace_of}
 use Rattle.rw_trace.specs.Unread.{records_of}
 use Rattle.rw_photo.specs.declared.body.Body.{Body}
 use Rattle.rw_photo.specs.declared.config.Config.{Config}
-use Rattle.rw_photo.specs.Cache.{Cache}
+use Rattle.rw_photo.specs.Cache.{Cache, is_exhausted}
 use Rattle.rw_photo.specs.Simulation.{simulation}
 use Rattle.rw_ripqwarp.specs.Report.{report_text}
 
@@ -25,4 +25,4 @@ pub record IsReportOf (c : Config) (bytes text : List ℕ) : Type 0 where
 pub record IsExhausting (c : Config) (bytes : List ℕ) : Type 0 where
   pub rows : List Row
   pub accepted : trace_of c.edges (2 ^ 24) (records_of bytes) ≡ Ok rows
-  pub met : Meets (simulation c rows) (2 ^ 40) (λ s. nat_le (2 ^ 62) s.sends)
+  pub met : Meets (simulation c rows) (2 ^ 40) is_exhausted

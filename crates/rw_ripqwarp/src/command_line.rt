@@ -1,4 +1,4 @@
-use crate::options::{Options, program};
+use crate::options::{config, program};
 use crate::output::Out;
 use crate::simulation::{Mode, SimFault, simulate};
 use crate::source::{Source, SourceFault};
@@ -81,12 +81,17 @@ fn attempt<'a, S: Source, W: Write>(
         Ok(matches) => matches,
         Err(error) => return answer(alloc, error, out),
     };
-    let options = matches
-        .subcommand_matches("serial")
-        .and_then(Options::of)
-        .ok_or(Fault::Plan)?;
-    let bytes = source.bytes(alloc, options.trace).map_err(Fault::Source)?;
-    simulate(alloc, bytes.as_slice(), &options.config, Mode::Serial, out).map_err(Fault::Run)
+    let Some(matches) = matches.subcommand_matches("serial") else {
+        return Err(Fault::Plan);
+    };
+    let Some(config) = config(matches) else {
+        return Err(Fault::Plan);
+    };
+    let Some(trace) = matches.get_str("trace") else {
+        return Err(Fault::Plan);
+    };
+    let bytes = source.bytes(alloc, trace).map_err(Fault::Source)?;
+    simulate(alloc, bytes.as_slice(), &config, Mode::Serial, out).map_err(Fault::Run)
 }
 
 /// Deals with what `clap` answers in place of a command: help, which is printed, or a fault.

@@ -1,5 +1,7 @@
+ghost use Rattle.std.specs.Prelude.{◌<◌, ◌^◌};
+
 use clap::{Arg, ArgMatches, Command, value_parser};
-use rw_photo::Config;
+use rw_photo::{Config, Policy, Shape};
 use std::alloc::{AllocError, Global};
 
 /// The command line as `clap` reads it.
@@ -34,13 +36,29 @@ fn caches<'a>(alloc: Global, command: Command<'a>) -> Result<Command<'a>, AllocE
     let policy = Arg::new(alloc, "policy")
         .long("policy")
         .value_name("POLICY")
-        .required(true)
-        .value_parser(["off"].as_slice())
+        .value_parser(["off", "lru", "slru3"].as_slice())
+        .default_value("slru3")
         .help("How caches choose what they keep; off keeps nothing");
+    let sections = size(alloc, "sections", Shape::MAX_SECTIONS, "8").help(
+        "Insertion points of each cache, 1 to 16",
+    );
+    let block = size(alloc, "block", Shape::MAX_BLOCK, "1048576").help(
+        "Bytes of a block, 1 to 268435456",
+    );
+    let edge_blocks = size(alloc, "edge-blocks", Shape::MAX_BLOCKS, "64").help(
+        "Full blocks on each edge's flash, 1 to 65536",
+    );
+    let origin_blocks = size(alloc, "origin-blocks", Shape::MAX_BLOCKS, "64").help(
+        "Full blocks on each origin's flash, 1 to 65536",
+    );
     let command = command
         .arg(count(alloc, "edges", Config::MAX_EDGES, "1").help("Edge caches, 1 to 256"))?
         .arg(count(alloc, "origins", Config::MAX_ORIGINS, "1").help("Origin caches, 1 to 64"))?
-        .arg(policy)?;
+        .arg(policy)?
+        .arg(sections)?
+        .arg(block)?
+        .arg(edge_blocks)?
+        .arg(origin_blocks)?;
     let up = delay(alloc, "up", "3").help("Ticks from an edge to an origin, 1 to 1048576");
     let down = delay(alloc, "down", "3").help("Ticks from an origin to an edge, 1 to 1048576");
     let back = delay(alloc, "back", "10").help(
@@ -60,33 +78,45 @@ fn count<'a>(alloc: Global, name: &'static str, most: u32, default: &'static str
 
 /// An option in ticks.
 fn delay<'a>(alloc: Global, name: &'static str, default: &'static str) -> Arg<'a> {
+    size(alloc, name, Config::MAX_DELAY, default).value_name("TICKS")
+}
+
+/// An option that says how large something is, from 1.
+fn size<'a>(alloc: Global, name: &'static str, most: u64, default: &'static str) -> Arg<'a>
+    requires { most < 2 ^ 63 }
+{
     Arg::new(alloc, name)
         .long(name)
-        .value_name("TICKS")
-        .value_parser(value_parser!(u64).range(1..=Config::MAX_DELAY as i64))
+        .value_name("N")
+        .value_parser(value_parser!(u64).range(1..=most as i64))
         .default_value(default)
 }
 
-/// What a command of the program is told.
-#[derive(Clone, Copy)]
-pub(crate) struct Options<'a> {
-    /// The caches.
-    pub(crate) config: Config,
-    /// The path of the trace.
-    pub(crate) trace: &'a str,
+/// The caches that a command's options say; None where one is missing or out of its range, which the command line rules
+/// out.
+pub(crate) fn config(matches: &ArgMatches<'_>) -> Option<Config> {
+    let sections = matches.get_one("sections")?;
+    let block = matches.get_one("block")?;
+    let edge_shape = Shape::new(sections, block, matches.get_one("edge-blocks")?)?;
+    let origin_shape = Shape::new(sections, block, matches.get_one("origin-blocks")?)?;
+    Config::new(
+        matches.get_one("edges")?,
+        matches.get_one("origins")?,
+        policy(matches.get_str("policy")?)?,
+        edge_shape,
+        origin_shape,
+        matches.get_one("up")?,
+        matches.get_one("down")?,
+        matches.get_one("back")?,
+    )
 }
 
-impl<'a> Options<'a> {
-    /// Reads a command's options; None where one is missing or out of its range, which the command line rules out.
-    pub(crate) fn of(matches: &ArgMatches<'a>) -> Option<Options<'a>> {
-        let config = Config::new(
-            matches.get_one("edges")?,
-            matches.get_one("origins")?,
-            matches.get_one("up")?,
-            matches.get_one("down")?,
-            matches.get_one("back")?,
-        )?;
-        let trace = matches.get_str("trace")?;
-        Some(Options { config, trace })
+/// The policy of this name.
+fn policy(name: &str) -> Option<Policy> {
+    match name {
+        "off" => Some(Policy::Off),
+        "lru" => Some(Policy::Lru),
+        "slru3" => Some(Policy::Slru3),
+        _ => None,
     }
 }

@@ -1,11 +1,12 @@
-ghost use Rattle.std.specs.Prelude.{All, ◌≡◌, ◌≢◌, ◌^◌, ◌+◌, ◌↔◌, ℕ, List, Err, Ok, IfOk, IfErr, OnOk, replicate};
+ghost use Rattle.std.specs.Prelude.{◌≡◌, ◌≢◌, ◌^◌, ◌↔◌, ℕ, List, Err, Some, IfOk, IfErr, OnOk, slice_get};
 ghost use Rattle.std.specs.Io.KnownBytes.{Appends};
 ghost use Rattle.rw_vt.specs.System.{Meets};
 ghost use Rattle.rw_trace.specs.declared.TraceFault.{TraceFault};
 ghost use Rattle.rw_trace.specs.declared.TraceFault.TheVariants as fault;
 ghost use Rattle.rw_trace.specs.Trace.{trace_of};
 ghost use Rattle.rw_trace.specs.Unread.{records_of};
-ghost use Rattle.rw_photo.specs.Cache.{IsWellFormed, start};
+ghost use Rattle.rw_photo.specs.Cache.{Cache, IsWellFormed};
+ghost use Rattle.rw_photo.specs.Simulation.{starts_of};
 ghost use Rattle.rw_ripqwarp.specs.Sink.{AppendsBeginning, one_more};
 ghost use Rattle.rw_ripqwarp.specs.Simulate.{IsExhausting, IsReportOf};
 ghost use Rattle.rw_ripqwarp.specs.declared.simulation.SimFault.TheVariants.{Exhausted, Memory, Trace};
@@ -123,8 +124,8 @@ fn serial_report(alloc: Global, bytes: &[u8], config: &Config) -> Result<Vec<u8>
 
 /// Each cache as it starts.
 fn starts(alloc: Global, photo: &Photo) -> Result<Vec<CacheState>, NoMemory>
-    ensures states { IfOk result (λ states. states.items ≡ replicate (photo.now.config.edges + photo.now.config.origins) start) }
-    ensures well_formed { IfOk result (λ states. All IsWellFormed states.items) }
+    ensures states { IfOk result (λ states. states.items ≡ starts_of photo.now.config) }
+    ensures well_formed { IfOk result (λ states. (p : ℕ) (s : Cache) → slice_get states.items p ≡ Some s → IsWellFormed photo.now.config p s) }
 {
     let count = photo.processes();
     let mut states = Vec::with_capacity(alloc, count as usize)?;

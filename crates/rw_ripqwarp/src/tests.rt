@@ -1,6 +1,6 @@
 use crate::command_line::{Fault, tell};
 use crate::{Mode, Out, SimFault, SourceFault, simulate};
-use rw_photo::Config;
+use rw_photo::{Config, Policy, Shape};
 use rw_trace::TraceFault;
 use std::alloc::Global;
 use std::io;
@@ -39,7 +39,8 @@ impl Write for Pipe {
 
 /// How many bytes of the report such a writer holds, and how often it failed.
 fn held(alloc: Global, most: usize, fails_in: u32, flush_fails: bool) -> Option<(usize, u64)> {
-    let config = Config::new(1, 1, 3, 3, 10)?;
+    let shape = Shape::new(1, 10, 1)?;
+    let config = Config::new(1, 1, Policy::Off, shape, shape, 3, 3, 10)?;
     let mut out = Out::new(Pipe {
         held: Vec::new(alloc),
         most,

@@ -1,6 +1,5 @@
 ghost use Rattle.std.specs.Prelude.{◌≡◌, ◌+◌, ◌<◌, ◌++◌, length, codes, map, IfOk, OnOk, decimal};
-ghost use Rattle.rw_photo.specs.Counts.{plus};
-ghost use Rattle.rw_ripqwarp.specs.Report.{added, line, name_of, report_text};
+ghost use Rattle.rw_ripqwarp.specs.Report.{line, name_of, report_text};
 
 use itoa::Buffer;
 use rw_photo::{Config, Counters, Photo};
@@ -21,7 +20,7 @@ pub fn report(alloc: Global, config: &Config, outcome: &Outcome<Photo>) -> Resul
         let counters = state.counters();
         write_name(&mut text, config, process as u64)?;
         write_counters(&mut text, &counters)?;
-        add(&mut total, &counters);
+        total.add(&counters);
     }
     text.extend_from_slice(b"total")?;
     write_counters(&mut text, &total)?;
@@ -69,23 +68,4 @@ fn write_count(text: &mut Vec<u8>, word: &[u8], count: u64) -> Result<(), NoMemo
     let mut digits = Buffer::new();
     text.extend_from_slice(digits.format(count).as_bytes())?;
     Ok(())
-}
-
-/// Adds the counts of a cache to a total, modulo 2^64.
-fn add(total: &mut Counters, counters: &Counters)
-    ensures { total.new ≡ added total.old counters.now }
-{
-    total.requests = total.requests.wrapping_add(counters.requests);
-    total.hits = total.hits.wrapping_add(counters.hits);
-    total.misses = total.misses.wrapping_add(counters.misses);
-    total.coalesced = total.coalesced.wrapping_add(counters.coalesced);
-    total.late = total.late.wrapping_add(counters.late);
-    total.bypassed = total.bypassed.wrapping_add(counters.bypassed);
-    total.inserted = total.inserted.wrapping_add(counters.inserted);
-    total.evicted = total.evicted.wrapping_add(counters.evicted);
-    total.reinserted = total.reinserted.wrapping_add(counters.reinserted);
-    total.promoted = total.promoted.wrapping_add(counters.promoted);
-    total.writes = total.writes.wrapping_add(counters.writes);
-    total.splits = total.splits.wrapping_add(counters.splits);
-    total.merges = total.merges.wrapping_add(counters.merges);
 }

@@ -50,6 +50,15 @@ module _ {X : Type 0} where
       (λ h. absurd (some_not_none (rw h at none)))
       (λ h. rw h (rw h (ap (λ r. e ∷ r) (remove_entry-insert_entry es k v (rw h at none)))))
 
+  -- an entry that is not there is removed without a change
+  pub remove_entry-none : (es : List (ℕ × X)) (k : ℕ) → lookup (is_at (nat_cmp k)) es ≡ None → remove_entry (is_at (nat_cmp k)) es ≡ es
+  remove_entry-none [] k none = refl
+  remove_entry-none (e ∷ es) k none =
+      by_cases (nat_cmp k e.0)
+      (λ h. rw h (ap (λ r. e ∷ r) (remove_entry-none es k (rw h at none))))
+      (λ h. absurd (some_not_none (rw h at none)))
+      (λ h. rw h (ap (λ r. e ∷ r) (remove_entry-none es k (rw h at none))))
+
   pub insert_entry-insert_entry : (es : List (ℕ × X)) (k : ℕ) (v w : X) → insert_entry nat_cmp (insert_entry nat_cmp es k v) k w ≡ insert_entry nat_cmp es k w
   insert_entry-insert_entry [] k v w = rw nat_cmp-self refl
   insert_entry-insert_entry (e ∷ es) k v w =

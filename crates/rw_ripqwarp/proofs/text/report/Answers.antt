@@ -1,8 +1,9 @@
-use Rattle.std.proofs.Common.{◌≡◌, ◌+◌, ◌++◌, ◌<◌, ◌≤◌, suc, true, rules, refl, sym, ◌∙◌, ap, arith, take, take_all, map, zero-add, length, get_or, List, ℕ, codes}
+use Rattle.std.proofs.Common.{◌≡◌, ◌+◌, ◌++◌, ◌<◌, suc, true, rules, refl, sym, ◌∙◌, ap, arith, take, take_all, map, zero-add, length, get_or, List, codes}
 use Rattle.std.specs.Result.{is_ok}
 use Rattle.rw_photo.specs.Cache.{Cache}
 use Rattle.rw_photo.specs.declared.counters.Counters.{Counters}
-use Rattle.rw_ripqwarp.specs.Report.{added, cache_lines, line, name_of, totals}
+use Rattle.rw_photo.specs.Counts.{added}
+use Rattle.rw_ripqwarp.specs.Report.{cache_lines, line, name_of, totals}
 use Rattle.rw_ripqwarp.proofs.Lines.{line-append, lines-more, totals-more}
 use Rattle.rw_ripqwarp.proofs.text.report.Goals as goal
 

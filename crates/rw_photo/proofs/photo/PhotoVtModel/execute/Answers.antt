@@ -1,21 +1,19 @@
-use Rattle.std.proofs.Common.{rules}
-use Rattle.rw_photo.proofs.Reversing.{takes_back}
+use Rattle.std.proofs.Common.{rules, refl, ◌∙◌, ap}
+use Rattle.rw_photo.specs.declared.photo.Deed.{Deed}
+use Rattle.rw_photo.specs.Counts.{AreCounts}
+use Rattle.rw_photo.specs.Cache.{waiting}
+use Rattle.rw_photo.specs.Events.{happening}
+use Rattle.rw_photo.proofs.Reversing.{some_if-of, takes_back}
 use Rattle.rw_photo.proofs.photo.PhotoVtModel.execute.Goals as goal
 
-pub returns-in_ok-push-in-Request-clause-links : goal.returns-in_ok-push-in-Request-clause-links
-returns-in_ok-push-in-Request-clause-links c =
-    takes_back c.args.self.now.config c.args.process c.args.state.now c.args.event.now _ c.send.new.self c.requires.well_formed
-    (search rules)
-    (rw c.in-Request.is (search rules))
-
-pub returns-else-not-awaited-clause-links : goal.returns-else-not-awaited-clause-links
-returns-else-not-awaited-clause-links c =
-    takes_back c.args.self.now.config c.args.process c.args.state.now c.args.event.now _ c.wait.new.self c.requires.well_formed
-    (search rules)
-    (rw c.in-Request.is (search rules))
-
-pub returns-in-Fill-clause-links : goal.returns-in-Fill-clause-links
-returns-in-Fill-clause-links c =
-    takes_back c.args.self.now.config c.args.process c.args.state.now c.args.event.now _ c.fill-answered.new.self c.requires.well_formed
-    (search rules)
-    (rw c.in-Fill.is (search rules))
+pub returns-clause-links : goal.returns-clause-links
+returns-clause-links c =
+    let s = c.args.state.now in
+    let e = c.args.event.now in
+    let d : Deed = c.in_ok-trail.field-0 in
+    let counts : AreCounts d.counted = search rules in
+    takes_back (happening c.args.self.now.config c.args.process s e.time e.body) s c.happen.new.state c.count_send.new.self e d _
+    c.requires.well_formed.ascending c.requires.well_formed.sends c.requires.well_formed.counters counts
+    (search rules) (search rules)
+    refl refl (search rules)
+    (rw (c.is_some.ensures, c.unwrap_or.ensures) (some_if-of c.waiting-before.result) ∙ (c.waiting-before.ensures ∙ ap (waiting s) c.object.ensures))

@@ -1,0 +1,21 @@
+use Rattle.std.proofs.Common.{rules, ◌≡◌, true, false, refl}
+use Rattle.rw_photo.specs.Cache.{is_stored}
+use Rattle.rw_photo.specs.Events.{asked}
+use Rattle.rw_photo.proofs.Reversing.{queue_deed}
+use Rattle.rw_photo.proofs.photo.Photo.miss.Goals as goal
+
+pub returns-then-is_stored : goal.returns-then-is_stored
+returns-then-is_stored c =
+    let s = c.args.state.now in
+    let there : is_stored s c.args.object ≡ true = search rules in
+    rw there
+    (queue_deed (asked c.args.self.now.config c.args.process s c.args.time c.args.object c.args.size c.args.edge true) s c.hit.new.self c.args.object _ c.requires.well_formed.ascending refl
+    (search rules) (search rules) (search rules) (search rules) (search rules))
+
+pub returns : goal.returns
+returns c =
+    let s = c.args.state.now in
+    let new : is_stored s c.args.object ≡ false = search rules in
+    rw new
+    (queue_deed (asked c.args.self.now.config c.args.process s c.args.time c.args.object c.args.size c.args.edge false) s c.store.new.self c.args.object _ c.requires.well_formed.ascending refl
+    (search rules) (search rules) (search rules) (search rules) (search rules))

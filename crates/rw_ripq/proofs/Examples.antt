@@ -1,0 +1,127 @@
+-- The worked examples, computed by the definitions.
+use Rattle.std.proofs.Common.{◌≡◌, ℕ, List, [], ◌∷◌, refl}
+use Rattle.std.specs.Prelude.{Some, None}
+use Rattle.rw_blocks.specs.declared.Kind.{Kind}
+use Rattle.rw_blocks.specs.declared.Kind.TheVariants.{Device, Virtual}
+use Rattle.rw_blocks.specs.declared.Place.{Place}
+use Rattle.rw_blocks.specs.State.{QueueState, SectionState, Limits, start_of}
+use Rattle.rw_blocks.specs.Sums.{bytes, total}
+use Rattle.rw_blocks.specs.Primitives.{after_add, after_replace, after_seal}
+use Rattle.rw_ripq.specs.declared.Policy.TheVariants.{Lru, Slru3}
+use Rattle.rw_ripq.specs.declared.Tally.{Tally}
+use Rattle.rw_ripq.specs.Work.{Work}
+use Rattle.rw_ripq.specs.Levels.{level_of, target}
+use Rattle.rw_ripq.specs.Promote.{promote}
+use Rattle.rw_ripq.specs.Insert.{insert}
+
+abbrev limits : ℕ → ℕ → ℕ → Limits
+limits k b c = record { sections = k; block = b; blocks = c }
+
+abbrev section : ℕ → ℕ → List (ℕ × Kind) → SectionState
+section d v sealed = record { active_device = d; active_virtual = v; sealed = sealed }
+
+abbrev row : ℕ → ℕ → ℕ → Place
+row z h p = record { size = z; home = h; place = p }
+
+abbrev queue : Limits → List SectionState → List (ℕ × Place) → ℕ → QueueState
+queue limits sections rows next = record { shape = limits; sections = sections; rows = rows; next = next }
+
+abbrev tally : ℕ → ℕ → ℕ → ℕ → ℕ → Tally
+tally e r w s m = record { evicted = e; reinserted = r; writes = w; splits = s; merges = m }
+
+abbrev work : QueueState → Tally → Work
+work q t = record { queue = q; tally = t }
+
+abbrev lru : QueueState → ℕ → Work
+lru q o = insert Lru q o 6 1
+
+-- ---- one section, one sealed device block: the third insertion evicts the first object
+abbrev one : Limits
+one = limits 1 10 1
+
+abbrev filled : QueueState
+filled = (lru (lru (start_of one) 100).queue 101).queue
+
+evicts_at_the_third : lru filled 102 ≡ work (queue one (section 3 1 ((2, Device) ∷ []) ∷ []) ((101, row 6 2 2) ∷ (102, row 6 3 3) ∷ []) 4) (tally 1 0 1 0 0)
+evicts_at_the_third = refl
+
+-- ---- with a promotion before it: the promoted object is written again
+abbrev promoted : QueueState
+promoted = promote Lru filled 100
+
+raises_the_first : promoted ≡ queue one (section 2 1 ((0, Device) ∷ []) ∷ []) ((100, row 6 0 1) ∷ (101, row 6 2 2) ∷ []) 3
+raises_the_first = refl
+
+writes_again : lru promoted 102 ≡ work (queue one (section 4 1 ((3, Device) ∷ []) ∷ []) ((100, row 6 4 4) ∷ (102, row 6 3 3) ∷ []) 5) (tally 1 1 2 0 0)
+writes_again = refl
+
+-- ---- a virtual victim, then a device one
+abbrev sealed_twice : QueueState
+sealed_twice = after_seal (after_add (after_seal (after_replace (after_add (start_of one) 100 6 0) 100 0) 0 Virtual) 101 4 0) 0 Device
+
+two_are_sealed : sealed_twice ≡ queue one (section 3 2 ((0, Device) ∷ (1, Virtual) ∷ []) ∷ []) ((100, row 6 0 1) ∷ (101, row 4 0 0) ∷ []) 4
+two_are_sealed = refl
+
+evicts_both : lru (lru sealed_twice 102).queue 103 ≡ work (queue one (section 4 2 ((3, Device) ∷ []) ∷ []) ((102, row 6 3 3) ∷ (103, row 6 4 4) ∷ []) 5) (tally 2 0 1 0 0)
+evicts_both = refl
+
+-- ---- a promotion that empties a sealed virtual block
+abbrev four : Limits
+four = limits 1 10 4
+
+abbrev twice : QueueState
+twice = promote Lru (promote Lru (lru (lru (lru (start_of four) 100).queue 101).queue 102).queue 100) 101
+
+seals_virtual : twice ≡ queue four (section 3 4 ((1, Virtual) ∷ (2, Device) ∷ (0, Device) ∷ []) ∷ []) ((100, row 6 0 1) ∷ (101, row 6 2 4) ∷ (102, row 6 3 3) ∷ []) 5
+seals_virtual = refl
+
+takes_out : promote Lru twice 100 ≡ queue four (section 3 5 ((4, Virtual) ∷ (2, Device) ∷ (0, Device) ∷ []) ∷ []) ((100, row 6 0 5) ∷ (101, row 6 2 4) ∷ (102, row 6 3 3) ∷ []) 6
+takes_out = refl
+
+-- ---- splits and a merge
+abbrev many : Limits
+many = limits 4 10 8
+
+abbrev three : QueueState
+three = (lru (lru (lru (start_of many) 100).queue 101).queue 102).queue
+
+splits : three ≡ queue many (section 3 1 ((2, Device) ∷ []) ∷ section 4 5 ((0, Device) ∷ []) ∷ []) ((100, row 6 0 0) ∷ (101, row 6 2 2) ∷ (102, row 6 3 3) ∷ []) 6
+splits = refl
+
+abbrev third : QueueState
+third = (lru three 103).queue
+
+splits_again : lru three 103 ≡ work (queue many (section 6 1 ((3, Device) ∷ []) ∷ section 7 8 ((2, Device) ∷ []) ∷ section 4 5 ((0, Device) ∷ []) ∷ []) ((100, row 6 0 0) ∷ (101, row 6 2 2) ∷ (102, row 6 3 3) ∷ (103, row 6 6 6) ∷ []) 9) (tally 0 0 1 1 0)
+splits_again = refl
+
+abbrev raised : QueueState
+raised = promote Lru (promote Lru third 100) 101
+
+abbrev merged : QueueState
+merged =
+    queue many
+    (section 10 9 ((6, Device) ∷ (1, Virtual) ∷ []) ∷ section 11 12 ((3, Device) ∷ []) ∷ section 7 8 ((2, Device) ∷ (0, Device) ∷ []) ∷ [])
+    ((100, row 6 0 1) ∷ (101, row 6 2 9) ∷ (102, row 6 3 3) ∷ (103, row 6 6 6) ∷ (104, row 6 10 10) ∷ [])
+    13
+
+merges_and_splits : lru raised 104 ≡ work merged (tally 0 0 1 1 1)
+merges_and_splits = refl
+
+bytes_after : bytes merged 0 ∷ bytes merged 1 ∷ bytes merged 2 ∷ [] ≡ 24 ∷ 6 ∷ 0 ∷ []
+bytes_after = refl
+
+-- ---- levels and targets of three segments
+bytes_before : bytes third 0 ∷ bytes third 1 ∷ bytes third 2 ∷ total third ∷ [] ≡ 12 ∷ 6 ∷ 6 ∷ 24 ∷ []
+bytes_before = refl
+
+levels : level_of third 100 ∷ level_of third 101 ∷ level_of third 102 ∷ level_of third 103 ∷ level_of third 104 ∷ [] ≡ Some 1 ∷ Some 1 ∷ Some 2 ∷ Some 2 ∷ None ∷ []
+levels = refl
+
+targets : target Slru3 third 1 ∷ target Slru3 third 2 ∷ target Slru3 third 3 ∷ [] ≡ 1 ∷ 0 ∷ 0 ∷ []
+targets = refl
+
+put_second : insert Slru3 third 104 6 1 ≡ work (queue many (section 6 1 ((3, Device) ∷ []) ∷ section 7 8 ((2, Device) ∷ []) ∷ section 4 5 ((0, Device) ∷ []) ∷ []) ((100, row 6 0 0) ∷ (101, row 6 2 2) ∷ (102, row 6 3 3) ∷ (103, row 6 6 6) ∷ (104, row 6 7 7) ∷ []) 9) (tally 0 0 0 0 0)
+put_second = refl
+
+first_is_raised : promote Slru3 third 100 ≡ queue many (section 6 1 ((3, Device) ∷ []) ∷ section 7 8 ((2, Device) ∷ []) ∷ section 4 5 ((0, Device) ∷ []) ∷ []) ((100, row 6 0 1) ∷ (101, row 6 2 2) ∷ (102, row 6 3 3) ∷ (103, row 6 6 6) ∷ []) 9
+first_is_raised = refl

@@ -1,0 +1,294 @@
+-- What a merge and a split keep behind a block, and that nothing is behind the last block.
+use Rattle.std.proofs.Common.{◌≡◌, ℕ, ◌+◌, ◌≤◌, ◌<◌, List, [], ◌∷◌, ◌++◌, refl, sym, ap, subst, arith, Bool, true, false, cond, length, nat_eq, set, get_or, take, drop, ◌⊎◌, inl, inr, zero, suc}
+use Rattle.std.specs.Prelude.{Option, Some, sum_by, count_by, insert, remove}
+use Rattle.std.specs.List.{list_any}
+use Rattle.std.proofs.lemmas.Bool.{eq-eqb, or_cases}
+use Rattle.std.proofs.lemmas.List.{take-append-drop}
+use Rattle.std.proofs.lemmas.List.Sums.{sum_by-cons}
+use Rattle.rw_blocks.proofs.Grown.{at_block}
+use Rattle.rw_blocks.specs.Loose.{IsLoose, count_in}
+use Rattle.rw_blocks.specs.Primitives.{block_unless, section_joining}
+use Rattle.rw_blocks.specs.Questions.{last_from, last_or}
+use Rattle.rw_blocks.specs.State.{QueueState, SectionState, blocks_of, no_section}
+use Rattle.rw_blocks.specs.Sums.{has_block, has_serial}
+use Rattle.rw_blocks.specs.declared.Kind.{Kind}
+use Rattle.rw_blocks.specs.declared.Kind.TheVariants.{Device, Virtual}
+use Rattle.rw_ripq.proofs.Basics.{some_is, true_not_false}
+use Rattle.rw_ripq.proofs.Behinds.{any-cases, any-left, any-right, before-cases, before-cross, before-left, before-right, behind_in-has, has-cases, has-device, has-inside, has-shadow, or-left, or-right}
+use Rattle.rw_ripq.proofs.Falls.{last-there, narrow, sealed_at, sum-le}
+use Rattle.rw_ripq.proofs.Measures.{any-counts}
+use Rattle.rw_ripq.proofs.Turns.{either-kind, sum-above}
+use Rattle.rw_ripq.specs.Order.{Before, Behind, BehindIn}
+use Rattle.rw_ripq.specs.Sealed.{has_sealed}
+use Rattle.rw_ripq.specs.Victim.{in_sealed}
+
+-- ---- merge
+module _ (x c : ℕ) where
+  -- the block is not one that vanishes
+  pub record Stays (m n : Bool) (l : SectionState) : Type 0 where
+    pub active_device : m ≡ true → l.active_device ≡ x → ⊥
+    pub active_virtual : n ≡ true → l.active_virtual ≡ x → ⊥
+
+abbrev pub tail_of : Bool → Bool → SectionState → List (ℕ × Kind)
+tail_of m n l = block_unless m (l.active_device, Device) ++ (block_unless n (l.active_virtual, Virtual) ++ l.sealed)
+
+tail-sealed : (c : ℕ) (m n : Bool) (l : SectionState) → has_sealed c l ≡ true → list_any (has_serial c) (tail_of m n l) ≡ true
+tail-sealed c m n l h =
+    any-right (has_serial c) (block_unless m (l.active_device, Device)) (block_unless n (l.active_virtual, Virtual) ++ l.sealed) (any-right (has_serial c) (block_unless n (l.active_virtual, Virtual)) l.sealed h)
+
+tail-device : (x : ℕ) (m n : Bool) (l : SectionState) → (m ≡ true → l.active_device ≡ x → ⊥) → l.active_device ≡ x → list_any (has_serial x) (tail_of m n l) ≡ true
+tail-device x true n l stays e = absurd (stays refl e)
+tail-device x false n l stays e = or-left (nat_eq l.active_device x) (list_any (has_serial x) (block_unless n (l.active_virtual, Virtual) ++ l.sealed)) (eq-eqb l.active_device x e)
+
+shadow-first : (x : ℕ) (n : Bool) (l : SectionState) → (n ≡ true → l.active_virtual ≡ x → ⊥) → l.active_virtual ≡ x → list_any (has_serial x) (block_unless n (l.active_virtual, Virtual) ++ l.sealed) ≡ true
+shadow-first x true l stays e = absurd (stays refl e)
+shadow-first x false l stays e = or-left (nat_eq l.active_virtual x) (list_any (has_serial x) l.sealed) (eq-eqb l.active_virtual x e)
+
+tail-has : (x c : ℕ) (m n : Bool) (l : SectionState) → Stays x c m n l → has_block x l ≡ true → list_any (has_serial x) (tail_of m n l) ≡ true
+tail-has x c m n l stays h = elim (has-cases x l h) [
+  | inl e ↦ tail-device x m n l stays.active_device e
+  | inr r ↦ elim r [
+    | inl e ↦ any-right (has_serial x) (block_unless m (l.active_device, Device)) (block_unless n (l.active_virtual, Virtual) ++ l.sealed) (shadow-first x n l stays.active_virtual e)
+    | inr k ↦ tail-sealed x m n l k
+  ]
+]
+
+before-device : (x c : ℕ) (m n : Bool) (l : SectionState) → (m ≡ true → l.active_device ≡ x → ⊥) → l.active_device ≡ x → has_sealed c l ≡ true → Before x c (tail_of m n l)
+before-device x c true n l stays e h = absurd (stays refl e)
+before-device x c false n l stays e h = inl (e, any-right (has_serial c) (block_unless n (l.active_virtual, Virtual)) l.sealed h)
+
+before-shadow : (x c : ℕ) (n : Bool) (l : SectionState) → (n ≡ true → l.active_virtual ≡ x → ⊥) → l.active_virtual ≡ x → has_sealed c l ≡ true → Before x c (block_unless n (l.active_virtual, Virtual) ++ l.sealed)
+before-shadow x c true l stays e h = absurd (stays refl e)
+before-shadow x c false l stays e h = inl (e, h)
+
+before-tail : (x c : ℕ) (m n : Bool) (l : SectionState) → Stays x c m n l → BehindIn x c l → Before x c (tail_of m n l)
+before-tail x c m n l stays b = elim b [
+  | inl h ↦ elim h.0 [
+    | inl e ↦ before-device x c m n l stays.active_device e h.1
+    | inr e ↦ before-right x c (block_unless m (l.active_device, Device)) (block_unless n (l.active_virtual, Virtual) ++ l.sealed) (before-shadow x c n l stays.active_virtual e h.1)
+  ]
+  | inr r ↦ before-right x c (block_unless m (l.active_device, Device)) (block_unless n (l.active_virtual, Virtual) ++ l.sealed) (before-right x c (block_unless n (l.active_virtual, Virtual)) l.sealed r)
+]
+
+section_joining-upper : (x c : ℕ) (m n : Bool) (u l : SectionState) → BehindIn x c u → BehindIn x c (section_joining m n u l)
+section_joining-upper x c m n u l b = elim b [
+  | inl h ↦ inl (h.0, any-left (has_serial c) u.sealed (tail_of m n l) h.1)
+  | inr r ↦ inr (before-left x c u.sealed (tail_of m n l) r)
+]
+
+section_joining-cross : (x c : ℕ) (m n : Bool) (u l : SectionState) → has_block x u ≡ true → has_sealed c l ≡ true → BehindIn x c (section_joining m n u l)
+section_joining-cross x c m n u l h k = elim (has-cases x u h) [
+  | inl e ↦ inl (inl e, any-right (has_serial c) u.sealed (tail_of m n l) (tail-sealed c m n l k))
+  | inr r ↦ elim r [
+    | inl e ↦ inl (inr e, any-right (has_serial c) u.sealed (tail_of m n l) (tail-sealed c m n l k))
+    | inr s ↦ inr (before-cross x c u.sealed (tail_of m n l) s (tail-sealed c m n l k))
+  ]
+]
+
+section_joining-lower : (x c : ℕ) (m n : Bool) (u l : SectionState) → Stays x c m n l → BehindIn x c l → BehindIn x c (section_joining m n u l)
+section_joining-lower x c m n u l stays b = inr (before-right x c u.sealed (tail_of m n l) (before-tail x c m n l stays b))
+
+section_joining-has : (x : ℕ) (m n : Bool) (u l : SectionState) → has_block x u ≡ true → has_block x (section_joining m n u l) ≡ true
+section_joining-has x m n u l h =
+    let t : SectionState = section_joining m n u l in
+    elim (has-cases x u h) [
+      | inl e ↦ has-device x t e
+      | inr r ↦ elim r [
+        | inl e ↦ has-shadow x t e
+        | inr s ↦ has-inside x t (any-left (has_serial x) u.sealed (tail_of m n l) s)
+      ]
+    ]
+
+any-section_joining : (c : ℕ) (m n : Bool) (u l : SectionState) (ss : List SectionState) → list_any (has_sealed c) (u ∷ l ∷ ss) ≡ true → list_any (has_sealed c) (section_joining m n u l ∷ ss) ≡ true
+any-section_joining c m n u l ss h =
+    let t : SectionState = section_joining m n u l in
+    elim (or_cases (has_sealed c u) (list_any (has_sealed c) (l ∷ ss)) h) [
+      | inl k ↦ or-left (has_sealed c t) (list_any (has_sealed c) ss) (any-left (has_serial c) u.sealed (tail_of m n l) k)
+      | inr k ↦ elim (or_cases (has_sealed c l) (list_any (has_sealed c) ss) k) [
+        | inl j ↦ or-left (has_sealed c t) (list_any (has_sealed c) ss) (any-right (has_serial c) u.sealed (tail_of m n l) (tail-sealed c m n l j))
+        | inr j ↦ or-right (has_sealed c t) (list_any (has_sealed c) ss) j
+      ]
+    ]
+
+abbrev pub join_at : Bool → Bool → List SectionState → ℕ → List SectionState
+join_at m n ss i = set (remove ss (suc i)) i (section_joining m n (get_or ss i no_section) (get_or ss (suc i) no_section))
+
+any-join : (c : ℕ) (m n : Bool) (ss : List SectionState) (i : ℕ) → suc i < length ss → list_any (has_sealed c) ss ≡ true → list_any (has_sealed c) (join_at m n ss i) ≡ true
+any-join c m n [] i lt h = true_not_false false h refl
+any-join c m n (s ∷ []) zero lt h = absurd (omega (arith, lt))
+any-join c m n (u ∷ l ∷ ss) zero lt h = any-section_joining c m n u l ss h
+any-join c m n (s ∷ ss) (suc i) lt h = elim (or_cases (has_sealed c s) (list_any (has_sealed c) ss) h) [
+  | inl k ↦ or-left (has_sealed c s) (list_any (has_sealed c) (join_at m n ss i)) k
+  | inr k ↦ or-right (has_sealed c s) (list_any (has_sealed c) (join_at m n ss i)) (any-join c m n ss i (omega (arith, lt)) k)
+]
+
+pub behind-join : (x c : ℕ) (m n : Bool) (ss : List SectionState) (i : ℕ) → suc i < length ss → Stays x c m n (get_or ss (suc i) no_section) → Behind x c ss → Behind x c (join_at m n ss i)
+behind-join x c m n [] i lt stays b = absurd b
+behind-join x c m n (s ∷ []) zero lt stays b = absurd (omega (arith, lt))
+behind-join x c m n (u ∷ l ∷ ss) zero lt stays b = elim b [
+  | inl h ↦ inl (section_joining-upper x c m n u l h)
+  | inr r ↦ elim r [
+    | inl h ↦ elim (or_cases (has_sealed c l) (list_any (has_sealed c) ss) h.1) [
+      | inl k ↦ inl (section_joining-cross x c m n u l h.0 k)
+      | inr k ↦ inr (inl (section_joining-has x m n u l h.0, k))
+    ]
+    | inr v ↦ elim v [
+      | inl h ↦ inl (section_joining-lower x c m n u l stays h)
+      | inr w ↦ elim w [
+        | inl h ↦ inr (inl (has-inside x (section_joining m n u l) (any-right (has_serial x) u.sealed (tail_of m n l) (tail-has x c m n l stays h.0)), h.1))
+        | inr h ↦ inr (inr h)
+      ]
+    ]
+  ]
+]
+behind-join x c m n (s ∷ ss) (suc i) lt stays b = elim b [
+  | inl h ↦ inl h
+  | inr r ↦ elim r [
+    | inl h ↦ inr (inl (h.0, any-join c m n ss i (omega (arith, lt)) h.1))
+    | inr h ↦ inr (inr (behind-join x c m n ss i (omega (arith, lt)) stays h))
+  ]
+]
+
+-- ---- split
+abbrev pub split_at : ℕ → ℕ → List SectionState → ℕ → ℕ → List SectionState
+split_at d v ss i k =
+    let s = get_or ss i no_section in
+    insert (set ss i (record s { sealed = take k s.sealed })) (suc i) (record { active_device = d; active_virtual = v; sealed = drop k s.sealed })
+
+either-part : (x k : ℕ) (s : SectionState) → list_any (has_serial x) s.sealed ≡ true → (list_any (has_serial x) (take k s.sealed) ≡ true) ⊎ (list_any (has_serial x) (drop k s.sealed) ≡ true)
+either-part x k s h = any-cases (has_serial x) (take k s.sealed) (drop k s.sealed) (subst (λ es. list_any (has_serial x) es ≡ true) (sym (take-append-drop k s.sealed)) h)
+
+any-split : (c d v k : ℕ) (ss : List SectionState) (i : ℕ) → i < length ss → list_any (has_sealed c) ss ≡ true → list_any (has_sealed c) (split_at d v ss i k) ≡ true
+any-split c d v k [] i lt h = true_not_false false h refl
+any-split c d v k (s ∷ ss) zero lt h =
+    let up : SectionState = record s { sealed = take k s.sealed } in
+    let low : SectionState = record { active_device = d; active_virtual = v; sealed = drop k s.sealed } in
+    elim (or_cases (has_sealed c s) (list_any (has_sealed c) ss) h) [
+      | inl t ↦ elim (either-part c k s t) [
+        | inl a ↦ or-left (has_sealed c up) (list_any (has_sealed c) (low ∷ ss)) a
+        | inr a ↦ or-right (has_sealed c up) (list_any (has_sealed c) (low ∷ ss)) (or-left (has_sealed c low) (list_any (has_sealed c) ss) a)
+      ]
+      | inr t ↦ or-right (has_sealed c up) (list_any (has_sealed c) (low ∷ ss)) (or-right (has_sealed c low) (list_any (has_sealed c) ss) t)
+    ]
+any-split c d v k (s ∷ ss) (suc i) lt h = elim (or_cases (has_sealed c s) (list_any (has_sealed c) ss) h) [
+  | inl t ↦ or-left (has_sealed c s) (list_any (has_sealed c) (split_at d v ss i k)) t
+  | inr t ↦ or-right (has_sealed c s) (list_any (has_sealed c) (split_at d v ss i k)) (any-split c d v k ss i (omega (arith, lt)) t)
+]
+
+pub behind-split : (x c d v k : ℕ) (ss : List SectionState) (i : ℕ) → i < length ss → Behind x c ss → Behind x c (split_at d v ss i k)
+behind-split x c d v k [] i lt b = absurd b
+behind-split x c d v k (s ∷ ss) zero lt b =
+    let up : SectionState = record s { sealed = take k s.sealed } in
+    let low : SectionState = record { active_device = d; active_virtual = v; sealed = drop k s.sealed } in
+    elim b [
+      | inl g ↦ elim g [
+        | inl h ↦ elim (either-part c k s h.1) [
+          | inl a ↦ inl (inl (h.0, a))
+          | inr a ↦ inr (inl (elim h.0 [ inl e ↦ has-device x up e | inr e ↦ has-shadow x up e ], or-left (has_sealed c low) (list_any (has_sealed c) ss) a))
+        ]
+        | inr r ↦ elim (before-cases x c (take k s.sealed) (drop k s.sealed) (subst (λ es. Before x c es) (sym (take-append-drop k s.sealed)) r)) [
+          | inl a ↦ inl (inr a)
+          | inr a ↦ elim a [
+            | inl a' ↦ inr (inl (has-inside x up a'.0, or-left (has_sealed c low) (list_any (has_sealed c) ss) a'.1))
+            | inr a' ↦ inr (inr (inl (inr a')))
+          ]
+        ]
+      ]
+      | inr g ↦ elim g [
+        | inl h ↦ elim (has-cases x s h.0) [
+          | inl e ↦ inr (inl (has-device x up e, or-right (has_sealed c low) (list_any (has_sealed c) ss) h.1))
+          | inr r ↦ elim r [
+            | inl e ↦ inr (inl (has-shadow x up e, or-right (has_sealed c low) (list_any (has_sealed c) ss) h.1))
+            | inr e ↦ elim (either-part x k s e) [
+              | inl a ↦ inr (inl (has-inside x up a, or-right (has_sealed c low) (list_any (has_sealed c) ss) h.1))
+              | inr a ↦ inr (inr (inr (inl (has-inside x low a, h.1))))
+            ]
+          ]
+        ]
+        | inr h ↦ inr (inr (inr (inr h)))
+      ]
+    ]
+behind-split x c d v k (s ∷ ss) (suc i) lt b = elim b [
+  | inl h ↦ inl h
+  | inr r ↦ elim r [
+    | inl h ↦ inr (inl (h.0, any-split c d v k ss i (omega (arith, lt)) h.1))
+    | inr h ↦ inr (inr (behind-split x c d v k ss i (omega (arith, lt)) h))
+  ]
+]
+
+-- ---- nothing is behind the last sealed block
+abbrev pub all_in : ℕ → SectionState → ℕ
+all_in b s = count_by (has_serial b) (blocks_of s)
+
+one_at : (b : ℕ) (e : ℕ × Kind) → e.0 ≡ b → ◌≡◌ {A = ℕ} (cond (has_serial b e) 1 0) 1
+one_at b e h = rw (eq-eqb e.0 b h) refl
+
+last_or-inside : (o : Option (ℕ × Kind)) (a : ℕ × Kind) (es : List (ℕ × Kind)) (e : ℕ × Kind) → last_or o (a ∷ es) ≡ Some e → 1 ≤ count_by (has_serial e.0) (a ∷ es)
+last_or-inside o a [] e is =
+    let same : a ≡ e = some_is is in
+    omega (arith, sum_by-cons (λ y. cond (has_serial e.0 y) 1 0) a [], one_at e.0 a (ap (λ y. y.0) same))
+last_or-inside o a (a' ∷ es) e is =
+    omega (arith, sum_by-cons (λ y. cond (has_serial e.0 y) 1 0) a (a' ∷ es), last_or-inside (Some a) a' es e is)
+
+last_or-some : (o : Option (ℕ × Kind)) (es : List (ℕ × Kind)) (e : ℕ × Kind) (c : ℕ) → list_any (has_serial c) es ≡ true → last_or o es ≡ Some e → 1 ≤ count_by (has_serial e.0) es
+last_or-some o [] e c h is = true_not_false false h refl
+last_or-some o (a ∷ es) e c h is = last_or-inside o a es e is
+
+last_or-twice : (o : Option (ℕ × Kind)) (es : List (ℕ × Kind)) (e : ℕ × Kind) (c : ℕ) → Before e.0 c es → last_or o es ≡ Some e → 2 ≤ count_by (has_serial e.0) es
+last_or-twice o [] e c b is = absurd b
+last_or-twice o (a ∷ es) e c b is = elim b [
+  | inl h ↦ omega (arith, sum_by-cons (λ y. cond (has_serial e.0 y) 1 0) a es, one_at e.0 a h.0, last_or-some (Some a) es e c h.1 is)
+  | inr r ↦ omega (arith, sum_by-cons (λ y. cond (has_serial e.0 y) 1 0) a es, last_or-twice (Some a) es e c r is)
+]
+
+all_in-parts : (b : ℕ) (s : SectionState) → all_in b s ≡ cond (nat_eq s.active_device b) 1 0 + cond (nat_eq s.active_virtual b) 1 0 + in_sealed b s
+all_in-parts b s =
+    let f : ℕ × Kind → ℕ = λ y. cond (has_serial b y) 1 0 in
+    omega (arith, sum_by-cons f (s.active_device, Device) ((s.active_virtual, Virtual) ∷ s.sealed), sum_by-cons f (s.active_virtual, Virtual) s.sealed)
+
+sealed-or : (o : Option (ℕ × Kind)) (ss : List SectionState) (e : ℕ × Kind) → last_from o ss ≡ Some e → (o ≡ Some e) ⊎ (1 ≤ sum_by (in_sealed e.0) ss)
+sealed-or o ss e is = elim (last-there o ss e is) [
+  | inl h ↦ inl h
+  | inr h ↦ inr (omega (arith, h, sum-le (sealed_at e) (in_sealed e.0) ss (λ s. sum-le (at_block e.1 e.0) (λ x. cond (has_serial e.0 x) 1 0) s.sealed (λ x. narrow (nat_eq x.0 e.0) _))))
+]
+
+sealed-inside : (o : Option (ℕ × Kind)) (ss : List SectionState) (e : ℕ × Kind) (c : ℕ) → list_any (has_sealed c) ss ≡ true → last_from o ss ≡ Some e → 1 ≤ sum_by (in_sealed e.0) ss
+sealed-inside o [] e c h is = true_not_false false h refl
+sealed-inside o (s ∷ ss) e c h is = elim (sealed-or (last_or o s.sealed) ss e is) [
+  | inr k ↦ omega (arith, sum_by-cons (in_sealed e.0) s ss, k)
+  | inl l ↦ elim (or_cases (has_sealed c s) (list_any (has_sealed c) ss) h) [
+    | inl k ↦ omega (arith, sum_by-cons (in_sealed e.0) s ss, last_or-some o s.sealed e c k l)
+    | inr k ↦ omega (arith, sum_by-cons (in_sealed e.0) s ss, sealed-inside (last_or o s.sealed) ss e c k is)
+  ]
+]
+
+pub last-twice : (o : Option (ℕ × Kind)) (ss : List SectionState) (e : ℕ × Kind) (c : ℕ) → Behind e.0 c ss → last_from o ss ≡ Some e → 2 ≤ sum_by (all_in e.0) ss
+last-twice o [] e c b is = absurd b
+last-twice o (s ∷ ss) e c b is =
+    let sum = sum_by-cons (all_in e.0) s ss in
+    let more : sum_by (in_sealed e.0) ss ≤ sum_by (all_in e.0) ss = sum-le (in_sealed e.0) (all_in e.0) ss (λ s. omega (arith, all_in-parts e.0 s)) in
+    elim b [
+      | inl h ↦ elim (sealed-or (last_or o s.sealed) ss e is) [
+        | inr k ↦ omega (arith, sum, more, k, any-counts (has_serial e.0) (blocks_of s) (behind_in-has e.0 c s h))
+        | inl l ↦ elim h [
+          | inl g ↦ elim g.0 [
+            | inl f ↦ omega (arith, sum, all_in-parts e.0 s, one_at e.0 (s.active_device, Device) f, last_or-some o s.sealed e c g.1 l)
+            | inr f ↦ omega (arith, sum, all_in-parts e.0 s, one_at e.0 (s.active_virtual, Virtual) f, last_or-some o s.sealed e c g.1 l)
+          ]
+          | inr g ↦ omega (arith, sum, all_in-parts e.0 s, last_or-twice o s.sealed e c g l)
+        ]
+      ]
+      | inr r ↦ elim r [
+        | inl h ↦ omega (arith, sum, more, any-counts (has_serial e.0) (blocks_of s) h.0, sealed-inside (last_or o s.sealed) ss e c h.1 is)
+        | inr h ↦ omega (arith, sum, last-twice (last_or o s.sealed) ss e c h is)
+      ]
+    ]
+
+pub all-once : (q : QueueState) (b : ℕ) → IsLoose q → sum_by (all_in b) q.sections ≤ 1
+all-once q b loose =
+    omega (
+      arith,
+      loose.distinct b,
+      sum-above (count_in Device b) (count_in Virtual b) (all_in b) q.sections
+          (λ s. sum-above (at_block Device b) (at_block Virtual b) (λ e. cond (has_serial b e) 1 0) (blocks_of s) (λ e. either-kind (has_serial b e) e.1)),
+    )

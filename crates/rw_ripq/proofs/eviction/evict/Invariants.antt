@@ -1,0 +1,19 @@
+use Rattle.std.proofs.Common.{◌≡◌}
+use Rattle.rw_blocks.specs.Loose.{IsLoose}
+use Rattle.rw_ripq.specs.Work.{work_of}
+use Rattle.rw_ripq.specs.Evict.{evict}
+use Rattle.rw_ripq.specs.Record.{Recorded, HasHeadroom}
+use Rattle.rw_ripq.proofs.Folds.{measure}
+use Rattle.rw_ripq.proofs.eviction.evict.Given as goal
+
+abbrev pub invariant-loop-block : goal.invariant-loop-block
+invariant-loop-block l =
+    record {
+      loose : IsLoose l.queue;
+      room : HasHeadroom (work_of l.queue l.log.tally);
+      effect : evict (work_of l.queue l.log.tally) ≡ evict (work_of l.fn.queue l.fn.log.tally);
+      trail : Recorded l.fn.log.trail (work_of l.fn.queue l.fn.log.tally) l.log.trail (work_of l.queue l.log.tally);
+    }
+
+abbrev pub decreases-loop-block : goal.decreases-loop-block
+decreases-loop-block l = measure l.queue

@@ -1,0 +1,19 @@
+use Rattle.std.proofs.Common.{◌≡◌, length}
+use Rattle.std.specs.Prelude.{fold}
+use Rattle.rw_ripq.specs.Work.{work_of}
+use Rattle.rw_ripq.specs.Evict.{reinsert, objects_homed}
+use Rattle.rw_ripq.specs.Victim.{IsVictim}
+use Rattle.rw_ripq.specs.Record.{Recorded, HasHeadroom}
+use Rattle.rw_ripq.proofs.eviction.reinsert_all.Given as goal
+
+abbrev pub invariant-loop-object : goal.invariant-loop-object
+invariant-loop-object l =
+    record {
+      victim : IsVictim l.block l.queue;
+      room : HasHeadroom (work_of l.queue l.log.tally);
+      effect : fold reinsert (work_of l.queue l.log.tally) (objects_homed l.queue l.block) ≡ fold reinsert (work_of l.fn.queue l.fn.log.tally) (objects_homed l.fn.queue l.block);
+      trail : Recorded l.fn.log.trail (work_of l.fn.queue l.fn.log.tally) l.log.trail (work_of l.queue l.log.tally);
+    }
+
+abbrev pub decreases-loop-object : goal.decreases-loop-object
+decreases-loop-object l = length (objects_homed l.queue l.block)

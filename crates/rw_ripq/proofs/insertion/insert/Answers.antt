@@ -1,0 +1,39 @@
+use Rattle.rw_ripq.proofs.Laws.{insertable, insertion}
+use Rattle.rw_ripq.proofs.Weights.{insert-short}
+use Rattle.rw_ripq.proofs.insertion.insert.Goals as goal
+
+pub insert_at-requires-clause-insertable : goal.insert_at-requires-clause-insertable
+insert_at-requires-clause-insertable c = insertable _ _ _ c.requires.well_formed c.requires.new c.requires.some c.requires.small
+
+pub returns-clause-short : goal.returns-clause-short
+returns-clause-short c =
+    insert-short c.args.queue.now c.args.object c.args.size c.target-section.result _ _ _
+    (insertable _ _ _ c.requires.well_formed c.requires.new c.requires.some c.requires.small) c.target-section.ensures.there c.new-log.ensures.trail c.in_ok-insert_at.ensures.effect c.in_ok-insert_at.ensures.spends
+
+pub returns-clause-kept : goal.returns-clause-kept
+returns-clause-kept c =
+    (insertion c.args.policy _ _ _ c.args.level _ _ c.requires.well_formed c.requires.new c.requires.some c.requires.small c.in_ok-insert_at.ensures.effect c.target-section.ensures.target).well_formed
+
+pub returns-clause-sizes : goal.returns-clause-sizes
+returns-clause-sizes c =
+    (insertion c.args.policy _ _ _ c.args.level _ _ c.requires.well_formed c.requires.new c.requires.some c.requires.small c.in_ok-insert_at.ensures.effect c.target-section.ensures.target).sizes
+
+pub returns-clause-adds : goal.returns-clause-adds
+returns-clause-adds c =
+    (insertion c.args.policy _ _ _ c.args.level _ _ c.requires.well_formed c.requires.new c.requires.some c.requires.small c.in_ok-insert_at.ensures.effect c.target-section.ensures.target).adds
+
+pub returns-clause-rows : goal.returns-clause-rows
+returns-clause-rows c =
+    (insertion c.args.policy _ _ _ c.args.level _ _ c.requires.well_formed c.requires.new c.requires.some c.requires.small c.in_ok-insert_at.ensures.effect c.target-section.ensures.target).rows
+
+pub returns-clause-order : goal.returns-clause-order
+returns-clause-order c =
+    (insertion c.args.policy _ _ _ c.args.level _ _ c.requires.well_formed c.requires.new c.requires.some c.requires.small c.in_ok-insert_at.ensures.effect c.target-section.ensures.target).order
+
+pub returns-clause-leaves : goal.returns-clause-leaves
+returns-clause-leaves c =
+    (insertion c.args.policy _ _ _ c.args.level _ _ c.requires.well_formed c.requires.new c.requires.some c.requires.small c.in_ok-insert_at.ensures.effect c.target-section.ensures.target).leaves
+
+pub returns-clause-tail : goal.returns-clause-tail
+returns-clause-tail c =
+    (insertion c.args.policy _ _ _ c.args.level _ _ c.requires.well_formed c.requires.new c.requires.some c.requires.small c.in_ok-insert_at.ensures.effect c.target-section.ensures.target).tail

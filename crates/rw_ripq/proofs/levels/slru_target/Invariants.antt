@@ -1,0 +1,13 @@
+use Rattle.std.proofs.Common.{◌≡◌, ℕ, ◌<◌, length, false}
+use Rattle.rw_ripq.specs.Levels.{reaches}
+use Rattle.rw_ripq.proofs.levels.slru_target.Given as goal
+
+abbrev pub invariant-loop-section : goal.invariant-loop-section
+invariant-loop-section l =
+    record {
+      there : l.section < length l.queue.sections;
+      behind : (k : ℕ) → l.section < k → k < length l.queue.sections → reaches l.queue l.level k ≡ false;
+    }
+
+abbrev pub decreases-loop-section : goal.decreases-loop-section
+decreases-loop-section l = l.section

@@ -1,0 +1,14 @@
+pub mod Work
+pub mod Put
+pub mod Sealed
+pub mod Evict
+pub mod Levels
+pub mod Promote
+pub mod Adjust
+pub mod Insert
+pub mod Trail
+pub mod Weight
+pub mod Order
+pub mod Victim
+pub mod Record
+pub mod Laws

@@ -1,0 +1,21 @@
+-- A queue with the counts of an operation so far.
+use Rattle.std.specs.Prelude.{ℕ, Bool, true, false}
+use Rattle.rw_blocks.specs.State.{QueueState}
+use Rattle.rw_ripq.specs.declared.Tally.{Tally}
+
+pub record Work : Type 0 where
+  pub queue : QueueState
+  pub tally : Tally
+
+abbrev pub no_tally : Tally
+no_tally = record { evicted = 0; reinserted = 0; writes = 0; splits = 0; merges = 0 }
+
+abbrev pub untouched : QueueState → Work
+untouched q = record { queue = q; tally = no_tally }
+
+abbrev pub one_if : Bool → ℕ
+one_if true = 1
+one_if false = 0
+
+abbrev pub work_of : QueueState → Tally → Work
+work_of q t = record { queue = q; tally = t }

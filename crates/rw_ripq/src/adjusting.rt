@@ -1,0 +1,106 @@
+// Adjust: evict, at most one merge of two sections with few bytes, evict, and at most one split of a section with many.
+ghost use Rattle.std.specs.Prelude.{◌≡◌, ◌<◌, ◌+◌, ◌^◌, length, OnOk};
+ghost use Rattle.rw_blocks.specs.Loose.{IsLoose};
+ghost use Rattle.rw_ripq.specs.Work.{work_of};
+ghost use Rattle.rw_ripq.specs.Adjust.{is_light, light_pair, is_heavy, heavy_section, merge_once, split_once, adjust};
+ghost use Rattle.rw_ripq.specs.Record.{Recorded, HasHeadroom};
+
+use crate::eviction::evict;
+use crate::putting::{Log, count_write};
+use rw_blocks::{Kind, Queue};
+use rw_vt::NoMemory;
+
+/// Whether the section and the next one towards the tail hold few bytes.
+fn is_light(queue: &Queue, section: usize) -> bool
+    requires loose { IsLoose queue.now }
+    requires there { section + 1 < length queue.now.sections }
+    ensures { result ≡ is_light queue.now section }
+{
+    let (sections, _, _) = queue.shape();
+    (queue.bytes(section) + queue.bytes(section + 1)) * sections < queue.total()
+}
+
+/// The first such pair from the head.
+fn light_pair(queue: &Queue) -> Option<usize>
+    requires { IsLoose queue.now }
+    ensures { result ≡ light_pair queue.now }
+{
+    (0..queue.sections() - 1).find(|section| is_light(queue, *section))
+}
+
+/// Whether the section holds many bytes, and at least two sealed blocks.
+fn is_heavy(queue: &Queue, section: usize) -> bool
+    requires loose { IsLoose queue.now }
+    requires there { section < length queue.now.sections }
+    ensures { result ≡ is_heavy queue.now section }
+{
+    let (sections, _, _) = queue.shape();
+    2 * queue.total() < queue.bytes(section) * sections && queue.sealed(section) >= 2
+}
+
+/// The first such section from the head.
+fn heavy_section(queue: &Queue) -> Option<usize>
+    requires { IsLoose queue.now }
+    ensures { result ≡ heavy_section queue.now }
+{
+    (0..queue.sections()).find(|section| is_heavy(queue, *section))
+}
+
+/// Merges the first two neighbours with few bytes, if any, and evicts.
+fn merge_once(queue: &mut Queue, log: &mut Log) -> Result<(), NoMemory>
+    requires loose { IsLoose queue.old }
+    requires headroom { HasHeadroom (work_of queue.old log.old.tally) }
+    requires first { log.old.tally.merges ≡ 0 }
+    ensures effect { OnOk result (work_of queue.new log.new.tally ≡ merge_once (work_of queue.old log.old.tally)) }
+    ensures trail { OnOk result (Recorded log.old.trail (work_of queue.old log.old.tally) log.new.trail (work_of queue.new log.new.tally)) }
+    ensures kept { OnOk result (IsLoose queue.new) }
+{
+    let Some(section) = light_pair(queue) else {
+        return Ok(());
+    };
+    let written = queue.fill(queue.active(section + 1, Kind::Device)) > 0;
+    let mark = queue.merge(section)?;
+    log.trail.push(mark)?;
+    log.tally.merges += 1;
+    count_write(&mut log.tally, written);
+    evict(queue, log)?;
+    Ok(())
+}
+
+/// Splits the first section with many bytes, if any and if there are fewer sections than the shape allows.
+fn split_once(queue: &mut Queue, log: &mut Log) -> Result<(), NoMemory>
+    requires loose { IsLoose queue.old }
+    requires fresh { queue.old.next + 1 < 2 ^ 63 }
+    requires first { log.old.tally.splits ≡ 0 }
+    ensures effect { OnOk result (work_of queue.new log.new.tally ≡ split_once (work_of queue.old log.old.tally)) }
+    ensures trail { OnOk result (Recorded log.old.trail (work_of queue.old log.old.tally) log.new.trail (work_of queue.new log.new.tally)) }
+    ensures kept { OnOk result (IsLoose queue.new) }
+{
+    let (sections, _, _) = queue.shape();
+    if queue.sections() as u64 >= sections {
+        return Ok(());
+    }
+    let Some(section) = heavy_section(queue) else {
+        return Ok(());
+    };
+    let mark = queue.split(section, queue.sealed(section).div_ceil(2))?;
+    log.trail.push(mark)?;
+    log.tally.splits += 1;
+    Ok(())
+}
+
+/// What follows a put that sealed a device block.
+pub fn adjust(queue: &mut Queue, log: &mut Log) -> Result<(), NoMemory>
+    requires loose { IsLoose queue.old }
+    requires headroom { HasHeadroom (work_of queue.old log.old.tally) }
+    requires merges { log.old.tally.merges ≡ 0 }
+    requires splits { log.old.tally.splits ≡ 0 }
+    ensures effect { OnOk result (work_of queue.new log.new.tally ≡ adjust (work_of queue.old log.old.tally)) }
+    ensures trail { OnOk result (Recorded log.old.trail (work_of queue.old log.old.tally) log.new.trail (work_of queue.new log.new.tally)) }
+    ensures kept { OnOk result (IsLoose queue.new) }
+{
+    evict(queue, log)?;
+    merge_once(queue, log)?;
+    split_once(queue, log)?;
+    Ok(())
+}

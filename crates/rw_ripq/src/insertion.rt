@@ -1,0 +1,94 @@
+// Insert: a miss puts an object at the target of its level, and the queue is adjusted where that sealed a device block.
+ghost use Rattle.std.specs.Prelude.{◌≡◌, ◌≤◌, ◌<◌, ◌+◌, ◌^◌, ◌≢◌, ◌↔◌, length, None, OnOk, IfOk, Err};
+ghost use Rattle.rw_blocks.specs.State.{row_at, QueueState};
+ghost use Rattle.rw_blocks.specs.Loose.{IsWellFormed};
+ghost use Rattle.rw_vt.specs.declared.refusal.Refusal.{Refusal};
+ghost use Rattle.rw_ripq.specs.Work.{work_of, untouched, no_tally};
+ghost use Rattle.rw_ripq.specs.Insert.{insert, insert_at};
+ghost use Rattle.rw_ripq.specs.Trail.{Leads};
+ghost use Rattle.rw_ripq.specs.Record.{IsInsertable};
+ghost use Rattle.rw_ripq.specs.Laws.{KeepsSizes, AddsOnly, LeavesWithBlock};
+ghost use Rattle.rw_ripq.specs.Order.{KeepsOrder, LeavesFromTail};
+ghost use Rattle.rw_ripq.specs.Weight.{Spends, IsShort};
+
+use crate::adjusting::adjust;
+use crate::levels::target;
+use crate::putting::{Log, make_room};
+use crate::{Policy, Tally, Trail};
+use rw_blocks::{Kind, Queue};
+use rw_vt::{NoMemory, Refusal};
+use std::alloc::Global;
+
+/// Stores an object of `size` bytes, a miss: it is put into the target section of the level, whose active device block
+/// is sealed first where the size does not fit. Where that sealed a block the queue is adjusted: from the tail blocks
+/// are evicted while more device blocks are sealed than the shape allows, and at most one pair of sections is merged and
+/// at most one section split.
+///
+/// Hands back the trail that takes it back, and the counts. With r the rows of the old queue that left or have another
+/// home, and m the sealed blocks of the old queue that are gone, the trail has at most 8 + 4r + m marks.
+///
+/// The policy is not `Off`, the object is not stored, the size is 1 to the block size, and the level 1 to 3.
+/// `Exhausted` exactly where the next serial is 2^62 or more, which is tested first. After a refusal nothing is said of
+/// the queue: it is only dropped.
+pub fn insert(
+    alloc: Global,
+    queue: &mut Queue,
+    policy: Policy,
+    object: u64,
+    size: u64,
+    level: u8,
+) -> Result<(Trail, Tally), Refusal>
+    requires well_formed { IsWellFormed queue.old }
+    requires stores { policy ≢ Policy.Off }
+    requires new { row_at queue.old object ≡ None }
+    requires some { 1 ≤ size }
+    requires small { size ≤ queue.old.shape.block }
+    requires from_one { 1 ≤ level }
+    requires to_three { level ≤ 3 }
+    ensures exhausted { (result ≡ Err Refusal.Exhausted) ↔ (2 ^ 62 ≤ queue.old.next) }
+    ensures effect { OnOk result (queue.new ≡ (insert policy queue.old object size level).queue) }
+    ensures tally { IfOk result (λ done. done.1 ≡ (insert policy queue.old object size level).tally) }
+    ensures leads { IfOk result (λ done. Leads done.0 queue.old queue.new) }
+    ensures short { IfOk result (λ done. IsShort done.0 queue.old queue.new) }
+    ensures kept { OnOk result (IsWellFormed queue.new) }
+    ensures sizes { OnOk result (KeepsSizes queue.old queue.new) }
+    ensures adds { OnOk result (AddsOnly queue.old object size queue.new) }
+    ensures rows { IfOk result (λ done. length queue.new.rows + done.1.evicted ≡ length queue.old.rows + 1) }
+    ensures order { OnOk result (KeepsOrder queue.old queue.new) }
+    ensures leaves { OnOk result (LeavesWithBlock queue.old queue.new) }
+    ensures tail { OnOk result (LeavesFromTail queue.old queue.new) }
+{
+    if queue.next_serial() >= 1 << 62 {
+        return Err(Refusal::Exhausted);
+    }
+    let section = target(queue, policy, level) as usize;
+    let mut log = Log::new(alloc);
+    insert_at(queue, &mut log, object, size, section)?;
+    Ok((log.trail, log.tally))
+}
+
+/// Puts a new object into the section, and adjusts where that sealed a device block.
+fn insert_at(
+    queue: &mut Queue,
+    log: &mut Log,
+    object: u64,
+    size: u64,
+    section: usize,
+) -> Result<(), NoMemory>
+    requires insertable { IsInsertable queue.old object size }
+    requires there { section < length queue.old.sections }
+    requires fresh { queue.old.next < 2 ^ 62 }
+    requires none { log.old.tally ≡ no_tally }
+    ensures effect { OnOk result (work_of queue.new log.new.tally ≡ insert_at queue.old object size section) }
+    ensures leads { OnOk result ((start : QueueState) → Leads log.old.trail start queue.old → Leads log.new.trail start queue.new) }
+    ensures spends { OnOk result (Spends (length log.old.trail + 1) (untouched queue.old) (length log.new.trail) (work_of queue.new log.new.tally)) }
+{
+    let full = make_room(queue, &mut log.trail, section, Kind::Device, size)?;
+    let mark = queue.add(object, size, section)?;
+    log.trail.push(mark)?;
+    if full {
+        log.tally.writes += 1;
+        adjust(queue, log)?;
+    }
+    Ok(())
+}

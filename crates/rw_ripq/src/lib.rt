@@ -1,0 +1,52 @@
+#![tactic(auto)]
+//! The operations of RIPQ (Tang, Huang, Lloyd, Kumar and Li, FAST 2015) over the queue of blocks: an insertion, which
+//! may evict, merge and split, and the promotion of a hit. Each hands back a [`Trail`], by which [`rewind`] takes the
+//! whole of it back (reverse computation: Carothers, Perumalla and Fujimoto, 1999).
+//!
+//! Each sum of bytes, and each search for the objects of a block, is a walk over the rows, as the questions of
+//! [`Queue`] say. So an operation takes time in the number of rows for each section that it weighs, and for each object
+//! that leaves or is written again.
+
+mod adjusting;
+mod eviction;
+mod insertion;
+mod levels;
+mod promotion;
+mod putting;
+mod sealed;
+#[cfg(test)]
+mod tests;
+mod trail;
+
+pub use insertion::insert;
+pub use levels::{level_of, resident, target};
+pub use promotion::promote;
+pub use rw_blocks::{Kind, Mark, Place, Queue, Shape};
+pub use rw_vt::{NoMemory, Refusal};
+pub use trail::{Trail, rewind};
+
+/// Which section a miss and a hit go to.
+#[derive(Clone, Copy, Debug, PartialEq, Eq)]
+pub enum Policy {
+    /// Nothing is stored.
+    Off,
+    /// Least recently used: always the head section.
+    Lru,
+    /// Segmented LRU with three segments: a miss goes to the lowest, a hit one up.
+    Slru3,
+}
+
+/// What an insertion did, in counts.
+#[derive(Clone, Copy, Debug, PartialEq, Eq)]
+pub struct Tally {
+    /// Rows that left.
+    pub evicted: u64,
+    /// Rows that the eviction wrote again, since their place was elsewhere.
+    pub reinserted: u64,
+    /// Device blocks that a put or a merge sealed: block writes.
+    pub writes: u64,
+    /// Sections that were split: 0 or 1.
+    pub splits: u64,
+    /// Pairs of sections that were merged: 0 or 1.
+    pub merges: u64,
+}

@@ -1,0 +1,89 @@
+// Sealed blocks that leave their lists.
+ghost use Rattle.std.specs.Prelude.{◌≡◌, ◌<◌, ◌≤◌, ◌+◌, length, position, true, false, OnOk, IfSome, IsNone};
+ghost use Rattle.rw_blocks.specs.State.{section_at};
+ghost use Rattle.rw_blocks.specs.Sums.{has_serial, is_virtual};
+ghost use Rattle.rw_blocks.specs.Loose.{IsLoose, IsFree};
+ghost use Rattle.rw_ripq.specs.Work.{untouched};
+ghost use Rattle.rw_ripq.specs.Sealed.{is_sealed, sealed_section, sealed_position, without_block, is_emptied, cleared};
+ghost use Rattle.rw_ripq.specs.Record.{Recorded};
+
+use crate::Trail;
+use rw_blocks::{Kind, Queue};
+use rw_vt::NoMemory;
+
+/// Where the block stands in the section's sealed list.
+fn position_in(queue: &Queue, section: usize, block: u64) -> Option<usize>
+    requires { section < length queue.now.sections }
+    ensures { result ≡ position (has_serial block) (section_at queue.now section).sealed }
+{
+    for position in 0..queue.sealed(section) {
+        let (serial, _) = queue.sealed_at(section, position);
+        if serial == block {
+            return Some(position);
+        }
+    }
+    None
+}
+
+/// Where a sealed block stands, as section and position; `None` exactly where no sealed block has the serial.
+fn find_sealed(queue: &Queue, block: u64) -> Option<(usize, usize)>
+    ensures sealed { IfSome result (λ at. is_sealed queue.now block ≡ true) }
+    ensures section { IfSome result (λ at. at.0 ≡ sealed_section queue.now block) }
+    ensures position { IfSome result (λ at. at.1 ≡ sealed_position queue.now block) }
+    ensures none { IsNone result → is_sealed queue.now block ≡ false }
+{
+    for section in 0..queue.sections() {
+        if let Some(position) = position_in(queue, section, block) {
+            return Some((section, position));
+        }
+    }
+    None
+}
+
+/// Takes a sealed block out of its list.
+pub fn take_out(queue: &mut Queue, trail: &mut Trail, block: u64) -> Result<(), NoMemory>
+    requires loose { IsLoose queue.old }
+    requires sealed { is_sealed queue.old block ≡ true }
+    requires free { IsFree queue.old block }
+    ensures effect { OnOk result (queue.new ≡ without_block queue.old block) }
+    ensures trail { OnOk result (Recorded trail.old (untouched queue.old) trail.new (untouched queue.new)) }
+    ensures marks { OnOk result (length trail.new ≤ length trail.old + 1) }
+    ensures kept { OnOk result (IsLoose queue.new) }
+{
+    let (section, position) = find_sealed(queue, block).unwrap();
+    let mark = queue.take_out(section, position)?;
+    trail.push(mark)?;
+    Ok(())
+}
+
+fn is_virtual(kind: Kind) -> bool
+    ensures { result ≡ is_virtual kind }
+{
+    kind == Kind::Virtual
+}
+
+/// Whether the block is a sealed virtual one that no row has as its place.
+fn is_emptied(queue: &Queue, block: u64) -> bool
+    requires { IsLoose queue.now }
+    ensures { result ≡ is_emptied queue.now block }
+{
+    let Some((section, position)) = find_sealed(queue, block) else {
+        return false;
+    };
+    let (_, kind) = queue.sealed_at(section, position);
+    is_virtual(kind) && queue.first_place(block).is_none()
+}
+
+/// Takes the block out where it is a sealed virtual one that no row has as its place.
+pub fn clear(queue: &mut Queue, trail: &mut Trail, block: u64) -> Result<(), NoMemory>
+    requires { IsLoose queue.old }
+    ensures effect { OnOk result (queue.new ≡ cleared queue.old block) }
+    ensures trail { OnOk result (Recorded trail.old (untouched queue.old) trail.new (untouched queue.new)) }
+    ensures marks { OnOk result (length trail.new ≤ length trail.old + 1) }
+    ensures kept { OnOk result (IsLoose queue.new) }
+{
+    if is_emptied(queue, block) {
+        take_out(queue, trail, block)?;
+    }
+    Ok(())
+}

@@ -1,0 +1,76 @@
+// The undo record of an operation: the marks of its primitives.
+ghost use Rattle.std.specs.Prelude.{◌≡◌, [], ◌∷◌, ◌++◌, OnOk, IfSome, IsNone};
+ghost use Rattle.rw_blocks.specs.State.{QueueState};
+ghost use Rattle.rw_ripq.specs.Trail.{rewind_of, IsRewindable, Leads};
+
+use rw_blocks::{Mark, Queue};
+use rw_vt::NoMemory;
+use std::alloc::Global;
+use std::marker::Model;
+
+/// The marks of an operation's primitives, the first one first. Contracts see it as that list.
+///
+/// It holds one mark of fixed size for each primitive, and no part of the queue: its length is bounded by what the
+/// operation changed.
+#[derive(Drop)]
+pub struct Trail {
+    marks: Vec<Mark>,
+}
+
+impl Model for Trail {
+    ghost use Rattle.std.specs.Prelude.{List};
+    ghost use Rattle.rw_blocks.specs.declared.Mark.{Mark};
+
+    ghost Value = { List Mark };
+
+    ghost view = { λ t. t.marks.items };
+}
+
+impl Trail {
+    /// A trail without marks, of an operation that did nothing. Takes no memory.
+    pub fn new(alloc: Global) -> Trail
+        ensures { result ≡ [] }
+    {
+        Trail {
+            marks: Vec::new(alloc),
+        }
+    }
+
+    /// Adds the mark of the last primitive.
+    pub(crate) fn push(&mut self, mark: Mark) -> Result<(), NoMemory>
+        ensures { OnOk result (self.new ≡ self.old ++ mark ∷ []) }
+    {
+        self.marks.push(mark)?;
+        Ok(())
+    }
+
+    /// Takes the last mark.
+    fn pop(&mut self) -> Option<Mark>
+        ensures some { IfSome result (λ mark. self.old ≡ self.new ++ mark ∷ []) }
+        ensures none { IsNone result → self.old ≡ [] }
+    {
+        self.marks.pop()
+    }
+
+    /// The marks, the first one first.
+    pub fn marks(&self) -> &[Mark]
+        ensures { result.now ≡ self.now }
+    {
+        self.marks.as_slice()
+    }
+}
+
+/// Takes an operation back: on the queue right after it, the queue is again the whole of what it was before, every
+/// serial and the next serial included. After `NoMemory` nothing is said of the queue: it is only dropped.
+#[tactic(auto, using(crate::proofs::Trails::trail_laws))]
+pub fn rewind(queue: &mut Queue, trail: Trail) -> Result<(), NoMemory>
+    requires { IsRewindable trail queue.old }
+    ensures effect { OnOk result (queue.new ≡ rewind_of trail queue.old) }
+    ensures restores { OnOk result ((before : QueueState) → Leads trail before queue.old → queue.new ≡ before) }
+{
+    let mut trail = trail;
+    while let Some(mark) = trail.pop() {
+        queue.undo(mark)?;
+    }
+    Ok(())
+}
