@@ -1,17 +1,16 @@
--- What the one-thread run asks and gives, at the caches of a configuration.
+-- What a run asks and gives, at the caches of a configuration.
 use Rattle.std.proofs.Common.{◌≡◌, ℕ, zero, suc, ◌+◌, List, [], ◌∷◌, ◌++◌, Some, Result, Ok, Err, true, refl, sym, ◌∙◌, ap, subst, length}
 use Rattle.std.proofs.lemmas.List.FromFn.{length-map-range_with_len}
 use Rattle.std.specs.Prelude.{All, slice_get}
 use Rattle.rw_vt.specs.declared.event.Event.{Event}
 use Rattle.rw_vt.specs.System.{System, IsOutcome, IsReady, after, below, map_from, system}
-use Rattle.rw_trace.specs.declared.Row.{Row}
 use Rattle.rw_photo.specs.declared.body.Body.{Body}
 use Rattle.rw_photo.specs.declared.config.Config.{Config}
 use Rattle.rw_photo.specs.declared.photo.Photo.{Photo}
 use Rattle.rw_photo.specs.contracts.photo.PhotoVtModel.TheImpl as model
 use Rattle.rw_photo.specs.contracts.body.BodyOrd.TheImpl as order
 use Rattle.rw_photo.specs.Cache.{Cache, IsWellFormed, start}
-use Rattle.rw_photo.specs.Events.{is_valid, request_of}
+use Rattle.rw_photo.specs.Events.{is_valid}
 use Rattle.rw_photo.specs.Simulation.{simulation, starts_of}
 use Rattle.rw_vt.specs.declared.refusal.Refusal.{Refusal}
 use Rattle.rw_vt.specs.declared.refusal.Refusal.TheVariants.{Memory, Exhausted}
@@ -19,6 +18,7 @@ use Rattle.std.specs.Result.{IfErr, IsErrAnd}
 use Rattle.rw_ripqwarp.specs.declared.simulation.SimFault.{SimFault}
 use Rattle.rw_ripqwarp.specs.declared.simulation.SimFault.TheVariants as told
 use Rattle.rw_ripqwarp.specs.Faults.{sim_refusal_of}
+use Rattle.rw_ripqwarp.specs.Simulate.{IsBeginningOf}
 
 -- what is said of each place, with one more
 pub pushed : {X : Type 0} (P : ℕ → X → Type 0) (xs : List X) (x : X) → ((p : ℕ) (s : X) → slice_get xs p ≡ Some s → P p s) → P (length xs) x
@@ -33,21 +33,26 @@ length-map_from k f [] = refl
 length-map_from k f (x ∷ xs) = ap suc (length-map_from (k + 1) f xs)
 
 -- the caches are ready for a run
-pub ready : (m : Photo) (starts : List Cache) (initial : List (Event Body)) → starts ≡ starts_of m.config
-    → ((p : ℕ) (s : Cache) → slice_get starts p ≡ Some s → IsWellFormed m.config p s) → All (λ e. is_valid m.config e ≡ true) initial → IsReady model.ghosts m starts initial
-ready m starts initial is well valid =
-    record { enough = ap length is ∙ length-map-range_with_len (start m.config) 0 (m.config.edges + m.config.origins); well_formed = well; valid = valid }
+pub ready : (c : Config) (starts : List Cache) (initial : List (Event Body)) → starts ≡ starts_of c
+    → ((p : ℕ) (s : Cache) → slice_get starts p ≡ Some s → IsWellFormed c p s) → All (λ e. is_valid c e ≡ true) initial → IsReady model.ghosts (record { config = c }) starts initial
+ready c starts initial is well valid =
+    record { enough = ap length is ∙ length-map-range_with_len (start c) 0 (c.edges + c.origins); well_formed = well; valid = valid }
+
+-- any model of the configuration may run them
+pub ready-at : (c : Config) (m : Photo) (starts : List Cache) (initial : List (Event Body)) → m.config ≡ c → IsReady model.ghosts (record { config = c }) starts initial
+    → IsReady model.ghosts m starts initial
+ready-at c m starts initial is r = subst (λ (k : Config). IsReady model.ghosts (record { config = k }) starts initial) (sym is) r
 
 -- the run is the simulation of the configuration
-pub simulates : (c : Config) (m : Photo) (rows : List Row) (starts : List Cache) (initial : List (Event Body)) → m.config ≡ c → starts ≡ starts_of m.config → initial ≡ map_from 0 request_of rows
-    → system model.ghosts order.ghosts.cmp m starts initial ≡ simulation c rows
-simulates c m rows starts initial config is given i =
+pub simulates : (c : Config) (m : Photo) (bytes : List ℕ) (starts : List Cache) (initial : List (Event Body)) → m.config ≡ c → (b : IsBeginningOf c bytes starts initial)
+    → system model.ghosts order.ghosts.cmp m starts initial ≡ simulation c b.rows
+simulates c m bytes starts initial config b i =
     record {
-      order = (simulation c rows).order;
-      step = (simulation (config i) rows).step;
-      valid = (simulation (config i) rows).valid;
-      starts = (is ∙ ap starts_of config) i;
-      initial = given i;
+      order = (simulation c b.rows).order;
+      step = (simulation (config i) b.rows).step;
+      valid = (simulation (config i) b.rows).valid;
+      starts = b.starts_are i;
+      initial = b.initial_are i;
     }
 
 -- a state for each process

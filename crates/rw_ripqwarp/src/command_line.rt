@@ -1,7 +1,9 @@
 use crate::options::{config, program};
 use crate::output::Out;
+use crate::schedule_text::{ScheduleFault, schedule};
 use crate::simulation::{Mode, SimFault, simulate};
 use crate::source::{Source, SourceFault};
+use clap::ArgMatches;
 use clap::error::ErrorKind;
 use std::alloc::{AllocError, Global};
 use std::io::Write;
@@ -15,6 +17,9 @@ pub(crate) enum Fault {
     /// The options are out of their ranges.
     #[error("plan")]
     Plan,
+    /// The schedule has a word that says no step.
+    #[error("{0}")]
+    Schedule(ScheduleFault),
     /// A request for memory was refused.
     #[error("memory")]
     Memory,
@@ -30,10 +35,13 @@ impl Fault {
     /// The exit status that tells it.
     pub(crate) fn status(&self) -> u8 {
         match self {
-            Fault::CommandLine(_) | Fault::Plan => 2,
+            Fault::CommandLine(_) | Fault::Plan | Fault::Schedule(ScheduleFault::Word(_)) => 2,
             Fault::Run(SimFault::Trace(_)) => 3,
             Fault::Source(SourceFault::Read) => 4,
-            Fault::Memory | Fault::Source(SourceFault::Memory) | Fault::Run(SimFault::Memory) => 5,
+            Fault::Memory
+            | Fault::Schedule(ScheduleFault::Memory)
+            | Fault::Source(SourceFault::Memory)
+            | Fault::Run(SimFault::Memory) => 5,
             Fault::Run(SimFault::Exhausted) => 7,
             Fault::Run(SimFault::Output) => 8,
         }
@@ -42,12 +50,12 @@ impl Fault {
 
 /// Does what the program's words ask, its name first, and answers the exit status.
 ///
-/// The report, or help, goes to `out`. A fault goes to `err` as one line; where that fails it is ignored.
+/// The report, the journal or help goes to `out`. A fault goes to `err` as one line; where that fails it is ignored.
 ///
 /// | Status | Meaning |
 /// |---|---|
 /// | 0 | done, also after help |
-/// | 2 | the command line |
+/// | 2 | the command line, or the schedule |
 /// | 3 | the trace was refused |
 /// | 4 | the trace cannot be read |
 /// | 5 | memory |
@@ -81,9 +89,27 @@ fn attempt<'a, S: Source, W: Write>(
         Ok(matches) => matches,
         Err(error) => return answer(alloc, error, out),
     };
-    let Some(matches) = matches.subcommand_matches("serial") else {
+    if let Some(matches) = matches.subcommand_matches("serial") {
+        return run(alloc, matches, Mode::Serial, source, out);
+    }
+    let Some(matches) = matches.subcommand_matches("journal") else {
         return Err(Fault::Plan);
     };
+    let Some(words) = matches.get_str("schedule") else {
+        return Err(Fault::Plan);
+    };
+    let steps = schedule(alloc, words).map_err(Fault::Schedule)?;
+    run(alloc, matches, Mode::Journal(steps), source, out)
+}
+
+/// Runs the trace that a command names, through the caches that its options say.
+fn run<S: Source, W: Write>(
+    alloc: Global,
+    matches: &ArgMatches<'_>,
+    mode: Mode,
+    source: &mut S,
+    out: &mut Out<W>,
+) -> Result<(), Fault> {
     let Some(config) = config(matches) else {
         return Err(Fault::Plan);
     };
@@ -91,7 +117,7 @@ fn attempt<'a, S: Source, W: Write>(
         return Err(Fault::Plan);
     };
     let bytes = source.bytes(alloc, trace).map_err(Fault::Source)?;
-    simulate(alloc, bytes.as_slice(), &config, Mode::Serial, out).map_err(Fault::Run)
+    simulate(alloc, bytes.as_slice(), &config, mode, out).map_err(Fault::Run)
 }
 
 /// Deals with what `clap` answers in place of a command: help, which is printed, or a fault.

@@ -11,7 +11,8 @@ pub(crate) fn program<'a>(alloc: Global) -> Result<Command<'a>, AllocError> {
             .about("Simulates edge and origin photo caches from a trace")
             .subcommand_required(true)
             .arg_required_else_help(true)
-            .subcommand(serial(alloc)?)?,
+            .subcommand(serial(alloc)?)?
+            .subcommand(journal(alloc)?)?,
     )
 }
 
@@ -19,6 +20,20 @@ pub(crate) fn program<'a>(alloc: Global) -> Result<Command<'a>, AllocError> {
 fn serial<'a>(alloc: Global) -> Result<Command<'a>, AllocError> {
     let command = Command::new(alloc, "serial")
         .about("Runs a trace on one thread and prints the counters of each cache")
+        .arg(trace(alloc))?;
+    caches(alloc, command)
+}
+
+/// The command that runs a trace by a schedule.
+fn journal<'a>(alloc: Global) -> Result<Command<'a>, AllocError> {
+    let schedule = Arg::new(alloc, "schedule")
+        .long("schedule")
+        .value_name("TEXT")
+        .required(true)
+        .help("The steps, one space between: E and U and a process, D and a letter, C and a time");
+    let command = Command::new(alloc, "journal")
+        .about("Runs a trace by a schedule of steps and prints what was refused and what is final")
+        .arg(schedule)?
         .arg(trace(alloc))?;
     caches(alloc, command)
 }

@@ -1,7 +1,8 @@
 use crate::command_line::{Fault, tell};
-use crate::{Mode, Out, SimFault, SourceFault, simulate};
+use crate::{Mode, Out, ScheduleFault, SimFault, SourceFault, schedule, simulate};
 use rw_photo::{Config, Policy, Shape};
 use rw_trace::TraceFault;
+use rw_world::Step;
 use std::alloc::Global;
 use std::io;
 use std::io::{ErrorKind, Write};
@@ -81,6 +82,14 @@ fn each_fault_is_one_line_and_a_status(rt: HostRuntime) {
     let alloc = rt.alloc();
     let many = SimFault::Trace(TraceFault::TooManyRows);
     assert!(rt; is_told(alloc, Fault::Plan, "plan\n", 2));
+    assert!(rt;
+        is_told(
+            alloc,
+            Fault::Schedule(ScheduleFault::Word(1)),
+            "schedule: word 1\n",
+            2
+        )
+    );
     assert!(rt; is_told(alloc, Fault::Run(many), "trace: too many rows\n", 3));
     assert!(rt;
         is_told(
@@ -91,8 +100,26 @@ fn each_fault_is_one_line_and_a_status(rt: HostRuntime) {
         )
     );
     assert!(rt; is_told(alloc, Fault::Memory, "memory\n", 5));
+    assert!(rt; is_told(alloc, Fault::Schedule(ScheduleFault::Memory), "memory\n", 5));
     assert!(rt; is_told(alloc, Fault::Source(SourceFault::Memory), "memory\n", 5));
     assert!(rt; is_told(alloc, Fault::Run(SimFault::Memory), "memory\n", 5));
     assert!(rt; is_told(alloc, Fault::Run(SimFault::Exhausted), "exhausted\n", 7));
     assert!(rt; is_told(alloc, Fault::Run(SimFault::Output), "output\n", 8));
+}
+
+#[test]
+fn a_schedule_is_read_to_its_first_bad_word(rt: HostRuntime) {
+    let alloc = rt.alloc();
+    let steps = [
+        Step::Execute(0),
+        Step::Undo(4294967295),
+        Step::Deliver(18446744073709551615),
+        Step::Collect(7),
+    ];
+    let text = "E0 U4294967295 D18446744073709551615 C00000000000000000007";
+    assert!(rt; schedule(alloc, text).is_ok_and(|read| read.as_slice() == steps.as_slice()));
+    assert!(rt; schedule(alloc, "").is_ok_and(|read| read.is_empty()));
+    assert!(rt; schedule(alloc, "E0  C5").is_err_and(|fault| fault == ScheduleFault::Word(1)));
+    assert!(rt; schedule(alloc, "E4294967296").is_err_and(|fault| fault == ScheduleFault::Word(0)));
+    assert!(rt; schedule(alloc, "E0 U1 ").is_err_and(|fault| fault == ScheduleFault::Word(2)));
 }

@@ -40,7 +40,7 @@ fn write_name(text: &mut Vec<u8>, config: &Config, process: u64) -> Result<(), N
 }
 
 /// The rest of a line: each count behind its word.
-fn write_counters(text: &mut Vec<u8>, counters: &Counters) -> Result<(), NoMemory>
+pub(crate) fn write_counters(text: &mut Vec<u8>, counters: &Counters) -> Result<(), NoMemory>
     ensures { OnOk result (text.new.items ≡ line text.old.items counters.now) }
 {
     write_count(text, b" requests ", counters.requests)?;
@@ -61,7 +61,7 @@ fn write_counters(text: &mut Vec<u8>, counters: &Counters) -> Result<(), NoMemor
 }
 
 /// A word and a number.
-fn write_count(text: &mut Vec<u8>, word: &[u8], count: u64) -> Result<(), NoMemory>
+pub(crate) fn write_count(text: &mut Vec<u8>, word: &[u8], count: u64) -> Result<(), NoMemory>
     ensures { OnOk result (text.new.items ≡ text.old.items ++ word.now ++ decimal count) }
 {
     text.extend_from_slice(word)?;

@@ -71,9 +71,9 @@ const MAX_ROWS: u64 = 1 << 24;
 /// The most digits of a number.
 const MAX_DIGITS: usize = 20;
 
-/// The number that a field writes, if it writes one.
+/// The number that a field writes in 1 to 20 ASCII digits, below 2^64; None where it writes none. Takes no memory.
 #[tactic(auto, using(crate::proofs::Numbers::number_rules), unfolding(crate::specs::Trace::number_of))]
-fn number(field: &[u8]) -> Option<u64>
+pub fn number(field: &[u8]) -> Option<u64>
     ensures value { result ≡ number_of field.now }
     ensures law { IfSome result (λ n. IsNumber field.now n) }
 {

@@ -1,0 +1,15 @@
+pub mod PutBack
+pub mod ByPlace
+pub mod Sums
+pub mod Governing
+pub mod Keeping
+pub mod Falling
+pub mod Going
+pub mod Adding
+pub mod Fits
+pub mod Stepping
+pub mod Moving
+pub mod Looking
+pub mod Passing
+pub mod Taking
+pub mod Starting

@@ -1,0 +1,24 @@
+#![tactic(auto)]
+//! Rounds of workers, each with its own processes of a world of Time Warp (Jefferson 1985).
+//!
+//! A [`Worker`] owns every process whose number is its own modulo the number of workers. In each turn it takes up what the
+//! others sent, executes ahead of them as far as the window lets it, and sends what its processes give out through rings;
+//! on the board it notes the time of each letter that it sends. It takes no lock and never waits.
+
+mod dealing;
+mod desk;
+mod executing;
+mod gate;
+mod places;
+mod plan;
+mod posting;
+mod receiving;
+#[cfg(test)]
+mod tests;
+mod traffic;
+mod worker;
+
+pub use gate::{Gate, Open};
+pub use plan::Plan;
+pub use traffic::Traffic;
+pub use worker::Worker;
