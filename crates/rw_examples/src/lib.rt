@@ -8,4 +8,8 @@ mod edge_process;
 #[cfg(test)]
 mod fill_at_start;
 #[cfg(test)]
+mod parcels;
+#[cfg(test)]
+mod relay_world;
+#[cfg(test)]
 mod station_process;

@@ -1,21 +1,11 @@
 // A station of the relay, through every call of a logical process.
 use crate::desk::{Call, Desk};
+use crate::parcels::{parcel, station};
 use rw_lp::StepFault;
 use rw_relay::{Parcel, Relay, Station};
 use rw_vt::{END, Event, Letter};
 use std::alloc::Global;
 use std::test::Fail;
-
-/// A parcel on its way to a station: from outside (source 0), from station 0 (source 1) or from station 1 (source 2).
-fn parcel(time: u64, source: u32, number: u64, to: u32, amount: u32) -> Event<Parcel> {
-    Event {
-        time,
-        source,
-        number,
-        to,
-        body: Parcel { amount },
-    }
-}
 
 fn message(event: Event<Parcel>) -> Letter<Parcel> {
     Letter { event, anti: false }
@@ -32,12 +22,12 @@ fn coming() -> (Event<Parcel>, Event<Parcel>) {
 
 /// What station 0 passes on 10 ticks later.
 fn passed_on() -> (Event<Parcel>, Event<Parcel>) {
-    (parcel(15, 1, 0, 1, 3), parcel(18, 1, 1, 1, 4))
+    (parcel(15, 1, 0, 1, 2), parcel(18, 1, 1, 1, 3))
 }
 
 /// Station 0, to which they are to come.
 fn opened(alloc: Global) -> Result<Desk<Relay>, Fail> {
-    let relay = Relay::new(10).ok_or("relay")?;
+    let relay = Relay::new(10, u64::MAX).ok_or("relay")?;
     let (first, second) = coming();
     let mut initial = Vec::new(alloc);
     initial.push(second)?;
@@ -72,10 +62,6 @@ fn executes_and_undoes(rt: HostRuntime) -> Result<(), Fail> {
     Ok(())
 }
 
-fn station(sum: u64, last: u32, sends: u64) -> Station {
-    Station { sum, last, sends }
-}
-
 #[test]
 fn a_late_parcel_is_executed_in_its_place(rt: HostRuntime) -> Result<(), Fail> {
     let alloc = rt.alloc();
@@ -88,7 +74,7 @@ fn a_late_parcel_is_executed_in_its_place(rt: HostRuntime) -> Result<(), Fail> {
     let desk = desk.does(alloc, Call::Deliver(anti(late)), &[])?;
     let desk = desk.does(alloc, Call::Arrive(message(late)), &[anti(second_on)])?;
     assert!(rt; desk.shows(&[], &[first], Some(late), 6));
-    let (late_on, then_on) = (parcel(16, 1, 1, 1, 2), parcel(18, 1, 2, 1, 4));
+    let (late_on, then_on) = (parcel(16, 1, 1, 1, 1), parcel(18, 1, 2, 1, 3));
     let desk = desk.does(alloc, Call::ExecuteNext, &[message(late_on)])?;
     let desk = desk.does(alloc, Call::ExecuteNext, &[message(then_on)])?;
     assert_eq!(rt; *desk.state(), station(9, 4, 3));

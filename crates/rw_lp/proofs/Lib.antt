@@ -5,6 +5,7 @@ pub mod Turns
 pub mod Committing
 pub mod Plain
 mod Edits
+mod Descending
 pub mod Bridges
 mod Chains
 mod Orders

@@ -1,6 +1,6 @@
 -- Sorted lists of events: what a sort leaves, where a time cuts them, and their least.
 use Rattle.std.proofs.Common.{◌≡◌, ℕ, zero, suc, ◌+◌, ◌≤◌, min, Bool, true, false, cond, List, [], ◌∷◌, ◌++◌, get_or, refl, sym, ◌∙◌, ap, subst, take, drop, arith, true≢false, IsPermutation, Option, Some, None}
-use Rattle.std.specs.Prelude.{not, nat_lt, nat_le, filter, slice_get}
+use Rattle.std.specs.Prelude.{not, nat_lt, nat_le, filter}
 use Rattle.std.specs.declared.cmp.Ordering.{Ordering}
 use Rattle.std.specs.declared.cmp.Ordering.TheVariants.{Less, Equal, Greater}
 use Rattle.std.specs.Ordering.{is_gt, is_lt, is_eq, ordering_reverse}
@@ -129,16 +129,6 @@ module _ {B : Type 0} {cmp : Event B → Event B → Ordering} (o : IsExactOrder
       let above = least_above (least m xs) (min x.time m) [] in
       let h = least_above m (min x.time m) xs (omega arith) (λ e k. let late = by_time x e (up.0 e k) in omega arith) in
       omega arith
-
-  -- the same, where the first was read
-  pub least_at_first : (m : ℕ) (x : Event B) (xs : List (Event B)) → Some x ≡ slice_get xs 0 → IsAscending cmp xs → least m xs ≡ min x.time m
-  least_at_first m x [] is up = absurd (no_first x is)
-    where
-      no_first : (x : Event B) → Some x ≡ None → ⊥
-      no_first x is = cc
-  least_at_first m x (y ∷ ys) is up =
-      let same : x ≡ y = cc in
-      least_first m y ys up ∙ ap (λ (e : Event B). min e.time m) (sym same)
 
 -- no event is earlier than the least
 pub least_each : {B : Type 0} {cmp : Event B → Event B → Ordering} → IsExactOrder cmp → (m : ℕ) (xs : List (Event B)) → Each cmp (λ e. least m xs ≤ e.time) xs

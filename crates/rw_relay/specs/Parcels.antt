@@ -15,7 +15,7 @@ use Rattle.rw_relay.specs.declared.Track.{Track}
 
 -- an event that may be handed to its process
 abbrev pub is_sound_event : Event Parcel → Bool
-is_sound_event e = nat_lt e.time (2 ^ 40) && nat_le e.source 2 && nat_lt e.number (2 ^ 64) && nat_lt e.to 2 && nat_lt e.body.amount (2 ^ 32)
+is_sound_event e = nat_lt e.time (2 ^ 40) && nat_le e.source 2 && nat_lt e.number (2 ^ 64) && nat_lt e.to 2 && nat_lt e.body.hops (2 ^ 32)
 
 -- a station's numbers are in the ranges of their types
 pub record IsStation (s : Station) : Type 0 where
@@ -23,19 +23,19 @@ pub record IsStation (s : Station) : Type 0 where
   pub last : s.last < 2 ^ 32
   pub sends : s.sends < 2 ^ 64
 
--- whether a parcel goes on before the end
+-- whether a parcel goes on, before the end
 abbrev pub goes_on : Relay → Event Parcel → Bool
-goes_on m e = nat_lt (e.time + m.delay) (2 ^ 40)
+goes_on m e = nat_lt 0 e.body.hops && nat_lt (e.time + m.delay) (2 ^ 40)
 
--- the parcel that goes on
+-- the parcel that goes on, with a hop less
 abbrev pub passed_on : Relay → ℕ → Station → Event Parcel → Event Parcel
-passed_on m p s e = record { time = e.time + m.delay; source = p + 1; number = s.sends; to = 1 - p; body = e.body }
+passed_on m p s e = record { time = e.time + m.delay; source = p + 1; number = s.sends; to = 1 - p; body = record { hops = e.body.hops - 1 } }
 
 abbrev pub station_after : Relay → Station → Event Parcel → Station
 station_after m s e =
     record {
-      sum = (s.sum + e.body.amount) % 2 ^ 64;
-      last = e.body.amount;
+      sum = (s.sum + e.body.hops) % 2 ^ 64;
+      last = e.body.hops;
       sends = cond (goes_on m e) ((s.sends + 1) % 2 ^ 64) s.sends;
     }
 
@@ -73,7 +73,7 @@ relay_future m p s e w h t = by_case (goes_on m e) refl
 nat_cmp_same : (m n : ℕ) → nat_cmp m n ≡ Equal → m ≡ n
 nat_cmp_same m n h = by_ranked (m < n) (m ≡ n) (n < m) (nat_cmp m n) (ranked m n (nat_cmp m n) refl) (λ e _. cc) (λ _ same. same) (λ e _. cc)
 
-pub parcel_same : (a b : Parcel) → nat_cmp a.amount b.amount ≡ Equal → a ≡ b
+pub parcel_same : (a b : Parcel) → nat_cmp a.hops b.hops ≡ Equal → a ≡ b
 parcel_same a b h =
-    let same : a.amount ≡ b.amount = nat_cmp_same a.amount b.amount h in
-    ap (λ n. let r : Parcel = record { amount = n } in r) same
+    let same : a.hops ≡ b.hops = nat_cmp_same a.hops b.hops h in
+    ap (λ n. let r : Parcel = record { hops = n } in r) same

@@ -4,21 +4,23 @@
 use rw_vt::{END, Event, Model as VtModel, NoMemory, Refusal};
 use std::alloc::Global;
 
-/// Two stations, processes 0 and 1. Each parcel is passed on to the other one, `delay` ticks later, as long as that is before
-/// the end of time.
+/// Two stations, processes 0 and 1. A parcel that has hops left is passed on to the other one with a hop less, `delay` ticks
+/// later, as long as that is before the end of time.
 #[derive(Clone, Copy, Debug)]
 pub struct Relay {
     /// How long a parcel is on its way, in ticks, at least 1.
     pub delay: u64,
+    /// A station that has passed on this many parcels takes no more.
+    pub most: u64,
     ghost positive: { 0 < delay },
 }
 
 /// What a station keeps.
 #[derive(Clone, Copy, Debug, Default, PartialEq, Eq)]
 pub struct Station {
-    /// The amounts of all parcels that came, added modulo 2^64.
+    /// The hops that all parcels had left when they came, added modulo 2^64.
     pub sum: u64,
-    /// The amount of the one that came last.
+    /// The hops of the one that came last.
     pub last: u32,
     /// How many parcels it passed on, modulo 2^64.
     pub sends: u64,
@@ -27,14 +29,14 @@ pub struct Station {
 /// What comes to a station.
 #[derive(Clone, Copy, Debug, PartialEq, Eq, PartialOrd, Ord)]
 pub struct Parcel {
-    /// How much there is of it.
-    pub amount: u32,
+    /// How often it is still to be passed on.
+    pub hops: u32,
 }
 
 /// What a parcel's coming destroyed, and which way it went.
 #[derive(Clone, Copy, Debug)]
 pub struct Track {
-    /// The amount that had come last before.
+    /// The hops of the one that had come last before.
     pub last: u32,
     /// Whether the parcel was passed on.
     pub sent: bool,
@@ -44,14 +46,14 @@ ghost use Rattle.std.specs.Prelude.{◌≡◌, ◌≤◌, ◌<◌, IsSome, IfSom
 
 impl Relay {
     /// A relay; None exactly where the delay is 0. Takes no memory.
-    pub fn new(delay: u64) -> Option<Relay>
+    pub fn new(delay: u64, most: u64) -> Option<Relay>
         ensures found { IsSome result ↔ 1 ≤ delay }
-        ensures delay { IfSome result (λ relay. relay.delay ≡ delay) }
+        ensures relay { IfSome result (λ relay. (relay.delay ≡ delay) × (relay.most ≡ most)) }
     {
         if delay == 0 {
             return None;
         }
-        Some(Relay { delay })
+        Some(Relay { delay, most })
     }
 }
 
@@ -62,7 +64,7 @@ impl VtModel for Relay {
 
     type Undo = Track;
 
-    ghost use Rattle.std.specs.Prelude.{ℕ, nat_le, Bool, ◌^◌};
+    ghost use Rattle.std.specs.Prelude.{ℕ, nat_le, Bool};
     ghost use Rattle.std.proofs.Common.{arith};
     ghost use Rattle.rw_relay.specs.Parcels.{is_sound_event, IsStation, relay_step, IsTrackOf, relay_keeps, relay_future, relay_ranges, parcel_same};
 
@@ -72,7 +74,7 @@ impl VtModel for Relay {
 
     ghost IsWellFormed = { λ _ _ s. IsStation s };
 
-    ghost is_exhausted = { λ _ s. nat_le (2 ^ 62) s.sends };
+    ghost is_exhausted = { λ m s. nat_le m.most s.sends };
 
     ghost step = { relay_step };
 
@@ -88,12 +90,12 @@ impl VtModel for Relay {
 
     fn valid(&self, event: &Event<Parcel>) -> bool {
         let _number = event.number;
-        let _amount = event.body.amount;
+        let _hops = event.body.hops;
         event.time < END && event.source <= 2 && event.to < 2
     }
 
     fn exhausted(&self, state: &Station) -> bool {
-        state.sends >= 1 << 62
+        self.most <= state.sends
     }
 
     fn execute(
@@ -108,19 +110,21 @@ impl VtModel for Relay {
             return Err(Refusal::Exhausted);
         }
         let last = state.last;
-        let sent = self.delay < END - event.time;
+        let sent = event.body.hops > 0 && self.delay < END - event.time;
         if sent {
             out.push(Event {
                 time: event.time + self.delay,
                 source: process + 1,
                 number: state.sends,
                 to: 1 - process,
-                body: event.body,
+                body: Parcel {
+                    hops: event.body.hops - 1,
+                },
             })?;
             state.sends = state.sends.wrapping_add(1);
         }
-        state.sum = state.sum.wrapping_add(event.body.amount as u64);
-        state.last = event.body.amount;
+        state.sum = state.sum.wrapping_add(event.body.hops as u64);
+        state.last = event.body.hops;
         Ok(Track { last, sent })
     }
 
@@ -132,7 +136,7 @@ impl VtModel for Relay {
         event: &Event<Parcel>,
         undo: Track,
     ) -> Result<(), NoMemory> {
-        state.sum = state.sum.wrapping_sub(event.body.amount as u64);
+        state.sum = state.sum.wrapping_sub(event.body.hops as u64);
         state.last = undo.last;
         if undo.sent {
             state.sends = state.sends.wrapping_sub(1);

@@ -5,4 +5,3 @@ pub mod Sound
 pub mod Rounds
 pub mod Calls
 pub mod Drawn
-pub mod Relay

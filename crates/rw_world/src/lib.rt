@@ -23,8 +23,6 @@ mod opening;
 mod parts;
 mod places;
 mod step;
-#[cfg(test)]
-mod tests;
 mod turns;
 mod world;
 
