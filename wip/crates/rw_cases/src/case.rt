@@ -1,0 +1,68 @@
+use anyhow::Result;
+use crate::given::Given;
+use rw_ripqwarp::{Out, command};
+use serde_json::Value;
+use std::alloc::{AllocError, Global};
+use std::sync::Wait;
+use std::thread::Threads;
+
+/// One run of the program and what is expected of it.
+#[derive(Drop)]
+pub struct Case {
+    value: Value,
+}
+
+impl Case {
+    /// Reads a case.
+    pub fn parse(alloc: Global, line: &str) -> Result<Case> {
+        Ok(Case {
+            value: Value::from_str(alloc, line)?,
+        })
+    }
+
+    /// What the case shows.
+    pub fn name(&self) -> &str {
+        self.text("name")
+    }
+
+    /// Runs the case, and tells whether the program does what it says. Where the case says nothing of standard error,
+    /// as of the line that tells what rounds did, any will do.
+    pub fn agrees<R: Threads + Wait + Sync>(
+        &self,
+        rt: &R,
+        alloc: Global,
+    ) -> Result<bool, AllocError> {
+        let words = self.words(alloc)?;
+        let mut given = Given {
+            bytes: self.text("stdin").as_bytes(),
+        };
+        let mut out = Out::new(Vec::new(alloc));
+        let mut err = Vec::new(alloc);
+        let status = command(rt, alloc, words, &mut given, &mut out, &mut err);
+        let same_status = self.value.get("status").and_then(Value::as_u64)
+            == Some(u64::from(status));
+        let same_out = out.into_inner().as_slice() == self.text("stdout").as_bytes();
+        let same_err = match self.value.get("stderr").and_then(Value::as_str) {
+            Some(text) => err.as_slice() == text.as_bytes(),
+            None => true,
+        };
+        Ok(same_status && same_out && same_err)
+    }
+
+    /// The program's words, its name first.
+    fn words(&self, alloc: Global) -> Result<Vec<String>, AllocError> {
+        let mut words = Vec::new(alloc);
+        words.push(String::from_str(alloc, "ripqwarp")?)?;
+        if let Some(args) = self.value.get("args").and_then(Value::as_array) {
+            for arg in args {
+                words.push(String::from_str(alloc, arg.as_str().unwrap_or(""))?)?;
+            }
+        }
+        Ok(words)
+    }
+
+    /// The text of a member, empty where it is missing.
+    fn text(&self, member: &str) -> &str {
+        self.value.get(member).and_then(Value::as_str).unwrap_or("")
+    }
+}

@@ -1,0 +1,86 @@
+-- What a run asks and gives, at the caches of a configuration.
+use Rattle.std.proofs.Common.{◌≡◌, ℕ, zero, suc, ◌+◌, List, [], ◌∷◌, ◌++◌, Some, Result, Ok, Err, true, refl, sym, ◌∙◌, ap, subst, length}
+use Rattle.std.proofs.lemmas.List.FromFn.{length-map-range_with_len}
+use Rattle.std.specs.Prelude.{All, slice_get}
+use Rattle.rw_vt.specs.declared.event.Event.{Event}
+use Rattle.rw_vt.specs.System.{System, IsOutcome, IsReady, after, below, map_from, system}
+use Rattle.rw_photo.specs.declared.body.Body.{Body}
+use Rattle.rw_photo.specs.declared.config.Config.{Config}
+use Rattle.rw_photo.specs.declared.photo.Photo.{Photo}
+use Rattle.rw_photo.specs.contracts.photo.PhotoVtModel.TheImpl as model
+use Rattle.rw_photo.specs.contracts.body.BodyOrd.TheImpl as order
+use Rattle.rw_photo.specs.Cache.{Cache, IsWellFormed, start}
+use Rattle.rw_photo.specs.Events.{is_valid}
+use Rattle.rw_photo.specs.Simulation.{simulation, starts_of}
+use Rattle.rw_vt.specs.declared.refusal.Refusal.{Refusal}
+use Rattle.rw_vt.specs.declared.refusal.Refusal.TheVariants.{Memory, Exhausted}
+use Rattle.rw_rounds.specs.declared.stop.Stop.{Stop}
+use Rattle.rw_rounds.specs.declared.stop.Stop.TheVariants as stop
+use Rattle.std.specs.Result.{IfErr, IsErrAnd}
+use Rattle.rw_ripqwarp.specs.declared.sim_fault.SimFault.{SimFault}
+use Rattle.rw_ripqwarp.specs.declared.sim_fault.SimFault.TheVariants as told
+use Rattle.rw_ripqwarp.specs.Faults.{IsUpToPlan, sim_refusal_of, sim_stop_of}
+use Rattle.rw_ripqwarp.specs.Simulate.{IsBeginningOf}
+
+-- what is said of each place, with one more
+pub pushed : {X : Type 0} (P : ℕ → X → Type 0) (xs : List X) (x : X) → ((p : ℕ) (s : X) → slice_get xs p ≡ Some s → P p s) → P (length xs) x
+    → (p : ℕ) (s : X) → slice_get (xs ++ x ∷ []) p ≡ Some s → P p s
+pushed P [] x all new zero s is = let same : x ≡ s = cc in subst (P 0) same new
+pushed P [] x all new (suc p) s is = cc
+pushed P (y ∷ ys) x all new zero s is = all 0 s is
+pushed P (y ∷ ys) x all new (suc p) s is = pushed (λ q. P (suc q)) ys x (λ q t h. all (suc q) t h) new p s is
+
+length-map_from : {A C : Type 0} (k : ℕ) (f : ℕ → A → C) (xs : List A) → length (map_from k f xs) ≡ length xs
+length-map_from k f [] = refl
+length-map_from k f (x ∷ xs) = ap suc (length-map_from (k + 1) f xs)
+
+-- the caches are ready for a run
+pub ready : (c : Config) (starts : List Cache) (initial : List (Event Body)) → starts ≡ starts_of c
+    → ((p : ℕ) (s : Cache) → slice_get starts p ≡ Some s → IsWellFormed c p s) → All (λ e. is_valid c e ≡ true) initial → IsReady model.ghosts (record { config = c }) starts initial
+ready c starts initial is well valid =
+    record { enough = ap length is ∙ length-map-range_with_len (start c) 0 (c.edges + c.origins); well_formed = well; valid = valid }
+
+-- any model of the configuration may run them
+pub ready-at : (c : Config) (m : Photo) (starts : List Cache) (initial : List (Event Body)) → m.config ≡ c → IsReady model.ghosts (record { config = c }) starts initial
+    → IsReady model.ghosts m starts initial
+ready-at c m starts initial is r = subst (λ (k : Config). IsReady model.ghosts (record { config = k }) starts initial) (sym is) r
+
+-- the run is the simulation of the configuration
+pub simulates : (c : Config) (m : Photo) (bytes : List ℕ) (starts : List Cache) (initial : List (Event Body)) → m.config ≡ c → (b : IsBeginningOf c bytes starts initial)
+    → system model.ghosts order.ghosts.cmp m starts initial ≡ simulation c b.rows
+simulates c m bytes starts initial config b i =
+    record {
+      order = (simulation c b.rows).order;
+      step = (simulation (config i) b.rows).step;
+      valid = (simulation (config i) b.rows).valid;
+      starts = b.starts_are i;
+      initial = b.initial_are i;
+    }
+
+-- a state for each process
+pub length-states : {S B : Type 0} (y : System S B) (t : ℕ) (journals : List (List (Event B))) (states : List S) → IsOutcome y t journals states → length states ≡ length y.starts
+length-states y t journals states o = ap length o.states_are ∙ length-map_from 0 (λ q s. after (y.step q) s (below y t q)) y.starts
+
+-- a run is told as exhausted where its refusal is
+pub err-exhausted : {T : Type 0} (r : Result T SimFault) (e : Refusal) (X : Type 0) → IsErrAnd r (λ f. f ≡ sim_refusal_of e) → (e ≡ Exhausted → X) → IfErr r (λ f. f ≡ told.Exhausted → X)
+err-exhausted (Ok t) e X is h = tt
+err-exhausted (Err f) Memory X is h = λ same. let clash : told.Memory ≡ told.Exhausted = sym is ∙ same in cc
+err-exhausted (Err f) Exhausted X is h = λ same. h refl
+
+-- a stop is told as a bad plan where it is one
+bad-plan : (s : Stop) → sim_stop_of s ≡ told.Plan → s ≡ stop.BadPlan
+bad-plan stop.Memory same = cc
+bad-plan stop.Exhausted same = cc
+bad-plan stop.RoundsUsed same = cc
+bad-plan stop.BadPlan same = refl
+bad-plan stop.NoThread same = cc
+
+-- a run is told as having a bad plan where its stop is that
+pub err-plan : {T : Type 0} (r : Result T SimFault) (s : Stop) (X : Type 0) → IsErrAnd r (λ f. f ≡ sim_stop_of s) → (s ≡ stop.BadPlan → X) → IfErr r (λ f. f ≡ told.Plan → X)
+err-plan (Ok t) s X is h = tt
+err-plan (Err f) s X is h = λ same. h (bad-plan s (sym is ∙ same))
+
+-- and where the stop is that, it is told
+pub err-up-to-plan : {T : Type 0} (r : Result T SimFault) (s : Stop) (X : Type 0) → IsErrAnd r (λ f. f ≡ sim_stop_of s) → (X → s ≡ stop.BadPlan) → IfErr r (λ f. X → IsUpToPlan f)
+err-up-to-plan (Ok t) s X is h = tt
+err-up-to-plan (Err f) s X is h = λ bad. subst IsUpToPlan (sym (is ∙ ap sim_stop_of (h bad))) tt

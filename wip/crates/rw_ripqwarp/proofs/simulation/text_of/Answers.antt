@@ -1,0 +1,178 @@
+use Rattle.std.proofs.Common.{◌≡◌, ◌+◌, ◌^◌, ℕ, List, Err, sym, ◌∙◌, ap, subst, length, map}
+use Rattle.std.proofs.lemmas.List.FromFn.{length-map-range_with_len}
+use Rattle.rw_vt.specs.declared.event.Event.{Event}
+use Rattle.rw_vt.specs.System.{System, IsOutcome, Meets}
+use Rattle.rw_photo.specs.declared.body.Body.{Body}
+use Rattle.rw_photo.specs.declared.config.Config.{Config}
+use Rattle.rw_photo.specs.Cache.{Cache, is_exhausted, start}
+use Rattle.rw_photo.specs.declared.photo.Photo.{Photo}
+use Rattle.rw_lp.specs.declared.step.Answer.{Answer}
+use Rattle.rw_world.specs.declared.step.Step.{Step}
+use Rattle.rw_world.specs.Calls.{Simulation}
+use Rattle.rw_ripqwarp.specs.Journal.{journal_text}
+use Rattle.rw_ripqwarp.specs.declared.mode.Mode.{Mode}
+use Rattle.rw_ripqwarp.specs.Simulate.{HasBadPlan, IsExhausting, IsExhaustingBySteps, IsExhaustingInOrder, IsJournalOf, IsReportOf, IsTextOf}
+use Rattle.rw_ripqwarp.proofs.Runs.{err-exhausted, err-plan, err-up-to-plan, length-states, ready-at, simulates}
+use Rattle.rw_ripqwarp.proofs.Schedules.{length-opened, length-processes, met, opened-simulates, same-model, told}
+use Rattle.rw_ripqwarp.proofs.simulation.text_of.Goals as goal
+
+pub run-requires : goal.run-requires
+run-requires g c = record { ready = ready-at c.args.config.now c.new-photo.result c.in_ok-starts.starts.items c.in_ok-starts.initial.items c.new-photo.ensures c.in_ok-starts.ensures.beginning.ready }
+
+pub open-requires : goal.open-requires
+open-requires g c = record { ready = ready-at c.args.config.now c.new-photo.result c.in_ok-starts.starts.items c.in_ok-starts.initial.items c.new-photo.ensures c.in_ok-starts.ensures.beginning.ready }
+
+pub open-requires-in-Journal : goal.open-requires-in-Journal
+open-requires-in-Journal g c = record { ready = ready-at c.args.config.now c.new-photo.result c.in_ok-starts.starts.items c.in_ok-starts.initial.items c.new-photo.ensures c.in_ok-starts.ensures.beginning.ready }
+
+pub report-requires : goal.report-requires
+report-requires g c =
+    let config : Config = c.args.config.now in
+    length-states _ (2 ^ 40) (map (λ j. j.items) c.in_ok-outcome-in-Serial.outcome.journals.items) c.in_ok-outcome-in-Serial.outcome.states.items c.in_ok-outcome-in-Serial.ensures.outcome
+    ∙ ap length c.in_ok-starts.ensures.beginning.starts_are
+    ∙ length-map-range_with_len (start config) 0 (config.edges + config.origins)
+
+pub returns-in_ok-report-in-Serial-clause-text : goal.returns-in_ok-report-in-Serial-clause-text
+returns-in_ok-report-in-Serial-clause-text g c =
+    let config : Config = c.args.config.now in
+    let bytes : List ℕ = c.args.bytes.now in
+    let starts : List Cache = c.in_ok-starts.starts.items in
+    let initial : List (Event Body) = c.in_ok-starts.initial.items in
+    let text : List ℕ = c.in_ok-report-in-Serial.field-0.items in
+    let beginning = c.in_ok-starts.ensures.beginning in
+    let journals = map (λ j. j.items) c.in_ok-outcome-in-Serial.outcome.journals.items in
+    let states : List Cache = c.in_ok-outcome-in-Serial.outcome.states.items in
+    let same = simulates config c.new-photo.result bytes starts initial c.new-photo.ensures beginning in
+    let is : IsReportOf config bytes text =
+    record {
+      rows = beginning.rows;
+      journals = journals;
+      states = states;
+      accepted = beginning.accepted;
+      outcome = subst (λ (y : System Cache Body). IsOutcome y (2 ^ 40) journals states) same c.in_ok-outcome-in-Serial.ensures.outcome;
+      told = c.in_ok-report-in-Serial.ensures;
+    } in
+    subst (λ (mode : Mode). IsTextOf mode config bytes text) (sym c.in-Serial.is) is
+
+pub returns-in_err-outcome-in-Serial-clause-exhausted : goal.returns-in_err-outcome-in-Serial-clause-exhausted
+returns-in_err-outcome-in-Serial-clause-exhausted g c =
+    let config : Config = c.args.config.now in
+    let bytes : List ℕ = c.args.bytes.now in
+    let starts : List Cache = c.in_ok-starts.starts.items in
+    let initial : List (Event Body) = c.in_ok-starts.initial.items in
+    let beginning = c.in_ok-starts.ensures.beginning in
+    let same = simulates config c.new-photo.result bytes starts initial c.new-photo.ensures beginning in
+    err-exhausted c.from_residual-in_err-outcome-in-Serial.result c.in_err-outcome-in-Serial.field-0.0 (IsExhausting c.args.mode config bytes) c.from_residual-in_err-outcome-in-Serial.ensures.1
+    (λ exhausted.
+    let is : IsExhaustingInOrder config bytes =
+    record {
+      rows = beginning.rows;
+      accepted = beginning.accepted;
+      met = subst (λ (y : System Cache Body). Meets y (2 ^ 40) is_exhausted) same (c.in_err-outcome-in-Serial.ensures.exhausted exhausted);
+    } in
+    subst (λ (mode : Mode). IsExhausting mode config bytes) (sym c.in-Serial.is) is)
+
+pub report-requires-in-Warp : goal.report-requires-in-Warp
+report-requires-in-Warp g c =
+    let config : Config = c.args.config.now in
+    length-states _ (2 ^ 40) (map (λ j. j.items) c.in_ok-outcome-in-Warp.outcome.journals.items) c.in_ok-outcome-in-Warp.outcome.states.items c.in_ok-outcome-in-Warp.ensures.outcome
+    ∙ length-opened c.new-photo.result c.in_ok-starts.starts.items c.in_ok-starts.initial.items c.in_ok-world-in-Warp.world c.in_ok-world-in-Warp.ensures.opened
+    ∙ ap length c.in_ok-starts.ensures.beginning.starts_are
+    ∙ length-map-range_with_len (start config) 0 (config.edges + config.origins)
+
+pub returns-in_ok-report-in-Warp-clause-text : goal.returns-in_ok-report-in-Warp-clause-text
+returns-in_ok-report-in-Warp-clause-text g c =
+    let config : Config = c.args.config.now in
+    let bytes : List ℕ = c.args.bytes.now in
+    let starts : List Cache = c.in_ok-starts.starts.items in
+    let initial : List (Event Body) = c.in_ok-starts.initial.items in
+    let text : List ℕ = c.in_ok-report-in-Warp.field-0.items in
+    let beginning = c.in_ok-starts.ensures.beginning in
+    let journals = map (λ j. j.items) c.in_ok-outcome-in-Warp.outcome.journals.items in
+    let states : List Cache = c.in_ok-outcome-in-Warp.outcome.states.items in
+    let world : Simulation Photo Cache Body = c.in_ok-world-in-Warp.world in
+    let same = opened-simulates config c.new-photo.result bytes starts initial world c.new-photo.ensures beginning c.in_ok-world-in-Warp.ensures.opened in
+    let is : IsReportOf config bytes text =
+    record {
+      rows = beginning.rows;
+      journals = journals;
+      states = states;
+      accepted = beginning.accepted;
+      outcome = subst (λ (y : System Cache Body). IsOutcome y (2 ^ 40) journals states) same c.in_ok-outcome-in-Warp.ensures.outcome;
+      told = c.in_ok-report-in-Warp.ensures;
+    } in
+    subst (λ (mode : Mode). IsTextOf mode config bytes text) (sym c.in-Warp.is) is
+
+pub returns-in_err-outcome-in-Warp-clause-plan : goal.returns-in_err-outcome-in-Warp-clause-plan
+returns-in_err-outcome-in-Warp-clause-plan g c =
+    err-plan c.from_residual-in_err-outcome-in-Warp.result c.in_err-outcome-in-Warp.field-0.0 (HasBadPlan c.args.mode) c.from_residual-in_err-outcome-in-Warp.ensures.1
+    (λ stop. subst HasBadPlan (sym c.in-Warp.is) (c.in_err-outcome-in-Warp.ensures.plan.0 (ap Err stop)))
+
+pub returns-in_err-outcome-in-Warp-clause-bad_plan : goal.returns-in_err-outcome-in-Warp-clause-bad_plan
+returns-in_err-outcome-in-Warp-clause-bad_plan g c =
+    err-up-to-plan c.from_residual-in_err-outcome-in-Warp.result c.in_err-outcome-in-Warp.field-0.0 (HasBadPlan c.args.mode) c.from_residual-in_err-outcome-in-Warp.ensures.1
+    (λ bad. let stopped = c.in_err-outcome-in-Warp.ensures.plan.1 (subst HasBadPlan c.in-Warp.is bad) in cc stopped)
+
+pub journal-requires : goal.journal-requires
+journal-requires g c =
+    let starts : List Cache = c.in_ok-starts.starts.items in
+    let initial : List (Event Body) = c.in_ok-starts.initial.items in
+    let steps : List Step = c.as_slice.result.now in
+    let photo : Photo = c.new-photo.result in
+    let first = c.in_ok-world-in-Journal.ensures.opened in
+    let last = c.in_ok-world-in-Journal-2.ensures.world in
+    let ready = ready-at c.args.config.now photo starts initial c.new-photo.ensures c.in_ok-starts.ensures.beginning.ready in
+    record {
+      processes =
+          length-processes photo starts initial steps c.in_ok-world-in-Journal.world c.in_ok-world-in-Journal-2.world ready first last c.in_ok-world-in-Journal-2.ensures.sound
+          ∙ sym c.processes.ensures;
+      caches =
+          ap (λ (k : Photo). k.config.edges + k.config.origins) (same-model photo starts initial steps c.in_ok-world-in-Journal.world c.in_ok-world-in-Journal-2.world first last)
+          ∙ sym c.processes.ensures;
+    }
+
+pub returns-in_ok-text-in-Journal-clause-text : goal.returns-in_ok-text-in-Journal-clause-text
+returns-in_ok-text-in-Journal-clause-text g c =
+    let config : Config = c.args.config.now in
+    let bytes : List ℕ = c.args.bytes.now in
+    let starts : List Cache = c.in_ok-starts.starts.items in
+    let initial : List (Event Body) = c.in_ok-starts.initial.items in
+    let steps : List Step = c.as_slice.result.now in
+    let given : List Answer = c.in_ok-world-in-Journal-2.answers.items in
+    let text : List ℕ = c.in_ok-text-in-Journal.text.items in
+    let beginning = c.in_ok-starts.ensures.beginning in
+    let world : Simulation Photo Cache Body = c.in_ok-world-in-Journal-2.world in
+    let written : text ≡ journal_text given world.world =
+    c.in_ok-text-in-Journal.ensures
+    ∙ ap (λ ws. journal_text ws world.world) c.as_slice-in-Journal.ensures.value in
+    let by : IsJournalOf steps config bytes text =
+    record {
+      rows = beginning.rows;
+      accepted = beginning.accepted;
+      told =
+          written
+          ∙ told config c.new-photo.result bytes starts initial steps c.in_ok-world-in-Journal.world world given c.new-photo.ensures beginning c.in_ok-world-in-Journal.ensures.opened
+          c.in_ok-world-in-Journal-2.ensures.world c.in_ok-world-in-Journal-2.ensures.answers;
+    } in
+    let is : IsJournalOf c.in-Journal.steps.items config bytes text = subst (λ ss. IsJournalOf ss config bytes text) c.as_slice.ensures.value by in
+    subst (λ (mode : Mode). IsTextOf mode config bytes text) (sym c.in-Journal.is) is
+
+pub returns-in_err-world-in-Journal-2-clause-exhausted : goal.returns-in_err-world-in-Journal-2-clause-exhausted
+returns-in_err-world-in-Journal-2-clause-exhausted g c =
+    let config : Config = c.args.config.now in
+    let bytes : List ℕ = c.args.bytes.now in
+    let starts : List Cache = c.in_ok-starts.starts.items in
+    let initial : List (Event Body) = c.in_ok-starts.initial.items in
+    let steps : List Step = c.as_slice.result.now in
+    let beginning = c.in_ok-starts.ensures.beginning in
+    err-exhausted c.from_residual-in_err-world-in-Journal-2.result c.in_err-world-in-Journal-2.field-0.0 (IsExhausting c.args.mode config bytes) c.from_residual-in_err-world-in-Journal-2.ensures.1
+    (λ exhausted.
+    let by : IsExhaustingBySteps steps config bytes =
+    record {
+      rows = beginning.rows;
+      accepted = beginning.accepted;
+      met = met config c.new-photo.result bytes starts initial steps c.in_ok-world-in-Journal.world c.new-photo.ensures beginning c.in_ok-world-in-Journal.ensures.opened
+          (c.in_err-world-in-Journal-2.ensures.exhausted (ap Err exhausted));
+    } in
+    let is : IsExhaustingBySteps c.in-Journal.steps.items config bytes = subst (λ ss. IsExhaustingBySteps ss config bytes) c.as_slice.ensures.value by in
+    subst (λ (mode : Mode). IsExhausting mode config bytes) (sym c.in-Journal.is) is)

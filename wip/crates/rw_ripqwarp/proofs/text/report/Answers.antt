@@ -1,0 +1,50 @@
+use Rattle.std.proofs.Common.{◌≡◌, ◌+◌, ◌++◌, ◌<◌, suc, true, rules, refl, sym, ◌∙◌, ap, arith, take, take_all, map, zero-add, length, get_or, List, codes}
+use Rattle.std.specs.Result.{is_ok}
+use Rattle.rw_photo.specs.Cache.{Cache}
+use Rattle.rw_photo.specs.declared.counters.Counters.{Counters}
+use Rattle.rw_photo.specs.Counts.{added}
+use Rattle.rw_ripqwarp.specs.Report.{cache_lines, line, name_of, totals}
+use Rattle.rw_ripqwarp.proofs.Lines.{line-append, lines-more, totals-more}
+use Rattle.rw_ripqwarp.proofs.text.report.Goals as goal
+
+pub loop-process-preserved : goal.loop-process-preserved
+loop-process-preserved c =
+    let n = c.loop-process.process in
+    let states : List Cache = c.args.outcome.now.states.items in
+    let config = c.args.config.now in
+    let counted : Cache → Counters = λ s. s.counters in
+    let seen = c.deref-state-items.ensures.value in
+    let next : n + 1 ≡ suc n = omega arith in
+    let here : c.state-item.result ≡ get_or states n c.state-item.result = rw seen at c.state-item.is in
+    let within : n < length states = rw seen at c.loop-process-test.true in
+    let counters : c.counters-counters.result ≡ (get_or states n c.state-item.result).counters = c.counters-counters.ensures ∙ ap counted here in
+    rw next (record {
+      lines =
+          c.in_ok-write_counters.ensures
+          ∙ ap (λ text. line text c.counters-counters.result) c.in_ok-write_name.ensures
+          ∙ line-append c.loop-process.text.items (name_of config n) c.counters-counters.result
+          ∙ ap (λ text. text ++ line (name_of config n) c.counters-counters.result) c.loop-process.invariant.lines
+          ∙ ap (λ k. cache_lines config 0 (map counted (take n states)) ++ line (name_of config n) k) counters
+          ∙ sym (lines-more counted config 0 n states c.state-item.result within ∙ rw zero-add refl);
+      total =
+          c.add.ensures
+          ∙ ap (λ t. added t c.counters-counters.result) c.loop-process.invariant.total
+          ∙ ap (λ k. added (totals (map counted (take n states))) k) counters
+          ∙ sym (totals-more counted n states c.state-item.result within);
+    })
+
+pub returns : goal.returns
+returns c =
+    let n = c.loop-process.process in
+    let states : List Cache = c.args.outcome.now.states.items in
+    let counted : Cache → Counters = λ s. s.counters in
+    let config = c.args.config.now in
+    let all : take n states ≡ states = take_all n states (rw c.deref-state-items.ensures.value at c.loop-process-test.false) in
+    let good : is_ok c.extend_from_slice.result ≡ true = search rules in
+    let word = rw good at c.extend_from_slice.ensures.items in
+    c.in_ok-write_counters-2.ensures
+    ∙ ap (λ text. line text c.loop-process.total) word
+    ∙ line-append c.loop-process.text.items (codes "total") c.loop-process.total
+    ∙ ap (λ text. text ++ line (codes "total") c.loop-process.total) c.loop-process.invariant.lines
+    ∙ ap (λ t. cache_lines config 0 (map counted (take n states)) ++ line (codes "total") t) c.loop-process.invariant.total
+    ∙ ap (λ ss. cache_lines config 0 (map counted ss) ++ line (codes "total") (totals (map counted ss))) all

@@ -1,0 +1,6 @@
+pub mod Report
+pub mod Sink
+pub mod Faults
+pub mod Simulate
+pub mod Schedule
+pub mod Journal

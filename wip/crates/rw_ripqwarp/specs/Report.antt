@@ -1,0 +1,58 @@
+-- The text of a report.
+use Rattle.std.specs.Prelude.{ℕ, ◌-◌, ◌%◌, ◌^◌, nat_lt, if◌then◌else◌, List, ◌++◌, codes, decimal, sum_by}
+use Rattle.rw_vt.specs.System.{map_from, flatten}
+use Rattle.rw_photo.specs.declared.config.Config.{Config}
+use Rattle.rw_photo.specs.declared.counters.Counters.{Counters}
+
+-- a name and the counts of a cache, as one line
+abbrev pub line : List ℕ → Counters → List ℕ
+line name k =
+    name
+    ++ codes " requests " ++ decimal k.requests
+    ++ codes " hits " ++ decimal k.hits
+    ++ codes " misses " ++ decimal k.misses
+    ++ codes " coalesced " ++ decimal k.coalesced
+    ++ codes " late " ++ decimal k.late
+    ++ codes " bypassed " ++ decimal k.bypassed
+    ++ codes " inserted " ++ decimal k.inserted
+    ++ codes " evicted " ++ decimal k.evicted
+    ++ codes " reinserted " ++ decimal k.reinserted
+    ++ codes " promoted " ++ decimal k.promoted
+    ++ codes " writes " ++ decimal k.writes
+    ++ codes " splits " ++ decimal k.splits
+    ++ codes " merges " ++ decimal k.merges
+    ++ codes "\n"
+
+-- edges and origins are numbered apart
+abbrev pub name_of : Config → ℕ → List ℕ
+name_of c p = if nat_lt p c.edges then codes "edge " ++ decimal p else codes "origin " ++ decimal (p - c.edges)
+
+-- a count of all caches together, modulo 2 ^ 64
+abbrev pub total_of : (Counters → ℕ) → List Counters → ℕ
+total_of count ks = sum_by count ks % 2 ^ 64
+
+abbrev pub totals : List Counters → Counters
+totals ks =
+    record {
+      requests = total_of (λ k. k.requests) ks;
+      hits = total_of (λ k. k.hits) ks;
+      misses = total_of (λ k. k.misses) ks;
+      coalesced = total_of (λ k. k.coalesced) ks;
+      late = total_of (λ k. k.late) ks;
+      bypassed = total_of (λ k. k.bypassed) ks;
+      inserted = total_of (λ k. k.inserted) ks;
+      evicted = total_of (λ k. k.evicted) ks;
+      reinserted = total_of (λ k. k.reinserted) ks;
+      promoted = total_of (λ k. k.promoted) ks;
+      writes = total_of (λ k. k.writes) ks;
+      splits = total_of (λ k. k.splits) ks;
+      merges = total_of (λ k. k.merges) ks;
+    }
+
+-- the lines of these caches, of which the first has this number
+abbrev pub cache_lines : Config → ℕ → List Counters → List ℕ
+cache_lines c p ks = flatten (map_from p (λ q k. line (name_of c q) k) ks)
+
+-- a line for each edge, for each origin, and for all together
+abbrev pub report_text : Config → List Counters → List ℕ
+report_text c ks = cache_lines c 0 ks ++ line (codes "total") (totals ks)

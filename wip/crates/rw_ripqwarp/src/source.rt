@@ -1,0 +1,18 @@
+use std::alloc::Global;
+
+/// Where the bytes of a trace come from.
+pub trait Source {
+    /// All bytes at a path, or of standard input where the path is `-`.
+    fn bytes(&mut self, alloc: Global, path: &str) -> Result<Vec<u8>, SourceFault>;
+}
+
+/// Why there are no bytes, each shown as one line.
+#[derive(Clone, Copy, Debug, PartialEq, Eq, thiserror::Error)]
+pub enum SourceFault {
+    /// The path cannot be read.
+    #[error("file: cannot read")]
+    Read,
+    /// A request for memory was refused.
+    #[error("memory")]
+    Memory,
+}

@@ -1,0 +1,139 @@
+-- Why a worker's letters come to an end: no arrival makes the work that is left grow.
+use Rattle.std.proofs.Common.{◌≡◌, ℕ, zero, suc, ◌+◌, ◌≤◌, Bool, true, false, cond, List, [], ◌∷◌, ◌++◌, length, length-append, refl, sym, ap, ◌∙◌, subst, arith, append_assoc, append-nil, Option, Some, None}
+use Rattle.std.specs.Prelude.{slice_get, slice_set}
+use Rattle.std.specs.declared.cmp.Ordering.{Ordering}
+use Rattle.std.specs.Ordering.{is_eq}
+use Rattle.std.proofs.lemmas.List.{length-map}
+use Rattle.rw_vt.specs.declared.event.Event.{Event}
+use Rattle.rw_vt.specs.declared.event.Letter.{Letter}
+use Rattle.rw_vt.specs.Order.{insert_in_order, has, without}
+use Rattle.rw_vt.specs.Letters.{letters_of}
+use Rattle.rw_vt.specs.System.{System, after, outs}
+use Rattle.rw_vt.proofs.Runs.{outs-append}
+use Rattle.rw_lp.specs.declared.held.Held.{Held}
+use Rattle.rw_lp.specs.declared.step.StepFault.TheVariants.{StillDone}
+use Rattle.rw_lp.specs.HeldMessages.{held_with, held_without}
+use Rattle.rw_lp.specs.Process.{Process, done, Turn, Turned, Stays, split_last, undo_last, undo_one, with_bags, annihilate, deliver_message, deliver_anti, deliver, execute_next, execute_least, execute_event, executed, is_less_than_last}
+use Rattle.rw_lp.specs.Calls.{LogicalProcess}
+use Rattle.rw_lp.specs.Arrival.{with_out, and_undo, undo_times, Arrived}
+use Rattle.rw_lp.proofs.Splits.{IsSplit, split_is}
+use Rattle.rw_rounds.specs.Working.{size, sizes, dones}
+
+length-letters : {B : Type 0} (b : Bool) (es : List (Event B)) → length (letters_of b es) ≡ length es
+length-letters b es = length-map es (λ e. record { event = e; anti = b })
+
+held_parts : {B : Type 0} (cmp : Event B → Event B → Ordering) (e : Event B) (hs : List (Held B)) → length (held_with cmp e hs) + length (held_without cmp e hs) ≡ length hs
+held_parts cmp e [] = refl
+held_parts cmp e (h ∷ hs) = go (is_eq (cmp h.undone e)) (held_parts cmp e hs)
+  where
+    go : (b : Bool) → length (held_with cmp e hs) + length (held_without cmp e hs) ≡ length hs
+        → length (cond b (h.message ∷ held_with cmp e hs) (held_with cmp e hs)) + length (cond b (held_without cmp e hs) (h ∷ held_without cmp e hs)) ≡ suc (length hs)
+    go true k = omega arith
+    go false k = omega arith
+
+module _ {S B : Type 0} (y : System S B) (p : ℕ) where
+  -- the done events of a process, what they sent, and what is held
+  abbrev pub work : Process S B → ℕ
+  work x = length (done x) + length (outs (y.step p) x.start (done x)) + length x.held
+
+  -- a turn loses what it gives out, and no event is done by it
+  abbrev pub Falls : Process S B → Turn S B → Type 0
+  Falls x (Stays f) = Unit {0}
+  Falls x (Turned z out) = (work z + length out ≤ work x) × (length (done z) ≤ length (done x))
+
+  pub undo_falls : (x : Process S B) → Falls x (undo_one y p x)
+  undo_falls x = go (split_last x.processed) (split_is x.processed)
+    where
+      go : (o : Option (List (Event B) × Event B)) → IsSplit x.processed o → Falls x (undo_last y p x o)
+      go None q = tt
+      go (Some r) q =
+          let front : List (Event B) = x.committed ++ r.0 in
+          let sends : List (Event B) = (y.step p (after (y.step p) x.start front) r.1).1 in
+          let more : done x ≡ front ++ r.1 ∷ [] = ap (λ l. x.committed ++ l) q ∙ sym (append_assoc x.committed r.0 (r.1 ∷ [])) in
+          let d : length (done x) ≡ length front + 1 = ap length more ∙ length-append front (r.1 ∷ []) in
+          let o : length (outs (y.step p) x.start (done x)) ≡ length (outs (y.step p) x.start front) + length sends =
+          ap (λ l. length (outs (y.step p) x.start l)) more ∙ ap length (outs-append (y.step p) x.start front (r.1 ∷ []) ∙ ap (λ l. outs (y.step p) x.start front ++ l) (append-nil sends)) ∙ length-append (outs (y.step p) x.start front) sends in
+          let ls : length (letters_of true sends) ≡ length sends = length-letters true sends in
+          ((omega arith), (omega arith))
+
+  pub deliver_falls : (l : Letter B) (x : Process S B) → Falls x (deliver y.order l x)
+  deliver_falls l x = go l.anti
+    where
+      still : (ps ds : List (Event B)) → Falls x (Turned (with_bags x ps ds x.held) [])
+      still ps ds = ((omega arith), (omega arith))
+
+      message : (b : Bool) → Falls x (cond b (Turned (with_bags x x.pending (without y.order l.event x.debts) x.held) []) (Turned (with_bags x (insert_in_order y.order l.event x.pending) x.debts x.held) []))
+      message true = still x.pending (without y.order l.event x.debts)
+      message false = still (insert_in_order y.order l.event x.pending) x.debts
+
+      last : (b : Bool) → Falls x (cond b (Turned (with_bags x (without y.order l.event x.pending) x.debts x.held) []) (Turned (with_bags x (without y.order l.event x.pending) x.debts (held_without y.order l.event x.held)) (letters_of true (held_with y.order l.event x.held))))
+      last true = still (without y.order l.event x.pending) x.debts
+      last false =
+          let parts = held_parts y.order l.event x.held in
+          let ls = length-letters true (held_with y.order l.event x.held) in
+          ((omega arith), (omega arith))
+
+      anti : (b c : Bool) → Falls x (cond b (annihilate y.order l.event x) (cond c (Stays StillDone) (Turned (with_bags x x.pending (insert_in_order y.order l.event x.debts) x.held) [])))
+      anti true c = last (has y.order l.event (without y.order l.event x.pending))
+      anti false true = tt
+      anti false false = still x.pending (insert_in_order y.order l.event x.debts)
+
+      go : (b : Bool) → Falls x (cond b (deliver_anti y.order l.event x) (deliver_message y.order l.event x))
+      go true = anti (has y.order l.event x.pending) (has y.order l.event x.processed)
+      go false = message (has y.order l.event x.debts)
+
+  falls_out : (x z : Process S B) (out : List (Letter B)) → Falls x (Turned z out) → (t : Turn S B) → Falls z t → Falls x (with_out out t)
+  falls_out x z out a (Stays f) b = tt
+  falls_out x z out a (Turned u more) b = ((omega (arith, a.0, b.0, length-append out more)), (omega (arith, a.1, b.1)))
+
+  falls_and : (x : Process S B) (t : Turn S B) → Falls x t → Falls x (and_undo y p t)
+  falls_and x (Stays f) a = tt
+  falls_and x (Turned z out) a = falls_out x z out a (undo_one y p z) (undo_falls z)
+
+  undoings_fall : (k : ℕ) (x : Process S B) → Falls x (undo_times y p k x)
+  undoings_fall zero x = ((omega arith), (omega arith))
+  undoings_fall (suc k) x = falls_and x (undo_times y p k x) (undoings_fall k x)
+
+  pub arrival_falls : (l : Letter B) (x z : Process S B) (given : List (Letter B)) → Arrived y p l x z given → (work z + length given ≤ work x) × (length (done z) ≤ length (done x))
+  arrival_falls l x z given a =
+      let first = subst (Falls x) a.undone (undoings_fall a.count x) in
+      let then_ = subst (Falls a.between) a.delivered (deliver_falls l a.between) in
+      let n : length given ≡ length a.unsent + length a.rest = ap length a.all ∙ length-append a.unsent a.rest in
+      ((omega (arith, first.0, then_.0)), (omega (arith, first.1, then_.1)))
+
+  pub execute_counts : (x z : Process S B) (out : List (Letter B)) → execute_next y p x ≡ Turned z out → length (done z) ≡ length (done x) + 1
+  execute_counts x z out h = go x.pending h
+    where
+      more : (e : Event B) (rest : List (Event B)) (left : List (Held B)) → executed y p x e rest left ≡ z → length (done z) ≡ length (done x) + 1
+      more e rest left q = ap (λ u. length (done u)) (sym q) ∙ ap length (sym (append_assoc x.committed x.processed (e ∷ []))) ∙ length-append (done x) (e ∷ [])
+
+      late : (b : Bool) (e : Event B) (rest : List (Event B)) (sends : List (Event B) × List (Held B)) → cond b (Stays Rattle.rw_lp.specs.declared.step.StepFault.TheVariants.Straggler) (execute_event y p x e rest sends) ≡ Turned z out → length (done z) ≡ length (done x) + 1
+      late true e rest sends k = cc
+      late false e rest sends k = more e rest sends.1 (let q : executed y p x e rest sends.1 ≡ z = cc in q)
+
+      go : (es : List (Event B)) → execute_least y p x es ≡ Turned z out → length (done z) ≡ length (done x) + 1
+      go [] k = cc
+      go (e ∷ rest) k = late (is_less_than_last y.order e (split_last (done x))) e rest (Rattle.rw_lp.specs.HeldMessages.unheld y.order (y.step p x.state e).1 x.held) k
+
+  pub undo_counts : (x z : Process S B) (out : List (Letter B)) → undo_one y p x ≡ Turned z out → length (done z) + 1 ≡ length (done x)
+  undo_counts x z out h = go (split_last x.processed) (split_is x.processed) h
+    where
+      go : (o : Option (List (Event B) × Event B)) → IsSplit x.processed o → undo_last y p x o ≡ Turned z out → length (done z) + 1 ≡ length (done x)
+      go None q k = cc
+      go (Some r) q k =
+          let is : Rattle.rw_lp.specs.Process.undone y p x r.0 r.1 x.held ≡ z = cc in
+          let a : length (done z) ≡ length (x.committed ++ r.0) = ap (λ u. length (done u)) (sym is) in
+          let b : length (done x) ≡ length (x.committed ++ r.0) + 1 = ap length (ap (λ l. x.committed ++ l) q ∙ sym (append_assoc x.committed r.0 (r.1 ∷ []))) ∙ length-append (x.committed ++ r.0) (r.1 ∷ []) in
+          omega arith
+
+-- one process among others
+module _ {M S B : Type 0} (y : System S B) where
+  pub sizes_set : (q : ℕ) (xs : List (LogicalProcess M S B)) (l z : LogicalProcess M S B) → slice_get xs q ≡ Some l → sizes y (slice_set xs q z) + size y l ≡ sizes y xs + size y z
+  sizes_set q [] l z h = cc
+  sizes_set zero (u ∷ xs) l z h = let k : u ≡ l = cc in let a : size y u ≡ size y l = ap (size y) k in omega arith
+  sizes_set (suc q) (u ∷ xs) l z h = omega (arith, sizes_set q xs l z h)
+
+pub dones_set : {M S B : Type 0} (xs : List (LogicalProcess M S B)) (q : ℕ) (l z : LogicalProcess M S B) → slice_get xs q ≡ Some l → dones (slice_set xs q z) + length (done l.process) ≡ dones xs + length (done z.process)
+dones_set [] q l z h = cc
+dones_set (u ∷ xs) zero l z h = let k : u ≡ l = cc in let a : length (done u.process) ≡ length (done l.process) = ap (λ w. length (done w.process)) k in omega arith
+dones_set (u ∷ xs) (suc q) l z h = omega (arith, dones_set xs q l z h)

@@ -1,0 +1,94 @@
+use Rattle.std.proofs.Common.{◌≡◌, ◌+◌, cond, [], ◌++◌, length, refl, sym, ap, ◌∙◌, subst, arith}
+use Rattle.std.proofs.lemmas.Option.{slice_get_read}
+use Rattle.rw_lp.specs.Calls.{rules}
+use Rattle.rw_rounds.specs.Bags.{Every}
+use Rattle.rw_rounds.specs.Deeds.{IsFair}
+use Rattle.rw_rounds.specs.Working.{role_of, desk_of, Works, Moved}
+use Rattle.rw_rounds.proofs.Governing.{Laws}
+use Rattle.rw_rounds.proofs.Adding.{works_then}
+use Rattle.rw_rounds.proofs.Fits.{fit_after}
+use Rattle.rw_rounds.proofs.Stepping.{there_model, there_sound, next_pending, works_moved, moved_fair, executed_dones, undone_dones}
+use Rattle.rw_rounds.proofs.desk.Desk.advance.Goals as goal
+
+pub execute_or_undo-requires-clause-model : goal.execute_or_undo-requires-clause-model
+execute_or_undo-requires-clause-model g c =
+    let x = c.args.self.now in
+    let next = c.requires.next in
+    let there = slice_get_read x.processes.items (length x.processes.items) c.args.place c.swap_remove-process.result refl next.1.within c.swap_remove-process.ensures.value in
+    sym (there_model c.args.model.now (desk_of x) c.requires.fit c.args.place c.swap_remove-process.result there)
+
+pub execute_or_undo-requires-clause-pending : goal.execute_or_undo-requires-clause-pending
+execute_or_undo-requires-clause-pending g c =
+    let x = c.args.self.now in
+    let next = c.requires.next in
+    let there = slice_get_read x.processes.items (length x.processes.items) c.args.place c.swap_remove-process.result refl next.1.within c.swap_remove-process.ensures.value in
+    next_pending c.args.model.now (desk_of x) c.requires.fit c.args.place c.swap_remove-process.result there next.0 next.1
+
+pub execute_or_undo-requires-clause-undoable : goal.execute_or_undo-requires-clause-undoable
+execute_or_undo-requires-clause-undoable g c =
+    let x = c.args.self.now in
+    let next = c.requires.next in
+    let there = slice_get_read x.processes.items (length x.processes.items) c.args.place c.swap_remove-process.result refl next.1.within c.swap_remove-process.ensures.value in
+    there_sound c.args.model.now (desk_of x) c.requires.fit c.args.place c.swap_remove-process.result there
+
+pub deal-requires-clause-fit : goal.deal-requires-clause-fit
+deal-requires-clause-fit g c =
+    let laws : Laws g.M.Model g.M.Body.Ord.cmp = record { total = g.met.M.Body.Ord.total; same = g.met.M.Model.same; keeps = g.met.M.Model.keeps; future = g.met.M.Model.future; ranges = g.met.M.Model.ranges } in
+    let x = c.args.self.now in
+    let next = c.requires.next in
+    let there = slice_get_read x.processes.items (length x.processes.items) c.args.place c.swap_remove-process.result refl next.1.within c.swap_remove-process.ensures.value in
+    let set = c.in_ok-put_back.ensures.back x.processes.items c.swap_remove-process.result next.1.within c.swap_remove-process.ensures.items in
+    let moved = c.in_ok-process.ensures.moved in
+    let given : c.execute_or_undo.new.out.items ≡ moved.0 = moved.1 ∙ ap (λ l. l ++ moved.0) c.new-out.ensures.items in
+    fit_after laws c.args.model.now (role_of x) (desk_of x) _ [] moved.0 (cond c.in_ok-process.executed 1 0) c.requires.fit (works_moved laws c.args.model.now (desk_of x) _ c.requires.fit refl refl refl refl refl refl c.args.place c.swap_remove-process.result c.in_ok-process.process there set c.in_ok-process.ensures.same next.0 next.1 moved.0 c.in_ok-process.executed moved.2)
+
+pub deal-requires-clause-fair : goal.deal-requires-clause-fair
+deal-requires-clause-fair g c =
+    let laws : Laws g.M.Model g.M.Body.Ord.cmp = record { total = g.met.M.Body.Ord.total; same = g.met.M.Model.same; keeps = g.met.M.Model.keeps; future = g.met.M.Model.future; ranges = g.met.M.Model.ranges } in
+    let x = c.args.self.now in
+    let next = c.requires.next in
+    let there = slice_get_read x.processes.items (length x.processes.items) c.args.place c.swap_remove-process.result refl next.1.within c.swap_remove-process.ensures.value in
+    let set = c.in_ok-put_back.ensures.back x.processes.items c.swap_remove-process.result next.1.within c.swap_remove-process.ensures.items in
+    let moved = c.in_ok-process.ensures.moved in
+    let given : c.execute_or_undo.new.out.items ≡ moved.0 = moved.1 ∙ ap (λ l. l ++ moved.0) c.new-out.ensures.items in
+    subst (Every (IsFair (rules g.M.Model g.M.Body.Ord.cmp c.args.model.now) x.collected)) (sym given) (moved_fair laws c.args.model.now (desk_of x) (record (desk_of x) { processes = c.put_back.new.items.items }) c.requires.fit refl refl refl refl refl refl c.args.place c.swap_remove-process.result c.in_ok-process.process there set c.in_ok-process.ensures.same next.0 next.1 moved.0 c.in_ok-process.executed moved.2)
+
+pub returns-clause-works : goal.returns-clause-works
+returns-clause-works g c =
+    let laws : Laws g.M.Model g.M.Body.Ord.cmp = record { total = g.met.M.Body.Ord.total; same = g.met.M.Model.same; keeps = g.met.M.Model.keeps; future = g.met.M.Model.future; ranges = g.met.M.Model.ranges } in
+    let x = c.args.self.now in
+    let next = c.requires.next in
+    let there = slice_get_read x.processes.items (length x.processes.items) c.args.place c.swap_remove-process.result refl next.1.within c.swap_remove-process.ensures.value in
+    let set = c.in_ok-put_back.ensures.back x.processes.items c.swap_remove-process.result next.1.within c.swap_remove-process.ensures.items in
+    let moved = c.in_ok-process.ensures.moved in
+    let given : c.execute_or_undo.new.out.items ≡ moved.0 = moved.1 ∙ ap (λ l. l ++ moved.0) c.new-out.ensures.items in
+    let one = works_moved laws c.args.model.now (desk_of x) (record (desk_of x) { processes = c.put_back.new.items.items }) c.requires.fit refl refl refl refl refl refl c.args.place c.swap_remove-process.result c.in_ok-process.process there set c.in_ok-process.ensures.same next.0 next.1 moved.0 c.in_ok-process.executed moved.2 in
+    let dealt = subst (λ ls. Works (rules g.M.Model g.M.Body.Ord.cmp c.args.model.now) (role_of x) (record (desk_of x) { processes = c.put_back.new.items.items }) (desk_of c.deal.new.self) ls [] 0) given c.in_ok-deal.ensures.works in
+    let n : cond c.in_ok-process.executed 1 0 + 0 ≡ cond c.in_ok-process.executed 1 0 = omega arith in
+    subst (Works (rules g.M.Model g.M.Body.Ord.cmp c.args.model.now) (role_of x) (desk_of x) (desk_of c.deal.new.self) [] []) n (works_then (rules g.M.Model g.M.Body.Ord.cmp c.args.model.now) (role_of x) (desk_of x) (record (desk_of x) { processes = c.put_back.new.items.items }) (desk_of c.deal.new.self) [] moved.0 [] (cond c.in_ok-process.executed 1 0) 0 one dealt)
+
+pub returns-clause-executed : goal.returns-clause-executed
+returns-clause-executed g c =
+    let laws : Laws g.M.Model g.M.Body.Ord.cmp = record { total = g.met.M.Body.Ord.total; same = g.met.M.Model.same; keeps = g.met.M.Model.keeps; future = g.met.M.Model.future; ranges = g.met.M.Model.ranges } in
+    let x = c.args.self.now in
+    let next = c.requires.next in
+    let there = slice_get_read x.processes.items (length x.processes.items) c.args.place c.swap_remove-process.result refl next.1.within c.swap_remove-process.ensures.value in
+    let set = c.in_ok-put_back.ensures.back x.processes.items c.swap_remove-process.result next.1.within c.swap_remove-process.ensures.items in
+    let moved = c.in_ok-process.ensures.moved in
+    let given : c.execute_or_undo.new.out.items ≡ moved.0 = moved.1 ∙ ap (λ l. l ++ moved.0) c.new-out.ensures.items in
+    λ did.
+    let by = subst (λ b. Moved (rules g.M.Model g.M.Body.Ord.cmp c.swap_remove-process.result.model) c.swap_remove-process.result.number c.swap_remove-process.result.process c.in_ok-process.process.process b moved.0) did moved.2 in
+    omega (arith, c.in_ok-deal.ensures.fewer, executed_dones laws c.args.model.now (desk_of x) (record (desk_of x) { processes = c.put_back.new.items.items }) c.requires.fit refl refl refl refl refl refl c.args.place c.swap_remove-process.result c.in_ok-process.process there set c.in_ok-process.ensures.same next.0 next.1 moved.0 by)
+
+pub returns-clause-undone : goal.returns-clause-undone
+returns-clause-undone g c =
+    let laws : Laws g.M.Model g.M.Body.Ord.cmp = record { total = g.met.M.Body.Ord.total; same = g.met.M.Model.same; keeps = g.met.M.Model.keeps; future = g.met.M.Model.future; ranges = g.met.M.Model.ranges } in
+    let x = c.args.self.now in
+    let next = c.requires.next in
+    let there = slice_get_read x.processes.items (length x.processes.items) c.args.place c.swap_remove-process.result refl next.1.within c.swap_remove-process.ensures.value in
+    let set = c.in_ok-put_back.ensures.back x.processes.items c.swap_remove-process.result next.1.within c.swap_remove-process.ensures.items in
+    let moved = c.in_ok-process.ensures.moved in
+    let given : c.execute_or_undo.new.out.items ≡ moved.0 = moved.1 ∙ ap (λ l. l ++ moved.0) c.new-out.ensures.items in
+    λ did.
+    let by = subst (λ b. Moved (rules g.M.Model g.M.Body.Ord.cmp c.swap_remove-process.result.model) c.swap_remove-process.result.number c.swap_remove-process.result.process c.in_ok-process.process.process b moved.0) did moved.2 in
+    omega (arith, c.in_ok-deal.ensures.fewer, undone_dones laws c.args.model.now (desk_of x) (record (desk_of x) { processes = c.put_back.new.items.items }) c.requires.fit refl refl refl refl refl refl c.args.place c.swap_remove-process.result c.in_ok-process.process there set c.in_ok-process.ensures.same next.0 next.1 moved.0 by)

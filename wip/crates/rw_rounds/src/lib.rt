@@ -1,0 +1,36 @@
+#![tactic(auto)]
+//! Rounds of workers, each with its own processes of a world of Time Warp (Jefferson 1985).
+//!
+//! A [`Worker`] owns every process whose number is its own modulo the number of workers. In each turn it takes up what the
+//! others sent, executes ahead of them as far as the window lets it, and sends what its processes give out through rings;
+//! on the board it notes the time of each letter that it sends. It takes no lock and never waits.
+
+mod closing;
+mod dealing;
+mod dealing_out;
+mod desk;
+mod executing;
+mod gate;
+mod gathering;
+mod places;
+mod plan;
+mod posting;
+mod receiving;
+mod round;
+mod running;
+mod sim;
+mod stop;
+#[cfg(test)]
+mod tests;
+mod threads;
+mod traffic;
+mod worker;
+
+pub use gate::{Gate, Open};
+pub use plan::Plan;
+pub use round::run_round;
+pub use running::run;
+pub use sim::Sim;
+pub use stop::Stop;
+pub use traffic::Traffic;
+pub use worker::Worker;

@@ -1,0 +1,150 @@
+ghost use Rattle.std.specs.Prelude.{◌≡◌, ◌++◌, [], IfOk, OnOk};
+ghost use Rattle.rw_lp.specs.Calls.{rules};
+ghost use Rattle.rw_rounds.specs.Rounds.{Closes};
+ghost use Rattle.rw_rounds.specs.Turns.{IsFit, TookTurn};
+
+use crate::desk::Desk;
+use crate::plan::Plan;
+use crate::traffic::Traffic;
+use rw_board::{Board, Seat};
+use rw_exchange::Port;
+use rw_lp::Lp;
+use rw_vt::{Letter, Model as VtModel, NoMemory, Refusal};
+use std::alloc::Global;
+use std::marker::Model;
+
+/// One worker of a round: it owns every process whose number is its own modulo the number of workers, a port and a seat.
+///
+/// Contracts see what it holds: its number and its plan, its processes in order, the letters that are still to arrive, those
+/// that a ring had no room for, those that failed its test, its port and its seat. A worker may move to a thread of its own.
+#[derive(Drop)]
+pub struct Worker<M: VtModel> {
+    desk: Desk<M>,
+    inbox: Vec<Letter<M::Body>>,
+}
+
+impl<M: VtModel> Model for Worker<M> {
+    ghost use Rattle.rw_rounds.specs.Turns.{WorkerState};
+
+    ghost Value = { WorkerState M M.State M.Body };
+
+    ghost view = { λ w. record { role = record { number = w.desk.number; plan = w.desk.plan; collected = w.desk.collected }; processes = w.desk.processes.items; inbox = w.inbox.items; kept = w.desk.kept.items; aside = w.desk.aside.items; port = w.desk.port; seat = w.desk.seat } };
+}
+
+impl<M: VtModel> Worker<M> {
+    /// Worker `number` of a round, with its processes in order, the letters that are on their way to them, its port and its
+    /// seat. `collected` is the greatest time collected, in ticks: what is processed, pending, owed or on its way is not
+    /// before it. Takes no memory.
+    pub fn new(
+        alloc: Global,
+        number: u32,
+        plan: &Plan,
+        processes: Vec<Lp<M>>,
+        inbox: Vec<Letter<M::Body>>,
+        port: Port<M::Body>,
+        seat: Seat,
+        collected: u64,
+    ) -> Worker<M>
+        ensures is { result ≡ record { role = record { number = number; plan = plan.now; collected = collected }; processes = processes.items; inbox = inbox.items; kept = []; aside = []; port = port; seat = seat } }
+    {
+        let desk = Desk {
+            number,
+            plan: *plan,
+            collected,
+            processes,
+            kept: Vec::new(alloc),
+            aside: Vec::new(alloc),
+            port,
+            seat,
+            traffic: Traffic::default(),
+        };
+        Worker { desk, inbox }
+    }
+
+    /// Takes one turn, and gives how many events were executed, at most the plan's `batch`.
+    ///
+    /// The letters that are still to arrive do; kept letters are offered to their rings again; at most as many letters from
+    /// each other worker as a ring has room for are taken up; and then events are executed, always the least pending one,
+    /// while its time is below what the seat reads on the board plus the plan's `window`. Whatever a process gives out is
+    /// dealt with right after: a letter to an own process arrives at once, another one is pushed into a ring, or kept where
+    /// the ring has no room. The time of each letter that is pushed is noted on the board. It takes no lock and never waits.
+    ///
+    /// The model is the one that the processes run; they are all of the worker's, in order, each sound where `collected` is the
+    /// greatest time collected. The port has the worker's number, and the seat belongs to the board. All this holds again after.
+    ///
+    /// # Errors
+    ///
+    /// `Exhausted` where a process was to execute an event in a state that can take no further one, and `Memory` where
+    /// memory was refused. The worker is then gone.
+    pub fn turn(self, alloc: Global, model: &M, board: &Board) -> Result<(Worker<M>, u64), Refusal>
+        requires fit { IsFit M.Model M.Body.cmp model.now self }
+        requires board { self.seat.board ≡ board.now.board }
+        ensures turn { IfOk result (λ r. TookTurn (rules M.Model M.Body.cmp model.now) self r.0 r.1) }
+        ensures fit { IfOk result (λ r. IsFit M.Model M.Body.cmp model.now r.0) }
+    {
+        let Worker { mut desk, inbox } = self;
+        desk.deal(alloc, model, board, inbox)?;
+        desk.offer_kept(alloc, model, board)?;
+        desk.receive_all(alloc, model, board)?;
+        let executed = desk.execute_some(alloc, model, board)?;
+        let worker = Worker {
+            desk,
+            inbox: Vec::new(alloc),
+        };
+        Ok((worker, executed))
+    }
+
+    /// Notes the least time of the worker's processes and the time of each kept letter: what it leaves behind after its last
+    /// turn. Takes no memory.
+    pub(crate) fn close(self, board: &Board) -> Worker<M>
+        requires board { self.seat.board ≡ board.now.board }
+        ensures closes { (m : M) → Closes (rules M.Model M.Body.cmp m) self result }
+    {
+        let Worker { mut desk, inbox } = self;
+        desk.close(board);
+        Worker { desk, inbox }
+    }
+
+    /// The worker's processes, its port and its seat. The letters that it kept, and then those that it set aside, are
+    /// appended to `letters`.
+    pub(crate) fn leave(
+        self,
+        letters: &mut Vec<Letter<M::Body>>,
+    ) -> Result<(Vec<Lp<M>>, Port<M::Body>, Seat), NoMemory>
+        ensures processes { IfOk result (λ r. r.0.items ≡ self.processes) }
+        ensures port { IfOk result (λ r. r.1 ≡ self.port) }
+        ensures seat { IfOk result (λ r. r.2 ≡ self.seat) }
+        ensures letters { OnOk result (letters.new.items ≡ letters.old.items ++ (self.kept ++ self.aside)) }
+    {
+        let Worker { desk, inbox: _ } = self;
+        let Desk {
+            number: _,
+            plan: _,
+            collected: _,
+            processes,
+            mut kept,
+            mut aside,
+            port,
+            seat,
+            traffic: _,
+        } = desk;
+        letters.append(&mut kept)?;
+        letters.append(&mut aside)?;
+        Ok((processes, port, seat))
+    }
+
+    /// The worker's number, from 0. Takes no memory.
+    pub(crate) fn number(&self) -> u32
+        ensures number { result ≡ self.now.role.number }
+    {
+        self.desk.number
+    }
+
+    /// What the worker did so far: executions, undoings, letters received through rings, and letters that it holds back. Takes
+    /// no memory.
+    pub(crate) fn traffic(&self) -> Traffic {
+        let mut traffic = self.desk.traffic;
+        traffic.kept = (self.desk.kept.len() as u64).wrapping_add(self.desk.aside.len() as u64);
+        traffic
+    }
+}
