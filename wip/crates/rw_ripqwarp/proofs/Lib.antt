@@ -1,6 +1,0 @@
-pub mod Lines
-pub mod Runs
-pub mod Written
-pub mod Words
-pub mod Journals
-pub mod Schedules

@@ -1,6 +1,0 @@
-pub mod Report
-pub mod Sink
-pub mod Faults
-pub mod Simulate
-pub mod Schedule
-pub mod Journal
