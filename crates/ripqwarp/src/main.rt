@@ -55,7 +55,7 @@ fn main(rt: HostRuntime) -> ExitCode {
     };
     let mut traces = Traces { rt: &rt };
     let mut out = Out::new(rt.stdout());
-    let status = command(alloc, words, &mut traces, &mut out, &mut err);
+    let status = command(&rt, alloc, words, &mut traces, &mut out, &mut err);
     ExitCode::from(status)
 }
 

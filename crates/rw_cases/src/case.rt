@@ -1,30 +1,15 @@
+use crate::given::Given;
 use anyhow::Result;
-use rw_ripqwarp::{Out, Source, SourceFault, command};
+use rw_ripqwarp::{Out, command};
 use serde_json::Value;
 use std::alloc::{AllocError, Global};
+use std::sync::Wait;
+use std::thread::Threads;
 
 /// One run of the program and what is expected of it.
 #[derive(Drop)]
 pub struct Case {
     value: Value,
-}
-
-/// The bytes of standard input; there is no file.
-#[derive(Drop)]
-struct Given<'a> {
-    bytes: &'a [u8],
-}
-
-impl Source for Given<'_> {
-    fn bytes(&mut self, alloc: Global, path: &str) -> Result<Vec<u8>, SourceFault> {
-        if path != "-" {
-            return Err(SourceFault::Read);
-        }
-        match Vec::from_slice(alloc, self.bytes) {
-            Ok(bytes) => Ok(bytes),
-            Err(_) => Err(SourceFault::Memory),
-        }
-    }
 }
 
 impl Case {
@@ -40,15 +25,20 @@ impl Case {
         self.text("name")
     }
 
-    /// Runs the case, and tells whether the program does what it says.
-    pub fn agrees(&self, alloc: Global) -> Result<bool, AllocError> {
+    /// Runs the case, and tells whether the program does what it says. Where the case says nothing of standard error,
+    /// as of the line that tells what rounds did, any will do.
+    pub fn agrees<R: Threads + Wait + Sync>(
+        &self,
+        rt: &R,
+        alloc: Global,
+    ) -> Result<bool, AllocError> {
         let words = self.words(alloc)?;
         let mut given = Given {
             bytes: self.text("stdin").as_bytes(),
         };
         let mut out = Out::new(Vec::new(alloc));
         let mut err = Vec::new(alloc);
-        let status = command(alloc, words, &mut given, &mut out, &mut err);
+        let status = command(rt, alloc, words, &mut given, &mut out, &mut err);
         let same_status = self.value.get("status").and_then(Value::as_u64)
             == Some(u64::from(status));
         let same_out = out.into_inner().as_slice() == self.text("stdout").as_bytes();

@@ -10,6 +10,8 @@ mod fill_at_start;
 #[cfg(test)]
 mod parcels;
 #[cfg(test)]
+mod relay_rounds;
+#[cfg(test)]
 mod relay_world;
 #[cfg(test)]
 mod station_process;

@@ -14,10 +14,12 @@ use Rattle.rw_photo.specs.Events.{is_valid}
 use Rattle.rw_photo.specs.Simulation.{simulation, starts_of}
 use Rattle.rw_vt.specs.declared.refusal.Refusal.{Refusal}
 use Rattle.rw_vt.specs.declared.refusal.Refusal.TheVariants.{Memory, Exhausted}
+use Rattle.rw_rounds.specs.declared.stop.Stop.{Stop}
+use Rattle.rw_rounds.specs.declared.stop.Stop.TheVariants as stop
 use Rattle.std.specs.Result.{IfErr, IsErrAnd}
-use Rattle.rw_ripqwarp.specs.declared.simulation.SimFault.{SimFault}
-use Rattle.rw_ripqwarp.specs.declared.simulation.SimFault.TheVariants as told
-use Rattle.rw_ripqwarp.specs.Faults.{sim_refusal_of}
+use Rattle.rw_ripqwarp.specs.declared.sim_fault.SimFault.{SimFault}
+use Rattle.rw_ripqwarp.specs.declared.sim_fault.SimFault.TheVariants as told
+use Rattle.rw_ripqwarp.specs.Faults.{IsUpToPlan, sim_refusal_of, sim_stop_of}
 use Rattle.rw_ripqwarp.specs.Simulate.{IsBeginningOf}
 
 -- what is said of each place, with one more
@@ -64,3 +66,21 @@ pub err-exhausted : {T : Type 0} (r : Result T SimFault) (e : Refusal) (X : Type
 err-exhausted (Ok t) e X is h = tt
 err-exhausted (Err f) Memory X is h = λ same. let clash : told.Memory ≡ told.Exhausted = sym is ∙ same in cc
 err-exhausted (Err f) Exhausted X is h = λ same. h refl
+
+-- a stop is told as a bad plan where it is one
+bad-plan : (s : Stop) → sim_stop_of s ≡ told.Plan → s ≡ stop.BadPlan
+bad-plan stop.Memory same = cc
+bad-plan stop.Exhausted same = cc
+bad-plan stop.RoundsUsed same = cc
+bad-plan stop.BadPlan same = refl
+bad-plan stop.NoThread same = cc
+
+-- a run is told as having a bad plan where its stop is that
+pub err-plan : {T : Type 0} (r : Result T SimFault) (s : Stop) (X : Type 0) → IsErrAnd r (λ f. f ≡ sim_stop_of s) → (s ≡ stop.BadPlan → X) → IfErr r (λ f. f ≡ told.Plan → X)
+err-plan (Ok t) s X is h = tt
+err-plan (Err f) s X is h = λ same. h (bad-plan s (sym is ∙ same))
+
+-- and where the stop is that, it is told
+pub err-up-to-plan : {T : Type 0} (r : Result T SimFault) (s : Stop) (X : Type 0) → IsErrAnd r (λ f. f ≡ sim_stop_of s) → (X → s ≡ stop.BadPlan) → IfErr r (λ f. X → IsUpToPlan f)
+err-up-to-plan (Ok t) s X is h = tt
+err-up-to-plan (Err f) s X is h = λ bad. subst IsUpToPlan (sym (is ∙ ap sim_stop_of (h bad))) tt

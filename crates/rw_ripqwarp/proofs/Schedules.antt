@@ -28,6 +28,15 @@ caches_of x = system_of model.ghosts order.ghosts.cmp x
 abbrev pub unstarted : Photo → List Cache → List (Event Body) → Simulation Photo Cache Body
 unstarted m starts initial = record { model = m; starts = starts; initial = initial; world = opened (system model.ghosts order.ghosts.cmp m starts initial) }
 
+-- what runs from there is the simulation of the configuration
+pub opened-simulates : (c : Config) (m : Photo) (bytes : List ℕ) (starts : List Cache) (initial : List (Event Body)) (x : Simulation Photo Cache Body)
+    → m.config ≡ c → (b : IsBeginningOf c bytes starts initial) → x ≡ unstarted m starts initial → caches_of x ≡ simulation c b.rows
+opened-simulates c m bytes starts initial x config b first = ap caches_of first ∙ simulates c m bytes starts initial config b
+
+-- with the same starts
+pub length-opened : (m : Photo) (starts : List Cache) (initial : List (Event Body)) (x : Simulation Photo Cache Body) → x ≡ unstarted m starts initial → length x.starts ≡ length starts
+length-opened m starts initial x first = ap (λ (o : Simulation Photo Cache Body). length o.starts) first
+
 -- where the steps lead from there, and what they answer, is what the journal tells
 pub told : (c : Config) (m : Photo) (bytes : List ℕ) (starts : List Cache) (initial : List (Event Body)) (steps : List Step) (x z : Simulation Photo Cache Body) (given : List Answer)
     → m.config ≡ c → (b : IsBeginningOf c bytes starts initial) → x ≡ unstarted m starts initial → z ≡ with_world x (run (caches_of x) x.world steps)

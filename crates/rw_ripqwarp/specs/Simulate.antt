@@ -14,10 +14,12 @@ use Rattle.rw_world.specs.declared.step.Step.{Step}
 use Rattle.rw_world.specs.WorldState.{opened}
 use Rattle.rw_world.specs.Steps.{answers, run}
 use Rattle.rw_world.specs.Calls.{MeetsAt}
+use Rattle.rw_rounds.specs.declared.traffic.Traffic.{Traffic}
+use Rattle.rw_rounds.specs.Plans.{IsInRanges}
 use Rattle.rw_ripqwarp.specs.Report.{report_text}
 use Rattle.rw_ripqwarp.specs.Journal.{journal_text}
-use Rattle.rw_ripqwarp.specs.declared.simulation.Mode.{Mode}
-use Rattle.rw_ripqwarp.specs.declared.simulation.Mode.TheVariants.{Serial, Journal}
+use Rattle.rw_ripqwarp.specs.declared.mode.Mode.{Mode}
+use Rattle.rw_ripqwarp.specs.declared.mode.Mode.TheVariants.{Serial, Warp, Journal}
 
 -- the text is the report of the trace in these bytes: the trace is accepted with these rows; executing their requests, and all
 -- that follows from them, in order of time leaves the caches in these states; and the text tells what they have counted
@@ -36,9 +38,10 @@ pub record IsJournalOf (steps : List Step) (c : Config) (bytes text : List ℕ) 
   pub accepted : trace_of c.edges (2 ^ 24) (records_of bytes) ≡ Ok rows
   pub told : text ≡ journal_text (answers (simulation c rows) (opened (simulation c rows)) steps) (run (simulation c rows) (opened (simulation c rows)) steps)
 
--- the text is what this mode makes of the trace in these bytes
+-- the text is what this mode makes of the trace in these bytes; rounds of workers make the very report of the one thread
 abbrev pub IsTextOf : Mode → Config → List ℕ → List ℕ → Type 0
 IsTextOf Serial c bytes text = IsReportOf c bytes text
+IsTextOf (Warp plan) c bytes text = IsReportOf c bytes text
 IsTextOf (Journal steps) c bytes text = IsJournalOf steps.items c bytes text
 
 -- the trace in these bytes is accepted, and executing it in order of time comes to a cache that can take no further event
@@ -53,10 +56,31 @@ pub record IsExhaustingBySteps (steps : List Step) (c : Config) (bytes : List �
   pub accepted : trace_of c.edges (2 ^ 24) (records_of bytes) ≡ Ok rows
   pub met : MeetsAt (simulation c rows) (opened (simulation c rows)) is_exhausted steps
 
--- the trace in these bytes is accepted, and in this mode comes to a cache that can take no further event
+-- the trace in these bytes is accepted
+pub record IsAccepted (c : Config) (bytes : List ℕ) : Type 0 where
+  pub rows : List Row
+  pub accepted : trace_of c.edges (2 ^ 24) (records_of bytes) ≡ Ok rows
+
+-- the trace in these bytes is accepted, and in this mode comes to a cache that can take no further event; of rounds only the first
+-- is said, since a worker may come to such a cache in a past that is then undone
 abbrev pub IsExhausting : Mode → Config → List ℕ → Type 0
 IsExhausting Serial c bytes = IsExhaustingInOrder c bytes
+IsExhausting (Warp plan) c bytes = IsAccepted c bytes
 IsExhausting (Journal steps) c bytes = IsExhaustingBySteps steps.items c bytes
+
+-- the trace is run in rounds
+abbrev pub IsWarp : Mode → Type 0
+IsWarp (Warp plan) = Unit {0}
+IsWarp _ = ⊥
+
+-- the trace is run in rounds by a plan of which some field is out of its range
+abbrev pub HasBadPlan : Mode → Type 0
+HasBadPlan (Warp plan) = IsInRanges plan → ⊥
+HasBadPlan _ = ⊥
+
+-- no round was run
+abbrev pub no_traffic : Traffic
+no_traffic = record { rounds = 0; executed = 0; undone = 0; ring = 0; kept = 0 }
 
 -- a run of the trace in these bytes begins with these caches and events: the trace is accepted, the caches and the requests are
 -- those of its simulation, and a model of the configuration may run them

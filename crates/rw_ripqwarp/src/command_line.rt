@@ -1,12 +1,17 @@
-use crate::options::{config, program};
+use crate::mode::Mode;
+use crate::options::{config, plan, program};
 use crate::output::Out;
 use crate::schedule_text::{ScheduleFault, schedule};
-use crate::simulation::{Mode, SimFault, simulate};
+use crate::sim_fault::SimFault;
+use crate::simulation::simulate;
 use crate::source::{Source, SourceFault};
 use clap::ArgMatches;
 use clap::error::ErrorKind;
+use rw_rounds::Traffic;
 use std::alloc::{AllocError, Global};
 use std::io::Write;
+use std::sync::Wait;
+use std::thread::Threads;
 
 /// Why the program did not do what its words ask, each shown as one line.
 #[derive(Debug, Drop, thiserror::Error)]
@@ -35,13 +40,17 @@ impl Fault {
     /// The exit status that tells it.
     pub(crate) fn status(&self) -> u8 {
         match self {
-            Fault::CommandLine(_) | Fault::Plan | Fault::Schedule(ScheduleFault::Word(_)) => 2,
+            Fault::CommandLine(_)
+            | Fault::Plan
+            | Fault::Schedule(ScheduleFault::Word(_))
+            | Fault::Run(SimFault::Plan) => 2,
             Fault::Run(SimFault::Trace(_)) => 3,
             Fault::Source(SourceFault::Read) => 4,
             Fault::Memory
             | Fault::Schedule(ScheduleFault::Memory)
             | Fault::Source(SourceFault::Memory)
             | Fault::Run(SimFault::Memory) => 5,
+            Fault::Run(SimFault::Rounds | SimFault::NoThread) => 6,
             Fault::Run(SimFault::Exhausted) => 7,
             Fault::Run(SimFault::Output) => 8,
         }
@@ -50,7 +59,8 @@ impl Fault {
 
 /// Does what the program's words ask, its name first, and answers the exit status.
 ///
-/// The report, the journal or help goes to `out`. A fault goes to `err` as one line; where that fails it is ignored.
+/// The report, the journal or help goes to `out`. A fault goes to `err` as one line; and so does, once the report of a
+/// run in rounds is written, what its rounds did. Where `err` fails it is ignored.
 ///
 /// | Status | Meaning |
 /// |---|---|
@@ -59,17 +69,23 @@ impl Fault {
 /// | 3 | the trace was refused |
 /// | 4 | the trace cannot be read |
 /// | 5 | memory |
+/// | 6 | all rounds of the plan are used, or the start of a thread was refused |
 /// | 7 | a cache is exhausted |
 /// | 8 | output failed |
-pub fn command<S: Source, W: Write, E: Write>(
+pub fn command<S: Source, W: Write, E: Write, R: Threads + Wait + Sync>(
+    rt: &R,
     alloc: Global,
     words: Vec<String>,
     source: &mut S,
     out: &mut Out<W>,
     err: &mut E,
 ) -> u8 {
-    match attempt(alloc, words.as_slice(), source, out) {
-        Ok(()) => 0,
+    match attempt(rt, alloc, words.as_slice(), source, out) {
+        Ok(None) => 0,
+        Ok(Some(traffic)) => {
+            tell_traffic(&traffic, err);
+            0
+        }
         Err(fault) => {
             tell(alloc, &fault, err);
             fault.status()
@@ -77,20 +93,31 @@ pub fn command<S: Source, W: Write, E: Write>(
     }
 }
 
-/// Does what the words ask.
-fn attempt<'a, S: Source, W: Write>(
+/// Does what the words ask; after a run in rounds, what they did.
+fn attempt<'a, S: Source, W: Write, R: Threads + Wait + Sync>(
+    rt: &R,
     alloc: Global,
     words: &'a [String],
     source: &mut S,
     out: &mut Out<W>,
-) -> Result<(), Fault> {
+) -> Result<Option<Traffic>, Fault> {
     let program = program(alloc)?;
     let matches = match program.try_get_matches_from(words) {
         Ok(matches) => matches,
-        Err(error) => return answer(alloc, error, out),
+        Err(error) => {
+            answer(alloc, error, out)?;
+            return Ok(None);
+        }
     };
     if let Some(matches) = matches.subcommand_matches("serial") {
-        return run(alloc, matches, Mode::Serial, source, out);
+        run(rt, alloc, matches, Mode::Serial, source, out)?;
+        return Ok(None);
+    }
+    if let Some(matches) = matches.subcommand_matches("warp") {
+        let Some(plan) = plan(matches) else {
+            return Err(Fault::Plan);
+        };
+        return Ok(Some(run(rt, alloc, matches, Mode::Warp(plan), source, out)?));
     }
     let Some(matches) = matches.subcommand_matches("journal") else {
         return Err(Fault::Plan);
@@ -99,17 +126,19 @@ fn attempt<'a, S: Source, W: Write>(
         return Err(Fault::Plan);
     };
     let steps = schedule(alloc, words).map_err(Fault::Schedule)?;
-    run(alloc, matches, Mode::Journal(steps), source, out)
+    run(rt, alloc, matches, Mode::Journal(steps), source, out)?;
+    Ok(None)
 }
 
 /// Runs the trace that a command names, through the caches that its options say.
-fn run<S: Source, W: Write>(
+fn run<S: Source, W: Write, R: Threads + Wait + Sync>(
+    rt: &R,
     alloc: Global,
     matches: &ArgMatches<'_>,
     mode: Mode,
     source: &mut S,
     out: &mut Out<W>,
-) -> Result<(), Fault> {
+) -> Result<Traffic, Fault> {
     let Some(config) = config(matches) else {
         return Err(Fault::Plan);
     };
@@ -117,7 +146,7 @@ fn run<S: Source, W: Write>(
         return Err(Fault::Plan);
     };
     let bytes = source.bytes(alloc, trace).map_err(Fault::Source)?;
-    simulate(alloc, bytes.as_slice(), &config, mode, out).map_err(Fault::Run)
+    simulate(rt, alloc, bytes.as_slice(), &config, mode, out).map_err(Fault::Run)
 }
 
 /// Deals with what `clap` answers in place of a command: help, which is printed, or a fault.
@@ -143,6 +172,22 @@ pub(crate) fn tell<E: Write>(alloc: Global, fault: &Fault, err: &mut E) {
         Err(_) => err.write_all(b"memory"),
     };
     let _ = err.write_all(b"\n");
+    let _ = err.flush();
+}
+
+/// Writes what the rounds of a run did as one line; a writer that fails is let be.
+fn tell_traffic<E: Write>(traffic: &Traffic, err: &mut E) {
+    let Traffic {
+        rounds,
+        executed,
+        undone,
+        ring,
+        kept,
+    } = *traffic;
+    let _ = writeln!(
+        err,
+        "traffic rounds {rounds} executed {executed} undone {undone} ring {ring} kept {kept}"
+    );
     let _ = err.flush();
 }
 

@@ -2,20 +2,38 @@
 //! The program as a library: from the bytes of a trace to the bytes of a report, or of a journal under a schedule, and the
 //! command line around it.
 
+ghost use Rattle.std.specs.Prelude.{◌≡◌, ℕ, List};
+ghost use Rattle.rw_photo.specs.declared.config.Config.{Config};
+ghost use Rattle.rw_ripqwarp.specs.Simulate.{IsReportOf};
+
 mod command_line;
 mod journal_text;
+mod mode;
 mod options;
 mod output;
 mod schedule_text;
+mod sim_fault;
 mod simulation;
 mod source;
+#[cfg(test)]
+mod round_tests;
 #[cfg(test)]
 mod tests;
 mod text;
 
 pub use command_line::command;
+pub use mode::Mode;
 pub use output::Out;
+pub use rw_rounds::{Plan, Traffic};
 pub use schedule_text::{ScheduleFault, schedule};
-pub use simulation::{Mode, SimFault, simulate};
+pub use sim_fault::SimFault;
+pub use simulation::simulate;
 pub use source::{Source, SourceFault};
 pub use text::report;
+
+/// A trace has one report under a configuration. So a run in rounds, however many workers it has and whatever they take
+/// back, writes byte for byte what the run on one thread writes. This is a law of the definitions; the call itself does
+/// nothing.
+pub fn one_report()
+    ensures { (c : Config) (bytes a b : List ℕ) → IsReportOf c bytes a → IsReportOf c bytes b → a ≡ b }
+{}

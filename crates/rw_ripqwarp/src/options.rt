@@ -2,6 +2,8 @@ ghost use Rattle.std.specs.Prelude.{◌<◌, ◌^◌};
 
 use clap::{Arg, ArgMatches, Command, value_parser};
 use rw_photo::{Config, Policy, Shape};
+use rw_rounds::Plan;
+use rw_vt::END;
 use std::alloc::{AllocError, Global};
 
 /// The command line as `clap` reads it.
@@ -12,6 +14,7 @@ pub(crate) fn program<'a>(alloc: Global) -> Result<Command<'a>, AllocError> {
             .subcommand_required(true)
             .arg_required_else_help(true)
             .subcommand(serial(alloc)?)?
+            .subcommand(warp(alloc)?)?
             .subcommand(journal(alloc)?)?,
     )
 }
@@ -21,6 +24,17 @@ fn serial<'a>(alloc: Global) -> Result<Command<'a>, AllocError> {
     let command = Command::new(alloc, "serial")
         .about("Runs a trace on one thread and prints the counters of each cache")
         .arg(trace(alloc))?;
+    caches(alloc, command)
+}
+
+/// The command that runs a trace in rounds of workers.
+fn warp<'a>(alloc: Global) -> Result<Command<'a>, AllocError> {
+    let command = Command::new(alloc, "warp")
+        .about(
+            "Runs a trace on several threads, ahead of time, and prints the report that serial prints",
+        )
+        .arg(trace(alloc))?;
+    let command = rounds(alloc, command)?;
     caches(alloc, command)
 }
 
@@ -44,6 +58,35 @@ fn trace<'a>(alloc: Global) -> Arg<'a> {
         .value_name("TRACE")
         .required(true)
         .help("The trace, a CSV file under the header time,edge,object,size; - is standard input")
+}
+
+/// The options that say how rounds are run.
+fn rounds<'a>(alloc: Global, command: Command<'a>) -> Result<Command<'a>, AllocError> {
+    let workers = count(alloc, "workers", 16, "2").help(
+        "Workers, each a thread with caches of its own, 1 to 16",
+    );
+    let turns = count(alloc, "turns", 4096, "16").help(
+        "Turns that a worker takes in a round, 1 to 4096",
+    );
+    let batch = count(alloc, "batch", 4096, "64").help(
+        "Events that a worker may execute in a turn, 1 to 4096",
+    );
+    let window = size(alloc, "window", END, "1099511627776")
+        .value_name("TICKS")
+        .help("Ticks that a worker may run ahead of the others, 1 to 1099511627776");
+    let ring = count(alloc, "ring", 4096, "64").help(
+        "Letters on their way from a worker to another, 1 to 4096",
+    );
+    let rounds = count(alloc, "rounds", 1_048_576, "65536").help(
+        "Rounds after which the run is given up, 1 to 1048576",
+    );
+    command
+        .arg(workers)?
+        .arg(turns)?
+        .arg(batch)?
+        .arg(window)?
+        .arg(ring)?
+        .arg(rounds)
 }
 
 /// The options that say which caches there are.
@@ -124,6 +167,18 @@ pub(crate) fn config(matches: &ArgMatches<'_>) -> Option<Config> {
         matches.get_one("down")?,
         matches.get_one("back")?,
     )
+}
+
+/// The plan that a command's options say; None where one is missing, which the command line rules out.
+pub(crate) fn plan(matches: &ArgMatches<'_>) -> Option<Plan> {
+    Some(Plan {
+        workers: matches.get_one("workers")?,
+        turns: matches.get_one("turns")?,
+        batch: matches.get_one("batch")?,
+        window: matches.get_one("window")?,
+        ring: matches.get_one("ring")?,
+        max_rounds: matches.get_one("rounds")?,
+    })
 }
 
 /// The policy of this name.

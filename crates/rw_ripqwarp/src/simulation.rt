@@ -1,144 +1,113 @@
 ghost use Rattle.std.specs.Prelude.{◌≡◌, ◌≢◌, ◌^◌, ◌↔◌, ℕ, List, Err, Some, IfOk, IfErr, OnOk, slice_get};
 ghost use Rattle.std.specs.Io.KnownBytes.{Appends};
 ghost use Rattle.rw_trace.specs.declared.TraceFault.{TraceFault};
-ghost use Rattle.rw_trace.specs.declared.TraceFault.TheVariants as fault;
 ghost use Rattle.rw_trace.specs.Trace.{trace_of};
 ghost use Rattle.rw_trace.specs.Unread.{records_of};
 ghost use Rattle.rw_photo.specs.Cache.{Cache, IsWellFormed};
 ghost use Rattle.rw_photo.specs.Simulation.{starts_of};
-ghost use Rattle.rw_ripqwarp.specs.Sink.{AppendsBeginning, one_more};
-ghost use Rattle.rw_ripqwarp.specs.Simulate.{IsBeginningOf, IsExhausting, IsTextOf};
-ghost use Rattle.rw_ripqwarp.specs.declared.simulation.SimFault.TheVariants.{Exhausted, Memory, Trace};
+ghost use Rattle.rw_ripqwarp.specs.Faults.{IsOfBeginning, IsOfRounds, IsUpToPlan};
+ghost use Rattle.rw_ripqwarp.specs.Sink.{AppendsBeginning};
+ghost use Rattle.rw_ripqwarp.specs.Simulate.{HasBadPlan, IsAccepted, IsBeginningOf, IsExhausting, IsTextOf, IsWarp, no_traffic};
 
 use crate::journal_text::journal;
+use crate::mode::Mode;
 use crate::output::Out;
+use crate::sim_fault::SimFault;
 use crate::text::report;
 use rw_photo::{Body, CacheState, Config, Photo, requests};
-use rw_serial::run;
-use rw_trace::{TraceFault, read};
-use rw_vt::{Event, Model as VtModel, NoMemory, Refusal};
-use rw_world::{Step, World};
+use rw_rounds::{Open, Traffic};
+use rw_trace::read;
+use rw_vt::{Event, Model as VtModel, NoMemory};
+use rw_world::World;
 use std::alloc::Global;
 use std::io::Write;
+use std::sync::Wait;
+use std::thread::Threads;
 
-/// How a trace is run.
-#[derive(Debug, Drop, PartialEq, Eq)]
-pub enum Mode {
-    /// On one thread, each event in order of time. The text is a report.
-    Serial,
-    /// By these steps, of which those that do not apply are refused. The text is a journal: what was refused, and what
-    /// each cache has committed.
-    Journal(Vec<Step>),
-}
-
-/// Why a run has no text, each shown as one line.
-#[derive(Debug, Drop, thiserror::Error)]
-pub enum SimFault {
-    /// The trace was refused; never for want of memory, which is `Memory`.
-    #[error("{0}")]
-    Trace(TraceFault),
-    /// A request for memory was refused.
-    #[error("memory")]
-    Memory,
-    /// A cache can take no further event.
-    #[error("exhausted")]
-    Exhausted,
-    /// The writer failed: what went out is a beginning of the text.
-    #[error("output")]
-    Output,
-}
-
-impl From<TraceFault> for SimFault {
-    ghost from_gives = { λ fault sim. sim ≡ sim_fault_of fault };
-
-    ghost use Rattle.rw_ripqwarp.specs.Faults.{sim_fault_of};
-
-    fn from(fault: TraceFault) -> SimFault {
-        match fault {
-            TraceFault::Memory => SimFault::Memory,
-            fault => SimFault::Trace(fault),
-        }
-    }
-}
-
-impl From<Refusal> for SimFault {
-    ghost from_gives = { λ refusal sim. sim ≡ sim_refusal_of refusal };
-
-    ghost use Rattle.rw_ripqwarp.specs.Faults.{sim_refusal_of};
-
-    fn from(refusal: Refusal) -> SimFault {
-        match refusal {
-            Refusal::Memory => SimFault::Memory,
-            Refusal::Exhausted => SimFault::Exhausted,
-        }
-    }
-}
-
-impl From<NoMemory> for SimFault {
-    ghost from_gives = { λ _ sim. sim ≡ Memory };
-
-    fn from(_refusal: NoMemory) -> SimFault {
-        SimFault::Memory
-    }
-}
-
-/// Runs a trace and writes its report, or its journal: what the mode says.
+/// Runs a trace and writes its report, or its journal: what the mode says. Tells what the rounds of a run in mode `Warp`
+/// did; in the other modes all counts are 0, and no thread is started.
+///
+/// The report of a run in rounds is the one that the run on one thread has: [`one_report`](crate::one_report).
 ///
 /// The text is made whole, then written by a loop over `write`, then flushed. `Output` is answered exactly where the
 /// writer failed in the call, and what went out is then a beginning of the text; with any other fault nothing was written.
-pub fn simulate<W: Write>(
+/// The trace is tested before the plan.
+pub fn simulate<W: Write, R: Threads + Wait + Sync>(
+    rt: &R,
     alloc: Global,
     bytes: &[u8],
     config: &Config,
     mode: Mode,
     out: &mut Out<W>,
-) -> Result<(), SimFault>
+) -> Result<Traffic, SimFault>
     ensures report { OnOk result ((text : List ℕ) × IsTextOf mode config.now bytes.now text × Appends (W.contents out.old.writer) (W.contents out.new.writer) text) }
+    ensures still { IfOk result (λ traffic. (IsWarp mode → ⊥) → traffic ≡ no_traffic) }
+    ensures in_range { OnOk result (HasBadPlan mode → ⊥) }
     ensures trace { IfErr result (λ e. (f : TraceFault) → e ≡ SimFault.Trace f → trace_of config.now.edges (2 ^ 24) (records_of bytes.now) ≡ Err f) }
     ensures exhausted { IfErr result (λ e. e ≡ SimFault.Exhausted → IsExhausting mode config.now bytes.now) }
+    ensures plan { IfErr result (λ e. e ≡ SimFault.Plan → HasBadPlan mode) }
+    ensures bad_plan { IfErr result (λ e. HasBadPlan mode → IsUpToPlan e) }
+    ensures rounds { IfErr result (λ e. IsOfRounds e → IsWarp mode × IsAccepted config.now bytes.now) }
     ensures output { (result ≡ Err SimFault.Output) ↔ (out.new.failures ≢ out.old.failures) }
     ensures cut_off { result ≡ Err SimFault.Output → (text : List ℕ) × IsTextOf mode config.now bytes.now text × AppendsBeginning (W.contents out.old.writer) (W.contents out.new.writer) text }
     ensures nothing { IfErr result (λ e. e ≢ SimFault.Output → out.new ≡ out.old) }
 {
-    let text = text_of(alloc, bytes, config, mode)?;
+    let (text, traffic) = text_of(rt, alloc, bytes, config, mode)?;
     if out.write_text(text.as_slice()) {
-        Ok(())
+        Ok(traffic)
     } else {
         Err(SimFault::Output)
     }
 }
 
-/// The text of a run.
-fn text_of(alloc: Global, bytes: &[u8], config: &Config, mode: Mode) -> Result<Vec<u8>, SimFault>
-    ensures text { IfOk result (λ text. IsTextOf mode config.now bytes.now text.items) }
+/// The text of a run, and what its rounds did.
+fn text_of<R: Threads + Wait + Sync>(
+    rt: &R,
+    alloc: Global,
+    bytes: &[u8],
+    config: &Config,
+    mode: Mode,
+) -> Result<(Vec<u8>, Traffic), SimFault>
+    ensures text { IfOk result (λ r. IsTextOf mode config.now bytes.now r.0.items) }
+    ensures still { IfOk result (λ r. (IsWarp mode → ⊥) → r.1 ≡ no_traffic) }
+    ensures in_range { OnOk result (HasBadPlan mode → ⊥) }
     ensures trace { IfErr result (λ e. (f : TraceFault) → e ≡ SimFault.Trace f → trace_of config.now.edges (2 ^ 24) (records_of bytes.now) ≡ Err f) }
     ensures exhausted { IfErr result (λ e. e ≡ SimFault.Exhausted → IsExhausting mode config.now bytes.now) }
+    ensures plan { IfErr result (λ e. e ≡ SimFault.Plan → HasBadPlan mode) }
+    ensures bad_plan { IfErr result (λ e. HasBadPlan mode → IsUpToPlan e) }
+    ensures rounds { IfErr result (λ e. IsOfRounds e → IsWarp mode × IsAccepted config.now bytes.now) }
     ensures unwritten { IfErr result (λ e. e ≢ SimFault.Output) }
 {
     let (starts, initial) = beginning(alloc, bytes, config)?;
     let photo = Photo::new(*config);
     match mode {
         Mode::Serial => {
-            let outcome = run(alloc, &photo, starts, initial)?;
-            Ok(report(alloc, config, &outcome)?)
+            let outcome = rw_serial::run(alloc, &photo, starts, initial)?;
+            Ok((report(alloc, config, &outcome)?, Traffic::default()))
+        }
+        Mode::Warp(plan) => {
+            let world = World::open(alloc, photo, starts, initial)?;
+            let (outcome, traffic) = rw_rounds::run(rt, alloc, world, plan, &Open)?;
+            Ok((report(alloc, config, &outcome)?, traffic))
         }
         Mode::Journal(steps) => {
             let world = World::open(alloc, photo, starts, initial)?;
             let (world, answers) = world.run_steps(alloc, steps.as_slice())?;
-            Ok(journal(alloc, answers.as_slice(), &world, photo.processes())?)
+            let text = journal(alloc, answers.as_slice(), &world, photo.processes())?;
+            Ok((text, Traffic::default()))
         }
     }
 }
 
 /// What a run of a trace begins with: each cache as it starts, and the requests.
-fn beginning(
+pub(crate) fn beginning(
     alloc: Global,
     bytes: &[u8],
     config: &Config,
 ) -> Result<(Vec<CacheState>, Vec<Event<Body>>), SimFault>
     ensures beginning { IfOk result (λ r. IsBeginningOf config.now bytes.now r.0.items r.1.items) }
     ensures trace { IfErr result (λ e. (f : TraceFault) → e ≡ SimFault.Trace f → trace_of config.now.edges (2 ^ 24) (records_of bytes.now) ≡ Err f) }
-    ensures others { IfErr result (λ e. (e ≢ SimFault.Exhausted) × (e ≢ SimFault.Output)) }
+    ensures others { IfErr result IsOfBeginning }
 {
     let rows = read(alloc, bytes, config.edges())?;
     let initial = requests(alloc, rows.as_slice())?;

@@ -94,8 +94,9 @@ module _ {M S B : Type 0} (y : System S B) (r : Role) where
       let is : z ≡ l = cc in
       (ap (λ u. u.model) is, ap (λ u. u.number) is)
 
-  pub works_none : (a : WorkerState M S B) (at_hand : List (Letter B)) → a.role ≡ r → Works y r a a at_hand at_hand 0
-  works_none a at_hand is = record {
+  -- nothing is done, and what is at hand is put into another order
+  pub works_reordered : (a : WorkerState M S B) (at_hand rest : List (Letter B)) → a.role ≡ r → ((h : Letter B → ℕ) → weigh h rest ≡ weigh h at_hand) → Works y r a a at_hand rest 0
+  works_reordered a at_hand rest is same = record {
     before = is;
     after = is;
     inbox = refl;
@@ -111,14 +112,17 @@ module _ {M S B : Type 0} (y : System S B) (r : Role) where
     sent_more = λ k. sym (append-nil (sent_to a.port k));
     received_more = λ k. sym (append-nil (received_from a.port k));
     noted_more = sym (append-nil a.seat.noted);
-    arrived = λ h. omega (arith, none_at r);
+    arrived = λ h. omega (arith, same (only (is_own r) h), none_at r);
     set_aside = λ h. omega (arith, none_at r);
-    passed_on = λ h. omega (arith, none_at r);
+    passed_on = λ h. omega (arith, same (only (λ l. not (is_own r l)) h), none_at r);
     on_its_ring = λ k. tt;
     notes = λ h. sym (none_at r);
     executed = refl;
     named = named_itself a.processes a.processes refl;
   }
+
+  pub works_none : (a : WorkerState M S B) (at_hand : List (Letter B)) → a.role ≡ r → Works y r a a at_hand at_hand 0
+  works_none a at_hand is = works_reordered a at_hand at_hand is (λ h. refl)
 
   -- one step after another
   pub works_join : (a b c : WorkerState M S B) (u v w : List (Letter B)) (n m : ℕ) → Works y r a b u v n → Works y r b c v w m → Works y r a c u w (n + m)

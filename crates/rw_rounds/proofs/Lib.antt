@@ -12,4 +12,15 @@ pub mod Moving
 pub mod Looking
 pub mod Passing
 pub mod Taking
-pub mod Starting
+pub mod Ends
+pub mod Hands
+pub mod Totals
+pub mod Systems
+pub mod Working
+pub mod Beginning
+pub mod Joining
+pub mod Outstanding
+pub mod Rounding
+pub mod Gathered
+pub mod Sending
+pub mod Ending

@@ -1,6 +1,7 @@
 -- Sums of what letters weigh.
-use Rattle.std.proofs.Common.{◌≡◌, ℕ, zero, suc, ◌+◌, ◌<◌, cond, List, [], ◌∷◌, ◌++◌, refl, ap, ◌∙◌, arith, inl, inr}
-use Rattle.std.specs.Prelude.{◌⊎◌, ◌==◌}
+use Rattle.std.proofs.Common.{◌≡◌, ℕ, zero, suc, ◌+◌, ◌<◌, cond, List, [], ◌∷◌, ◌++◌, refl, sym, ap, ◌∙◌, subst, arith, inl, inr}
+use Rattle.std.specs.Prelude.{◌⊎◌, ◌==◌, reverse}
+use Rattle.std.proofs.lemmas.Grind.{reverse_onto}
 use Rattle.std.proofs.lemmas.Bool.{cases_eq, eq-eqb, ne_eqb}
 use Rattle.rw_rounds.specs.Bags.{weigh, Every, total}
 
@@ -59,6 +60,14 @@ module _ {X : Type 0} where
   pub every_back : (P : X → Type 0) (xs ys : List X) → Every P (xs ++ ys) → Every P ys
   every_back P [] ys e = e
   every_back P (x ∷ xs) ys e = every_back P xs ys e.1
+
+  pub weigh_reverse : (h : X → ℕ) (xs : List X) → weigh h (reverse xs) ≡ weigh h xs
+  weigh_reverse h [] = refl
+  weigh_reverse h (x ∷ xs) = ap (weigh h) (reverse_onto xs x []) ∙ (weigh-append h (reverse xs) (x ∷ []) ∙ omega (arith, weigh_reverse h xs))
+
+  pub every_reverse : (P : X → Type 0) (xs : List X) → Every P xs → Every P (reverse xs)
+  every_reverse P [] e = tt
+  every_reverse P (x ∷ xs) e = subst (Every P) (sym (reverse_onto xs x [])) (every_append P (reverse xs) (x ∷ []) (every_reverse P xs e.1) (e.0, tt))
 
   pub weigh_at : (n p : ℕ) (h : X → ℕ) (xs : List X) → p < n → total n (λ q. weigh h (at_only p xs q)) ≡ weigh h xs
   weigh_at n p h xs l = total_one n p (λ q. weigh h (at_only p xs q)) l (λ r l k. ap (weigh h) (at_other p r xs k)) ∙ ap (weigh h) (at_here p xs)

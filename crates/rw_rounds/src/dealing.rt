@@ -12,8 +12,8 @@ use rw_vt::{Letter, Model as VtModel, Refusal};
 use std::alloc::Global;
 
 impl<M: VtModel> Desk<M> {
-    /// Deals with letters until none is left, the last one first: one to an own process arrives there, and what that gives
-    /// out is dealt with in the same way; one to another worker is posted.
+    /// Deals with letters in order: one to an own process arrives there, and what that gives out is dealt with before the
+    /// next, its last one first; one to another worker is posted.
     pub(crate) fn deal(
         &mut self,
         alloc: Global,
@@ -28,7 +28,9 @@ impl<M: VtModel> Desk<M> {
         ensures fit { OnOk result (IsFit M.Model M.Body.cmp model.now (desk_of self.new)) }
         ensures fewer { OnOk result (dones self.new.processes.items ≤ dones self.old.processes.items) }
     {
+        // What is next stands last, so that it can be popped.
         let mut at_hand = letters;
+        at_hand.reverse();
         while let Some(letter) = at_hand.pop() {
             if self.owns(&letter) {
                 self.arrive(alloc, model, letter, &mut at_hand)?;

@@ -5,20 +5,31 @@
 //! others sent, executes ahead of them as far as the window lets it, and sends what its processes give out through rings;
 //! on the board it notes the time of each letter that it sends. It takes no lock and never waits.
 
+mod closing;
 mod dealing;
+mod dealing_out;
 mod desk;
 mod executing;
 mod gate;
+mod gathering;
 mod places;
 mod plan;
 mod posting;
 mod receiving;
-#[cfg(test)]
-mod tests;
+mod round;
+mod running;
+mod sim;
+mod stop;
+mod threads;
 mod traffic;
 mod worker;
+mod worker_round;
 
 pub use gate::{Gate, Open};
 pub use plan::Plan;
+pub use round::run_round;
+pub use running::run;
+pub use sim::Sim;
+pub use stop::Stop;
 pub use traffic::Traffic;
 pub use worker::Worker;

@@ -12,3 +12,14 @@ pub struct Traffic {
     /// Letters kept back at ends of rounds.
     pub kept: u64,
 }
+
+impl Traffic {
+    /// Adds other counts to these.
+    pub(crate) fn add(&mut self, more: &Traffic) {
+        self.rounds = self.rounds.wrapping_add(more.rounds);
+        self.executed = self.executed.wrapping_add(more.executed);
+        self.undone = self.undone.wrapping_add(more.undone);
+        self.ring = self.ring.wrapping_add(more.ring);
+        self.kept = self.kept.wrapping_add(more.kept);
+    }
+}

@@ -1,5 +1,6 @@
-ghost use Rattle.std.specs.Prelude.{◌≡◌, [], IfOk};
+ghost use Rattle.std.specs.Prelude.{◌≡◌, ◌++◌, [], IfOk, OnOk};
 ghost use Rattle.rw_lp.specs.Calls.{rules};
+ghost use Rattle.rw_rounds.specs.Rounds.{Closes};
 ghost use Rattle.rw_rounds.specs.Turns.{IsFit, TookTurn};
 
 use crate::desk::Desk;
@@ -8,7 +9,7 @@ use crate::traffic::Traffic;
 use rw_board::{Board, Seat};
 use rw_exchange::Port;
 use rw_lp::Lp;
-use rw_vt::{Letter, Model as VtModel, Refusal};
+use rw_vt::{Letter, Model as VtModel, NoMemory, Refusal};
 use std::alloc::Global;
 use std::marker::Model;
 
@@ -93,8 +94,57 @@ impl<M: VtModel> Worker<M> {
         Ok((worker, executed))
     }
 
-    /// What the worker did so far: executions, undoings, and letters received through rings. Takes no memory.
+    /// Notes the least time of the worker's processes and the time of each kept letter: what it leaves behind after its last
+    /// turn. Takes no memory.
+    pub(crate) fn close(self, board: &Board) -> Worker<M>
+        requires board { self.seat.board ≡ board.now.board }
+        ensures closes { (m : M) → Closes (rules M.Model M.Body.cmp m) self result }
+    {
+        let Worker { mut desk, inbox } = self;
+        desk.close(board);
+        Worker { desk, inbox }
+    }
+
+    /// The worker's processes, its port and its seat. The letters that it kept, and then those that it set aside, are
+    /// appended to `letters`.
+    pub(crate) fn leave(
+        self,
+        letters: &mut Vec<Letter<M::Body>>,
+    ) -> Result<(Vec<Lp<M>>, Port<M::Body>, Seat), NoMemory>
+        ensures processes { IfOk result (λ r. r.0.items ≡ self.processes) }
+        ensures port { IfOk result (λ r. r.1 ≡ self.port) }
+        ensures seat { IfOk result (λ r. r.2 ≡ self.seat) }
+        ensures letters { OnOk result (letters.new.items ≡ letters.old.items ++ (self.kept ++ self.aside)) }
+    {
+        let Worker { desk, inbox: _ } = self;
+        let Desk {
+            number: _,
+            plan: _,
+            collected: _,
+            processes,
+            mut kept,
+            mut aside,
+            port,
+            seat,
+            traffic: _,
+        } = desk;
+        letters.append(&mut kept)?;
+        letters.append(&mut aside)?;
+        Ok((processes, port, seat))
+    }
+
+    /// The worker's number, from 0. Takes no memory.
+    pub(crate) fn number(&self) -> u32
+        ensures number { result ≡ self.now.role.number }
+    {
+        self.desk.number
+    }
+
+    /// What the worker did so far: executions, undoings, letters received through rings, and letters that it holds back. Takes
+    /// no memory.
     pub(crate) fn traffic(&self) -> Traffic {
-        self.desk.traffic
+        let mut traffic = self.desk.traffic;
+        traffic.kept = (self.desk.kept.len() as u64).wrapping_add(self.desk.aside.len() as u64);
+        traffic
     }
 }

@@ -10,27 +10,30 @@ use Rattle.rw_lp.specs.declared.step.Answer.{Answer}
 use Rattle.rw_world.specs.declared.step.Step.{Step}
 use Rattle.rw_world.specs.Calls.{Simulation}
 use Rattle.rw_ripqwarp.specs.Journal.{journal_text}
-use Rattle.rw_ripqwarp.specs.declared.simulation.Mode.{Mode}
-use Rattle.rw_ripqwarp.specs.Simulate.{IsExhausting, IsExhaustingBySteps, IsExhaustingInOrder, IsJournalOf, IsReportOf, IsTextOf}
-use Rattle.rw_ripqwarp.proofs.Runs.{err-exhausted, length-states, ready-at, simulates}
-use Rattle.rw_ripqwarp.proofs.Schedules.{length-processes, met, same-model, told}
+use Rattle.rw_ripqwarp.specs.declared.mode.Mode.{Mode}
+use Rattle.rw_ripqwarp.specs.Simulate.{HasBadPlan, IsExhausting, IsExhaustingBySteps, IsExhaustingInOrder, IsJournalOf, IsReportOf, IsTextOf}
+use Rattle.rw_ripqwarp.proofs.Runs.{err-exhausted, err-plan, err-up-to-plan, length-states, ready-at, simulates}
+use Rattle.rw_ripqwarp.proofs.Schedules.{length-opened, length-processes, met, opened-simulates, same-model, told}
 use Rattle.rw_ripqwarp.proofs.simulation.text_of.Goals as goal
 
 pub run-requires : goal.run-requires
-run-requires c = record { ready = ready-at c.args.config.now c.new-photo.result c.in_ok-starts.starts.items c.in_ok-starts.initial.items c.new-photo.ensures c.in_ok-starts.ensures.beginning.ready }
+run-requires g c = record { ready = ready-at c.args.config.now c.new-photo.result c.in_ok-starts.starts.items c.in_ok-starts.initial.items c.new-photo.ensures c.in_ok-starts.ensures.beginning.ready }
 
 pub open-requires : goal.open-requires
-open-requires c = record { ready = ready-at c.args.config.now c.new-photo.result c.in_ok-starts.starts.items c.in_ok-starts.initial.items c.new-photo.ensures c.in_ok-starts.ensures.beginning.ready }
+open-requires g c = record { ready = ready-at c.args.config.now c.new-photo.result c.in_ok-starts.starts.items c.in_ok-starts.initial.items c.new-photo.ensures c.in_ok-starts.ensures.beginning.ready }
+
+pub open-requires-in-Journal : goal.open-requires-in-Journal
+open-requires-in-Journal g c = record { ready = ready-at c.args.config.now c.new-photo.result c.in_ok-starts.starts.items c.in_ok-starts.initial.items c.new-photo.ensures c.in_ok-starts.ensures.beginning.ready }
 
 pub report-requires : goal.report-requires
-report-requires c =
+report-requires g c =
     let config : Config = c.args.config.now in
     length-states _ (2 ^ 40) (map (λ j. j.items) c.in_ok-outcome-in-Serial.outcome.journals.items) c.in_ok-outcome-in-Serial.outcome.states.items c.in_ok-outcome-in-Serial.ensures.outcome
     ∙ ap length c.in_ok-starts.ensures.beginning.starts_are
     ∙ length-map-range_with_len (start config) 0 (config.edges + config.origins)
 
 pub returns-in_ok-report-in-Serial-clause-text : goal.returns-in_ok-report-in-Serial-clause-text
-returns-in_ok-report-in-Serial-clause-text c =
+returns-in_ok-report-in-Serial-clause-text g c =
     let config : Config = c.args.config.now in
     let bytes : List ℕ = c.args.bytes.now in
     let starts : List Cache = c.in_ok-starts.starts.items in
@@ -52,7 +55,7 @@ returns-in_ok-report-in-Serial-clause-text c =
     subst (λ (mode : Mode). IsTextOf mode config bytes text) (sym c.in-Serial.is) is
 
 pub returns-in_err-outcome-in-Serial-clause-exhausted : goal.returns-in_err-outcome-in-Serial-clause-exhausted
-returns-in_err-outcome-in-Serial-clause-exhausted c =
+returns-in_err-outcome-in-Serial-clause-exhausted g c =
     let config : Config = c.args.config.now in
     let bytes : List ℕ = c.args.bytes.now in
     let starts : List Cache = c.in_ok-starts.starts.items in
@@ -69,8 +72,49 @@ returns-in_err-outcome-in-Serial-clause-exhausted c =
     } in
     subst (λ (mode : Mode). IsExhausting mode config bytes) (sym c.in-Serial.is) is)
 
+pub report-requires-in-Warp : goal.report-requires-in-Warp
+report-requires-in-Warp g c =
+    let config : Config = c.args.config.now in
+    length-states _ (2 ^ 40) (map (λ j. j.items) c.in_ok-outcome-in-Warp.outcome.journals.items) c.in_ok-outcome-in-Warp.outcome.states.items c.in_ok-outcome-in-Warp.ensures.outcome
+    ∙ length-opened c.new-photo.result c.in_ok-starts.starts.items c.in_ok-starts.initial.items c.in_ok-world-in-Warp.world c.in_ok-world-in-Warp.ensures.opened
+    ∙ ap length c.in_ok-starts.ensures.beginning.starts_are
+    ∙ length-map-range_with_len (start config) 0 (config.edges + config.origins)
+
+pub returns-in_ok-report-in-Warp-clause-text : goal.returns-in_ok-report-in-Warp-clause-text
+returns-in_ok-report-in-Warp-clause-text g c =
+    let config : Config = c.args.config.now in
+    let bytes : List ℕ = c.args.bytes.now in
+    let starts : List Cache = c.in_ok-starts.starts.items in
+    let initial : List (Event Body) = c.in_ok-starts.initial.items in
+    let text : List ℕ = c.in_ok-report-in-Warp.field-0.items in
+    let beginning = c.in_ok-starts.ensures.beginning in
+    let journals = map (λ j. j.items) c.in_ok-outcome-in-Warp.outcome.journals.items in
+    let states : List Cache = c.in_ok-outcome-in-Warp.outcome.states.items in
+    let world : Simulation Photo Cache Body = c.in_ok-world-in-Warp.world in
+    let same = opened-simulates config c.new-photo.result bytes starts initial world c.new-photo.ensures beginning c.in_ok-world-in-Warp.ensures.opened in
+    let is : IsReportOf config bytes text =
+    record {
+      rows = beginning.rows;
+      journals = journals;
+      states = states;
+      accepted = beginning.accepted;
+      outcome = subst (λ (y : System Cache Body). IsOutcome y (2 ^ 40) journals states) same c.in_ok-outcome-in-Warp.ensures.outcome;
+      told = c.in_ok-report-in-Warp.ensures;
+    } in
+    subst (λ (mode : Mode). IsTextOf mode config bytes text) (sym c.in-Warp.is) is
+
+pub returns-in_err-outcome-in-Warp-clause-plan : goal.returns-in_err-outcome-in-Warp-clause-plan
+returns-in_err-outcome-in-Warp-clause-plan g c =
+    err-plan c.from_residual-in_err-outcome-in-Warp.result c.in_err-outcome-in-Warp.field-0.0 (HasBadPlan c.args.mode) c.from_residual-in_err-outcome-in-Warp.ensures.1
+    (λ stop. subst HasBadPlan (sym c.in-Warp.is) (c.in_err-outcome-in-Warp.ensures.plan.0 (ap Err stop)))
+
+pub returns-in_err-outcome-in-Warp-clause-bad_plan : goal.returns-in_err-outcome-in-Warp-clause-bad_plan
+returns-in_err-outcome-in-Warp-clause-bad_plan g c =
+    err-up-to-plan c.from_residual-in_err-outcome-in-Warp.result c.in_err-outcome-in-Warp.field-0.0 (HasBadPlan c.args.mode) c.from_residual-in_err-outcome-in-Warp.ensures.1
+    (λ bad. let stopped = c.in_err-outcome-in-Warp.ensures.plan.1 (subst HasBadPlan c.in-Warp.is bad) in cc stopped)
+
 pub journal-requires : goal.journal-requires
-journal-requires c =
+journal-requires g c =
     let starts : List Cache = c.in_ok-starts.starts.items in
     let initial : List (Event Body) = c.in_ok-starts.initial.items in
     let steps : List Step = c.as_slice.result.now in
@@ -87,19 +131,19 @@ journal-requires c =
           ∙ sym c.processes.ensures;
     }
 
-pub returns-in_ok-journal-in-Journal-clause-text : goal.returns-in_ok-journal-in-Journal-clause-text
-returns-in_ok-journal-in-Journal-clause-text c =
+pub returns-in_ok-text-in-Journal-clause-text : goal.returns-in_ok-text-in-Journal-clause-text
+returns-in_ok-text-in-Journal-clause-text g c =
     let config : Config = c.args.config.now in
     let bytes : List ℕ = c.args.bytes.now in
     let starts : List Cache = c.in_ok-starts.starts.items in
     let initial : List (Event Body) = c.in_ok-starts.initial.items in
     let steps : List Step = c.as_slice.result.now in
     let given : List Answer = c.in_ok-world-in-Journal-2.answers.items in
-    let text : List ℕ = c.in_ok-journal-in-Journal.field-0.items in
+    let text : List ℕ = c.in_ok-text-in-Journal.text.items in
     let beginning = c.in_ok-starts.ensures.beginning in
     let world : Simulation Photo Cache Body = c.in_ok-world-in-Journal-2.world in
     let written : text ≡ journal_text given world.world =
-    c.in_ok-journal-in-Journal.ensures
+    c.in_ok-text-in-Journal.ensures
     ∙ ap (λ ws. journal_text ws world.world) c.as_slice-in-Journal.ensures.value in
     let by : IsJournalOf steps config bytes text =
     record {
@@ -114,7 +158,7 @@ returns-in_ok-journal-in-Journal-clause-text c =
     subst (λ (mode : Mode). IsTextOf mode config bytes text) (sym c.in-Journal.is) is
 
 pub returns-in_err-world-in-Journal-2-clause-exhausted : goal.returns-in_err-world-in-Journal-2-clause-exhausted
-returns-in_err-world-in-Journal-2-clause-exhausted c =
+returns-in_err-world-in-Journal-2-clause-exhausted g c =
     let config : Config = c.args.config.now in
     let bytes : List ℕ = c.args.bytes.now in
     let starts : List Cache = c.in_ok-starts.starts.items in

@@ -1,19 +1,22 @@
 use Rattle.std.proofs.Common.{[], ◌∷◌, ◌++◌, refl, sym, ap, ◌∙◌, subst, arith, append-nil}
+use Rattle.std.specs.Prelude.{reverse}
 use Rattle.rw_lp.specs.Calls.{rules}
 use Rattle.rw_rounds.specs.Bags.{Every}
 use Rattle.rw_rounds.specs.Deeds.{IsFair}
 use Rattle.rw_rounds.specs.Working.{role_of, desk_of, Works, dones}
 use Rattle.rw_rounds.proofs.Governing.{Laws}
-use Rattle.rw_rounds.proofs.Adding.{works_none, works_then, works_more}
+use Rattle.rw_rounds.proofs.Adding.{works_reordered, works_then, works_more}
 use Rattle.rw_rounds.proofs.Fits.{fit_after}
-use Rattle.rw_rounds.proofs.Sums.{every_front, every_back}
+use Rattle.rw_rounds.proofs.Sums.{every_front, every_back, weigh_reverse, every_reverse}
 use Rattle.rw_rounds.proofs.desk.Desk.deal.Goals as goal
 
 pub loop-letter-init : goal.loop-letter-init
 loop-letter-init g c = record {
-  works = works_none (rules g.M.Model g.M.Body.Ord.cmp c.args.model.now) (role_of c.args.self.now) (desk_of c.args.self.now) c.args.letters.items refl;
+  works =
+      subst (λ ls. Works (rules g.M.Model g.M.Body.Ord.cmp c.args.model.now) (role_of c.args.self.now) (desk_of c.args.self.now) (desk_of c.args.self.now) c.args.letters.items ls 0) (sym c.reverse.ensures.items)
+      (works_reordered (rules g.M.Model g.M.Body.Ord.cmp c.args.model.now) (role_of c.args.self.now) (desk_of c.args.self.now) c.args.letters.items (reverse c.args.letters.items) refl (λ h. weigh_reverse h c.args.letters.items));
   fit = c.requires.fit;
-  fair = c.requires.fair;
+  fair = subst (Every (IsFair (rules g.M.Model g.M.Body.Ord.cmp c.args.model.now) c.args.self.now.collected)) (sym c.reverse.ensures.items) (every_reverse (IsFair (rules g.M.Model g.M.Body.Ord.cmp c.args.model.now) c.args.self.now.collected) c.args.letters.items c.requires.fair);
   board = c.requires.board;
   fewer = omega arith;
 }

@@ -1,0 +1,113 @@
+// The relay run in rounds, also from worlds that drawn steps lead to.
+ghost use Rattle.std.specs.Prelude.{◌≡◌, true};
+ghost use Rattle.rw_relay.specs.Parcels.{is_sound_event};
+
+use crate::parcels::{beginning, parcel};
+use rw_relay::{Parcel, Relay};
+use rw_rounds::{Open, Plan, Sim, Stop, run, run_round};
+use rw_vt::{END, Event, Outcome};
+use rw_world::{World, draw};
+use std::alloc::Global;
+use std::sync::Wait;
+use std::test::Fail;
+use std::thread::Threads;
+
+/// How rounds are run, but for their number: workers, turns, batch, window and ring.
+const PLANS: [(u32, u32, u32, u64, u32); 4] = [
+    (1, 3, 2, END, 1),
+    (2, 2, 1, END, 1),
+    (2, 16, 64, 1, 64),
+    (16, 16, 4096, END, 1),
+];
+
+fn plan(of: (u32, u32, u32, u64, u32), max_rounds: u32) -> Plan {
+    let (workers, turns, batch, window, ring) = of;
+    Plan {
+        workers,
+        turns,
+        batch,
+        window,
+        ring,
+        max_rounds,
+    }
+}
+
+/// A parcel that goes to and fro for a while.
+fn first() -> Event<Parcel>
+    ensures { is_sound_event result ≡ true }
+{
+    parcel(5, 0, 0, 0, 9)
+}
+
+/// Another one, that meets it.
+fn second() -> Event<Parcel>
+    ensures { is_sound_event result ≡ true }
+{
+    parcel(8, 0, 1, 1, 12)
+}
+
+fn opened(alloc: Global, most: u64) -> Result<World<Relay>, Fail> {
+    let relay = Relay::new(3, most).ok_or("relay")?;
+    let (starts, initial) = beginning(alloc, first(), second())?;
+    Ok(World::open(alloc, relay, starts, initial)?)
+}
+
+fn in_order(alloc: Global) -> Result<Outcome<Relay>, Fail> {
+    let relay = Relay::new(3, u64::MAX).ok_or("relay")?;
+    let (starts, initial) = beginning(alloc, first(), second())?;
+    Ok(rw_serial::run(alloc, &relay, starts, initial)?)
+}
+
+/// Whether rounds lead from this world to that outcome.
+fn lead<R: Threads + Wait + Sync>(
+    rt: &R,
+    alloc: Global,
+    world: World<Relay>,
+    plan: Plan,
+    want: &Outcome<Relay>,
+) -> bool {
+    let Ok((outcome, _traffic)) = run(rt, alloc, world, plan, &Open) else {
+        return false;
+    };
+    outcome.journals == want.journals && outcome.states == want.states
+}
+
+#[test]
+fn rounds_lead_to_the_outcome_in_order(rt: HostRuntime) -> Result<(), Fail> {
+    let alloc = rt.alloc();
+    let want = in_order(alloc)?;
+    for (seed, of) in (0..).zip(PLANS) {
+        let steps = draw(alloc, seed, 60, 2)?;
+        let (world, _answers) = opened(alloc, u64::MAX)?.run_steps(alloc, &steps)?;
+        assert!(rt; lead(&rt, alloc, world, plan(of, 1_048_576), &want));
+        assert!(rt; lead(&rt, alloc, opened(alloc, u64::MAX)?, plan(of, 1_048_576), &want));
+    }
+    Ok(())
+}
+
+#[test]
+fn a_round_commits_what_is_before_its_floor(rt: HostRuntime) -> Result<(), Fail> {
+    let alloc = rt.alloc();
+    let sim = Sim::open(opened(alloc, u64::MAX)?, plan((1, 1, 2, END, 1), 1)).ok().ok_or("plan")?;
+    assert_eq!(rt; sim.floor(), 0);
+    let sim = run_round(&rt, alloc, sim, &Open).ok().ok_or("round")?;
+    assert_eq!(rt; sim.floor(), 8);
+    assert_eq!(rt; sim.traffic().executed, 2);
+    let world = sim.into_world();
+    assert_eq!(rt; world.journal(0), [first()].as_slice());
+    assert!(rt; world.journal(1).is_empty());
+    Ok(())
+}
+
+#[test]
+fn a_run_stops_with_its_reason(rt: HostRuntime) -> Result<(), Fail> {
+    let alloc = rt.alloc();
+    let few = plan((2, 1, 1, END, 1), 3);
+    let stop = run(&rt, alloc, opened(alloc, u64::MAX)?, few, &Open).err();
+    assert!(rt; stop == Some(Stop::RoundsUsed));
+    let stop = run(&rt, alloc, opened(alloc, 1)?, plan(PLANS[0], 9), &Open).err();
+    assert!(rt; stop == Some(Stop::Exhausted));
+    let stop = run(&rt, alloc, opened(alloc, 1)?, plan((0, 1, 1, 1, 1), 1), &Open).err();
+    assert!(rt; stop == Some(Stop::BadPlan));
+    Ok(())
+}

@@ -1,0 +1,163 @@
+// Runs in rounds, with gates that hold workers back.
+use crate::simulation::beginning;
+use rw_photo::{CacheState, Config, Photo, Policy, Shape};
+use rw_rounds::{Gate, Open, Plan, Traffic, run};
+use rw_vt::{END, Outcome};
+use rw_world::World;
+use std::alloc::Global;
+use std::sync::Wait;
+use std::sync::atomic::{AtomicU64, Ordering};
+use std::test::Fail;
+use std::thread::Threads;
+
+/// Two requests of one object at one edge, the second right after the fill that the first one asks for.
+const TRACE: &[u8] = b"time,edge,object,size\n5,0,7,4\n22,0,7,4\n";
+
+/// How often a worker looks at a gate where the other one is to come: for some seconds.
+const PATIENCE: u64 = 4_000_000_000;
+
+/// A gate for two workers. Worker 1 may begin once worker 0 has come to its turn 1; worker 0 may go on in its turns 1 and 2
+/// once worker 1 has come to its turns 0 and 1. Who waits for too long is let go, which is a miss.
+#[derive(Drop)]
+struct Handshake {
+    /// For each worker, one more than the greatest turn that it came to.
+    turns: [AtomicU64; 2],
+    misses: AtomicU64,
+    /// How often a worker looks whether it may go on.
+    tries: u64,
+}
+
+impl Handshake {
+    fn new(tries: u64) -> Handshake {
+        Handshake {
+            turns: [AtomicU64::new(0), AtomicU64::new(0)],
+            misses: AtomicU64::new(0),
+            tries,
+        }
+    }
+
+    /// Waits until this worker has come to this turn.
+    fn wait_for(&self, worker: usize, turn: u64) {
+        let Some(turns) = self.turns.get(worker) else {
+            return;
+        };
+        for _ in 0..self.tries {
+            if turns.load(Ordering::SeqCst) > turn {
+                return;
+            }
+        }
+        self.misses.fetch_add(1, Ordering::SeqCst);
+    }
+
+    fn misses(&self) -> u64 {
+        self.misses.load(Ordering::SeqCst)
+    }
+
+    /// Whether both workers came to their turn 1.
+    fn saw_both(&self) -> bool {
+        self.turns.iter().all(|turns| turns.load(Ordering::SeqCst) > 1)
+    }
+}
+
+impl Gate for Handshake {
+    fn pass(&self, worker: u32, turn: u32) {
+        let turn = u64::from(turn);
+        let Some(turns) = self.turns.get(worker as usize) else {
+            return;
+        };
+        turns.fetch_max(turn + 1, Ordering::SeqCst);
+        match (worker, turn) {
+            (1, 0) => self.wait_for(0, 1),
+            (0, 1) => self.wait_for(1, 0),
+            (0, 2) => self.wait_for(1, 1),
+            _ => {}
+        }
+    }
+}
+
+fn config() -> Result<Config, Fail> {
+    let shape = Shape::new(8, 1_048_576, 64).ok_or("shape")?;
+    let config = Config::new(1, 1, Policy::Lru, shape, shape, 3, 3, 10);
+    Ok(config.ok_or("config")?)
+}
+
+/// The plan of the command line where nothing is said, with this window.
+fn plan(window: u64) -> Plan {
+    Plan {
+        workers: 2,
+        turns: 16,
+        batch: 64,
+        window,
+        ring: 64,
+        max_rounds: 65536,
+    }
+}
+
+/// The world of the trace in which nothing is done yet.
+fn opened(alloc: Global, config: &Config) -> Result<World<Photo>, Fail> {
+    let Ok((starts, initial)) = beginning(alloc, TRACE, config) else {
+        return Err(Fail::from("trace"));
+    };
+    Ok(World::open(alloc, Photo::new(*config), starts, initial)?)
+}
+
+/// What the run on one thread leaves.
+fn in_order(alloc: Global, config: &Config) -> Result<Outcome<Photo>, Fail> {
+    let Ok((starts, initial)) = beginning(alloc, TRACE, config) else {
+        return Err(Fail::from("trace"));
+    };
+    Ok(rw_serial::run(alloc, &Photo::new(*config), starts, initial)?)
+}
+
+/// What rounds through the gate do, where they leave what the run on one thread leaves.
+fn traffic<G: Gate + Sync, R: Threads + Wait + Sync>(
+    rt: &R,
+    alloc: Global,
+    plan: Plan,
+    gate: &G,
+) -> Result<Traffic, Fail> {
+    let config = config()?;
+    let want = in_order(alloc, &config)?;
+    let Ok((outcome, traffic)) = run(rt, alloc, opened(alloc, &config)?, plan, gate) else {
+        return Err(Fail::from("run"));
+    };
+    let counted = outcome.states.iter().map(CacheState::counters);
+    if outcome.journals != want.journals || !counted.eq(want.states.iter().map(CacheState::counters)) {
+        return Err(Fail::from("another outcome than that of the run on one thread"));
+    }
+    Ok(traffic)
+}
+
+#[test]
+fn a_straggling_fill_is_made_room_for(rt: HostRuntime) -> Result<(), Fail> {
+    let alloc = rt.alloc();
+    let free = traffic(&rt, alloc, plan(END), &Open)?;
+    assert!(rt; free.undone >= 1);
+    let gate = Handshake::new(PATIENCE);
+    let held = traffic(&rt, alloc, plan(END), &gate)?;
+    assert!(rt; held.undone >= 1);
+    assert!(rt; held.ring >= 2);
+    assert!(rt; gate.saw_both());
+    assert_eq!(rt; gate.misses(), 0);
+    Ok(())
+}
+
+#[test]
+fn a_window_holds_back_what_would_be_undone(rt: HostRuntime) -> Result<(), Fail> {
+    let gate = Handshake::new(PATIENCE);
+    let held = traffic(&rt, rt.alloc(), plan(1), &gate)?;
+    assert_eq!(rt; (held.rounds, held.undone, held.ring), (2, 0, 2));
+    assert_eq!(rt; gate.misses(), 0);
+    Ok(())
+}
+
+#[test]
+fn workers_on_one_thread_miss_at_the_gate(rt: HostRuntime) {
+    let gate = Handshake::new(1000);
+    for worker in 0..2 {
+        for turn in 0..16 {
+            gate.pass(worker, turn);
+        }
+    }
+    assert!(rt; gate.misses() > 0);
+}

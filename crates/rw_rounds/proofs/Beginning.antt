@@ -1,0 +1,113 @@
+-- The workers of a sound world are fit for their turns.
+use Rattle.std.proofs.Common.{◌≡◌, ℕ, ◌+◌, ◌*◌, ◌<◌, true, [], length, sym, ap, ◌∙◌, subst, arith, Some}
+use Rattle.std.specs.Prelude.{◌/◌, ◌%◌, slice_get}
+use Rattle.std.specs.Option.{option_map}
+use Rattle.std.specs.declared.cmp.Ordering.{Ordering}
+use Rattle.std.proofs.lemmas.List.{length-map}
+use Rattle.std.proofs.lemmas.List.Elements.{All-nil}
+use Rattle.std.proofs.lemmas.Option.{slice_get-map}
+use Rattle.rw_vt.specs.declared.model.Model.{Ghosts}
+use Rattle.rw_vt.specs.System.{IsReady}
+use Rattle.rw_lp.specs.Process.{Process}
+use Rattle.rw_lp.specs.Calls.{LogicalProcess, rules}
+use Rattle.rw_lp.specs.Sound.{SoundAt}
+use Rattle.rw_world.specs.declared.parts.Parts.{Parts}
+use Rattle.rw_world.specs.Calls.{world_of, IsWhole}
+use Rattle.rw_rounds.specs.declared.plan.Plan.{Plan}
+use Rattle.rw_rounds.specs.Plans.{IsInRanges}
+use Rattle.rw_rounds.specs.Bags.{Every}
+use Rattle.rw_rounds.specs.Deeds.{IsFair}
+use Rattle.rw_rounds.specs.Turns.{WorkerState, owner, is_own, process_at, StandsSound, IsFit}
+use Rattle.rw_rounds.specs.Rounds.{role, Begins}
+use Rattle.rw_rounds.proofs.ByPlace.{get_within, place_of}
+use Rattle.rw_rounds.proofs.Governing.{Laws, Governs, governs}
+use Rattle.rw_rounds.proofs.Going.{Well, fair_letters}
+use Rattle.rw_rounds.proofs.Fits.{there_is}
+use Rattle.rw_rounds.proofs.Stepping.{number_of}
+use Rattle.rw_rounds.proofs.Systems.{sound_among, letters_among}
+use Rattle.rw_rounds.proofs.Totals.{every_filter, every_passes}
+
+module _ {M S B U : Type 0} {model : Ghosts M S B U} {order : B → B → Ordering} (x : Parts M S B U) (whole : IsWhole model order x) where
+  -- a process is started as the parts name it
+  abbrev pub Started : ℕ → S → Type 0
+  Started p s = slice_get x.starts.value.items p ≡ Some s
+
+  pub ready_without : IsReady model x.model x.starts.value.items []
+  ready_without = record { enough = whole.ready.enough; well_formed = whole.ready.well_formed; valid = All-nil (λ e. model.is_valid x.model e ≡ true) }
+
+  pub in_world : (q : ℕ) → slice_get (world_of x).processes q ≡ option_map (λ l. l.process) (slice_get x.processes.items q)
+  in_world q = slice_get-map (λ l. l.process) x.processes.items q
+
+  pub as_many : length x.processes.items ≡ model.process_count x.model
+  as_many =
+      let a = length-map x.processes.items (λ l. l.process) in
+      let b = length-map (world_of x).processes (λ u. u.start) in
+      let c = ap length whole.sound.starts in
+      sym a ∙ sym b ∙ c ∙ whole.ready.enough
+
+  -- each process of the world is sound, and started so
+  pub sound_there : (q : ℕ) (u : Process S B) → slice_get (world_of x).processes q ≡ Some u → SoundAt (rules model order x.model) x.collected q u
+  sound_there q u at = sound_among model order x.model x.starts.value.items [] x.initial.value.items [] x.collected q u (whole.sound.each q u at)
+
+  pub started_there : (q : ℕ) (u : Process S B) → slice_get (world_of x).processes q ≡ Some u → Started q u.start
+  started_there q u at = ap (λ ss. slice_get ss q) (sym whole.sound.starts) ∙ slice_get-map (λ v. v.start) (world_of x).processes q ∙ ap (option_map (λ v. v.start)) at
+
+  module _ (plan : Plan) (i : ℕ) (below : i < plan.workers) (a : WorkerState M S B) (begins : Begins x.processes.items x.letters.items (role plan x.collected i) a) where
+    -- what stands at a place of the worker
+    there : (place : ℕ) (l : LogicalProcess M S B) → slice_get a.processes place ≡ Some l → slice_get x.processes.items (i + place * plan.workers) ≡ Some l
+    there place l at = sym (begins.processes_are place) ∙ at
+
+    stands : (place : ℕ) (l : LogicalProcess M S B) → slice_get a.processes place ≡ Some l → StandsSound model order x.model x.starts.value.items (role plan x.collected i) place l
+    stands place l at =
+        let q : ℕ = i + place * plan.workers in
+        let here : slice_get (world_of x).processes q ≡ Some l.process = in_world q ∙ ap (option_map (λ l. l.process)) (there place l at) in
+        let known = whole.numbered q l (there place l at) in
+        record {
+          model_is = known.0;
+          number = known.1;
+          start = ap (slice_get x.starts.value.items) known.1 ∙ started_there q l.process here;
+          sound = subst (λ p. SoundAt (rules model order x.model) x.collected p l.process) (sym known.1) (sound_there q l.process here);
+        }
+
+    -- seen by numbers, the worker has its processes of the world
+    pub begun_there : (q : ℕ) (u : Process S B) → process_at (role plan x.collected i) a.processes q ≡ Some u → slice_get (world_of x).processes q ≡ Some u
+    begun_there q u h =
+        let f = place_of (role plan x.collected i) a.processes q u h in
+        let number : i + (q / plan.workers) * plan.workers ≡ q = number_of (role plan x.collected i) q below f.3 in
+        in_world q
+        ∙ ap (λ k. option_map (λ l. l.process) (slice_get x.processes.items k)) (sym number)
+        ∙ ap (option_map (λ l. l.process)) (there (q / plan.workers) f.0 f.1)
+        ∙ ap (λ v. Some v) f.2
+
+    pub begun_well : Well (rules model order x.model) Started x.collected (process_at (role plan x.collected i) a.processes)
+    begun_well = record { sound = λ q u h. sound_there q u (begun_there q u h); started = λ q u h. started_there q u (begun_there q u h) }
+
+    begun_complete : (q : ℕ) → q < model.process_count x.model → q % plan.workers ≡ i → q / plan.workers < length a.processes
+    begun_complete q inside own =
+        let l = there_is x.processes.items q (let n = as_many in omega arith) in
+        let number : i + (q / plan.workers) * plan.workers ≡ q = number_of (role plan x.collected i) q below own in
+        get_within a.processes (q / plan.workers) l.0 (begins.processes_are (q / plan.workers) ∙ ap (slice_get x.processes.items) number ∙ l.1)
+
+    begun_fair : Laws model order → Every (IsFair (rules model order x.model) x.collected) x.letters.items
+    begun_fair laws =
+        let rule : Governs (rules model order x.model) Started x.collected (model.process_count x.model) = governs model order x.model x.starts.value.items laws ready_without x.collected in
+        fair_letters (rules model order x.model) x.collected (model.process_count x.model) rule x.letters.items (letters_among model order x.model x.starts.value.items [] x.initial.value.items [] x.collected x.letters.items whole.sound.letters)
+
+    -- a worker that begins a round is fit for a turn
+    pub begins_fit : Laws model order → IsInRanges plan → IsFit model order x.model a
+    begins_fit laws ranges = subst (IsFit model order x.model) (sym (ap (λ r. record a { role = r }) begins.role)) fit
+      where
+        fit : IsFit model order x.model (record a { role = role plan x.collected i })
+        fit = record {
+          starts = x.starts.value.items;
+          ready = ready_without;
+          number = below;
+          window = ranges.window.1;
+          sound = stands;
+          complete = begun_complete;
+          inbox_fair = subst (Every (IsFair (rules model order x.model) x.collected)) (sym begins.inbox) (every_filter (IsFair (rules model order x.model) x.collected) (is_own (role plan x.collected i)) x.letters.items (begun_fair laws));
+          inbox_own = subst (Every (λ l. is_own (role plan x.collected i) l ≡ true)) (sym begins.inbox) (every_passes (is_own (role plan x.collected i)) x.letters.items);
+          kept = subst (Every (λ l. owner (role plan x.collected i) l ≡ i → ⊥)) (sym begins.none_kept) tt;
+          port = begins.its_port;
+          wide = begins.wide;
+        }

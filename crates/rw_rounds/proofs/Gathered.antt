@@ -1,0 +1,248 @@
+-- The workers of a round: as they are set up, and as they are taken apart.
+use Rattle.std.proofs.Common.{◌≡◌, ℕ, zero, suc, ◌+◌, ◌*◌, ◌<◌, ◌≤◌, List, [], ◌∷◌, ◌++◌, length, map, get_or, refl, sym, ap, ◌∙◌, subst, arith, inl, inr, Option, Some, None, Result, Ok, IfOk, All}
+use Rattle.std.specs.Prelude.{◌⊎◌, ◌/◌, ◌%◌, ◌==◌, filter, slice_get}
+use Rattle.std.specs.declared.cmp.Ordering.{Ordering}
+use Rattle.std.proofs.lemmas.Bool.{cases_lt}
+use Rattle.std.proofs.lemmas.List.{get_or-map, length-map}
+use Rattle.std.proofs.lemmas.Option.{get_or_from_slice_get}
+use Rattle.rw_vt.specs.declared.event.Letter.{Letter}
+use Rattle.rw_vt.specs.declared.model.Model.{Ghosts}
+use Rattle.rw_vt.specs.System.{System, flatten}
+use Rattle.rw_lp.specs.Calls.{LogicalProcess, rules}
+use Rattle.rw_world.specs.declared.parts.Parts.{Parts}
+use Rattle.rw_world.specs.Calls.{IsWhole}
+use Rattle.rw_exchange.specs.Ports.{PortState, SamePort, IsNew, IsWide, IsOpening, StayAnOpening, entry, sent_to, received_from, sent_between, received_between}
+use Rattle.rw_board.specs.Least.{least}
+use Rattle.rw_board.specs.Seats.{SeatState, BoardState, new_seat}
+use Rattle.rw_rounds.specs.declared.plan.Plan.{Plan}
+use Rattle.rw_rounds.specs.Plans.{IsInRanges}
+use Rattle.rw_rounds.specs.Bags.{weigh, Every, total}
+use Rattle.rw_rounds.specs.Turns.{WorkerState, StandsSound, TookTurns}
+use Rattle.rw_rounds.specs.Rounds.{role, Begins, Closes, TookRound}
+use Rattle.rw_rounds.specs.Seated.{IsSeated}
+use Rattle.rw_rounds.proofs.Governing.{Laws}
+use Rattle.rw_rounds.proofs.Sums.{total_same, weigh-append}
+use Rattle.rw_rounds.proofs.ByPlace.{get_within}
+use Rattle.rw_rounds.proofs.Beginning.{as_many, begins_fit}
+use Rattle.rw_rounds.proofs.Hands.{AreDealt, get_there, get_past}
+
+pub some_of : {X : Type 0} (xs : List X) → 0 < length xs → X
+some_of [] h = absurd (omega arith)
+some_of (x ∷ xs) h = x
+
+pub two_maps : {X Y Z : Type 0} (k : Y → Z) (f : X → Y) (xs : List X) (i : ℕ) (d : X) (e : Z) → i < length xs → get_or (map k (map f xs)) i e ≡ k (f (get_or xs i d))
+two_maps k f xs i d e lt = get_or-map k (map f xs) i (f d) e (subst (λ n. i < n) (sym (length-map xs f)) lt) ∙ ap k (get_or-map f xs i d (f d) lt)
+
+-- each that was handed over went on from where it was
+pub pairs : {W E : Type 0} (Went : W → W → Type 0) (ws ws' : List W) (rs : List (Result W E)) → map (λ w. Ok w) ws' ≡ rs → ((i : ℕ) (d : W) (e : Result W E) → i < length ws → IfOk (get_or rs i e) (Went (get_or ws i d))) → length rs ≡ length ws
+    → (length ws' ≡ length ws) × ((i : ℕ) (d d' : W) → i < length ws → Went (get_or ws i d) (get_or ws' i d'))
+pairs {W} {E} Went ws ws' rs all each long =
+    let wrap : W → Result W E = λ w. Ok w in
+    let many : length ws' ≡ length ws = sym (length-map ws' wrap) ∙ (ap length all ∙ long) in (
+      many,
+      λ i d d' lt. let is : get_or rs i (Ok d') ≡ Ok (get_or ws' i d') = ap (λ z. get_or z i (Ok d')) (sym all) ∙ get_or-map wrap ws' i d' (Ok d') (omega arith) in
+          subst (λ r. IfOk r (Went (get_or ws i d))) is (each i d (Ok d') lt),
+    )
+
+-- what turns leave as it was
+pub record Stays {M S B : Type 0} (a b : WorkerState M S B) : Type 0 where
+  pub role : b.role ≡ a.role
+  pub port : SamePort a.port b.port
+  pub board : b.seat.board ≡ a.seat.board
+
+module _ {M S B : Type 0} (y : System S B) where
+  stays_then : (a c b : WorkerState M S B) → Stays a c → Stays c b → Stays a b
+  stays_then a c b f s = record {
+    role = s.role ∙ f.role;
+    port = record { worker = s.port.worker ∙ f.port.worker; capacity = s.port.capacity ∙ f.port.capacity; out = s.port.out ∙ f.port.out; into = s.port.into ∙ f.port.into; sent = s.port.sent ∙ f.port.sent; received = s.port.received ∙ f.port.received };
+    board = s.board ∙ f.board;
+  }
+
+  stays_none : (a b : WorkerState M S B) → b ≡ a → Stays a b
+  stays_none a b same = subst (Stays a) (sym same) (record { role = refl; port = record { worker = refl; capacity = refl; out = refl; into = refl; sent = refl; received = refl }; board = refl })
+
+  pub turns_stay : (turns : ℕ) (a b : WorkerState M S B) → TookTurns y turns a b → Stays a b
+  turns_stay zero a b same = stays_none a b same
+  turns_stay (suc turns) a b h = stays_then a h.0 b (record { role = h.2.role; port = h.2.same_port; board = h.2.same_board }) (turns_stay turns h.0 b h.3)
+
+  closing_stays : (a b : WorkerState M S B) → Closes y a b → Stays a b
+  closing_stays a b k = subst (Stays a) (sym k.closed) (record { role = refl; port = record { worker = refl; capacity = refl; out = refl; into = refl; sent = refl; received = refl }; board = refl })
+
+module _ {M S B U : Type 0} {model : Ghosts M S B U} {order : B → B → Ordering} where
+  pub round_stays : (m : M) (turns : ℕ) (a b : WorkerState M S B) → TookRound model order m turns a b → Stays a b
+  round_stays m turns a b t = stays_then (rules model order m) a t.between b (turns_stay (rules model order m) turns a t.between t.turns_are) (closing_stays (rules model order m) t.between b t.closes)
+
+-- no time is before the least
+pub every_from_least : (l : ℕ) (ts : List ℕ) → l ≤ least ts → Every (λ t. l ≤ t) ts
+every_from_least l [] h = tt
+every_from_least l (t ∷ ts) h = (omega arith, every_from_least l ts (omega arith))
+
+total_first : (n : ℕ) (f : ℕ → ℕ) → total (suc n) f ≡ f 0 + total n (λ i. f (suc i))
+total_first zero f = omega arith
+total_first (suc n) f = omega (arith, total_first n f)
+
+-- what lists weigh that are joined
+pub weigh_flatten : {W X : Type 0} (h : X → ℕ) (f : W → List X) (ws : List W) (d : W) → weigh h (flatten (map f ws)) ≡ total (length ws) (λ i. weigh h (f (get_or ws i d)))
+weigh_flatten h f [] d = refl
+weigh_flatten h f (w ∷ ws) d =
+    weigh-append h (f w) (flatten (map f ws))
+    ∙ ap (λ k. weigh h (f w) + k) (weigh_flatten h f ws d)
+    ∙ sym (total_first (length ws) (λ i. weigh h (f (get_or (w ∷ ws) i d))))
+
+-- the workers are set up as dealt out
+pub record AreSetUp {M S B U : Type 0} (plan : Plan) (x : Parts M S B U) (ws : List (WorkerState M S B)) (hands : List (List (LogicalProcess M S B))) (boxes : List (List (Letter B))) (ports : List (PortState (Letter B))) (seats : List SeatState) (its : BoardState) : Type 0 where
+  pub many : length ws ≡ plan.workers
+  pub roles : (i : ℕ) → i < plan.workers → slice_get (map (λ w. w.role) ws) i ≡ Some (role plan x.collected i)
+  pub processes : map (λ w. w.processes) ws ≡ hands
+  pub inboxes : map (λ w. w.inbox) ws ≡ boxes
+  pub ports_are : map (λ w. w.port) ws ≡ ports
+  pub seats_are : map (λ w. w.seat) ws ≡ seats
+  pub none : All (λ w. (w.kept ≡ []) × (w.aside ≡ [])) ws
+  pub dealt : AreDealt plan.workers hands x.processes.items
+  pub sorted_out : (i : ℕ) → i < plan.workers → get_or boxes i [] ≡ filter (λ l. l.event.to % plan.workers == i) x.letters.items
+  pub opening : IsOpening ports
+  pub new_ports : All IsNew ports
+  pub new_seats : All (λ s. s ≡ new_seat its.board) seats
+
+-- each of these workers has made its round
+pub record AllTook {M S B U : Type 0} (model : Ghosts M S B U) (order : B → B → Ordering) (m : M) (turns : ℕ) (ws ws' : List (WorkerState M S B)) : Type 0 where
+  pub long : length ws' ≡ length ws
+  pub went : (i : ℕ) (d d' : WorkerState M S B) → i < length ws → TookRound model order m turns (get_or ws i d) (get_or ws' i d')
+
+-- A round of these parts, whose workers begin as dealt out
+module _ {M S B U : Type 0} {model : Ghosts M S B U} {order : B → B → Ordering} (laws : Laws model order) {plan : Plan} {x : Parts M S B U} (ranges : IsInRanges plan) (whole : IsWhole model order x)
+    {ws : List (WorkerState M S B)} {hands : List (List (LogicalProcess M S B))} {boxes : List (List (Letter B))} {ports : List (PortState (Letter B))} {seats : List SeatState} {its : BoardState} where
+  module _ (up : AreSetUp plan x ws hands boxes ports seats its) where
+    pub ports_many : length ports ≡ plan.workers
+    ports_many = ap length (sym up.ports_are) ∙ length-map ws (λ w. w.port) ∙ up.many
+
+    port_at : (i : ℕ) (d : WorkerState M S B) → i < length ws → get_or ports i d.port ≡ (get_or ws i d).port
+    port_at i d lt = ap (λ z. get_or z i d.port) (sym up.ports_are) ∙ get_or-map (λ w. w.port) ws i d d.port lt
+
+    seat_at : (i : ℕ) (d : WorkerState M S B) → i < length ws → get_or seats i d.seat ≡ (get_or ws i d).seat
+    seat_at i d lt = ap (λ z. get_or z i d.seat) (sym up.seats_are) ∙ get_or-map (λ w. w.seat) ws i d d.seat lt
+
+    seat_new : (i : ℕ) (d : WorkerState M S B) → i < length ws → (get_or ws i d).seat ≡ new_seat its.board
+    seat_new i d lt = sym (seat_at i d lt) ∙ up.new_seats i d.seat (subst (λ n. i < n) (sym (length-map ws (λ w. w.seat)) ∙ ap length up.seats_are) lt)
+
+    pub begins_at : (i : ℕ) (d : WorkerState M S B) → i < plan.workers → Begins x.processes.items x.letters.items (role plan x.collected i) (get_or ws i d)
+    begins_at i d below =
+        let lt : i < length ws = subst (λ n. i < n) (sym up.many) below in
+        let lp : i < length ports = subst (λ n. i < n) (sym ports_many) below in
+        let own = port_at i d lt in
+        record {
+          role = sym (get_or-map (λ w. w.role) ws i d d.role lt) ∙ get_or_from_slice_get (map (λ w. w.role) ws) i (role plan x.collected i) d.role (up.roles i below);
+          processes_are = λ place. ap (λ h. slice_get h place) (sym (get_or-map (λ w. w.processes) ws i d [] lt) ∙ ap (λ z. get_or z i []) up.processes) ∙ up.dealt i place below;
+          inbox = sym (get_or-map (λ w. w.inbox) ws i d [] lt) ∙ ap (λ z. get_or z i []) up.inboxes ∙ up.sorted_out i below;
+          none_kept = (up.none i d lt).0;
+          none_aside = (up.none i d lt).1;
+          its_port = ap (λ p. p.worker) (sym own) ∙ up.opening.numbered i d.port lp;
+          wide = subst (λ p. IsWide plan.workers p) own (subst (λ n. IsWide n (get_or ports i d.port)) ports_many (up.opening.wide i d.port lp));
+          new = subst (λ p. IsNew p) own (up.new_ports i d.port lp);
+          none_noted = ap (λ s. s.noted) (seat_new i d lt);
+        }
+
+    pub all_seated : All (λ w. IsSeated model order x.model its w) ws
+    all_seated i d lt =
+        let below : i < plan.workers = subst (λ n. i < n) up.many lt in
+        record { fit = begins_fit x whole plan i below (get_or ws i d) (begins_at i d below) laws ranges; board = ap (λ s. s.board) (seat_new i d lt) }
+
+    module _ {ws' : List (WorkerState M S B)} (took : AllTook model order x.model plan.turns ws ws') where
+      pub opening_after : (ports' : List (PortState (Letter B))) → StayAnOpening ports → ports' ≡ map (λ w. w.port) ws' → IsOpening ports'
+      opening_after ports' stay is = stay ports' (
+        ap length is ∙ length-map ws' (λ w. w.port) ∙ took.long ∙ up.many ∙ sym ports_many,
+        λ i d lt.
+            let below : i < length ws = subst (λ n. i < n) (ports_many ∙ sym up.many) lt in
+            let e : WorkerState M S B = some_of ws (omega arith) in
+            let a : get_or ports i d ≡ (get_or ws i e).port = ap (λ z. get_or z i d) (sym up.ports_are) ∙ get_or-map (λ w. w.port) ws i e d below in
+            let b : get_or ports' i d ≡ (get_or ws' i e).port = ap (λ z. get_or z i d) is ∙ get_or-map (λ w. w.port) ws' i e d (subst (λ n. i < n) (sym took.long) below) in
+            subst (λ z. SamePort z (get_or ports' i d)) (sym a) (subst (λ z. SamePort (get_or ws i e).port z) (sym b) (round_stays x.model plan.turns (get_or ws i e) (get_or ws' i e) (took.went i e e below)).port),
+      )
+
+      pub seats_after : (seats' : List SeatState) → seats' ≡ map (λ w. w.seat) ws' → All (λ s. s.board ≡ its.board) seats'
+      seats_after seats' is i d lt =
+          let below : i < length ws = subst (λ n. i < n) (ap length is ∙ length-map ws' (λ w. w.seat) ∙ took.long) lt in
+          let e : WorkerState M S B = some_of ws (omega arith) in
+          ap (λ s. s.board) (ap (λ z. get_or z i d) is ∙ get_or-map (λ w. w.seat) ws' i e d (subst (λ n. i < n) (sym took.long) below))
+          ∙ (round_stays x.model plan.turns (get_or ws i e) (get_or ws' i e) (took.went i e e below)).board
+          ∙ ap (λ s. s.board) (seat_new i e below)
+
+      role_after : (i : ℕ) (d : WorkerState M S B) → i < plan.workers → (get_or ws' i d).role ≡ role plan x.collected i
+      role_after i d below = (round_stays x.model plan.turns (get_or ws i d) (get_or ws' i d) (took.went i d d (subst (λ n. i < n) (sym up.many) below))).role ∙ (begins_at i d below).role
+
+      -- process q is there after the round where it was before
+      pub there_after : (d : WorkerState M S B) (q : ℕ) → q < length x.processes.items → slice_get (get_or ws' (q % plan.workers) d).processes (q / plan.workers) ≡ None → ⊥
+      there_after d q within =
+          let some : 0 < plan.workers = omega (arith, ranges.workers.0) in
+          let i : ℕ = q % plan.workers in
+          let below : q % plan.workers < plan.workers = omega arith in
+          let r = role_after (q % plan.workers) d below in
+          let fit = (took.went (q % plan.workers) d d (subst (λ n. q % plan.workers < n) (sym up.many) below)).fit in
+          let n = as_many x whole in
+          let e = fit.complete q (subst (λ k. q < k) n within) (ap (λ k. q % k.plan.workers) r ∙ sym (ap (λ k. k.number) r)) in
+          get_there (get_or ws' (q % plan.workers) d).processes (q / plan.workers) (subst (λ k. q / k.plan.workers < length (get_or ws' (q % plan.workers) d).processes) r e)
+
+      -- and no other process is
+      pub none_past : (d : WorkerState M S B) (q : ℕ) → length x.processes.items ≤ q → slice_get (get_or ws' (q % plan.workers) d).processes (q / plan.workers) ≡ None
+      none_past d q past = go (slice_get (get_or ws' (q % plan.workers) d).processes (q / plan.workers)) refl
+        where
+          some : 0 < plan.workers
+          some = omega (arith, ranges.workers.0)
+
+          below : q % plan.workers < plan.workers
+          below = omega arith
+
+          go : (o : Option (LogicalProcess M S B)) → slice_get (get_or ws' (q % plan.workers) d).processes (q / plan.workers) ≡ o → o ≡ None
+          go None at = refl
+          go (Some l) at =
+              let r = role_after (q % plan.workers) d below in
+              let fit = (took.went (q % plan.workers) d d (subst (λ n. q % plan.workers < n) (sym up.many) below)).fit in
+              let stands : StandsSound model order x.model fit.starts (role plan x.collected (q % plan.workers)) (q / plan.workers) l = subst (λ k. StandsSound model order x.model fit.starts k (q / plan.workers) l) r (fit.sound (q / plan.workers) l at) in
+              let inside = get_within fit.starts l.number l.process.start stands.start in
+              let whole_q : q % plan.workers + (q / plan.workers) * plan.workers ≡ q = omega arith in
+              let n = as_many x whole in
+              absurd (omega (arith, stands.number, whole_q, inside, fit.ready.enough, n, past))
+
+      hand_after : (hands' : List (List (LogicalProcess M S B))) (d : WorkerState M S B) (i : ℕ) → hands' ≡ map (λ w. w.processes) ws' → i < plan.workers → get_or hands' i [] ≡ (get_or ws' i d).processes
+      hand_after hands' d i is below = ap (λ z. get_or z i []) is ∙ get_or-map (λ w. w.processes) ws' i d [] (subst (λ n. i < n) (sym (took.long ∙ up.many)) below)
+
+      -- what the hands have, by number
+      pub from_hands_after : (hands' : List (List (LogicalProcess M S B))) (d : WorkerState M S B) (q k : ℕ) → hands' ≡ map (λ w. w.processes) ws' → k ≡ plan.workers → slice_get (get_or hands' (q % k) []) (q / k) ≡ slice_get (get_or ws' (q % plan.workers) d).processes (q / plan.workers)
+      from_hands_after hands' d q k is same =
+          let some : 0 < plan.workers = omega (arith, ranges.workers.0) in
+          let below : q % plan.workers < plan.workers = omega arith in
+          ap (λ n. slice_get (get_or hands' (q % n) []) (q / n)) same ∙ ap (λ h. slice_get h (q / plan.workers)) (hand_after hands' d (q % plan.workers) is below)
+
+      pub hands_many : (hands' : List (List (LogicalProcess M S B))) → hands' ≡ map (λ w. w.processes) ws' → length hands' ≡ plan.workers
+      hands_many hands' is = ap length is ∙ length-map ws' (λ w. w.processes) ∙ took.long ∙ up.many
+
+      -- the processes are joined in the order of their numbers
+      pub joined : (all : List (LogicalProcess M S B)) (hands' : List (List (LogicalProcess M S B))) (d : WorkerState M S B) (k : ℕ) → hands' ≡ map (λ w. w.processes) ws' → k ≡ plan.workers → length all ≡ length x.processes.items
+          → ((q : ℕ) → q < length x.processes.items → slice_get all q ≡ slice_get (get_or hands' (q % k) []) (q / k)) → (q : ℕ) → slice_get all q ≡ slice_get (get_or ws' (q % plan.workers) d).processes (q / plan.workers)
+      joined all hands' d k is same count each q = go (cases_lt q (length x.processes.items))
+        where
+          go : (q < length x.processes.items) ⊎ (length x.processes.items ≤ q) → slice_get all q ≡ slice_get (get_or ws' (q % plan.workers) d).processes (q / plan.workers)
+          go (inl within) = each q within ∙ from_hands_after hands' d q k is same
+          go (inr past) = get_past all q (omega (arith, count, past)) ∙ sym (none_past d q past)
+
+      -- what was left on the way between two workers
+      pub settled : (ports' : List (PortState (Letter B))) (left : List (List (List (Letter B)))) (d : WorkerState M S B) → ports' ≡ map (λ w. w.port) ws' → ((i k : ℕ) → i < plan.workers → k < plan.workers → received_between ports' i k ++ entry left i k ≡ sent_between ports' i k)
+          → (i k : ℕ) → i < plan.workers → k < plan.workers → received_from (get_or ws' k d).port i ++ entry left i k ≡ sent_to (get_or ws' i d).port k
+      settled ports' left d is fifo i k li lk =
+          let within : (j : ℕ) → j < plan.workers → j < length ws' = λ j l. subst (λ n. j < n) (sym (took.long ∙ up.many)) l in
+          let r : received_between ports' i k ≡ received_from (get_or ws' k d).port i = ap (λ z. get_or (get_or (map (λ p. p.received) z) k []) i []) is ∙ ap (λ z. get_or z i []) (two_maps (λ p. p.received) (λ w. w.port) ws' k d [] (within k lk)) in
+          let s : sent_between ports' i k ≡ sent_to (get_or ws' i d).port k = ap (λ z. get_or (get_or (map (λ p. p.sent) z) i []) k []) is ∙ ap (λ z. get_or z k []) (two_maps (λ p. p.sent) (λ w. w.port) ws' i d [] (within i li)) in
+          ap (λ z. z ++ entry left i k) (sym r) ∙ fifo i k li lk ∙ s
+
+      pub noted_after : (seats' : List SeatState) (l : ℕ) (d : WorkerState M S B) → seats' ≡ map (λ w. w.seat) ws' → All (λ s. l ≤ least s.noted) seats' → (i : ℕ) → i < plan.workers → Every (λ t. l ≤ t) (get_or ws' i d).seat.noted
+      noted_after seats' l d is all i below =
+          let within : i < length ws' = subst (λ n. i < n) (sym (took.long ∙ up.many)) below in
+          let e : get_or seats' i d.seat ≡ (get_or ws' i d).seat = ap (λ z. get_or z i d.seat) is ∙ get_or-map (λ w. w.seat) ws' i d d.seat within in
+          every_from_least l (get_or ws' i d).seat.noted (subst (λ s. l ≤ least s.noted) e (all i d.seat (subst (λ n. i < n) (sym (ap length is ∙ length-map ws' (λ w. w.seat))) within)))
+
+      pub kept_after : (h : Letter B → ℕ) (kept : List (Letter B)) (d : WorkerState M S B) → kept ≡ flatten (map (λ w. w.kept ++ w.aside) ws') → weigh h kept ≡ total plan.workers (λ i. weigh h (get_or ws' i d).kept + weigh h (get_or ws' i d).aside)
+      kept_after h kept d is =
+          ap (weigh h) is
+          ∙ weigh_flatten h (λ w. w.kept ++ w.aside) ws' d
+          ∙ ap (λ n. total n (λ i. weigh h ((get_or ws' i d).kept ++ (get_or ws' i d).aside))) (took.long ∙ up.many)
+          ∙ total_same plan.workers (λ i. weigh h ((get_or ws' i d).kept ++ (get_or ws' i d).aside)) (λ i. weigh h (get_or ws' i d).kept + weigh h (get_or ws' i d).aside) (λ i l. weigh-append h (get_or ws' i d).kept (get_or ws' i d).aside)

@@ -1,0 +1,136 @@
+-- A round keeps the parts whole, and what the board gave may be collected.
+use Rattle.std.proofs.Common.{◌≡◌, ℕ, ◌^◌, ◌<◌, ◌≤◌, max, true, List, [], ◌∷◌, ◌++◌, map, refl, sym, ap, ◌∙◌, subst, arith, Option, Some, None}
+use Rattle.std.specs.Prelude.{◌↔◌, ◌/◌, ◌%◌, nat_le, slice_get}
+use Rattle.std.specs.Option.{option_map}
+use Rattle.std.specs.declared.cmp.Ordering.{Ordering}
+use Rattle.std.proofs.lemmas.Bool.{le-leb}
+use Rattle.std.proofs.lemmas.Option.{slice_get-map}
+use Rattle.rw_vt.specs.declared.event.Event.{Event}
+use Rattle.rw_vt.specs.declared.event.Letter.{Letter}
+use Rattle.rw_vt.specs.declared.model.Model.{Ghosts}
+use Rattle.rw_vt.specs.System.{system, below, IsReady}
+use Rattle.rw_lp.specs.declared.step.Answer.TheVariants.{Done}
+use Rattle.rw_lp.specs.HeldMessages.{held_messages}
+use Rattle.rw_lp.specs.Process as process
+use Rattle.rw_lp.specs.Process.{Process}
+use Rattle.rw_lp.specs.Calls as lp
+use Rattle.rw_lp.specs.Calls.{LogicalProcess}
+use Rattle.rw_world.specs.declared.parts.Parts.{Parts}
+use Rattle.rw_world.specs.declared.step.Step.{Step}
+use Rattle.rw_world.specs.declared.step.Step.TheVariants.{Collect}
+use Rattle.rw_world.specs.WorldState.{WorldState, least_of_processes, least_of_letters, floor}
+use Rattle.rw_world.specs.Steps.{apply}
+use Rattle.rw_world.specs.Sound.{Sound, IsQuiet, IsInOrder, StepKept}
+use Rattle.rw_world.specs.Rounds.{Exchanged}
+use Rattle.rw_world.specs.Calls.{Simulation, system_of, simulation_of, with_world, world_of, AreNumbered, IsWhole}
+use Rattle.rw_rounds.specs.declared.plan.Plan.{Plan}
+use Rattle.rw_rounds.specs.Plans.{IsInRanges}
+use Rattle.rw_rounds.specs.Turns.{StandsSound}
+use Rattle.rw_rounds.specs.Rounds.{role, Round, SimState, Rounded}
+use Rattle.rw_rounds.proofs.Governing.{Laws}
+use Rattle.rw_rounds.proofs.Stepping.{number_of}
+use Rattle.rw_rounds.proofs.Joining.{owned, closed, workers_exchanged}
+use Rattle.rw_rounds.proofs.Outstanding.{quiet_after}
+
+-- what is promised of every world of the model
+pub record WorldLaws {M S B U : Type 0} (model : Ghosts M S B U) (order : B → B → Ordering) : Type 0 where
+  pub every_exchange : (m : M) (starts : List S) (initial : List (Event B)) (w v : WorldState S B) (came out : ℕ → List (Letter B)) → IsReady model m starts initial → Sound (system model order m starts initial) w → Exchanged (system model order m starts initial) w v came out → Sound (system model order m starts initial) v
+  pub every_floor : (m : M) (starts : List S) (initial : List (Event B)) (w : WorldState S B) (t : ℕ) → IsReady model m starts initial → (t ≤ floor w) ↔ ((t ≤ 2 ^ 40) × IsQuiet (system model order m starts initial) t w)
+  pub every_sound_world : (m : M) (starts : List S) (initial : List (Event B)) (w : WorldState S B) → IsReady model m starts initial → Sound (system model order m starts initial) w → IsInOrder (system model order m starts initial) w
+  pub every_step : (m : M) (starts : List S) (initial : List (Event B)) (w : WorldState S B) (step : Step) → IsReady model m starts initial → Sound (system model order m starts initial) w → StepKept (system model order m starts initial) w step
+
+-- what is outstanding is not collected
+least_collected : {S B : Type 0} (t end : ℕ) (ps : List (Process S B)) → least_of_processes end (map (process.collect t) ps) ≡ least_of_processes end ps
+least_collected t end [] = refl
+least_collected t end (u ∷ ps) = ap (λ k. lp.least (lp.least (lp.least k (held_messages u.held)) u.debts) u.pending) (least_collected t end ps)
+
+module _ {M S B U : Type 0} {model : Ghosts M S B U} {order : B → B → Ordering} (laws : Laws model order) (worlds : WorldLaws model order) (plan : Plan) (x z : Parts M S B U) (least : ℕ) (ranges : IsInRanges plan) (whole : IsWhole model order x) (round : Round model order plan x z least) where
+  same_system : system_of model order (simulation_of z) ≡ system_of model order (simulation_of x)
+  same_system =
+      ap (λ m. system model order m z.starts.value.items z.initial.value.items) round.model_is
+      ∙ ap (λ ss. system model order x.model ss.value.items z.initial.value.items) round.starts_are
+      ∙ ap (λ es. system model order x.model x.starts.value.items es.value.items) round.initial_are
+
+  ready_after : IsReady model z.model z.starts.value.items z.initial.value.items
+  ready_after =
+      subst (λ m. IsReady model m z.starts.value.items z.initial.value.items) (sym round.model_is)
+      (subst (λ ss. IsReady model x.model ss.value.items z.initial.value.items) (sym round.starts_are)
+      (subst (λ es. IsReady model x.model x.starts.value.items es.value.items) (sym round.initial_are) whole.ready))
+
+  -- the processes stand by their numbers again
+  numbered_after : AreNumbered z.model z.processes.items
+  numbered_after q l at =
+      let inside : q % plan.workers < plan.workers = owned laws plan x z least ranges whole round q in
+      let fit = (round.works (q % plan.workers) inside).fit in
+      let same : (round.last (q % plan.workers)).role ≡ role plan x.collected (q % plan.workers) = (closed laws plan x z least ranges whole round (q % plan.workers) inside).0.role in
+      let there : slice_get (round.last (q % plan.workers)).processes (q / plan.workers) ≡ Some l = sym (round.processes_are q) ∙ at in
+      let stands : StandsSound model order x.model fit.starts (role plan x.collected (q % plan.workers)) (q / plan.workers) l = subst (λ k. StandsSound model order x.model fit.starts k (q / plan.workers) l) same (fit.sound (q / plan.workers) l there) in
+      (stands.model_is ∙ sym round.model_is, stands.number ∙ number_of (role plan x.collected (q % plan.workers)) q inside refl)
+
+  pub whole_after : IsWhole model order z
+  whole_after =
+      let e = workers_exchanged laws plan x z least ranges whole round in
+      let sound = worlds.every_exchange x.model x.starts.value.items x.initial.value.items (world_of x) (world_of z) e.0 e.1 whole.ready whole.sound e.2 in
+      record { ready = ready_after; numbered = numbered_after; sound = subst (λ y. Sound y (world_of z)) (sym same_system) sound }
+
+  pub floor_after : least ≤ floor (world_of z)
+  floor_after = (worlds.every_floor x.model x.starts.value.items x.initial.value.items (world_of z) least whole.ready).1 (round.least_end, quiet_after laws plan x z least ranges whole round)
+
+  -- a round keeps the parts whole, and nothing outstanding is before what the board gave
+  pub round_keeps : IsWhole model order z × (least ≤ floor (world_of z))
+  round_keeps = (whole_after, floor_after)
+
+  -- the joined world, collected up to there
+  abbrev collected_world : WorldState S B
+  collected_world = record { processes = map (process.collect least) (world_of z).processes; letters = z.letters.items; collected = max z.collected least }
+
+  collects : apply (system_of model order (simulation_of z)) (world_of z) (Collect least) ≡ (collected_world, Done)
+  collects = let test : nat_le least (floor (world_of z)) ≡ true = le-leb least (floor (world_of z)) floor_after in rw test refl
+
+  -- so it may be collected up to there
+  pub collecting_is_done : (apply (system_of model order (simulation_of z)) (world_of z) (Collect least)).1 ≡ Done
+  collecting_is_done = ap (λ a. a.1) collects
+
+  step_kept : StepKept (system_of model order (simulation_of z)) (world_of z) (Collect least)
+  step_kept = worlds.every_step z.model z.starts.value.items z.initial.value.items (world_of z) (Collect least) whole_after.ready whole_after.sound
+
+  floor_stays : floor (apply (system_of model order (simulation_of z)) (world_of z) (Collect least)).0 ≡ floor (world_of z)
+  floor_stays = ap (λ a. floor a.0) collects ∙ ap (λ k. least_of_letters k z.letters.items) (least_collected least (2 ^ 40) (world_of z).processes)
+
+  -- joining the workers commits nothing
+  same_committed : (q : ℕ) (a c : Process S B) → slice_get (world_of x).processes q ≡ Some a → slice_get (world_of z).processes q ≡ Some c → a.committed ≡ c.committed
+  same_committed q a c was is =
+      let before = (worlds.every_sound_world x.model x.starts.value.items x.initial.value.items (world_of x) whole.ready whole.sound).committed q a was in
+      let after = (worlds.every_sound_world z.model z.starts.value.items z.initial.value.items (world_of z) whole_after.ready whole_after.sound).committed q c is in
+      before ∙ ap (λ y. below y x.collected q) (sym same_system) ∙ ap (λ g. below (system_of model order (simulation_of z)) g q) (sym round.collected_is) ∙ sym after
+
+  -- no committed event is lost
+  committed_longer : (q : ℕ) (a b : Process S B) → slice_get (world_of x).processes q ≡ Some a → slice_get (apply (system_of model order (simulation_of z)) (world_of z) (Collect least)).0.processes q ≡ Some b → (rest : List (Event B)) × (a.committed ++ rest ≡ b.committed)
+  committed_longer q a b was is =
+      go (slice_get (world_of z).processes q) refl
+      (sym (slice_get-map (process.collect least) (world_of z).processes q) ∙ ap (λ r. slice_get r.0.processes q) (sym collects) ∙ is)
+    where
+      go : (o : Option (Process S B)) → slice_get (world_of z).processes q ≡ o → option_map (process.collect least) o ≡ Some b → (rest : List (Event B)) × (a.committed ++ rest ≡ b.committed)
+      go None at k = cc
+      go (Some c) at k =
+          let more = step_kept.grows q c b at is in
+          (more.0, ap (λ es. es ++ more.0) (same_committed q a c was at) ∙ more.1)
+
+  -- a round, with the collecting that follows it, is as it should be
+  pub rounded : (u v : SimState M S B) → u.simulation ≡ simulation_of x → u.plan ≡ plan → v.simulation ≡ with_world (simulation_of z) (apply (system_of model order (simulation_of z)) (world_of z) (Collect least)).0 → v.plan ≡ plan → v.floor ≡ least → Rounded model order u v
+  rounded u v before plan_before after plan_after floor_is = record {
+    model_is = ap (λ (s : Simulation M S B). s.model) after ∙ round.model_is ∙ sym (ap (λ (s : Simulation M S B). s.model) before);
+    starts_are = ap (λ (s : Simulation M S B). s.starts) after ∙ ap (λ ss. ss.value.items) round.starts_are ∙ sym (ap (λ (s : Simulation M S B). s.starts) before);
+    initial_are = ap (λ (s : Simulation M S B). s.initial) after ∙ ap (λ es. es.value.items) round.initial_are ∙ sym (ap (λ (s : Simulation M S B). s.initial) before);
+    plan_is = plan_after ∙ sym plan_before;
+    sound = subst (λ (s : Simulation M S B). Sound (system_of model order s) s.world) (sym after) step_kept.sound;
+    below_floor = (let same : floor v.simulation.world ≡ floor (world_of z) = ap (λ (s : Simulation M S B). floor s.world) after ∙ floor_stays in omega (arith, floor_after));
+    collected =
+        ap (λ (s : Simulation M S B). s.world.collected) after
+        ∙ ap (λ a. a.0.collected) collects
+        ∙ ap (λ g. max g least) round.collected_is
+        ∙ ap (λ (s : Simulation M S B). max s.world.collected least) (sym before)
+        ∙ ap (max u.simulation.world.collected) (sym floor_is);
+    longer = λ q a b was is.
+        committed_longer q a b (ap (λ (s : Simulation M S B). slice_get s.world.processes q) (sym before) ∙ was) (ap (λ (s : Simulation M S B). slice_get s.world.processes q) (sym after) ∙ is);
+  }

@@ -1,0 +1,87 @@
+-- A round: each worker takes its turns and closes, and then all are joined.
+use Rattle.std.specs.Prelude.{◌≡◌, ℕ, ◌+◌, ◌*◌, ◌/◌, ◌%◌, ◌^◌, ◌<◌, ◌≤◌, max, List, [], ◌∷◌, ◌++◌, map, filter, slice_get, Some}
+use Rattle.std.specs.declared.cmp.Ordering.{Ordering}
+use Rattle.rw_vt.specs.declared.event.Letter.{Letter}
+use Rattle.rw_vt.specs.declared.model.Model.{Ghosts}
+use Rattle.rw_vt.specs.Order.{Each}
+use Rattle.rw_vt.specs.System.{System}
+use Rattle.rw_lp.specs.Process.{Process}
+use Rattle.rw_lp.specs.Calls.{LogicalProcess, rules}
+use Rattle.rw_world.specs.declared.parts.Parts.{Parts}
+use Rattle.rw_world.specs.Calls.{Simulation, system_of}
+use Rattle.rw_world.specs.Sound.{Sound}
+use Rattle.rw_world.specs.WorldState.{floor}
+use Rattle.rw_exchange.specs.Ports.{IsNew, IsWide, sent_to, received_from}
+use Rattle.rw_rounds.specs.declared.plan.Plan.{Plan}
+use Rattle.rw_rounds.specs.Bags.{weigh, Every, total}
+use Rattle.rw_rounds.specs.Turns.{Role, WorkerState, is_own, IsFit, TookTurns}
+
+-- what worker i is, where g is the greatest time collected
+abbrev pub role : Plan → ℕ → ℕ → Role
+role plan g i = record { number = i; plan = plan; collected = g }
+
+-- of these processes and letters, a worker begins with those that are its own, and has sent and received nothing yet
+pub record Begins {M S B : Type 0} (processes : List (LogicalProcess M S B)) (letters : List (Letter B)) (r : Role) (a : WorkerState M S B) : Type 0 where
+  pub role : a.role ≡ r
+  pub processes_are : (place : ℕ) → slice_get a.processes place ≡ slice_get processes (r.number + place * r.plan.workers)
+  pub inbox : a.inbox ≡ filter (is_own r) letters
+  pub none_kept : a.kept ≡ []
+  pub none_aside : a.aside ≡ []
+  pub its_port : a.port.worker ≡ r.number
+  pub wide : IsWide r.plan.workers a.port
+  pub new : IsNew a.port
+  pub none_noted : a.seat.noted ≡ []
+
+-- after its last turn a worker notes a time that none of its pending events and debts is before, and that of each letter that it keeps
+pub record Closes {M S B : Type 0} (y : System S B) (a b : WorkerState M S B) : Type 0 where
+  pub least : ℕ
+  pub pending : (place : ℕ) (l : LogicalProcess M S B) → slice_get a.processes place ≡ Some l → Each y.order (λ e. least ≤ e.time) l.process.pending
+  pub debts : (place : ℕ) (l : LogicalProcess M S B) → slice_get a.processes place ≡ Some l → Each y.order (λ e. least ≤ e.time) l.process.debts
+  pub closed : b ≡ record a { seat = record a.seat { noted = a.seat.noted ++ least ∷ map (λ l. l.event.time) a.kept } }
+
+-- so many turns, and the closing, of a worker of the model m
+pub record TookRound {M S B U : Type 0} (model : Ghosts M S B U) (order : B → B → Ordering) (m : M) (turns : ℕ) (a b : WorkerState M S B) : Type 0 where
+  pub between : WorkerState M S B
+  pub turns_are : TookTurns (rules model order m) turns a between
+  pub closes : Closes (rules model order m) between b
+  pub fit : IsFit model order m b
+
+-- the workers of the plan take the parts x to the parts z
+pub record Round {M S B U : Type 0} (model : Ghosts M S B U) (order : B → B → Ordering) (plan : Plan) (x z : Parts M S B U) (least : ℕ) : Type 0 where
+  -- by worker: as it began, and as it closed
+  pub first : ℕ → WorkerState M S B
+  pub last : ℕ → WorkerState M S B
+  -- what was left in the rings, by sender and receiver
+  pub left : ℕ → ℕ → List (Letter B)
+  pub begins : (i : ℕ) → i < plan.workers → Begins x.processes.items x.letters.items (role plan x.collected i) (first i)
+  pub works : (i : ℕ) → i < plan.workers → TookRound model order x.model plan.turns (first i) (last i)
+  pub settled : (i k : ℕ) → i < plan.workers → k < plan.workers → received_from (last k).port i ++ left i k ≡ sent_to (last i).port k
+  -- what the board gave
+  pub least_end : least ≤ 2 ^ 40
+  pub least_noted : (i : ℕ) → i < plan.workers → Every (λ t. least ≤ t) (last i).seat.noted
+  -- the parts in which they are joined
+  pub model_is : z.model ≡ x.model
+  pub starts_are : z.starts ≡ x.starts
+  pub initial_are : z.initial ≡ x.initial
+  pub collected_is : z.collected ≡ x.collected
+  pub processes_are : (q : ℕ) → slice_get z.processes.items q ≡ slice_get (last (q % plan.workers)).processes (q / plan.workers)
+  pub letters_are : (h : Letter B → ℕ) → weigh h z.letters.items ≡ total plan.workers (λ i. total plan.workers (λ k. weigh h (left i k))) + total plan.workers (λ i. weigh h (last i).kept + weigh h (last i).aside)
+
+-- What contracts see of a run between two rounds: the world, how it is run, and what the last round gave as its floor
+pub record SimState (M S B : Type 0) : Type 0 where
+  pub simulation : Simulation M S B
+  pub plan : Plan
+  pub floor : ℕ
+
+-- what a round promises of the worlds before and after it
+pub record Rounded {M S B U : Type 0} (model : Ghosts M S B U) (order : B → B → Ordering) (x z : SimState M S B) : Type 0 where
+  pub model_is : z.simulation.model ≡ x.simulation.model
+  pub starts_are : z.simulation.starts ≡ x.simulation.starts
+  pub initial_are : z.simulation.initial ≡ x.simulation.initial
+  pub plan_is : z.plan ≡ x.plan
+  pub sound : Sound (system_of model order z.simulation) z.simulation.world
+  -- what it gives as its floor is a lower bound of what is outstanding, and all before it is committed
+  pub below_floor : z.floor ≤ floor z.simulation.world
+  pub collected : z.simulation.world.collected ≡ max x.simulation.world.collected z.floor
+  -- no committed event is lost
+  pub longer : (q : ℕ) (a b : Process S B) → slice_get x.simulation.world.processes q ≡ Some a → slice_get z.simulation.world.processes q ≡ Some b → (rest : _) × (a.committed ++ rest ≡ b.committed)

@@ -1,0 +1,100 @@
+ghost use Rattle.std.specs.Prelude.{◌≡◌, ◌+◌, ◌*◌, ◌%◌, ◌<◌, ◌≤◌, ◌==◌, ℕ, [], IfOk, All, filter, length, map, replicate, slice_get, slice_index_or, vec_len};
+ghost use Rattle.rw_exchange.specs.Ports.{IsNew, IsOpening};
+ghost use Rattle.rw_board.specs.Seats.{SeatState};
+ghost use Rattle.rw_rounds.specs.Rounds.{role};
+
+use crate::plan::Plan;
+use crate::worker::Worker;
+use rw_board::Seat;
+use rw_exchange::Port;
+use rw_lp::Lp;
+use rw_vt::{Letter, Model as VtModel, NoMemory};
+use std::alloc::Global;
+
+/// The processes of each of so many workers: process q goes to worker q modulo their number.
+pub(crate) fn deal_processes<M: VtModel>(
+    alloc: Global,
+    workers: u32,
+    processes: Vec<Lp<M>>,
+) -> Result<Vec<Vec<Lp<M>>>, NoMemory>
+    requires workers { 1 ≤ workers }
+    ensures count { IfOk result (λ hands. length hands.items ≡ workers) }
+    ensures each { IfOk result (λ hands. (i place : ℕ) → i < workers → slice_get (slice_index_or (map (λ h. h.items) hands.items) i []) place ≡ slice_get processes.items (i + place * workers)) }
+{
+    let mut hands = empty_lists(alloc, workers as usize)?;
+    let mut next = 0;
+    for process in processes {
+        hands[next].push(process)?;
+        next = (next + 1) % workers as usize;
+    }
+    Ok(hands)
+}
+
+/// The letters on their way to each of so many workers, in order: a letter goes to the worker of its process.
+pub(crate) fn deal_letters<B: Copy>(
+    alloc: Global,
+    workers: u32,
+    letters: &[Letter<B>],
+) -> Result<Vec<Vec<Letter<B>>>, NoMemory>
+    requires workers { 1 ≤ workers }
+    ensures count { IfOk result (λ inboxes. length inboxes.items ≡ workers) }
+    ensures each { IfOk result (λ inboxes. (i : ℕ) → i < workers → slice_index_or (map (λ b. b.items) inboxes.items) i [] ≡ filter (λ l. l.event.to % workers == i) letters.now) }
+{
+    let mut inboxes = empty_lists(alloc, workers as usize)?;
+    for letter in letters {
+        inboxes[(letter.event.to % workers) as usize].push(*letter)?;
+    }
+    Ok(inboxes)
+}
+
+/// As many empty lists.
+fn empty_lists<T: Drop>(alloc: Global, count: usize) -> Result<Vec<Vec<T>>, NoMemory>
+    ensures { IfOk result (λ v. map (λ l. l.items) v.items ≡ replicate count []) }
+{
+    let mut lists = Vec::with_capacity(alloc, count)?;
+    for _list in 0..count {
+        lists.push(Vec::new(alloc))?;
+    }
+    Ok(lists)
+}
+
+/// The workers of a round, numbered from 0, each with its processes, its inbox, its port and its seat.
+pub(crate) fn set_up<M: VtModel>(
+    alloc: Global,
+    plan: &Plan,
+    collected: u64,
+    hands: Vec<Vec<Lp<M>>>,
+    inboxes: Vec<Vec<Letter<M::Body>>>,
+    ports: Vec<Port<M::Body>>,
+    seats: Vec<Seat>,
+) -> Result<Vec<Worker<M>>, NoMemory>
+    requires as_many { (length inboxes.items ≡ length hands.items) × (length ports.items ≡ length hands.items) × (length seats.items ≡ length hands.items) }
+    requires few { length hands.items ≤ 16 }
+    ensures count { IfOk result (λ workers. length workers.items ≡ length hands.items) }
+    ensures roles { IfOk result (λ workers. (i : ℕ) → i < length hands.items → slice_get (map (λ w. w.role) workers.items) i ≡ Some (role plan.now collected i)) }
+    ensures processes { IfOk result (λ workers. map (λ w. w.processes) workers.items ≡ map (λ h. h.items) hands.items) }
+    ensures inboxes { IfOk result (λ workers. map (λ w. w.inbox) workers.items ≡ map (λ b. b.items) inboxes.items) }
+    ensures ports { IfOk result (λ workers. map (λ w. w.port) workers.items ≡ ports.items) }
+    ensures seats { IfOk result (λ workers. map (λ w. w.seat) workers.items ≡ seats.items) }
+    ensures none { IfOk result (λ workers. All (λ w. (w.kept ≡ []) × (w.aside ≡ [])) workers.items) }
+{
+    let mut workers = Vec::with_capacity(alloc, hands.len())?;
+    let mut inboxes = inboxes.into_iter();
+    let mut ports = ports.into_iter();
+    let mut seats = seats.into_iter();
+    let mut number = 0;
+    for processes in hands {
+        let Some(inbox) = inboxes.next() else {
+            unreachable!()
+        };
+        let Some(port) = ports.next() else {
+            unreachable!()
+        };
+        let Some(seat) = seats.next() else {
+            unreachable!()
+        };
+        workers.push(Worker::new(alloc, number, plan, processes, inbox, port, seat, collected))?;
+        number += 1;
+    }
+    Ok(workers)
+}

@@ -1,0 +1,122 @@
+ghost use Rattle.std.specs.Prelude.{◌≡◌, IfOk, IfErr};
+ghost use Rattle.rw_world.specs.Calls.{IsWhole};
+ghost use Rattle.rw_rounds.specs.Plans.{IsInRanges};
+ghost use Rattle.rw_rounds.specs.Rounds.{Round, Rounded};
+ghost use Rattle.rw_rounds.specs.Stops.{EndsRound};
+
+use crate::dealing_out::{deal_letters, deal_processes, set_up};
+use crate::gate::Gate;
+use crate::gathering::{all_done, join_letters, join_processes, take_apart};
+use crate::plan::Plan;
+use crate::sim::Sim;
+use crate::stop::Stop;
+use crate::threads::{may_move, run_each};
+use crate::traffic::Traffic;
+use crate::worker_round::WorkerRound;
+use rw_exchange::Port;
+use rw_vt::Model as VtModel;
+use rw_world::{Parts, Step, World, every_exchange, every_floor, every_sound_world, every_step};
+use std::alloc::Global;
+use std::sync::Wait;
+use std::thread::Threads;
+
+/// Makes one round: each worker takes its turns in a thread of its own, and when all are done, what is final is committed.
+///
+/// # Errors
+///
+/// `Memory` where memory was refused, `Exhausted` where a process was to execute an event in a state that can take no further
+/// one, and `NoThread` where the start of a thread was refused. Nothing is handed back then: the world is gone.
+pub fn run_round<M, G, R>(rt: &R, alloc: Global, sim: Sim<M>, gate: &G) -> Result<Sim<M>, Stop>
+where
+    M: VtModel + Drop + Sync,
+    M::State: Send,
+    M::Body: Send,
+    M::Undo: Send,
+    G: Gate + Sync,
+    R: Threads + Wait + Sync,
+    ensures round { IfOk result (λ next. Rounded M.Model M.Body.cmp sim next) }
+    ensures others { IfErr result (λ stop. EndsRound stop) }
+{
+    let Sim {
+        world,
+        plan,
+        floor: _,
+        mut traffic,
+    } = sim;
+    // What the world promises of every world of the model.
+    every_exchange::<M>();
+    every_floor::<M>();
+    every_sound_world::<M>();
+    every_step::<M>();
+    let (parts, floor) = go_round(rt, alloc, world.take(), &plan, gate, &mut traffic)?;
+    let (world, _answer) = World::put(parts).apply(alloc, Step::Collect(floor))?;
+    Ok(Sim {
+        world,
+        plan,
+        floor,
+        traffic,
+    })
+}
+
+/// Deals the parts out to the workers, runs these, and joins what they leave to parts again. Gives the least time noted too.
+fn go_round<M, G, R>(
+    rt: &R,
+    alloc: Global,
+    parts: Parts<M>,
+    plan: &Plan,
+    gate: &G,
+    traffic: &mut Traffic,
+) -> Result<(Parts<M>, u64), Stop>
+where
+    M: VtModel + Drop + Sync,
+    M::State: Send,
+    M::Body: Send,
+    M::Undo: Send,
+    G: Gate + Sync,
+    R: Threads + Wait + Sync,
+    requires whole { IsWhole M.Model M.Body.cmp parts }
+    requires plan { IsInRanges plan.now }
+    ensures round { IfOk result (λ r. Round M.Model M.Body.cmp plan.now parts r.0 r.1) }
+    ensures others { IfErr result (λ stop. EndsRound stop) }
+{
+    let Parts {
+        model,
+        processes,
+        letters,
+        collected,
+        starts,
+        initial,
+    } = parts;
+    let count = processes.len();
+    let ports = rw_exchange::open(alloc, plan.workers as usize, plan.ring as usize)?;
+    let (board, seats) = rw_board::open(alloc, plan.workers as usize)?;
+    let hands = deal_processes(alloc, plan.workers, processes)?;
+    let inboxes = deal_letters(alloc, plan.workers, &letters)?;
+    let workers = set_up(alloc, plan, collected, hands, inboxes, ports, seats)?;
+    let work = WorkerRound {
+        alloc,
+        model: &model,
+        board: &board,
+        gate,
+        turns: plan.turns,
+    };
+    // On this rests that a worker may move.
+    may_move::<Port<M::Body>>();
+    let results = run_each(rt, alloc, workers, &work)?;
+    let workers = all_done(alloc, results)?;
+    let leavings = take_apart(alloc, workers, traffic)?;
+    let left = rw_exchange::settle(alloc, leavings.ports)?;
+    let floor = rw_board::close(board, leavings.seats);
+    let processes = join_processes(alloc, count, leavings.hands)?;
+    let letters = join_letters(alloc, &left, &leavings.kept)?;
+    traffic.rounds = traffic.rounds.wrapping_add(1);
+    let parts = Parts {
+        model,
+        processes,
+        letters,
+        collected,
+        starts,
+        initial,
+    };
+    Ok((parts, floor))
+}

@@ -1,0 +1,78 @@
+ghost use Rattle.std.specs.Prelude.{◌≡◌, ◌≤◌, ◌↔◌, ◌^◌, IfOk, map};
+ghost use Rattle.rw_vt.specs.System.{IsOutcome};
+ghost use Rattle.rw_world.specs.Calls.{system_of};
+ghost use Rattle.rw_world.specs.WorldState.{floor};
+ghost use Rattle.rw_rounds.specs.Plans.{IsInRanges};
+
+use crate::gate::Gate;
+use crate::plan::Plan;
+use crate::round::run_round;
+use crate::sim::Sim;
+use crate::stop::Stop;
+use crate::traffic::Traffic;
+use rw_vt::{END, Model as VtModel, NoMemory, Outcome};
+use rw_world::{World, every_sound_world};
+use std::alloc::Global;
+use std::sync::Wait;
+use std::thread::Threads;
+
+/// Makes rounds until nothing is outstanding, and gives what each process has then executed and its state, and what the
+/// rounds did in counts.
+///
+/// Whatever the plan is and however the threads interleave, a result is what executing all events in order of time leaves
+/// (Jefferson 1985).
+///
+/// # Errors
+///
+/// `BadPlan` exactly where a field of the plan is out of its range. `Memory` where memory was refused, and `NoThread` where
+/// the start of a thread was. `Exhausted` where a process was to execute an event in a state that can take no further one; a
+/// past that is then undone may bring that about too, so a run may be exhausted where the run on one thread is not.
+/// `RoundsUsed` after `max_rounds` rounds none of which had the end of time as its floor: events are outstanding, or the last
+/// round still passed letters on, whose times its floor counts too. Nothing is handed back after a stop.
+pub fn run<M, G, R>(
+    rt: &R,
+    alloc: Global,
+    world: World<M>,
+    plan: Plan,
+    gate: &G,
+) -> Result<(Outcome<M>, Traffic), Stop>
+where
+    M: VtModel + Drop + Sync,
+    M::State: Send,
+    M::Body: Send,
+    M::Undo: Send,
+    G: Gate + Sync,
+    R: Threads + Wait + Sync,
+    ensures outcome { IfOk result (λ r. IsOutcome (system_of M.Model M.Body.cmp world) (2 ^ 40) (map (λ j. j.items) r.0.journals.items) r.0.states.items) }
+    ensures plan { (result ≡ Err Stop.BadPlan) ↔ (IsInRanges plan → ⊥) }
+{
+    let mut sim = Sim::open(world, plan)?;
+    for _round in 0..plan.max_rounds {
+        sim = run_round(rt, alloc, sim, gate)?;
+        if sim.floor() == END {
+            let traffic = sim.traffic();
+            let outcome = outcome(alloc, sim.into_world())?;
+            return Ok((outcome, traffic));
+        }
+    }
+    Err(Stop::RoundsUsed)
+}
+
+/// The committed events and the state of each process, where nothing is outstanding and all is collected.
+fn outcome<M: VtModel + Drop>(alloc: Global, world: World<M>) -> Result<Outcome<M>, NoMemory>
+    requires floor { 2 ^ 40 ≤ floor world.world }
+    requires collected { 2 ^ 40 ≤ world.world.collected }
+    ensures outcome { IfOk result (λ o. IsOutcome (system_of M.Model M.Body.cmp world) (2 ^ 40) (map (λ j. j.items) o.journals.items) o.states.items) }
+{
+    // What the world promises of every world of the model.
+    every_sound_world::<M>();
+    let parts = world.take();
+    let mut journals = Vec::with_capacity(alloc, parts.processes.len())?;
+    let mut states = Vec::with_capacity(alloc, parts.processes.len())?;
+    for process in parts.processes {
+        let (journal, state) = process.into_outcome();
+        journals.push(journal)?;
+        states.push(state)?;
+    }
+    Ok(Outcome { journals, states })
+}
