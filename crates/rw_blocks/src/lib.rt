@@ -9,8 +9,6 @@
 mod queue;
 mod section;
 mod shape;
-#[cfg(test)]
-mod tests;
 
 pub use queue::Queue;
 pub use rw_vt::NoMemory;

@@ -8,7 +8,5 @@
 
 mod board;
 mod rule;
-#[cfg(test)]
-mod tests;
 
 pub use board::{Board, Seat, close, open};

@@ -1,6 +1,10 @@
 #![tactic(auto)]
-//! Worked examples that cross crates, each as a test: what is expected comes from the definitions, worked by hand.
+//! Worked examples, each as a test: what is expected comes from the definitions, worked by hand.
+//!
+//! They stand above the crates that they work through, so that each of those is proved once, without tests.
 
+#[cfg(test)]
+mod board_of_two_seats;
 #[cfg(test)]
 mod desk;
 #[cfg(test)]
@@ -8,10 +12,20 @@ mod edge_process;
 #[cfg(test)]
 mod fill_at_start;
 #[cfg(test)]
+mod insertions;
+#[cfg(test)]
 mod parcels;
+#[cfg(test)]
+mod primitives;
+#[cfg(test)]
+mod queue_text;
 #[cfg(test)]
 mod relay_rounds;
 #[cfg(test)]
 mod relay_world;
 #[cfg(test)]
+mod rings;
+#[cfg(test)]
 mod station_process;
+#[cfg(test)]
+mod traces;

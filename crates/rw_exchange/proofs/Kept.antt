@@ -12,9 +12,6 @@ map_same f (x ∷ xs) (y ∷ ys) e h =
     let tail : map f ys ≡ map f xs = map_same f xs ys (omega arith) (λ i d lt. h (suc i) d (omega arith)) in λ k. head k ∷ tail k
 
 module _ {T : Type 0} where
-  pub same_then : (p q r : PortState T) → SamePort p q → SamePort q r → SamePort p r
-  same_then p q r a b = record { worker = b.worker ∙ a.worker; capacity = b.capacity ∙ a.capacity; out = b.out ∙ a.out; into = b.into ∙ a.into; sent = b.sent ∙ a.sent; received = b.received ∙ a.received }
-
   pub opening_kept : (fs gs : List (PortState T)) → IsOpening fs → length gs ≡ length fs → ((i : ℕ) (d : PortState T) → i < length fs → SamePort (get_or fs i d) (get_or gs i d)) → IsOpening gs
   opening_kept fs gs h long same =
       let out : outs_of gs ≡ outs_of fs = map_same (λ (f : PortState T). f.out) fs gs long (λ i d lt. (same i d lt).out) in

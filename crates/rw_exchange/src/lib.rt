@@ -11,8 +11,6 @@ mod left;
 mod opening;
 mod port;
 mod settling;
-#[cfg(test)]
-mod tests;
 
 pub use left::Left;
 pub use opening::open;

@@ -22,7 +22,6 @@ use Rattle.rw_ripq.specs.Evict.{reinserted_from, section_with}
 use Rattle.rw_ripq.specs.Insert.{insert_at}
 use Rattle.rw_ripq.specs.Promote.{is_active_in, moved_unless, promote_to}
 use Rattle.rw_ripq.specs.Put.{put_again, put_new, with_room}
-use Rattle.rw_ripq.specs.Sealed.{is_emptied, without_block_if}
 use Rattle.rw_ripq.specs.Work.{Work}
 
 -- no exception

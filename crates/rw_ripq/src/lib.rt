@@ -14,8 +14,6 @@ mod levels;
 mod promotion;
 mod putting;
 mod sealed;
-#[cfg(test)]
-mod tests;
 mod trail;
 
 pub use insertion::insert;

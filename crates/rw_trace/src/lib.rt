@@ -267,6 +267,3 @@ pub fn read(alloc: Global, bytes: &[u8], edges: u32) -> Result<Vec<Row>, TraceFa
 {
     read_up_to(alloc, bytes, edges, MAX_ROWS)
 }
-
-#[cfg(test)]
-mod tests;

@@ -1,0 +1,373 @@
+// Insertions and promotions, as calls whose states, answers and marks are compared, and whose trails are rewound.
+ghost use Rattle.std.specs.Prelude.{◌≡◌, ◌≢◌, OnOk, IfOk, IfSome};
+ghost use Rattle.rw_blocks.specs.Loose.{IsWellFormed};
+ghost use Rattle.rw_ripq.specs.Trail.{Leads};
+ghost use Rattle.rw_ripq.specs.declared.Policy.TheVariants.{Off};
+
+use crate::queue_text::text_of;
+use rw_ripq::{
+    Kind, Policy, Queue, Refusal, Shape, Tally, Trail, insert, level_of, promote, resident, rewind,
+    target,
+};
+use std::alloc::Global;
+use std::process::Abort;
+use std::test::Fail;
+
+/// A call: an insertion of an object of that size at level 1, or a promotion.
+#[derive(Clone, Copy)]
+enum Call {
+    Insert(u64, u64),
+    Promote(u64),
+}
+
+/// What a call answers beside its trail: rows that left, rows written again, block writes, splits and merges, or whether
+/// the place changed.
+#[derive(Clone, Copy, Debug, PartialEq, Eq)]
+enum Answer {
+    Counts([u64; 5]),
+    Changed(bool),
+}
+
+/// A call, the state that it leads to, its answer and the length of its trail.
+#[derive(Clone, Copy)]
+struct Example {
+    call: Call,
+    after: &'static str,
+    answer: Answer,
+    marks: usize,
+}
+
+/// Makes the call, where its condition holds.
+fn make(
+    alloc: Global,
+    queue: &mut Queue,
+    policy: Policy,
+    call: Call,
+) -> Result<Option<(Trail, Answer)>, Refusal>
+    requires well_formed { IsWellFormed queue.old }
+    requires stores { policy ≢ Off }
+    ensures leads { IfOk result (λ done. IfSome done (λ d. Leads d.0 queue.old queue.new)) }
+    ensures kept { OnOk result (IsWellFormed queue.new) }
+{
+    let (_, block, _) = queue.shape();
+    match call {
+        Call::Insert(object, size) if size >= 1 && size <= block && !resident(queue, object) => {
+            let (trail, tally) = insert(alloc, queue, policy, object, size, 1)?;
+            let Tally {
+                evicted,
+                reinserted,
+                writes,
+                splits,
+                merges,
+            } = tally;
+            let counts = [evicted, reinserted, writes, splits, merges];
+            Ok(Some((trail, Answer::Counts(counts))))
+        }
+        Call::Promote(object) if resident(queue, object) => {
+            let (trail, changed) = promote(alloc, queue, policy, object)?;
+            Ok(Some((trail, Answer::Changed(changed))))
+        }
+        _ => Ok(None),
+    }
+}
+
+/// Makes the calls, each of which is as its example says, and rewinds them, the last one first.
+fn replay<R: Abort>(
+    rt: &R,
+    alloc: Global,
+    queue: &mut Queue,
+    policy: Policy,
+    examples: &[Example],
+) -> Result<(), Refusal>
+    requires well_formed { IsWellFormed queue.old }
+    requires stores { policy ≢ Off }
+    ensures { OnOk result (queue.new ≡ queue.old) }
+{
+    let [example, rest @ ..] = examples else {
+        return Ok(());
+    };
+    let before = text_of(alloc, queue)?;
+    let (trail, answer) = make(alloc, queue, policy, example.call)?.expect(
+        rt,
+        "the condition holds",
+    );
+    assert_eq!(rt; text_of(alloc, queue)?.as_str(), example.after);
+    assert_eq!(rt; answer, example.answer);
+    assert_eq!(rt; trail.marks().len(), example.marks);
+    replay(rt, alloc, queue, policy, rest)?;
+    rewind(queue, trail)?;
+    assert_eq!(rt; text_of(alloc, queue)?, before);
+    Ok(())
+}
+
+/// Makes the calls.
+fn forward<R: Abort>(
+    rt: &R,
+    alloc: Global,
+    queue: &mut Queue,
+    policy: Policy,
+    examples: &[Example],
+) -> Result<(), Refusal>
+    requires well_formed { IsWellFormed queue.old }
+    requires stores { policy ≢ Off }
+    ensures { OnOk result (IsWellFormed queue.new) }
+{
+    for example in examples {
+        make(alloc, queue, policy, example.call)?.expect(rt, "the condition holds");
+    }
+    Ok(())
+}
+
+/// One section, one sealed device block: the third insertion evicts the first object.
+const EVICTS: [Example; 3] = [
+    Example {
+        call: Call::Insert(1, 6),
+        after: "S0 {0, 1, []}, 1 (6, 0, 0), next 2",
+        answer: Answer::Counts([0, 0, 0, 0, 0]),
+        marks: 1,
+    },
+    Example {
+        call: Call::Insert(2, 6),
+        after: "S0 {2, 1, [0d]}, 1 (6, 0, 0), 2 (6, 2, 2), next 3",
+        answer: Answer::Counts([0, 0, 1, 0, 0]),
+        marks: 2,
+    },
+    Example {
+        call: Call::Insert(3, 6),
+        after: "S0 {3, 1, [2d]}, 2 (6, 2, 2), 3 (6, 3, 3), next 4",
+        answer: Answer::Counts([1, 0, 1, 0, 0]),
+        marks: 4,
+    },
+];
+
+/// With a promotion of the first object before it: the first object is written again, and the second one leaves.
+const WRITES_AGAIN: [Example; 4] = [
+    Example {
+        call: Call::Insert(1, 6),
+        after: "S0 {0, 1, []}, 1 (6, 0, 0), next 2",
+        answer: Answer::Counts([0, 0, 0, 0, 0]),
+        marks: 1,
+    },
+    Example {
+        call: Call::Insert(2, 6),
+        after: "S0 {2, 1, [0d]}, 1 (6, 0, 0), 2 (6, 2, 2), next 3",
+        answer: Answer::Counts([0, 0, 1, 0, 0]),
+        marks: 2,
+    },
+    Example {
+        call: Call::Promote(1),
+        after: "S0 {2, 1, [0d]}, 1 (6, 0, 1), 2 (6, 2, 2), next 3",
+        answer: Answer::Changed(true),
+        marks: 1,
+    },
+    Example {
+        call: Call::Insert(3, 6),
+        after: "S0 {4, 1, [3d]}, 1 (6, 4, 4), 3 (6, 3, 3), next 5",
+        answer: Answer::Counts([1, 1, 2, 0, 0]),
+        marks: 7,
+    },
+];
+
+/// From a queue with a sealed virtual block: it goes, and then the device block before it.
+const EVICTS_BOTH: [Example; 2] = [
+    Example {
+        call: Call::Insert(3, 6),
+        after: "S0 {3, 2, [0d, 1v]}, 1 (6, 0, 1), 2 (4, 0, 0), 3 (6, 3, 3), next 4",
+        answer: Answer::Counts([0, 0, 0, 0, 0]),
+        marks: 1,
+    },
+    Example {
+        call: Call::Insert(4, 6),
+        after: "S0 {4, 2, [3d]}, 3 (6, 3, 3), 4 (6, 4, 4), next 5",
+        answer: Answer::Counts([2, 0, 1, 0, 0]),
+        marks: 6,
+    },
+];
+
+/// Promotions: of an object in the active block, of another, and one that empties a sealed virtual block.
+const PROMOTES: [Example; 7] = [
+    Example {
+        call: Call::Insert(1, 6),
+        after: "S0 {0, 1, []}, 1 (6, 0, 0), next 2",
+        answer: Answer::Counts([0, 0, 0, 0, 0]),
+        marks: 1,
+    },
+    Example {
+        call: Call::Insert(2, 6),
+        after: "S0 {2, 1, [0d]}, 1 (6, 0, 0), 2 (6, 2, 2), next 3",
+        answer: Answer::Counts([0, 0, 1, 0, 0]),
+        marks: 2,
+    },
+    Example {
+        call: Call::Insert(3, 6),
+        after: "S0 {3, 1, [2d, 0d]}, 1 (6, 0, 0), 2 (6, 2, 2), 3 (6, 3, 3), next 4",
+        answer: Answer::Counts([0, 0, 1, 0, 0]),
+        marks: 2,
+    },
+    Example {
+        call: Call::Promote(3),
+        after: "S0 {3, 1, [2d, 0d]}, 1 (6, 0, 0), 2 (6, 2, 2), 3 (6, 3, 3), next 4",
+        answer: Answer::Changed(false),
+        marks: 0,
+    },
+    Example {
+        call: Call::Promote(1),
+        after: "S0 {3, 1, [2d, 0d]}, 1 (6, 0, 1), 2 (6, 2, 2), 3 (6, 3, 3), next 4",
+        answer: Answer::Changed(true),
+        marks: 1,
+    },
+    Example {
+        call: Call::Promote(2),
+        after: "S0 {3, 4, [1v, 2d, 0d]}, 1 (6, 0, 1), 2 (6, 2, 4), 3 (6, 3, 3), next 5",
+        answer: Answer::Changed(true),
+        marks: 2,
+    },
+    Example {
+        call: Call::Promote(1),
+        after: "S0 {3, 5, [4v, 2d, 0d]}, 1 (6, 0, 5), 2 (6, 2, 4), 3 (6, 3, 3), next 6",
+        answer: Answer::Changed(true),
+        marks: 3,
+    },
+];
+
+/// Four insertions, two of which split the head.
+const SPLITS: [Example; 4] = [
+    Example {
+        call: Call::Insert(1, 6),
+        after: "S0 {0, 1, []}, 1 (6, 0, 0), next 2",
+        answer: Answer::Counts([0, 0, 0, 0, 0]),
+        marks: 1,
+    },
+    Example {
+        call: Call::Insert(2, 6),
+        after: "S0 {2, 1, [0d]}, 1 (6, 0, 0), 2 (6, 2, 2), next 3",
+        answer: Answer::Counts([0, 0, 1, 0, 0]),
+        marks: 2,
+    },
+    Example {
+        call: Call::Insert(3, 6),
+        after: "S0 {3, 1, [2d]}, S1 {4, 5, [0d]}, 1 (6, 0, 0), 2 (6, 2, 2), 3 (6, 3, 3), next 6",
+        answer: Answer::Counts([0, 0, 1, 1, 0]),
+        marks: 3,
+    },
+    Example {
+        call: Call::Insert(4, 6),
+        after: "S0 {6, 1, [3d]}, S1 {7, 8, [2d]}, S2 {4, 5, [0d]}, 1 (6, 0, 0), 2 (6, 2, 2), 3 (6, 3, 3), 4 (6, 6, 6), next 9",
+        answer: Answer::Counts([0, 0, 1, 1, 0]),
+        marks: 3,
+    },
+];
+
+/// From there two promotions, and an insertion that merges the two lower sections and splits the head.
+const MERGES: [Example; 3] = [
+    Example {
+        call: Call::Promote(1),
+        after: "S0 {6, 1, [3d]}, S1 {7, 8, [2d]}, S2 {4, 5, [0d]}, 1 (6, 0, 1), 2 (6, 2, 2), 3 (6, 3, 3), 4 (6, 6, 6), next 9",
+        answer: Answer::Changed(true),
+        marks: 1,
+    },
+    Example {
+        call: Call::Promote(2),
+        after: "S0 {6, 9, [1v, 3d]}, S1 {7, 8, [2d]}, S2 {4, 5, [0d]}, 1 (6, 0, 1), 2 (6, 2, 9), 3 (6, 3, 3), 4 (6, 6, 6), next 10",
+        answer: Answer::Changed(true),
+        marks: 2,
+    },
+    Example {
+        call: Call::Insert(5, 6),
+        after: "S0 {10, 9, [6d, 1v]}, S1 {11, 12, [3d]}, S2 {7, 8, [2d, 0d]}, 1 (6, 0, 1), 2 (6, 2, 9), 3 (6, 3, 3), 4 (6, 6, 6), 5 (6, 10, 10), next 13",
+        answer: Answer::Counts([0, 0, 1, 1, 1]),
+        marks: 4,
+    },
+];
+
+/// With three segments a miss goes to the middle section.
+const SEGMENTS_MISS: [Example; 1] = [Example {
+    call: Call::Insert(5, 6),
+    after: "S0 {6, 1, [3d]}, S1 {7, 8, [2d]}, S2 {4, 5, [0d]}, 1 (6, 0, 0), 2 (6, 2, 2), 3 (6, 3, 3), 4 (6, 6, 6), 5 (6, 7, 7), next 9",
+    answer: Answer::Counts([0, 0, 0, 0, 0]),
+    marks: 1,
+}];
+
+/// And a hit of the lowest level to the head.
+const SEGMENTS_HIT: [Example; 1] = [Example {
+    call: Call::Promote(1),
+    after: "S0 {6, 1, [3d]}, S1 {7, 8, [2d]}, S2 {4, 5, [0d]}, 1 (6, 0, 1), 2 (6, 2, 2), 3 (6, 3, 3), 4 (6, 6, 6), next 9",
+    answer: Answer::Changed(true),
+    marks: 1,
+}];
+
+#[test]
+fn one_section(rt: HostRuntime) -> Result<(), Fail> {
+    let shape = Shape::new(1, 10, 1).ok_or("shape")?;
+    let mut queue = Queue::new(rt.alloc(), shape)?;
+    replay(&rt, rt.alloc(), &mut queue, Policy::Lru, &EVICTS)?;
+    replay(&rt, rt.alloc(), &mut queue, Policy::Lru, &WRITES_AGAIN)?;
+    let shape = Shape::new(1, 10, 4).ok_or("shape")?;
+    let mut queue = Queue::new(rt.alloc(), shape)?;
+    replay(&rt, rt.alloc(), &mut queue, Policy::Lru, &PROMOTES)?;
+    Ok(())
+}
+
+/// A queue with a sealed virtual block, made by primitives.
+fn with_sealed_virtual(alloc: Global) -> Result<Queue, Refusal>
+    ensures { IfOk result (λ q. IsWellFormed q) }
+{
+    let shape = Shape::new(1, 10, 1).unwrap();
+    let mut queue = Queue::new(alloc, shape)?;
+    queue.add(1, 6, 0)?;
+    queue.replace(1, 0)?;
+    queue.seal(0, Kind::Virtual)?;
+    queue.add(2, 4, 0)?;
+    queue.seal(0, Kind::Device)?;
+    Ok(queue)
+}
+
+#[test]
+fn a_virtual_victim(rt: HostRuntime) -> Result<(), Fail> {
+    let mut queue = with_sealed_virtual(rt.alloc())?;
+    assert_eq!(rt;
+        text_of(rt.alloc(), &queue)?.as_str(),
+        "S0 {3, 2, [0d, 1v]}, 1 (6, 0, 1), 2 (4, 0, 0), next 4"
+    );
+    replay(&rt, rt.alloc(), &mut queue, Policy::Lru, &EVICTS_BOTH)?;
+    Ok(())
+}
+
+#[test]
+fn many_sections(rt: HostRuntime) -> Result<(), Fail> {
+    let shape = Shape::new(4, 10, 8).ok_or("shape")?;
+    let mut queue = Queue::new(rt.alloc(), shape)?;
+    replay(&rt, rt.alloc(), &mut queue, Policy::Lru, &SPLITS)?;
+    forward(&rt, rt.alloc(), &mut queue, Policy::Lru, &SPLITS)?;
+    replay(&rt, rt.alloc(), &mut queue, Policy::Lru, &MERGES)?;
+    replay(&rt, rt.alloc(), &mut queue, Policy::Slru3, &SEGMENTS_MISS)?;
+    replay(&rt, rt.alloc(), &mut queue, Policy::Slru3, &SEGMENTS_HIT)?;
+    Ok(())
+}
+
+#[test]
+fn levels_and_targets(rt: HostRuntime) -> Result<(), Fail> {
+    let shape = Shape::new(4, 10, 8).ok_or("shape")?;
+    let mut queue = Queue::new(rt.alloc(), shape)?;
+    forward(&rt, rt.alloc(), &mut queue, Policy::Lru, &SPLITS)?;
+    assert_eq!(rt;
+        (
+            level_of(&queue, 1),
+            level_of(&queue, 2),
+            level_of(&queue, 3),
+            level_of(&queue, 4),
+            level_of(&queue, 5)
+        ),
+        (Some(1), Some(1), Some(2), Some(2), None)
+    );
+    assert_eq!(rt;
+        (
+            target(&queue, Policy::Slru3, 1),
+            target(&queue, Policy::Slru3, 2),
+            target(&queue, Policy::Slru3, 3)
+        ),
+        (1, 0, 0)
+    );
+    assert_eq!(rt; target(&queue, Policy::Lru, 1), 0);
+    Ok(())
+}

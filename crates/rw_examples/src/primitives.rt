@@ -1,0 +1,429 @@
+// The primitives of a queue of blocks, as steps: run forwards with each state compared, and undone mark by mark.
+ghost use Rattle.std.specs.Prelude.{◌≡◌, ◌≤◌, ◌<◌, ◌+◌, ◌∷◌, [], length, OnOk, IfOk, IfSome, IsTrue, slice_get, Some};
+ghost use Rattle.rw_blocks.specs.State.{section_at, active_of};
+ghost use Rattle.rw_blocks.specs.Sums.{bytes_held};
+ghost use Rattle.rw_blocks.specs.Loose.{IsLoose, IsFree};
+ghost use Rattle.rw_blocks.specs.Undo.{Undoes};
+
+use crate::queue_text::text_of;
+use rw_blocks::{Kind, Mark, NoMemory, Queue, Shape};
+use std::alloc::Global;
+use std::process::Abort;
+use std::test::Fail;
+
+/// A primitive with its arguments.
+#[derive(Clone, Copy)]
+enum Step {
+    Add(u64, u64, usize),
+    Remove(u64),
+    Rehome(u64, usize),
+    Replace(u64, usize),
+    Seal(usize, Kind),
+    TakeOut(usize, usize),
+    Split(usize, usize),
+    Merge(usize),
+}
+
+/// Whether the section is there and the size fits its active block of the kind.
+fn fits(queue: &Queue, section: usize, kind: Kind, size: u64) -> bool
+    requires { IsLoose queue.now }
+    ensures there { IsTrue result → section < length queue.now.sections }
+    ensures fits { IsTrue result → bytes_held kind queue.now (active_of kind (section_at queue.now section)) + size ≤ queue.now.shape.block }
+{
+    if section >= queue.sections() {
+        return false;
+    }
+    let (_, block, _) = queue.shape();
+    let fill = queue.fill(queue.active(section, kind));
+    size <= block && fill <= block - size
+}
+
+/// Whether the block has no row.
+#[tactic(auto, using(crate::proofs::FreeBlocks::free_laws))]
+fn is_free(queue: &Queue, serial: u64) -> bool
+    ensures { IsTrue result → IsFree queue.now serial }
+{
+    queue.first_home(serial).is_none() && queue.first_place(serial).is_none()
+}
+
+fn add(queue: &mut Queue, object: u64, size: u64, section: usize) -> Result<Option<Mark>, NoMemory>
+    requires { IsLoose queue.old }
+    ensures undoes { IfOk result (λ done. IfSome done (λ mark. Undoes mark queue.old queue.new)) }
+    ensures kept { OnOk result (IsLoose queue.new) }
+{
+    if size == 0 || queue.row(object).is_some() || !fits(queue, section, Kind::Device, size) {
+        return Ok(None);
+    }
+    if queue.total() > (1 << 48) - size {
+        return Ok(None);
+    }
+    Ok(Some(queue.add(object, size, section)?))
+}
+
+fn rehome(queue: &mut Queue, object: u64, section: usize) -> Result<Option<Mark>, NoMemory>
+    requires { IsLoose queue.old }
+    ensures undoes { IfOk result (λ done. IfSome done (λ mark. Undoes mark queue.old queue.new)) }
+    ensures kept { OnOk result (IsLoose queue.new) }
+{
+    let Some(row) = queue.row(object) else {
+        return Ok(None);
+    };
+    if !fits(queue, section, Kind::Device, row.size) {
+        return Ok(None);
+    }
+    Ok(Some(queue.rehome(object, section)?))
+}
+
+fn replace(queue: &mut Queue, object: u64, section: usize) -> Result<Option<Mark>, NoMemory>
+    requires { IsLoose queue.old }
+    ensures undoes { IfOk result (λ done. IfSome done (λ mark. Undoes mark queue.old queue.new)) }
+    ensures kept { OnOk result (IsLoose queue.new) }
+{
+    let Some(row) = queue.row(object) else {
+        return Ok(None);
+    };
+    if !fits(queue, section, Kind::Virtual, row.size) {
+        return Ok(None);
+    }
+    Ok(Some(queue.replace(object, section)?))
+}
+
+fn take_out(queue: &mut Queue, section: usize, position: usize) -> Result<Option<Mark>, NoMemory>
+    requires { IsLoose queue.old }
+    ensures undoes { IfOk result (λ done. IfSome done (λ mark. Undoes mark queue.old queue.new)) }
+    ensures kept { OnOk result (IsLoose queue.new) }
+{
+    if section >= queue.sections() || position >= queue.sealed(section) {
+        return Ok(None);
+    }
+    let (serial, _) = queue.sealed_at(section, position);
+    if !is_free(queue, serial) {
+        return Ok(None);
+    }
+    Ok(Some(queue.take_out(section, position)?))
+}
+
+fn split(queue: &mut Queue, section: usize, keep: usize) -> Result<Option<Mark>, NoMemory>
+    requires { IsLoose queue.old }
+    ensures undoes { IfOk result (λ done. IfSome done (λ mark. Undoes mark queue.old queue.new)) }
+    ensures kept { OnOk result (IsLoose queue.new) }
+{
+    let (sections, _, _) = queue.shape();
+    if section >= queue.sections() || queue.sections() as u64 >= sections {
+        return Ok(None);
+    }
+    if keep > queue.sealed(section) || queue.next_serial() >= (1 << 63) - 1 {
+        return Ok(None);
+    }
+    Ok(Some(queue.split(section, keep)?))
+}
+
+/// Makes the step, where its condition holds.
+fn make(queue: &mut Queue, step: Step) -> Result<Option<Mark>, NoMemory>
+    requires { IsLoose queue.old }
+    ensures undoes { IfOk result (λ done. IfSome done (λ mark. Undoes mark queue.old queue.new)) }
+    ensures kept { OnOk result (IsLoose queue.new) }
+{
+    match step {
+        Step::Add(object, size, section) => add(queue, object, size, section),
+        Step::Remove(object) if queue.row(object).is_some() => Ok(Some(queue.remove(object)?)),
+        Step::Rehome(object, section) => rehome(queue, object, section),
+        Step::Replace(object, section) => replace(queue, object, section),
+        Step::Seal(section, kind) if section < queue.sections() && queue.next_serial() < 1 << 63 =>
+            { Ok(Some(queue.seal(section, kind)?)) }
+        Step::TakeOut(section, position) => take_out(queue, section, position),
+        Step::Split(section, keep) => split(queue, section, keep),
+        Step::Merge(section) if queue.sections() > 1 && section < queue.sections() - 1 => {
+            Ok(Some(queue.merge(section)?))
+        }
+        _ => Ok(None),
+    }
+}
+
+/// Makes the steps, each of which leads to the state beside it, and undoes them, the last one first.
+fn replay<R: Abort>(
+    rt: &R,
+    alloc: Global,
+    queue: &mut Queue,
+    steps: &[(Step, &str)],
+) -> Result<(), NoMemory>
+    requires { IsLoose queue.old }
+    ensures { OnOk result (queue.new ≡ queue.old) }
+{
+    let [(step, after), rest @ ..] = steps else {
+        return Ok(());
+    };
+    let before = text_of(alloc, queue)?;
+    let mark = make(queue, *step)?.expect(rt, "the step's condition holds");
+    assert_eq!(rt; text_of(alloc, queue)?.as_str(), *after);
+    replay(rt, alloc, queue, rest)?;
+    queue.undo(mark)?;
+    assert_eq!(rt; text_of(alloc, queue)?, before);
+    Ok(())
+}
+
+/// Makes the steps.
+fn forward<R: Abort>(rt: &R, queue: &mut Queue, steps: &[(Step, &str)]) -> Result<(), NoMemory>
+    requires { IsLoose queue.old }
+    ensures { OnOk result (IsLoose queue.new) }
+{
+    for (step, _) in steps {
+        make(queue, *step)?.expect(rt, "the step's condition holds");
+    }
+    Ok(())
+}
+
+/// One section of 10 bytes a block: an object that is replaced, another, and their eviction by a third and a fourth.
+const ONE_SECTION: [(Step, &str); 12] = [
+    (Step::Add(1, 6, 0), "S0 {0, 1, []}, 1 (6, 0, 0), next 2"),
+    (Step::Replace(1, 0), "S0 {0, 1, []}, 1 (6, 0, 1), next 2"),
+    (
+        Step::Seal(0, Kind::Virtual),
+        "S0 {0, 2, [1v]}, 1 (6, 0, 1), next 3",
+    ),
+    (
+        Step::Add(2, 4, 0),
+        "S0 {0, 2, [1v]}, 1 (6, 0, 1), 2 (4, 0, 0), next 3",
+    ),
+    (
+        Step::Seal(0, Kind::Device),
+        "S0 {3, 2, [0d, 1v]}, 1 (6, 0, 1), 2 (4, 0, 0), next 4",
+    ),
+    (
+        Step::Add(3, 6, 0),
+        "S0 {3, 2, [0d, 1v]}, 1 (6, 0, 1), 2 (4, 0, 0), 3 (6, 3, 3), next 4",
+    ),
+    (
+        Step::Seal(0, Kind::Device),
+        "S0 {4, 2, [3d, 0d, 1v]}, 1 (6, 0, 1), 2 (4, 0, 0), 3 (6, 3, 3), next 5",
+    ),
+    (
+        Step::Add(4, 6, 0),
+        "S0 {4, 2, [3d, 0d, 1v]}, 1 (6, 0, 1), 2 (4, 0, 0), 3 (6, 3, 3), 4 (6, 4, 4), next 5",
+    ),
+    (
+        Step::Remove(1),
+        "S0 {4, 2, [3d, 0d, 1v]}, 2 (4, 0, 0), 3 (6, 3, 3), 4 (6, 4, 4), next 5",
+    ),
+    (
+        Step::TakeOut(0, 2),
+        "S0 {4, 2, [3d, 0d]}, 2 (4, 0, 0), 3 (6, 3, 3), 4 (6, 4, 4), next 5",
+    ),
+    (
+        Step::Remove(2),
+        "S0 {4, 2, [3d, 0d]}, 3 (6, 3, 3), 4 (6, 4, 4), next 5",
+    ),
+    (
+        Step::TakeOut(0, 1),
+        "S0 {4, 2, [3d]}, 3 (6, 3, 3), 4 (6, 4, 4), next 5",
+    ),
+];
+
+/// One section: an object that is replaced and then written again, when its home is evicted.
+const WRITTEN_AGAIN: [(Step, &str); 11] = [
+    (Step::Add(1, 6, 0), "S0 {0, 1, []}, 1 (6, 0, 0), next 2"),
+    (
+        Step::Seal(0, Kind::Device),
+        "S0 {2, 1, [0d]}, 1 (6, 0, 0), next 3",
+    ),
+    (
+        Step::Add(2, 6, 0),
+        "S0 {2, 1, [0d]}, 1 (6, 0, 0), 2 (6, 2, 2), next 3",
+    ),
+    (
+        Step::Replace(1, 0),
+        "S0 {2, 1, [0d]}, 1 (6, 0, 1), 2 (6, 2, 2), next 3",
+    ),
+    (
+        Step::Seal(0, Kind::Device),
+        "S0 {3, 1, [2d, 0d]}, 1 (6, 0, 1), 2 (6, 2, 2), next 4",
+    ),
+    (
+        Step::Add(3, 6, 0),
+        "S0 {3, 1, [2d, 0d]}, 1 (6, 0, 1), 2 (6, 2, 2), 3 (6, 3, 3), next 4",
+    ),
+    (
+        Step::Seal(0, Kind::Device),
+        "S0 {4, 1, [3d, 2d, 0d]}, 1 (6, 0, 1), 2 (6, 2, 2), 3 (6, 3, 3), next 5",
+    ),
+    (
+        Step::Rehome(1, 0),
+        "S0 {4, 1, [3d, 2d, 0d]}, 1 (6, 4, 4), 2 (6, 2, 2), 3 (6, 3, 3), next 5",
+    ),
+    (
+        Step::TakeOut(0, 2),
+        "S0 {4, 1, [3d, 2d]}, 1 (6, 4, 4), 2 (6, 2, 2), 3 (6, 3, 3), next 5",
+    ),
+    (
+        Step::Remove(2),
+        "S0 {4, 1, [3d, 2d]}, 1 (6, 4, 4), 3 (6, 3, 3), next 5",
+    ),
+    (
+        Step::TakeOut(0, 1),
+        "S0 {4, 1, [3d]}, 1 (6, 4, 4), 3 (6, 3, 3), next 5",
+    ),
+];
+
+/// Three sections: splits, and a merge whose lower active blocks vanish.
+const THREE_SECTIONS: [(Step, &str); 16] = [
+    (Step::Add(1, 6, 0), "S0 {0, 1, []}, 1 (6, 0, 0), next 2"),
+    (
+        Step::Seal(0, Kind::Device),
+        "S0 {2, 1, [0d]}, 1 (6, 0, 0), next 3",
+    ),
+    (
+        Step::Add(2, 6, 0),
+        "S0 {2, 1, [0d]}, 1 (6, 0, 0), 2 (6, 2, 2), next 3",
+    ),
+    (
+        Step::Seal(0, Kind::Device),
+        "S0 {3, 1, [2d, 0d]}, 1 (6, 0, 0), 2 (6, 2, 2), next 4",
+    ),
+    (
+        Step::Add(3, 6, 0),
+        "S0 {3, 1, [2d, 0d]}, 1 (6, 0, 0), 2 (6, 2, 2), 3 (6, 3, 3), next 4",
+    ),
+    (
+        Step::Split(0, 1),
+        "S0 {3, 1, [2d]}, S1 {4, 5, [0d]}, 1 (6, 0, 0), 2 (6, 2, 2), 3 (6, 3, 3), next 6",
+    ),
+    (
+        Step::Seal(0, Kind::Device),
+        "S0 {6, 1, [3d, 2d]}, S1 {4, 5, [0d]}, 1 (6, 0, 0), 2 (6, 2, 2), 3 (6, 3, 3), next 7",
+    ),
+    (
+        Step::Add(4, 6, 0),
+        "S0 {6, 1, [3d, 2d]}, S1 {4, 5, [0d]}, 1 (6, 0, 0), 2 (6, 2, 2), 3 (6, 3, 3), 4 (6, 6, 6), next 7",
+    ),
+    (
+        Step::Split(0, 1),
+        "S0 {6, 1, [3d]}, S1 {7, 8, [2d]}, S2 {4, 5, [0d]}, 1 (6, 0, 0), 2 (6, 2, 2), 3 (6, 3, 3), 4 (6, 6, 6), next 9",
+    ),
+    (
+        Step::Replace(1, 0),
+        "S0 {6, 1, [3d]}, S1 {7, 8, [2d]}, S2 {4, 5, [0d]}, 1 (6, 0, 1), 2 (6, 2, 2), 3 (6, 3, 3), 4 (6, 6, 6), next 9",
+    ),
+    (
+        Step::Seal(0, Kind::Virtual),
+        "S0 {6, 9, [1v, 3d]}, S1 {7, 8, [2d]}, S2 {4, 5, [0d]}, 1 (6, 0, 1), 2 (6, 2, 2), 3 (6, 3, 3), 4 (6, 6, 6), next 10",
+    ),
+    (
+        Step::Replace(2, 0),
+        "S0 {6, 9, [1v, 3d]}, S1 {7, 8, [2d]}, S2 {4, 5, [0d]}, 1 (6, 0, 1), 2 (6, 2, 9), 3 (6, 3, 3), 4 (6, 6, 6), next 10",
+    ),
+    (
+        Step::Seal(0, Kind::Device),
+        "S0 {10, 9, [6d, 1v, 3d]}, S1 {7, 8, [2d]}, S2 {4, 5, [0d]}, 1 (6, 0, 1), 2 (6, 2, 9), 3 (6, 3, 3), 4 (6, 6, 6), next 11",
+    ),
+    (
+        Step::Add(5, 6, 0),
+        "S0 {10, 9, [6d, 1v, 3d]}, S1 {7, 8, [2d]}, S2 {4, 5, [0d]}, 1 (6, 0, 1), 2 (6, 2, 9), 3 (6, 3, 3), 4 (6, 6, 6), 5 (6, 10, 10), next 11",
+    ),
+    (
+        Step::Merge(1),
+        "S0 {10, 9, [6d, 1v, 3d]}, S1 {7, 8, [2d, 0d]}, 1 (6, 0, 1), 2 (6, 2, 9), 3 (6, 3, 3), 4 (6, 6, 6), 5 (6, 10, 10), next 11",
+    ),
+    (
+        Step::Split(0, 2),
+        "S0 {10, 9, [6d, 1v]}, S1 {11, 12, [3d]}, S2 {7, 8, [2d, 0d]}, 1 (6, 0, 1), 2 (6, 2, 9), 3 (6, 3, 3), 4 (6, 6, 6), 5 (6, 10, 10), next 13",
+    ),
+];
+
+/// From there a fourth section, and merges whose lower active blocks stay, vanish, and of which one vanishes.
+const FOUR_SECTIONS: [(Step, &str); 7] = [
+    (
+        Step::Split(2, 1),
+        "S0 {10, 9, [6d, 1v]}, S1 {11, 12, [3d]}, S2 {7, 8, [2d]}, S3 {13, 14, [0d]}, 1 (6, 0, 1), 2 (6, 2, 9), 3 (6, 3, 3), 4 (6, 6, 6), 5 (6, 10, 10), next 15",
+    ),
+    (
+        Step::Add(6, 4, 2),
+        "S0 {10, 9, [6d, 1v]}, S1 {11, 12, [3d]}, S2 {7, 8, [2d]}, S3 {13, 14, [0d]}, 1 (6, 0, 1), 2 (6, 2, 9), 3 (6, 3, 3), 4 (6, 6, 6), 5 (6, 10, 10), 6 (4, 7, 7), next 15",
+    ),
+    (
+        Step::Replace(3, 2),
+        "S0 {10, 9, [6d, 1v]}, S1 {11, 12, [3d]}, S2 {7, 8, [2d]}, S3 {13, 14, [0d]}, 1 (6, 0, 1), 2 (6, 2, 9), 3 (6, 3, 8), 4 (6, 6, 6), 5 (6, 10, 10), 6 (4, 7, 7), next 15",
+    ),
+    (
+        Step::Merge(1),
+        "S0 {10, 9, [6d, 1v]}, S1 {11, 12, [3d, 7d, 8v, 2d]}, S2 {13, 14, [0d]}, 1 (6, 0, 1), 2 (6, 2, 9), 3 (6, 3, 8), 4 (6, 6, 6), 5 (6, 10, 10), 6 (4, 7, 7), next 15",
+    ),
+    (
+        Step::Merge(0),
+        "S0 {10, 9, [6d, 1v, 3d, 7d, 8v, 2d]}, S1 {13, 14, [0d]}, 1 (6, 0, 1), 2 (6, 2, 9), 3 (6, 3, 8), 4 (6, 6, 6), 5 (6, 10, 10), 6 (4, 7, 7), next 15",
+    ),
+    (
+        Step::Replace(4, 1),
+        "S0 {10, 9, [6d, 1v, 3d, 7d, 8v, 2d]}, S1 {13, 14, [0d]}, 1 (6, 0, 1), 2 (6, 2, 9), 3 (6, 3, 8), 4 (6, 6, 14), 5 (6, 10, 10), 6 (4, 7, 7), next 15",
+    ),
+    (
+        Step::Merge(0),
+        "S0 {10, 9, [6d, 1v, 3d, 7d, 8v, 2d, 14v, 0d]}, 1 (6, 0, 1), 2 (6, 2, 9), 3 (6, 3, 8), 4 (6, 6, 14), 5 (6, 10, 10), 6 (4, 7, 7), next 15",
+    ),
+];
+
+#[test]
+fn one_section(rt: HostRuntime) -> Result<(), Fail> {
+    let shape = Shape::new(1, 10, 1).ok_or("shape")?;
+    let mut queue = Queue::new(rt.alloc(), shape)?;
+    replay(&rt, rt.alloc(), &mut queue, &ONE_SECTION)?;
+    replay(&rt, rt.alloc(), &mut queue, &WRITTEN_AGAIN)?;
+    assert_eq!(rt;
+        text_of(rt.alloc(), &queue)?.as_str(),
+        "S0 {0, 1, []}, next 2"
+    );
+    Ok(())
+}
+
+#[test]
+fn four_sections(rt: HostRuntime) -> Result<(), Fail> {
+    let shape = Shape::new(4, 10, 8).ok_or("shape")?;
+    let mut queue = Queue::new(rt.alloc(), shape)?;
+    replay(&rt, rt.alloc(), &mut queue, &THREE_SECTIONS)?;
+    forward(&rt, &mut queue, &THREE_SECTIONS)?;
+    replay(&rt, rt.alloc(), &mut queue, &FOUR_SECTIONS)?;
+    Ok(())
+}
+
+#[test]
+fn questions(rt: HostRuntime) -> Result<(), Fail> {
+    let shape = Shape::new(4, 10, 8).ok_or("shape")?;
+    let mut queue = Queue::new(rt.alloc(), shape)?;
+    forward(&rt, &mut queue, &THREE_SECTIONS)?;
+    assert_eq!(rt; queue.sections(), 3);
+    assert_eq!(rt; queue.shape(), (4, 10, 8));
+    assert_eq!(rt;
+        (
+            queue.first_home(0),
+            queue.first_home(2),
+            queue.first_home(10)
+        ),
+        (Some(1), Some(2), Some(5))
+    );
+    assert_eq!(rt;
+        (queue.first_place(1), queue.first_place(9)),
+        (Some(1), Some(2))
+    );
+    assert_eq!(rt; (queue.first_place(0), queue.first_place(2)), (None, None));
+    assert_eq!(rt; queue.total(), 30);
+    assert_eq!(rt;
+        (queue.bytes(0), queue.bytes(1), queue.bytes(2)),
+        (24, 6, 0)
+    );
+    assert_eq!(rt; (queue.below(0), queue.below(1), queue.below(2)), (6, 0, 0));
+    assert_eq!(rt;
+        (queue.fill(0), queue.fill(1), queue.fill(7), queue.fill(4)),
+        (6, 6, 0, 0)
+    );
+    assert_eq!(rt;
+        (
+            queue.section_of(10),
+            queue.section_of(3),
+            queue.section_of(0)
+        ),
+        (Some(0), Some(1), Some(2))
+    );
+    assert_eq!(rt; queue.section_of(4), None);
+    assert_eq!(rt; queue.last_sealed(), Some((2, 1)));
+    assert_eq!(rt; queue.sealed_devices(), 4);
+    Ok(())
+}

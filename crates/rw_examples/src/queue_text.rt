@@ -1,0 +1,44 @@
+// What a queue of blocks holds, as one line.
+ghost use Rattle.std.specs.Prelude.{◌<◌, length};
+
+use rw_blocks::{Kind, NoMemory, Queue};
+use std::alloc::Global;
+
+/// A section's sealed list.
+fn write_sealed(text: &mut String, queue: &Queue, section: usize) -> Result<(), NoMemory>
+    requires { section < length queue.now.sections }
+{
+    for position in 0..queue.sealed(section) {
+        let (serial, kind) = queue.sealed_at(section, position);
+        let comma = if position == 0 { "" } else { ", " };
+        let letter = match kind {
+            Kind::Device => 'd',
+            Kind::Virtual => 'v',
+        };
+        write!(text, "{comma}{serial}{letter}")?;
+    }
+    Ok(())
+}
+
+/// The queue: its sections, the rows of objects 1 to 9, and the next serial.
+pub fn text_of(alloc: Global, queue: &Queue) -> Result<String, NoMemory> {
+    let mut text = String::new(alloc);
+    for section in 0..queue.sections() {
+        let device = queue.active(section, Kind::Device);
+        let virtual_block = queue.active(section, Kind::Virtual);
+        write!(text, "S{section} {{{device}, {virtual_block}, [")?;
+        write_sealed(&mut text, queue, section)?;
+        write!(text, "]}}, ")?;
+    }
+    for object in 1..=9 {
+        if let Some(row) = queue.row(object) {
+            write!(
+                text,
+                "{object} ({}, {}, {}), ",
+                row.size, row.home, row.place
+            )?;
+        }
+    }
+    write!(text, "next {}", queue.next_serial())?;
+    Ok(text)
+}
