@@ -46,9 +46,23 @@ fn second() -> Event<Parcel>
     parcel(8, 0, 1, 1, 12)
 }
 
+/// A third one, that comes to the station to which the first one does.
+fn third() -> Event<Parcel>
+    ensures { is_sound_event result ≡ true }
+{
+    parcel(8, 0, 1, 0, 12)
+}
+
 fn opened(alloc: Global, most: u64) -> Result<World<Relay>, Fail> {
     let relay = Relay::new(3, most).ok_or("relay")?;
     let (starts, initial) = beginning(alloc, first(), second())?;
+    Ok(World::open(alloc, relay, starts, initial)?)
+}
+
+/// Two parcels to one station, which can take no further one after the first.
+fn soon_exhausted(alloc: Global) -> Result<World<Relay>, Fail> {
+    let relay = Relay::new(3, 1).ok_or("relay")?;
+    let (starts, initial) = beginning(alloc, first(), third())?;
     Ok(World::open(alloc, relay, starts, initial)?)
 }
 
@@ -105,7 +119,7 @@ fn a_run_stops_with_its_reason(rt: HostRuntime) -> Result<(), Fail> {
     let few = plan((2, 1, 1, END, 1), 3);
     let stop = run(&rt, alloc, opened(alloc, u64::MAX)?, few, &Open).err();
     assert!(rt; stop == Some(Stop::RoundsUsed));
-    let stop = run(&rt, alloc, opened(alloc, 1)?, plan(PLANS[0], 9), &Open).err();
+    let stop = run(&rt, alloc, soon_exhausted(alloc)?, plan(PLANS[0], 9), &Open).err();
     assert!(rt; stop == Some(Stop::Exhausted));
     let stop = run(&rt, alloc, opened(alloc, 1)?, plan((0, 1, 1, 1, 1), 1), &Open).err();
     assert!(rt; stop == Some(Stop::BadPlan));
