@@ -94,7 +94,8 @@ fn rounds_lead_to_the_outcome_in_order(rt: HostRuntime) -> Result<(), Fail> {
         let steps = draw(alloc, seed, 60, 2)?;
         let (world, _answers) = opened(alloc, u64::MAX)?.run_steps(alloc, &steps)?;
         assert!(rt; lead(&rt, alloc, world, plan(of, 1_048_576), &want));
-        assert!(rt; lead(&rt, alloc, opened(alloc, u64::MAX)?, plan(of, 1_048_576), &want));
+        let fresh = opened(alloc, u64::MAX)?;
+        assert!(rt; lead(&rt, alloc, fresh, plan(of, 1_048_576), &want));
     }
     Ok(())
 }
@@ -102,7 +103,9 @@ fn rounds_lead_to_the_outcome_in_order(rt: HostRuntime) -> Result<(), Fail> {
 #[test]
 fn a_round_commits_what_is_before_its_floor(rt: HostRuntime) -> Result<(), Fail> {
     let alloc = rt.alloc();
-    let sim = Sim::open(opened(alloc, u64::MAX)?, plan((1, 1, 2, END, 1), 1)).ok().ok_or("plan")?;
+    let sim = Sim::open(opened(alloc, u64::MAX)?, plan((1, 1, 2, END, 1), 1))
+        .ok()
+        .ok_or("plan")?;
     assert_eq!(rt; sim.floor(), 0);
     let sim = run_round(&rt, alloc, sim, &Open).ok().ok_or("round")?;
     assert_eq!(rt; sim.floor(), 8);
@@ -121,7 +124,8 @@ fn a_run_stops_with_its_reason(rt: HostRuntime) -> Result<(), Fail> {
     assert!(rt; stop == Some(Stop::RoundsUsed));
     let stop = run(&rt, alloc, soon_exhausted(alloc)?, plan(PLANS[0], 9), &Open).err();
     assert!(rt; stop == Some(Stop::Exhausted));
-    let stop = run(&rt, alloc, opened(alloc, 1)?, plan((0, 1, 1, 1, 1), 1), &Open).err();
+    let no_worker = plan((0, 1, 1, 1, 1), 1);
+    let stop = run(&rt, alloc, opened(alloc, 1)?, no_worker, &Open).err();
     assert!(rt; stop == Some(Stop::BadPlan));
     Ok(())
 }

@@ -11,12 +11,12 @@ mod journal_text;
 mod mode;
 mod options;
 mod output;
+#[cfg(test)]
+mod round_tests;
 mod schedule_text;
 mod sim_fault;
 mod simulation;
 mod source;
-#[cfg(test)]
-mod round_tests;
 #[cfg(test)]
 mod tests;
 mod text;

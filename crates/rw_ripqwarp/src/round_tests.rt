@@ -55,7 +55,9 @@ impl Handshake {
 
     /// Whether both workers came to their turn 1.
     fn saw_both(&self) -> bool {
-        self.turns.iter().all(|turns| turns.load(Ordering::SeqCst) > 1)
+        self.turns
+            .iter()
+            .all(|turns| turns.load(Ordering::SeqCst) > 1)
     }
 }
 
@@ -122,7 +124,9 @@ fn traffic<G: Gate + Sync, R: Threads + Wait + Sync>(
         return Err(Fail::from("run"));
     };
     let counted = outcome.states.iter().map(CacheState::counters);
-    if outcome.journals != want.journals || !counted.eq(want.states.iter().map(CacheState::counters)) {
+    if outcome.journals != want.journals
+        || !counted.eq(want.states.iter().map(CacheState::counters))
+    {
         return Err(Fail::from("another outcome than that of the run on one thread"));
     }
     Ok(traffic)

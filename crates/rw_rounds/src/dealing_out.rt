@@ -1,6 +1,4 @@
-ghost use Rattle.std.specs.Prelude.{◌≡◌, ◌+◌, ◌*◌, ◌%◌, ◌<◌, ◌≤◌, ◌==◌, ℕ, [], IfOk, All, filter, length, map, replicate, slice_get, slice_index_or, vec_len};
-ghost use Rattle.rw_exchange.specs.Ports.{IsNew, IsOpening};
-ghost use Rattle.rw_board.specs.Seats.{SeatState};
+ghost use Rattle.std.specs.Prelude.{◌≡◌, ◌+◌, ◌*◌, ◌%◌, ◌<◌, ◌≤◌, ◌==◌, ℕ, [], IfOk, All, filter, length, map, replicate, slice_get, slice_index_or};
 ghost use Rattle.rw_rounds.specs.Rounds.{role};
 
 use crate::plan::Plan;

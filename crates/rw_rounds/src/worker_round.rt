@@ -1,7 +1,3 @@
-ghost use Rattle.std.specs.Prelude.{IfOk};
-ghost use Rattle.rw_rounds.specs.Rounds.{TookRound};
-ghost use Rattle.rw_rounds.specs.Seated.{IsSeated};
-
 use crate::gate::Gate;
 use crate::threads::Job;
 use crate::worker::Worker;
