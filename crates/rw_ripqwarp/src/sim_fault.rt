@@ -14,7 +14,7 @@ pub enum SimFault {
     /// A request for memory was refused.
     #[error("memory")]
     Memory,
-    /// As many rounds as the plan allows were run, and events are still to be executed.
+    /// As many rounds were made as the plan allows, and the run was not done.
     #[error("rounds used")]
     Rounds,
     /// The start of a thread was refused.
