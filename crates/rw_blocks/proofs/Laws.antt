@@ -97,7 +97,7 @@ lower_of-section_joining true false u l = rw (drop_at u.sealed _ _ refl) refl
 lower_of-section_joining false true u l = rw (drop_at u.sealed _ _ refl) refl
 lower_of-section_joining false false u l = rw (drop_at u.sealed _ _ refl) refl
 
-got : {X : Type 0} (xs : List X) (i : ℕ) (d : X) → i < length xs → slice_get xs i ≡ Some (get_or xs i d)
+pub got : {X : Type 0} (xs : List X) (i : ℕ) (d : X) → i < length xs → slice_get xs i ≡ Some (get_or xs i d)
 got [] i d within = absurd (omega arith)
 got (x ∷ xs) zero d within = refl
 got (x ∷ xs) (suc i) d within = got xs i d (omega arith)

@@ -1,3 +1,12 @@
+pub mod Present
+pub mod Weighed
+pub mod Parting
+pub mod Moving
+pub mod Greater
+pub mod Using
+pub mod Holding
+pub mod Tagged
+pub mod Filed
 pub mod Laws
 pub mod Sums
 pub mod Fills

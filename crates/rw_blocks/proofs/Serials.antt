@@ -47,7 +47,7 @@ sum_below-one e (suc n) lt =
 abbrev pub serials : ℕ → List (ℕ × Kind) → ℕ
 serials b es = count_by (has_serial b) es
 
-serials-cons : (b : ℕ) (e : ℕ × Kind) (es : List (ℕ × Kind)) → serials b (e ∷ es) ≡ at e.0 b + serials b es
+pub serials-cons : (b : ℕ) (e : ℕ × Kind) (es : List (ℕ × Kind)) → serials b (e ∷ es) ≡ at e.0 b + serials b es
 serials-cons b e es = sum_by-cons (λ x. cond (has_serial b x) 1 0) e es
 
 serials-length : (es : List (ℕ × Kind)) (n : ℕ) → ((b : ℕ) → n ≤ b → serials b es ≡ 0) → sum_below (λ b. serials b es) n ≡ length es
@@ -78,12 +78,12 @@ serials_in-blocks (s ∷ ss) n none =
     omega (arith, sum_below-add (λ b. serials_in b (s ∷ ss)) (λ b. serials b (blocks_of s)) (λ b. serials_in b ss) n split, first, rest, sum_by-cons (λ s. length (blocks_of s)) s ss)
 
 -- a block is of one kind or the other
-either_kind : (t : Bool) (k : Kind) → cond (t && is_kind Device k) 1 0 + cond (t && is_kind Virtual k) 1 0 ≡ cond t 1 0
+pub either_kind : (t : Bool) (k : Kind) → cond (t && is_kind Device k) 1 0 + cond (t && is_kind Virtual k) 1 0 ≡ cond t 1 0
 either_kind true Device = refl
 either_kind true Virtual = refl
 either_kind false k = refl
 
-kinds : (b : ℕ) (es : List (ℕ × Kind)) → count_by (is_block Device b) es + count_by (is_block Virtual b) es ≡ serials b es
+pub kinds : (b : ℕ) (es : List (ℕ × Kind)) → count_by (is_block Device b) es + count_by (is_block Virtual b) es ≡ serials b es
 kinds b [] = refl
 kinds b (e ∷ es) =
     omega (arith, kinds b es, either_kind (has_serial b e) e.1, serials-cons b e es, sum_by-cons (λ x. cond (is_block Device b x) 1 0) e es, sum_by-cons (λ x. cond (is_block Virtual b x) 1 0) e es)

@@ -4,3 +4,7 @@ pub mod Loose
 pub mod Primitives
 pub mod Undo
 pub mod Questions
+pub mod Members
+pub mod Index
+pub mod Tags
+pub mod Weights

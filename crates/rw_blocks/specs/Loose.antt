@@ -1,5 +1,5 @@
 -- Loose and well-formed queues.
-use Rattle.std.specs.Prelude.{◌≡◌, ℕ, ◌+◌, ◌≤◌, ◌^◌, Bool, true, length, count_by, sum_by, All, ◌⊎◌}
+use Rattle.std.specs.Prelude.{◌≡◌, ℕ, ◌+◌, ◌≤◌, ◌^◌, Bool, true, List, length, count_by, sum_by, All, ◌⊎◌}
 use Rattle.std.specs.List.{list_any}
 use Rattle.std.specs.List.Sorted.{IsStrictlySortedBy}
 use Rattle.std.specs.Ordering.{nat_cmp}
@@ -49,6 +49,9 @@ pub record IsLoose (q : QueueState) : Type 0 where
 -- ---- sealed blocks
 abbrev pub is_sealed_virtual : QueueState → ℕ → Bool
 is_sealed_virtual q b = list_any (λ s. list_any (is_block Virtual b) s.sealed) q.sections
+
+abbrev pub devices_among : List (ℕ × Kind) → ℕ
+devices_among es = count_by (λ e. is_kind Device e.1) es
 
 abbrev pub devices_in : SectionState → ℕ
 devices_in s = count_by (λ e. is_kind Device e.1) s.sealed

@@ -6,8 +6,11 @@
 //! and a list of sealed blocks. A block is only a serial: what it holds is said by the rows, one for each object that
 //! is stored. Each primitive changes one thing and gives a [`Mark`], by which [`Queue::undo`] takes it back.
 
+mod members;
 mod queue;
+mod rows;
 mod section;
+mod sections;
 mod shape;
 
 pub use queue::Queue;

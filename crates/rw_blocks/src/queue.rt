@@ -1,19 +1,22 @@
 // The queue: its questions, its primitives, and their undoing.
-ghost use Rattle.std.specs.Prelude.{◌≡◌, ℕ, ◌≤◌, ◌<◌, ◌+◌, ◌^◌, ◌↔◌, [], length, None, Some, OnOk, IfOk, IfSome, IsSome, IsNone, slice_get, sum_by};
+ghost use Rattle.std.specs.Prelude.{◌≡◌, ℕ, ◌≤◌, ◌<◌, ◌+◌, ◌^◌, ◌↔◌, [], length, None, Some, OnOk, IfOk, IfSome, IsSome, IsNone, slice_get, sum_by, sum, true, drop};
 ghost use Rattle.std.specs.Option.{option_map};
 ghost use Rattle.rw_blocks.specs.State.{QueueState, IsShape, start_of, row_at, row_or, section_at, active_of, sealed_block};
-ghost use Rattle.rw_blocks.specs.Sums.{total, bytes_held, rows_homed, rows_placed, has_kind, fill, bytes_in, bytes, below};
+ghost use Rattle.rw_blocks.specs.Sums.{total, bytes_held, rows_homed, rows_placed, has_block, has_serial, fill, bytes_in, bytes, below};
 ghost use Rattle.rw_blocks.specs.Loose.{IsLoose, IsWellFormed, IsFree, count, block_count, sealed_devices};
-ghost use Rattle.rw_blocks.specs.Primitives.{after_add, after_remove, after_rehome, after_replace, after_seal, after_take_out, after_split, after_merge, with_row};
-ghost use Rattle.rw_blocks.specs.Undo.{undo_of, IsUndoable, Undoes};
-ghost use Rattle.rw_blocks.specs.declared.Mark.TheVariants.{Split};
+ghost use Rattle.rw_blocks.specs.Primitives.{after_add, after_remove, after_rehome, after_replace, after_seal, after_take_out, after_split, after_merge, with_row, section_joining};
+ghost use Rattle.rw_blocks.specs.Undo.{undo_of, IsUndoable, Undoes, upper_of, lower_of};
+ghost use Rattle.rw_blocks.specs.declared.Mark.TheVariants.{Seal, TakeOut, Split, Merge};
+ghost use Rattle.std.specs.List.{list_any};
+ghost use Rattle.rw_blocks.specs.Tags.{IsOnlyIn};
+ghost use Rattle.rw_blocks.specs.Weights.{among, parted_at, joined_at, with_sections};
 ghost use Rattle.rw_blocks.specs.Questions.{first_home, first_place, section_of, last_block, IsLastSealed};
 
-use crate::section::Section;
+use crate::rows::Rows;
+use crate::sections::Sections;
 use crate::{Kind, Mark, Place, Shape};
 use rw_vt::NoMemory;
 use std::alloc::Global;
-use std::collections::BTreeMap;
 use std::marker::Model;
 
 /// A queue of blocks. Contracts see the whole of it as one value: its shape, its sections from head to tail with the
@@ -30,8 +33,9 @@ use std::marker::Model;
 #[derive(Drop)]
 pub struct Queue {
     shape: Shape,
-    sections: Vec<Section>,
-    rows: BTreeMap<u64, Place>,
+    sections: Sections,
+    rows: Rows,
+    bytes: Vec<u64>,
     next: u64,
 }
 
@@ -40,12 +44,13 @@ impl Model for Queue {
 
     ghost Value = { QueueState };
 
-    ghost view = { λ q. record { shape = q.shape; sections = q.sections.items; rows = q.rows.entries; next = q.next } };
+    ghost view = { λ q. record { shape = q.shape; sections = q.sections; rows = q.rows; next = q.next } };
 
-    ghost use Rattle.std.specs.Prelude.{◌<◌, ◌^◌};
+    ghost use Rattle.std.specs.Prelude.{◌<◌, ◌^◌, length};
+    ghost use Rattle.rw_blocks.specs.Weights.{IsWeighed};
 
-    // the range of its type
-    ghost invariant = { λ q. q.next < 2 ^ 64 };
+    // the range of its type; and the bytes of each section, where there is any: none is left where memory was refused
+    ghost invariant = { λ q. (q.next < 2 ^ 64) × (0 < length q.sections → IsWeighed q.rows q.sections q.bytes.items) };
 }
 
 impl Queue {
@@ -55,12 +60,14 @@ impl Queue {
         ensures start { IfOk result (λ q. q ≡ start_of shape) }
         ensures well_formed { IfOk result (λ q. IsWellFormed q) }
     {
-        let mut sections = Vec::new(alloc);
-        sections.push(Section::new(alloc, 0, 1))?;
+        let sections = Sections::new(alloc, 0, 1)?;
+        let mut bytes = Vec::new(alloc);
+        bytes.push(0)?;
         Ok(Queue {
             shape,
             sections,
-            rows: BTreeMap::new(alloc),
+            rows: Rows::new(alloc),
+            bytes,
             next: 2,
         })
     }
@@ -97,7 +104,7 @@ impl Queue {
         requires { section < length self.now.sections }
         ensures { result ≡ active_of kind (section_at self.now section) }
     {
-        self.sections[section].active(kind)
+        self.sections.active(section, kind)
     }
 
     /// How many sealed blocks the section has.
@@ -105,7 +112,7 @@ impl Queue {
         requires { section < length self.now.sections }
         ensures { result ≡ length (section_at self.now section).sealed }
     {
-        self.sections[section].sealed()
+        self.sections.sealed(section)
     }
 
     /// A sealed block of the section: its serial and its kind.
@@ -114,7 +121,7 @@ impl Queue {
         requires sealed { position < length (section_at self.now section).sealed }
         ensures { slice_get (section_at self.now section).sealed position ≡ Some result }
     {
-        self.sections[section].sealed_at(position)
+        self.sections.sealed_at(section, position)
     }
 
     /// Where the last sealed block stands, as section and position: the last one in the sealed list of the section
@@ -124,8 +131,7 @@ impl Queue {
         ensures none { IsNone result → (j : ℕ) → j < length self.now.sections → (section_at self.now j).sealed ≡ [] }
         ensures block { option_map (λ at. sealed_block self.now at.0 at.1) result ≡ last_block self.now }
     {
-        let section = self.sections.iter().rposition(|s| s.sealed() > 0)?;
-        Some((section, self.sealed(section) - 1))
+        self.sections.last_sealed()
     }
 
     /// How many device blocks are sealed.
@@ -133,21 +139,21 @@ impl Queue {
         requires { IsLoose self.now }
         ensures { result ≡ sealed_devices self.now }
     {
-        self.sections.iter().map(|s| s.sealed_devices()).sum()
+        self.sections.sealed_devices()
     }
 
     /// The section that has the block with the serial, active or sealed. `None` exactly where there is no such block.
     pub fn section_of(&self, serial: u64) -> Option<usize>
         ensures { result ≡ section_of self.now serial }
     {
-        self.sections.iter().position(|s| s.has(serial))
+        self.sections.section_of(serial)
     }
 
     /// Where the object lies. `None` exactly where it is not stored.
     pub fn row(&self, object: u64) -> Option<Place>
         ensures { result ≡ row_at self.now object }
     {
-        self.rows.get(&object).copied()
+        self.rows.get(object)
     }
 
     /// The least object whose home is the serial, `None` exactly where there is none. It walks over the rows.
@@ -155,12 +161,7 @@ impl Queue {
         ensures first { result ≡ first_home self.now serial }
         ensures none { IsNone result ↔ (rows_homed self.now serial ≡ []) }
     {
-        for (object, row) in &self.rows {
-            if row.home == serial {
-                return Some(*object);
-            }
-        }
-        None
+        self.rows.first_home(serial)
     }
 
     /// The least object whose place is the serial, `None` exactly where there is none. It walks over the rows.
@@ -168,12 +169,7 @@ impl Queue {
         ensures first { result ≡ first_place self.now serial }
         ensures none { IsNone result ↔ (rows_placed self.now serial ≡ []) }
     {
-        for (object, row) in &self.rows {
-            if row.place == serial {
-                return Some(*object);
-            }
-        }
-        None
+        self.rows.first_place(serial)
     }
 
     /// The bytes of all rows. It walks over the rows.
@@ -181,11 +177,11 @@ impl Queue {
         requires { IsLoose self.now }
         ensures { result ≡ total self.now }
     {
-        self.rows.values().map(|row| row.size).sum()
+        self.rows.total()
     }
 
     /// The fill of the block with the serial, in bytes: of a device block the rows whose home it is, of a virtual block
-    /// the rows whose place it is; 0 where no such block is. It walks over the blocks and the rows.
+    /// the rows whose place it is; 0 where no such block is.
     #[tactic(auto, using(crate::proofs::Fills::fill_laws))]
     pub fn fill(&self, serial: u64) -> u64
         requires { IsLoose self.now }
@@ -193,92 +189,142 @@ impl Queue {
         ensures of_kind { (kind : Kind) → count kind self.now serial ≡ 1 → result ≡ bytes_held kind self.now serial }
         ensures active { (kind : Kind) (i : ℕ) → i < length self.now.sections → serial ≡ active_of kind (section_at self.now i) → result ≡ bytes_held kind self.now serial }
     {
-        if self.has_kind(Kind::Device, serial) {
-            self.bytes_held(Kind::Device, serial)
-        } else if self.has_kind(Kind::Virtual, serial) {
-            self.bytes_held(Kind::Virtual, serial)
-        } else {
-            0
-        }
+        // a row's place is its home, or a virtual block, which is no row's home
+        self.home_bytes(serial).max(self.place_bytes(serial))
     }
 
-    /// The bytes of the rows whose place is one of the section's blocks, active or sealed. It walks over the rows.
+    /// The bytes of the rows whose place is one of the section's blocks, active or sealed.
     pub fn bytes(&self, section: usize) -> u64
         requires loose { IsLoose self.now }
         requires there { section < length self.now.sections }
         ensures { result ≡ bytes self.now section }
     {
-        self.bytes_in(&self.sections[section])
+        self.bytes[section]
     }
 
-    /// The bytes of the sections nearer the tail. It walks over the rows once for each of them.
+    /// The bytes of the sections nearer the tail.
     pub fn below(&self, section: usize) -> u64
         requires loose { IsLoose self.now }
         requires there { section < length self.now.sections }
         ensures { result ≡ below self.now section }
     {
-        self.bytes_in_all(&self.sections[section + 1..])
+        sum(&self.bytes[section + 1..])
     }
 
-    fn has_kind(&self, kind: Kind, serial: u64) -> bool
-        ensures { result ≡ has_kind kind self.now serial }
-    {
-        self.sections.iter().any(|s| s.has_kind(kind, serial))
-    }
-
-    /// What the block holds as one of the kind.
-    fn bytes_held(&self, kind: Kind, serial: u64) -> u64
-        requires { IsLoose self.now }
-        ensures { result ≡ bytes_held kind self.now serial }
-    {
-        match kind {
-            Kind::Device => self.home_bytes(serial),
-            Kind::Virtual => self.place_bytes(serial),
-        }
-    }
-
-    #[tactic(auto, using(crate::proofs::Sums::held_bounds))]
     fn home_bytes(&self, serial: u64) -> u64
-        requires { IsLoose self.now }
         ensures { result ≡ bytes_held Kind.Device self.now serial }
     {
-        self.rows
-            .values()
-            .filter(|row| row.home == serial)
-            .map(|row| row.size)
-            .sum()
+        self.rows.home_bytes(serial)
     }
 
-    #[tactic(auto, using(crate::proofs::Sums::held_bounds))]
     fn place_bytes(&self, serial: u64) -> u64
-        requires { IsLoose self.now }
         ensures { result ≡ bytes_held Kind.Virtual self.now serial }
     {
-        self.rows
-            .values()
-            .filter(|row| row.place == serial)
-            .map(|row| row.size)
-            .sum()
+        self.rows.place_bytes(serial)
     }
+}
 
-    #[tactic(auto, using(crate::proofs::Sums::bytes_bound))]
-    fn bytes_in(&self, s: &Section) -> u64
-        requires { IsLoose self.now }
-        ensures { result ≡ bytes_in self.now s.now }
+fn sum(numbers: &[u64]) -> u64
+    requires { sum numbers.now < 2 ^ 64 }
+    ensures { result ≡ sum numbers.now }
+{
+    numbers.iter().sum()
+}
+
+/// Rows come and go.
+impl Queue {
+    /// A row comes, of an object that has none, whose place is a block of the section. Refused memory leaves all as it
+    /// was.
+    fn put_row(&mut self, object: u64, row: Place, section: usize) -> Result<(), NoMemory>
+        requires there { section < length self.old.sections }
+        requires new { row_at self.old object ≡ None }
+        requires room { total self.old + row.size < 2 ^ 64 }
+        requires here { has_block row.place (section_at self.old section) ≡ true }
+        requires only { IsOnlyIn section row.place self.old.sections }
+        ensures put { OnOk result (self.new ≡ with_row self.old object row) }
     {
-        self.rows
-            .values()
-            .filter(|row| s.has(row.place))
-            .map(|row| row.size)
-            .sum()
+        self.rows.add(object, row)?;
+        self.bytes[section] += row.size;
+        Ok(())
     }
 
-    fn bytes_in_all(&self, sections: &[Section]) -> u64
+    /// The row of an object goes, which has one.
+    fn take_row(&mut self, object: u64) -> Place
+        requires loose { IsLoose self.old }
+        requires resident { IsSome (row_at self.old object) }
+        ensures row { row_at self.old object ≡ Some result }
+        ensures rest { self.new ≡ after_remove self.old object }
+    {
+        let row = self.rows.remove(object);
+        let section = self.sections.section_of(row.place).unwrap();
+        self.bytes[section] -= row.size;
+        row
+    }
+}
+
+/// Sections are parted and joined.
+impl Queue {
+    /// The bytes of the section's sealed blocks from a position on.
+    fn weight_from(&self, section: usize, from: usize) -> u64
         requires loose { IsLoose self.now }
-        requires fits { sum_by (bytes_in self.now) sections.now < 2 ^ 64 }
-        ensures { result ≡ sum_by (bytes_in self.now) sections.now }
+        requires there { section < length self.now.sections }
+        requires within { from ≤ length (section_at self.now section).sealed }
+        ensures { result ≡ among self.now.rows (λ b. list_any (has_serial b) (drop from (section_at self.now section).sealed)) }
     {
-        sections.iter().map(|s| self.bytes_in(s)).sum()
+        let mut bytes = 0;
+        for position in from..self.sections.sealed(section) {
+            let (serial, _) = self.sections.sealed_at(section, position);
+            bytes += self.rows.place_bytes(serial);
+        }
+        bytes
+    }
+
+    fn part(
+        &mut self,
+        section: usize,
+        upper_sealed: usize,
+        device: u64,
+        virtual_block: u64,
+        device_vanished: bool,
+        virtual_vanished: bool,
+    ) -> Result<(), NoMemory>
+        requires loose { IsLoose self.old }
+        requires there { section < length self.old.sections }
+        requires within { upper_sealed ≤ length (section_at self.old section).sealed }
+        requires joins { section_joining device_vanished virtual_vanished (upper_of upper_sealed (section_at self.old section)) (lower_of upper_sealed device virtual_block device_vanished virtual_vanished (section_at self.old section)) ≡ section_at self.old section }
+        requires after { (n : ℕ) × IsLoose (with_sections self.old (parted_at self.old.sections section upper_sealed device virtual_block device_vanished virtual_vanished) n) }
+        ensures parted { OnOk result (self.new ≡ with_sections self.old (parted_at self.old.sections section upper_sealed device virtual_block device_vanished virtual_vanished) self.old.next) }
+    {
+        let lower = self.weight_from(section, upper_sealed);
+        self.bytes.insert(section + 1, lower)?;
+        self.bytes[section] -= lower;
+        self.sections.part(
+            section,
+            upper_sealed,
+            device,
+            virtual_block,
+            device_vanished,
+            virtual_vanished,
+        )?;
+        Ok(())
+    }
+
+    fn join(
+        &mut self,
+        section: usize,
+        device_vanishes: bool,
+        virtual_vanishes: bool,
+    ) -> Result<(), NoMemory>
+        requires loose { IsLoose self.old }
+        requires there { section + 1 < length self.old.sections }
+        requires after { (n : ℕ) × IsLoose (with_sections self.old (joined_at self.old.sections section device_vanishes virtual_vanishes) n) }
+        ensures joined { OnOk result (self.new ≡ with_sections self.old (joined_at self.old.sections section device_vanishes virtual_vanishes) self.old.next) }
+    {
+        self.sections
+            .join(section, device_vanishes, virtual_vanishes)?;
+        let lower = self.bytes.remove(section + 1);
+        self.bytes[section] += lower;
+        Ok(())
     }
 }
 
@@ -298,15 +344,13 @@ impl Queue {
         ensures undoes { IfOk result (λ mark. Undoes mark self.old self.new) }
         ensures kept { OnOk result (IsLoose self.new) }
     {
-        let home = self.active(section, Kind::Device);
-        self.rows.insert(
-            object,
-            Place {
-                size,
-                home,
-                place: home,
-            },
-        )?;
+        let home = self.sections.active(section, Kind::Device);
+        let row = Place {
+            size,
+            home,
+            place: home,
+        };
+        self.put_row(object, row, section)?;
         Ok(Mark::Add { object })
     }
 
@@ -318,7 +362,7 @@ impl Queue {
         ensures undoes { IfOk result (λ mark. Undoes mark self.old self.new) }
         ensures kept { OnOk result (IsLoose self.new) }
     {
-        let row = self.rows.remove(&object).unwrap();
+        let row = self.take_row(object);
         Ok(Mark::Remove { object, row })
     }
 
@@ -333,16 +377,14 @@ impl Queue {
         ensures undoes { IfOk result (λ mark. Undoes mark self.old self.new) }
         ensures kept { OnOk result (IsLoose self.new) }
     {
-        let active = self.active(section, Kind::Device);
-        let Place { size, home, place } = self.row(object).unwrap();
-        self.rows.insert(
-            object,
-            Place {
-                size,
-                home: active,
-                place: active,
-            },
-        )?;
+        let active = self.sections.active(section, Kind::Device);
+        let Place { size, home, place } = self.take_row(object);
+        let row = Place {
+            size,
+            home: active,
+            place: active,
+        };
+        self.put_row(object, row, section)?;
         Ok(Mark::Rehome {
             object,
             home,
@@ -361,16 +403,11 @@ impl Queue {
         ensures undoes { IfOk result (λ mark. Undoes mark self.old self.new) }
         ensures kept { OnOk result (IsLoose self.new) }
     {
-        let active = self.active(section, Kind::Virtual);
-        let Place { size, home, place } = self.row(object).unwrap();
-        self.rows.insert(
-            object,
-            Place {
-                size,
-                home,
-                place: active,
-            },
-        )?;
+        let active = self.sections.active(section, Kind::Virtual);
+        let Place { size, place, .. } = self.rows.replace(object, active)?;
+        let from = self.sections.section_of(place).unwrap();
+        self.bytes[from] -= size;
+        self.bytes[section] += size;
         Ok(Mark::Replace { object, place })
     }
 
@@ -384,7 +421,7 @@ impl Queue {
         ensures undoes { IfOk result (λ mark. Undoes mark self.old self.new) }
         ensures kept { OnOk result (IsLoose self.new) }
     {
-        self.sections[section].seal(kind, self.next)?;
+        self.sections.seal(section, kind, self.next)?;
         self.next += 1;
         Ok(Mark::Seal { section, kind })
     }
@@ -399,7 +436,7 @@ impl Queue {
         ensures undoes { IfOk result (λ mark. Undoes mark self.old self.new) }
         ensures kept { OnOk result (IsLoose self.new) }
     {
-        let (serial, kind) = self.sections[section].take_out(position);
+        let (serial, kind) = self.sections.take_out(section, position);
         Ok(Mark::TakeOut {
             section,
             position,
@@ -421,8 +458,7 @@ impl Queue {
         ensures undoes { IfOk result (λ mark. Undoes mark self.old self.new) }
         ensures kept { OnOk result (IsLoose self.new) }
     {
-        let lower = self.sections[section].split(keep, self.next, self.next + 1)?;
-        self.sections.insert(section + 1, lower)?;
+        self.part(section, keep, self.next, self.next + 1, true, true)?;
         self.next += 2;
         Ok(Mark::Split { section })
     }
@@ -442,8 +478,7 @@ impl Queue {
         let lower_virtual = self.active(section + 1, Kind::Virtual);
         let device_vanished = self.home_bytes(lower_device) == 0;
         let virtual_vanished = self.place_bytes(lower_virtual) == 0;
-        let lower = self.sections.remove(section + 1);
-        self.sections[section].join(lower, device_vanished, virtual_vanished)?;
+        self.join(section, device_vanished, virtual_vanished)?;
         Ok(Mark::Merge {
             section,
             upper_sealed,
@@ -466,11 +501,9 @@ impl Queue {
     {
         match mark {
             Mark::Add { object } => {
-                self.rows.remove(&object);
+                self.take_row(object);
             }
-            Mark::Remove { object, row } => {
-                self.rows.insert(object, row)?;
-            }
+            Mark::Remove { object, row } => self.put_row_again(object, row)?,
             Mark::Rehome {
                 object,
                 home,
@@ -480,16 +513,13 @@ impl Queue {
                 let home = self.row(object).unwrap().home;
                 self.move_back(object, home, place)?;
             }
-            Mark::Seal { section, kind } => {
-                self.sections[section].unseal(kind);
-                self.next -= 1;
-            }
+            Mark::Seal { section, kind } => self.unseal(section, kind),
             Mark::TakeOut {
                 section,
                 position,
                 serial,
                 kind,
-            } => self.sections[section].put_back(position, serial, kind)?,
+            } => self.put_back(section, position, serial, kind)?,
             Mark::Split { section } => self.unsplit(section)?,
             Mark::Merge {
                 section,
@@ -498,39 +528,97 @@ impl Queue {
                 lower_virtual,
                 device_vanished,
                 virtual_vanished,
-            } => {
-                let lower = self.sections[section].part(
-                    upper_sealed,
-                    lower_device,
-                    lower_virtual,
-                    device_vanished,
-                    virtual_vanished,
-                )?;
-                self.sections.insert(section + 1, lower)?;
-            }
+            } => self.unmerge(
+                section,
+                upper_sealed,
+                lower_device,
+                lower_virtual,
+                device_vanished,
+                virtual_vanished,
+            )?,
         }
+        Ok(())
+    }
+
+    /// A row comes again that was there, of an object that has none.
+    fn put_row_again(&mut self, object: u64, row: Place) -> Result<(), NoMemory>
+        requires loose { IsLoose self.old }
+        requires none { row_at self.old object ≡ None }
+        requires before { IsLoose (with_row self.old object row) }
+        ensures { OnOk result (self.new ≡ with_row self.old object row) }
+    {
+        let section = self.sections.section_of(row.place).unwrap();
+        self.put_row(object, row, section)?;
         Ok(())
     }
 
     /// An object's home and place are again what they were.
     fn move_back(&mut self, object: u64, home: u64, place: u64) -> Result<(), NoMemory>
-        requires { IsSome (row_at self.old object) }
+        requires loose { IsLoose self.old }
+        requires resident { IsSome (row_at self.old object) }
+        requires before { IsLoose (with_row self.old object (record { size = (row_or self.old object).size; home = home; place = place })) }
         ensures { OnOk result (self.new ≡ with_row self.old object (record { size = (row_or self.old object).size; home = home; place = place })) }
     {
-        let size = self.row(object).unwrap().size;
-        self.rows.insert(object, Place { size, home, place })?;
+        let size = self.take_row(object).size;
+        self.put_row_again(object, Place { size, home, place })?;
+        Ok(())
+    }
+
+    /// The block that was sealed is active again, and the one that took its place was never made.
+    fn unseal(&mut self, section: usize, kind: Kind)
+        requires { IsUndoable (Seal section kind) self.old }
+        ensures { self.new ≡ undo_of (Seal section kind) self.old }
+    {
+        self.sections.unseal(section, kind);
+        self.next -= 1;
+    }
+
+    /// A block that was taken out is back in its list.
+    fn put_back(
+        &mut self,
+        section: usize,
+        position: usize,
+        serial: u64,
+        kind: Kind,
+    ) -> Result<(), NoMemory>
+        requires { IsUndoable (TakeOut section position serial kind) self.old }
+        ensures { OnOk result (self.new ≡ undo_of (TakeOut section position serial kind) self.old) }
+    {
+        self.sections.put_back(section, position, serial, kind)?;
         Ok(())
     }
 
     /// The lower section of a split goes back into the upper one, and its active blocks were never made.
     fn unsplit(&mut self, section: usize) -> Result<(), NoMemory>
-        requires there { section + 1 < length self.old.sections }
-        requires serials { 2 ≤ self.old.next }
+        requires { IsUndoable (Split section) self.old }
         ensures { OnOk result (self.new ≡ undo_of (Split section) self.old) }
     {
-        let lower = self.sections.remove(section + 1);
-        self.sections[section].append(lower)?;
+        self.join(section, true, true)?;
         self.next -= 2;
+        Ok(())
+    }
+
+    /// Two sections that were merged are two again.
+    fn unmerge(
+        &mut self,
+        section: usize,
+        upper_sealed: usize,
+        lower_device: u64,
+        lower_virtual: u64,
+        device_vanished: bool,
+        virtual_vanished: bool,
+    ) -> Result<(), NoMemory>
+        requires { IsUndoable (Merge section upper_sealed lower_device lower_virtual device_vanished virtual_vanished) self.old }
+        ensures { OnOk result (self.new ≡ undo_of (Merge section upper_sealed lower_device lower_virtual device_vanished virtual_vanished) self.old) }
+    {
+        self.part(
+            section,
+            upper_sealed,
+            lower_device,
+            lower_virtual,
+            device_vanished,
+            virtual_vanished,
+        )?;
         Ok(())
     }
 }

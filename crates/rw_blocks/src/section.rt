@@ -1,30 +1,46 @@
 // One section of a queue: its two active blocks, and its sealed blocks from front to back.
-ghost use Rattle.std.specs.Prelude.{◌≡◌, ◌<◌, ◌≤◌, [], ◌++◌, length, OnOk, IfOk, insert, remove, take, drop, slice_get, Some};
+ghost use Rattle.std.specs.Prelude.{◌≡◌, ◌<◌, ◌≤◌, [], ◌∷◌, ◌++◌, length, OnOk, IfOk, insert, remove, take, drop, slice_get, Some};
 ghost use Rattle.std.specs.List.{list_any};
 ghost use Rattle.rw_blocks.specs.State.{active_of, blocks_of};
 ghost use Rattle.rw_blocks.specs.Sums.{has_serial, has_block, is_kind, is_block};
-ghost use Rattle.rw_blocks.specs.Loose.{devices_in};
+ghost use Rattle.rw_blocks.specs.Loose.{devices_in, devices_among};
 ghost use Rattle.rw_blocks.specs.Primitives.{with_active, section_sealing, section_joining};
 ghost use Rattle.rw_blocks.specs.Undo.{section_unsealing, upper_of, lower_of};
 
 use crate::Kind;
 use rw_vt::NoMemory;
 use std::alloc::Global;
+use std::collections::VecDeque;
 use std::marker::Model;
 
 #[derive(Drop)]
 pub struct Section {
     active_device: u64,
     active_virtual: u64,
-    sealed: Vec<(u64, Kind)>,
+    sealed: VecDeque<(u64, Kind)>,
+    devices: usize,
 }
 
 impl Model for Section {
+    ghost use Rattle.std.specs.Prelude.{◌≡◌};
     ghost use Rattle.rw_blocks.specs.State.{SectionState};
+    ghost use Rattle.rw_blocks.specs.Loose.{devices_among};
 
     ghost Value = { SectionState };
 
     ghost view = { λ s. record { active_device = s.active_device; active_virtual = s.active_virtual; sealed = s.sealed.items } };
+
+    // how many of the sealed blocks are device blocks
+    ghost invariant = { λ s. s.devices ≡ devices_among s.sealed.items };
+}
+
+fn device_count(sealed: &VecDeque<(u64, Kind)>) -> usize
+    ensures { result ≡ devices_among sealed.now.items }
+{
+    sealed
+        .iter()
+        .filter(|block| block.1 == Kind::Device)
+        .count()
 }
 
 impl Section {
@@ -34,7 +50,8 @@ impl Section {
         Section {
             active_device,
             active_virtual,
-            sealed: Vec::new(alloc),
+            sealed: VecDeque::new(alloc),
+            devices: 0,
         }
     }
 
@@ -65,38 +82,7 @@ impl Section {
     pub fn sealed_devices(&self) -> usize
         ensures { result ≡ devices_in self.now }
     {
-        self.sealed
-            .iter()
-            .filter(|block| block.1 == Kind::Device)
-            .count()
-    }
-
-    /// Whether the block is one of the section's, active or sealed.
-    pub fn has(&self, serial: u64) -> bool
-        ensures { result ≡ has_block serial self.now }
-    {
-        self.active_device == serial || self.active_virtual == serial || self.has_sealed(serial)
-    }
-
-    fn has_sealed(&self, serial: u64) -> bool
-        ensures { result ≡ list_any (has_serial serial) self.now.sealed }
-    {
-        self.sealed.iter().any(|block| block.0 == serial)
-    }
-
-    /// Whether the block is one of the section's, active or sealed, and of the kind.
-    pub fn has_kind(&self, kind: Kind, serial: u64) -> bool
-        ensures { result ≡ list_any (is_block kind serial) (blocks_of self.now) }
-    {
-        self.active(kind) == serial || self.has_sealed_kind(kind, serial)
-    }
-
-    fn has_sealed_kind(&self, kind: Kind, serial: u64) -> bool
-        ensures { result ≡ list_any (is_block kind serial) self.now.sealed }
-    {
-        self.sealed
-            .iter()
-            .any(|block| block.0 == serial && block.1 == kind)
+        self.devices
     }
 
     /// Moves the active block of the kind to the front of the sealed list, and makes the fresh one active.
@@ -104,7 +90,10 @@ impl Section {
         ensures { OnOk result (self.new ≡ section_sealing kind fresh self.old) }
     {
         let active = self.active(kind);
-        self.sealed.insert(0, (active, kind))?;
+        self.sealed.push_front((active, kind))?;
+        if kind == Kind::Device {
+            self.devices += 1;
+        }
         self.set_active(kind, fresh);
         Ok(())
     }
@@ -114,7 +103,10 @@ impl Section {
         requires { 0 < length self.old.sealed }
         ensures { self.new ≡ section_unsealing kind self.old }
     {
-        let (serial, _) = self.sealed.remove(0);
+        let (serial, front) = self.sealed.pop_front().unwrap();
+        if front == Kind::Device {
+            self.devices -= 1;
+        }
         self.set_active(kind, serial);
     }
 
@@ -132,7 +124,11 @@ impl Section {
         ensures block { slice_get self.old.sealed position ≡ Some result }
         ensures rest { self.new ≡ record self.old { sealed = remove self.old.sealed position } }
     {
-        self.sealed.remove(position)
+        let (serial, kind) = self.sealed.remove(position).unwrap();
+        if kind == Kind::Device {
+            self.devices -= 1;
+        }
+        (serial, kind)
     }
 
     pub fn put_back(&mut self, position: usize, serial: u64, kind: Kind) -> Result<(), NoMemory>
@@ -140,6 +136,9 @@ impl Section {
         ensures { OnOk result (self.new ≡ record self.old { sealed = insert self.old.sealed position (serial, kind) }) }
     {
         self.sealed.insert(position, (serial, kind))?;
+        if kind == Kind::Device {
+            self.devices += 1;
+        }
         Ok(())
     }
 
@@ -155,10 +154,13 @@ impl Section {
         ensures lower { IfOk result (λ s. s ≡ record { active_device = active_device; active_virtual = active_virtual; sealed = drop keep self.old.sealed }) }
     {
         let sealed = self.sealed.split_off(keep)?;
+        let devices = device_count(&sealed);
+        self.devices -= devices;
         Ok(Section {
             active_device,
             active_virtual,
             sealed,
+            devices,
         })
     }
 
@@ -168,6 +170,7 @@ impl Section {
     {
         let mut sealed = lower.sealed;
         self.sealed.append(&mut sealed)?;
+        self.devices += lower.devices;
         Ok(())
     }
 
@@ -181,12 +184,22 @@ impl Section {
         ensures { OnOk result (self.new ≡ section_joining device_vanishes virtual_vanishes self.old lower) }
     {
         if !device_vanishes {
-            self.sealed.push((lower.active_device, Kind::Device))?;
+            self.push(lower.active_device, Kind::Device)?;
         }
         if !virtual_vanishes {
-            self.sealed.push((lower.active_virtual, Kind::Virtual))?;
+            self.push(lower.active_virtual, Kind::Virtual)?;
         }
         self.append(lower)
+    }
+
+    fn push(&mut self, serial: u64, kind: Kind) -> Result<(), NoMemory>
+        ensures { OnOk result (self.new ≡ record self.old { sealed = self.old.sealed ++ (serial, kind) ∷ [] }) }
+    {
+        self.sealed.push_back((serial, kind))?;
+        if kind == Kind::Device {
+            self.devices += 1;
+        }
+        Ok(())
     }
 
     /// Undoes `join`: gives the section below back, with these active blocks.
@@ -215,8 +228,10 @@ impl Section {
     fn drop_first(&mut self)
         ensures { self.new ≡ record self.old { sealed = drop 1 self.old.sealed } }
     {
-        if !self.sealed.is_empty() {
-            self.sealed.remove(0);
+        if let Some((_, kind)) = self.sealed.pop_front() {
+            if kind == Kind::Device {
+                self.devices -= 1;
+            }
         }
     }
 }

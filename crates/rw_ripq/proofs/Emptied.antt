@@ -1,13 +1,13 @@
 -- Where a sealed block is found, and whether it is an emptied virtual one.
-use Rattle.std.proofs.Common.{◌≡◌, ℕ, ◌≤◌, ◌<◌, refl, sym, ap, ◌∙◌, arith, Bool, true, false, length, get_or}
-use Rattle.std.specs.Prelude.{not, Some, ◌&&◌, sum_by, slice_get, is_none}
+use Rattle.std.proofs.Common.{◌≡◌, ℕ, ◌≤◌, ◌<◌, refl, sym, ap, ◌∙◌, arith, Bool, true, false, length, get_or, nat_eq}
+use Rattle.std.specs.Prelude.{not, Some, ◌&&◌, sum_by, slice_get, is_none, is_some, None, Option}
 use Rattle.std.specs.List.{list_any}
-use Rattle.std.proofs.lemmas.Bool.{eq-eqb}
+use Rattle.std.proofs.lemmas.Bool.{eq-eqb, and_right}
 use Rattle.std.proofs.lemmas.List.Sums.{get_or-le-sum_by}
 use Rattle.rw_blocks.specs.declared.Kind.{Kind}
 use Rattle.rw_blocks.specs.declared.Kind.TheVariants.{Device, Virtual}
 use Rattle.rw_blocks.specs.State.{QueueState, section_at, no_section}
-use Rattle.rw_blocks.specs.Sums.{is_kind, is_virtual, is_block}
+use Rattle.rw_blocks.specs.Sums.{is_kind, is_virtual, is_block, rows_placed}
 use Rattle.rw_blocks.specs.Loose.{IsLoose, is_sealed_virtual}
 use Rattle.rw_ripq.specs.Sealed.{is_sealed, sealed_section, sealed_position, is_emptied}
 use Rattle.rw_ripq.proofs.Basics.{by_bool, true_not_false}
@@ -61,3 +61,13 @@ emptied-at q b i p e loose sealed at_section at_position is =
     let serial : e.0 ≡ b = ap (λ x. x.0) (sym found.1) ∙ ap (λ i. (get_or (section_at q i).sealed p (0, Device)).0) at_section ∙ ap (λ p. (get_or (section_at q (sealed_section q b)).sealed p (0, Device)).0) at_position ∙ there.2 in
     let any : list_any (is_block e.1 b) (section_at q i).sealed ≡ true = any-at (is_block e.1 b) (section_at q i).sealed p e is (rw (eq-eqb e.0 b serial) (same-kind e.1)) in
     ap (λ t. t && is_none (first_place q b)) (sym (virtual-there e.1 q b i e loose (omega (arith, there.0, at_section)) serial refl any)) ∙ ap (λ t. is_sealed_virtual q b && t) (empty-is q b)
+
+some_not-none : {X : Type 0} (o : Option X) → is_some o ≡ true → is_none o ≡ false
+some_not-none None h = absurd (cc)
+some_not-none (Some x) h = refl
+
+-- a block that is some row's place is no emptied one
+pub placed-not-emptied : (q : QueueState) (b : ℕ) → is_some (first_place q b) ≡ true → false ≡ is_emptied q b
+placed-not-emptied q b some =
+    let none : nat_eq (length (rows_placed q b)) 0 ≡ false = sym (empty-is q b) ∙ some_not-none (first_place q b) some in
+    sym (and_right (is_sealed_virtual q b) _ none)

@@ -1,3 +1,4 @@
+pub mod Standing
 pub mod Basics
 pub mod Found
 pub mod Rooms

@@ -46,7 +46,7 @@ pub sealed-free : (q : QueueState) (b : ℕ) → list_any (has_sealed b) q.secti
 sealed-free q b h free = subst (λ n. IsFree q n) (sym (sealed-there q b h).2) free
 
 -- ---- where a sealed block stands
-position-none : (p : ℕ × Kind → Bool) (xs : List (ℕ × Kind)) → None ≡ position p xs → list_any p xs ≡ false
+pub position-none : (p : ℕ × Kind → Bool) (xs : List (ℕ × Kind)) → None ≡ position p xs → list_any p xs ≡ false
 position-none p xs none = elim (cases_Bool (list_any p xs)) [
   | inr f ↦ f
   | inl t ↦ absurd (none_some {v = position_or_len p xs} (none ∙ (rw (lt-ltb (position_or_len p xs) (length xs) (position-there p xs (0, Device) t).0) refl)))

@@ -1,8 +1,9 @@
 // Sealed blocks that leave their lists.
-ghost use Rattle.std.specs.Prelude.{◌≡◌, ◌<◌, ◌≤◌, ◌+◌, length, position, true, false, OnOk, IfSome, IsNone};
+ghost use Rattle.std.specs.Prelude.{◌≡◌, ◌<◌, ◌≤◌, ◌+◌, length, position, true, false, OnOk, IfSome, IsNone, IsTrue, is_some, ◌-◌, slice_index_or};
 ghost use Rattle.rw_blocks.specs.State.{section_at};
 ghost use Rattle.rw_blocks.specs.Sums.{has_serial, is_virtual};
 ghost use Rattle.rw_blocks.specs.Loose.{IsLoose, IsFree};
+ghost use Rattle.rw_blocks.specs.Questions.{first_place};
 ghost use Rattle.rw_ripq.specs.Work.{untouched};
 ghost use Rattle.rw_ripq.specs.Sealed.{is_sealed, sealed_section, sealed_position, without_block, is_emptied, cleared};
 ghost use Rattle.rw_ripq.specs.Record.{Recorded};
@@ -11,11 +12,29 @@ use crate::Trail;
 use rw_blocks::{Kind, Queue};
 use rw_vt::NoMemory;
 
-/// Where the block stands in the section's sealed list.
-fn position_in(queue: &Queue, section: usize, block: u64) -> Option<usize>
+/// Whether the block is the last one in the section's sealed list.
+fn is_last(queue: &Queue, section: usize, block: u64) -> bool
     requires { section < length queue.now.sections }
+    ensures some { IsTrue result → 0 < length (section_at queue.now section).sealed }
+    ensures last { IsTrue result → (slice_index_or (section_at queue.now section).sealed (length (section_at queue.now section).sealed - 1) (0, Kind.Device)).0 ≡ block }
+{
+    let sealed = queue.sealed(section);
+    if sealed == 0 {
+        return false;
+    }
+    let (serial, _) = queue.sealed_at(section, sealed - 1);
+    serial == block
+}
+
+/// Where the block stands in the section's sealed list. An eviction asks for the last one, which is tried first.
+fn position_in(queue: &Queue, section: usize, block: u64) -> Option<usize>
+    requires loose { IsLoose queue.now }
+    requires there { section < length queue.now.sections }
     ensures { result ≡ position (has_serial block) (section_at queue.now section).sealed }
 {
+    if is_last(queue, section, block) {
+        return Some(queue.sealed(section) - 1);
+    }
     for position in 0..queue.sealed(section) {
         let (serial, _) = queue.sealed_at(section, position);
         if serial == block {
@@ -27,17 +46,19 @@ fn position_in(queue: &Queue, section: usize, block: u64) -> Option<usize>
 
 /// Where a sealed block stands, as section and position; `None` exactly where no sealed block has the serial.
 fn find_sealed(queue: &Queue, block: u64) -> Option<(usize, usize)>
+    requires { IsLoose queue.now }
     ensures sealed { IfSome result (λ at. is_sealed queue.now block ≡ true) }
     ensures section { IfSome result (λ at. at.0 ≡ sealed_section queue.now block) }
     ensures position { IfSome result (λ at. at.1 ≡ sealed_position queue.now block) }
     ensures none { IsNone result → is_sealed queue.now block ≡ false }
 {
-    for section in 0..queue.sections() {
-        if let Some(position) = position_in(queue, section, block) {
-            return Some((section, position));
-        }
-    }
-    None
+    let Some(section) = queue.section_of(block) else {
+        return None;
+    };
+    let Some(position) = position_in(queue, section, block) else {
+        return None;
+    };
+    Some((section, position))
 }
 
 /// Takes a sealed block out of its list.
@@ -62,11 +83,21 @@ fn is_virtual(kind: Kind) -> bool
     kind == Kind::Virtual
 }
 
+/// Whether some row's place is the block.
+fn is_placed(queue: &Queue, block: u64) -> bool
+    ensures { result ≡ is_some (first_place queue.now block) }
+{
+    queue.first_place(block).is_some()
+}
+
 /// Whether the block is a sealed virtual one that no row has as its place.
 fn is_emptied(queue: &Queue, block: u64) -> bool
     requires { IsLoose queue.now }
     ensures { result ≡ is_emptied queue.now block }
 {
+    if is_placed(queue, block) {
+        return false;
+    }
     let Some((section, position)) = find_sealed(queue, block) else {
         return false;
     };

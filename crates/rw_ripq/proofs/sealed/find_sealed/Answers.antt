@@ -1,23 +1,30 @@
-use Rattle.std.proofs.Common.{◌∙◌, sym, arith}
-use Rattle.rw_ripq.proofs.Moves.{stands-at, section-more, stands-nowhere}
+use Rattle.std.proofs.Common.{sym, ap, arith, ◌≡◌, ◌∙◌, ◌<◌, ℕ, Bool, true, false, length}
+use Rattle.std.specs.Prelude.{Some, None, position}
+use Rattle.rw_blocks.specs.State.{section_at}
+use Rattle.rw_blocks.specs.Sums.{has_serial}
+use Rattle.rw_blocks.specs.Questions.{section_of}
+use Rattle.rw_ripq.proofs.Standing.{section-within, section-first, nowhere, nowhere-here}
+use Rattle.rw_ripq.proofs.Moves.{stands-at}
 use Rattle.rw_ripq.proofs.sealed.find_sealed.Goals as goal
 
-pub returns-in-Some-clause-sealed : goal.returns-in-Some-clause-sealed
-returns-in-Some-clause-sealed c =
-    (stands-at c.args.queue.now c.args.block c.loop-section.section c.in-Some.position (omega (arith, c.loop-section-test.true, c.sections-section-end.ensures)) c.loop-section.invariant (sym c.in-Some.is ∙ c.position_in.ensures)).0
+pub returns-in_default-clause-none : goal.returns-in_default-clause-none
+returns-in_default-clause-none c = λ _. nowhere c.args.queue.now c.args.block (sym c.in_default.is ∙ c.section_of.ensures)
 
-pub returns-in-Some-clause-section : goal.returns-in-Some-clause-section
-returns-in-Some-clause-section c =
-    (stands-at c.args.queue.now c.args.block c.loop-section.section c.in-Some.position (omega (arith, c.loop-section-test.true, c.sections-section-end.ensures)) c.loop-section.invariant (sym c.in-Some.is ∙ c.position_in.ensures)).1
+pub returns-in_default-position_in-clause-none : goal.returns-in_default-position_in-clause-none
+returns-in_default-position_in-clause-none c =
+    λ _. nowhere-here c.args.queue.now c.args.block c.in-Some.section c.requires (sym c.in-Some.is ∙ c.section_of.ensures) (sym c.in_default-position_in.is ∙ c.position_in.ensures)
 
-pub returns-in-Some-clause-position : goal.returns-in-Some-clause-position
-returns-in-Some-clause-position c =
-    (stands-at c.args.queue.now c.args.block c.loop-section.section c.in-Some.position (omega (arith, c.loop-section-test.true, c.sections-section-end.ensures)) c.loop-section.invariant (sym c.in-Some.is ∙ c.position_in.ensures)).2
+pub returns-clause-sealed : goal.returns-clause-sealed
+returns-clause-sealed c =
+    let is : Some c.in-Some.section ≡ section_of c.args.queue.now c.args.block = sym c.in-Some.is ∙ c.section_of.ensures in
+    (stands-at c.args.queue.now c.args.block c.in-Some.section c.in-Some-position_in.position (section-within c.args.queue.now c.args.block c.in-Some.section is) (section-first c.args.queue.now c.args.block c.in-Some.section is) (sym c.in-Some-position_in.is ∙ c.position_in.ensures)).0
 
-pub loop-section-preserved : goal.loop-section-preserved
-loop-section-preserved c =
-    section-more c.args.queue.now c.args.block c.loop-section.section c.loop-section.invariant (sym c.in_default.is ∙ c.position_in.ensures)
+pub returns-clause-section : goal.returns-clause-section
+returns-clause-section c =
+    let is : Some c.in-Some.section ≡ section_of c.args.queue.now c.args.block = sym c.in-Some.is ∙ c.section_of.ensures in
+    (stands-at c.args.queue.now c.args.block c.in-Some.section c.in-Some-position_in.position (section-within c.args.queue.now c.args.block c.in-Some.section is) (section-first c.args.queue.now c.args.block c.in-Some.section is) (sym c.in-Some-position_in.is ∙ c.position_in.ensures)).1
 
-pub returns-clause-none : goal.returns-clause-none
-returns-clause-none c =
-    λ _. stands-nowhere c.args.queue.now c.args.block c.loop-section.section c.loop-section.invariant (omega (arith, c.loop-section-test.false, c.sections-section-end.ensures))
+pub returns-clause-position : goal.returns-clause-position
+returns-clause-position c =
+    let is : Some c.in-Some.section ≡ section_of c.args.queue.now c.args.block = sym c.in-Some.is ∙ c.section_of.ensures in
+    (stands-at c.args.queue.now c.args.block c.in-Some.section c.in-Some-position_in.position (section-within c.args.queue.now c.args.block c.in-Some.section is) (section-first c.args.queue.now c.args.block c.in-Some.section is) (sym c.in-Some-position_in.is ∙ c.position_in.ensures)).2

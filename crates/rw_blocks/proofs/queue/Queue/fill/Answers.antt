@@ -1,11 +1,19 @@
-use Rattle.std.proofs.Common.{arith, ◌∙◌}
-use Rattle.std.proofs.lemmas.Grind.{common_steps}
-use Rattle.rw_blocks.proofs.Fills.{fill-active}
+use Rattle.std.proofs.Common.{arith, sym, ap, ◌≡◌, ◌∙◌, ◌<◌, ◌≤◌, ℕ, max}
+use Rattle.rw_blocks.specs.declared.Kind.TheVariants.{Device, Virtual}
+use Rattle.rw_blocks.specs.Sums.{fill, bytes_held}
+use Rattle.rw_blocks.proofs.Fills.{fill-of, fill-active}
+use Rattle.rw_blocks.proofs.Greater.{fill-greater}
 use Rattle.rw_blocks.proofs.queue.Queue.fill.Goals as goal
 
-pub returns-then-has_kind-clause-fill : goal.returns-then-has_kind-clause-fill
-returns-then-has_kind-clause-fill c = grind (arith, common_steps)
+pub returns-clause-fill : goal.returns-clause-fill
+returns-clause-fill c =
+    c.max.ensures
+    ∙ (ap (λ (n : ℕ). max n c.place_bytes.result) c.home_bytes.ensures
+    ∙ (ap (λ (n : ℕ). max (bytes_held Device c.args.self.now c.args.serial) n) c.place_bytes.ensures
+    ∙ fill-greater c.args.self.now c.args.serial c.requires))
 
-pub returns-then-has_kind-clause-active : goal.returns-then-has_kind-clause-active
-returns-then-has_kind-clause-active c =
-    λ kind i lt is. returns-then-has_kind-clause-fill c ∙ fill-active c.args.self.now kind i c.args.serial c.requires lt is
+pub returns-clause-of_kind : goal.returns-clause-of_kind
+returns-clause-of_kind c = λ kind once. returns-clause-fill c ∙ fill-of c.args.self.now kind c.args.serial c.requires once
+
+pub returns-clause-active : goal.returns-clause-active
+returns-clause-active c = λ kind i lt is. returns-clause-fill c ∙ fill-active c.args.self.now kind i c.args.serial c.requires lt is

@@ -1,8 +1,15 @@
-use Rattle.std.proofs.Common.{arith}
+use Rattle.std.proofs.Common.{arith, ap, sym, ◌≡◌, ◌∙◌, ◌+◌, ℕ}
 use Rattle.std.proofs.lemmas.Grind.{common_steps}
+use Rattle.rw_blocks.specs.State.{QueueState, section_at}
 use Rattle.rw_blocks.proofs.Laws.{Undoes-after_split}
 use Rattle.rw_blocks.proofs.Moved.{IsLoose-after_split}
 use Rattle.rw_blocks.proofs.queue.Queue.split.Goals as goal
+
+pub part-requires-clause-after : goal.part-requires-clause-after
+part-requires-clause-after c =
+    let q : QueueState = c.args.self.now in
+    let next : c.part.inside.next ≡ q.next = ap (λ (z : QueueState). z.next) c.part.view_is in
+    (q.next + 2, rw next (IsLoose-after_split q c.args.section c.args.keep c.requires.loose c.requires.there c.requires.few))
 
 pub returns-clause-effect : goal.returns-clause-effect
 returns-clause-effect c = grind (arith, common_steps)

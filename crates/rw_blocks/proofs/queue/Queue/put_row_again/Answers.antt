@@ -1,0 +1,23 @@
+use Rattle.std.proofs.Common.{arith, sym, ap, subst, ◌∙◌, ◌≡◌, ◌<◌, ◌≤◌, ◌+◌, ◌^◌, ℕ, List}
+use Rattle.std.specs.Prelude.{Some, None, Option, IsSome, IsNone}
+use Rattle.rw_vt.proofs.Entries.{lookup-insert_entry}
+use Rattle.rw_blocks.specs.State.{QueueState, row_at}
+use Rattle.rw_blocks.specs.Sums.{total}
+use Rattle.rw_blocks.specs.Primitives.{with_row}
+use Rattle.rw_blocks.specs.Tags.{IsAbsent}
+use Rattle.rw_blocks.proofs.Kept.{total-with_row}
+use Rattle.rw_blocks.proofs.Present.{row-there}
+use Rattle.rw_blocks.proofs.queue.Queue.put_row_again.Goals as goal
+
+pub unwrap-section-requires : goal.unwrap-section-requires
+unwrap-section-requires c =
+    let q : QueueState = c.args.self.now in
+    let absent : IsNone c.section_of.result → IsAbsent c.args.row.place q.sections =
+    λ none. subst (λ (z : QueueState). IsAbsent c.args.row.place z.sections) c.self.view_is (c.section_of.ensures.none none) in
+    row-there (with_row q c.args.object c.args.row) c.args.object c.args.row c.section_of.result c.requires.before (lookup-insert_entry q.rows c.args.object c.args.row) absent
+
+pub put_row-requires-clause-room : goal.put_row-requires-clause-room
+put_row-requires-clause-room c =
+    let sum = rw c.requires.none at (total-with_row c.args.self.now c.args.object c.args.row c.requires.loose) in
+    let within = c.requires.before.within in
+    omega (arith, sum, within)

@@ -1,0 +1,50 @@
+use Rattle.std.proofs.Common.{arith, sym, ap, subst, ◌∙◌, ◌≡◌, ◌<◌, ◌≤◌, ◌+◌, ℕ, List, Bool, false, true, cond, length, get_or, set, nat_eq}
+use Rattle.std.specs.Prelude.{Some, None, Option, ◌||◌, slice_get, insert, remove}
+use Rattle.std.specs.List.{list_any}
+use Rattle.std.specs.Ordering.{nat_cmp}
+use Rattle.std.specs.BTreeMap.{get, is_at}
+use Rattle.std.proofs.lemmas.Grind.{common_steps}
+use Rattle.std.proofs.lemmas.List.{get_or_default}
+use Rattle.std.proofs.lemmas.List.Edits.{get_or-remove_below}
+use Rattle.rw_blocks.specs.declared.Kind.{Kind}
+use Rattle.rw_blocks.specs.declared.Kind.TheVariants.{Device}
+use Rattle.rw_blocks.specs.State.{SectionState, active_of, no_section}
+use Rattle.rw_blocks.specs.Sums.{has_block}
+use Rattle.rw_blocks.specs.Primitives.{section_sealing, section_joining}
+use Rattle.rw_blocks.specs.Undo.{section_unsealing, upper_of, lower_of}
+use Rattle.rw_blocks.specs.Tags.{section_in, tag_in, IsTagged, IsAbsent, Parts, ComesFrom, Joins, vanishes}
+use Rattle.rw_blocks.proofs.Laws.{got}
+use Rattle.rw_blocks.proofs.Holding.{has_block-unsealing, has_block-insert, has_block-remove}
+use Rattle.rw_blocks.proofs.Tagged.{IsTagged-claim, IsTagged-release, IsTagged-part, IsTagged-join}
+use Rattle.rw_blocks.proofs.sections.Sections.join.Goals as goal
+
+pub invariant_of-self-2 : goal.invariant_of-self-2
+invariant_of-self-2 c = λ some.
+    let ss : List SectionState = c.self.inside.list.items in
+    let tags : List ℕ = c.self.inside.tags.items in
+    let i : ℕ = c.args.section in
+    let view : ss ≡ c.args.self.now = c.self.view_is in
+    let within : i + 1 < length ss = let there = c.requires.there in omega (arith, ap (λ (zs : List SectionState). length zs) view) in
+    let t : IsTagged ss tags (λ b. get nat_cmp c.self.inside.owners b) = c.self.invariant (omega arith) in
+    let long = t.long in
+    let u : SectionState = section_in ss i in
+    let l : SectionState = section_in ss (i + 1) in
+    let gone : ℕ → Bool = vanishes c.args.device_vanishes c.args.virtual_vanishes l in
+    let items : c.replace-list.result.items ≡ ss = cc in
+    let list : c.remove-lower.new.self.items ≡ remove ss (i + 1) = grind (arith, common_steps) in
+    let lower : c.remove-lower.result ≡ l = grind (arith, common_steps, get_or_default {X = SectionState}) in
+    let new-tags : c.remove.new.self.items ≡ remove tags (i + 1) = grind (arith, common_steps) in
+    let tag : c.index-tag.result.now ≡ tag_in tags i = grind (arith, common_steps) in
+    let d : SectionState = c.index_mut.result.now in
+    let upper : c.index_mut.result.now ≡ u =
+    c.index_mut.ensures.value ∙ (ap (λ (zs : List SectionState). get_or zs i d) list ∙ (get_or-remove_below ss (i + 1) d i (omega arith) within ∙ get_or_default ss i d no_section (omega arith))) in
+    let is : c.join.new.self ≡ section_joining c.args.device_vanishes c.args.virtual_vanishes u l =
+    c.in_ok-join.ensures ∙ (ap (λ (z : SectionState). section_joining c.args.device_vanishes c.args.virtual_vanishes z c.remove-lower.result) upper ∙ ap (λ (z : SectionState). section_joining c.args.device_vanishes c.args.virtual_vanishes u z) lower) in
+    let joins : Joins u l gone (section_joining c.args.device_vanishes c.args.virtual_vanishes u l) =
+    subst (λ (zs : List SectionState). Joins (section_in zs i) (section_in zs (i + 1)) (vanishes c.args.device_vanishes c.args.virtual_vanishes (section_in zs (i + 1))) (section_joining c.args.device_vanishes c.args.virtual_vanishes (section_in zs i) (section_in zs (i + 1)))) (sym view) c.requires.joins in
+    let owner : (b : ℕ) → get nat_cmp c.retag.new.owners b ≡ cond (has_block b l) (cond (gone b) None (Some (tag_in tags i))) (get nat_cmp c.self.inside.owners b) =
+    λ b. c.in_ok-retag.ensures b
+    ∙ (ap (λ (z : SectionState). cond (has_block b z) (cond (vanishes c.args.device_vanishes c.args.virtual_vanishes z b) None (Some c.index-tag.result.now)) (get nat_cmp c.self.inside.owners b)) lower
+    ∙ ap (λ (y : ℕ). cond (has_block b l) (cond (gone b) None (Some y)) (get nat_cmp c.self.inside.owners b)) tag) in
+    rw (list, is, new-tags)
+    (IsTagged-join ss tags (λ b. get nat_cmp c.self.inside.owners b) (λ b. get nat_cmp c.retag.new.owners b) gone i (section_joining c.args.device_vanishes c.args.virtual_vanishes u l) t within joins owner)

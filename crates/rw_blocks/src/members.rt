@@ -1,0 +1,133 @@
+// Which objects belong to each block, and their bytes.
+ghost use Rattle.std.specs.Prelude.{◌≡◌, ◌<◌, ◌≤◌, ◌+◌, ◌^◌, ℕ, [], OnOk, OnErr, cond, nat_eq, slice_get, IsTrue};
+ghost use Rattle.std.specs.Ordering.{nat_cmp};
+ghost use Rattle.std.specs.BTreeMap.{is_at};
+ghost use Rattle.std.specs.BTreeSet.{insert_key};
+ghost use Rattle.std.specs.Set.{remove_key};
+ghost use Rattle.rw_blocks.specs.Members.{bytes_at, objects_at};
+
+use rw_vt::NoMemory;
+use std::alloc::Global;
+use std::collections::{BTreeMap, BTreeSet};
+
+/// The objects of one block, in rising order, and the sum of their sizes.
+#[derive(Drop)]
+pub struct Held {
+    bytes: u64,
+    objects: BTreeSet<u64>,
+}
+
+impl Held {
+    fn new(alloc: Global) -> Held
+        ensures bytes { result.bytes ≡ 0 }
+        ensures objects { result.objects.keys ≡ [] }
+    {
+        Held {
+            bytes: 0,
+            objects: BTreeSet::new(alloc),
+        }
+    }
+
+    fn is_idle(&self) -> bool
+        ensures bytes { IsTrue result → self.now.bytes ≡ 0 }
+        ensures objects { IsTrue result → self.now.objects.keys ≡ [] }
+    {
+        self.bytes == 0 && self.objects.is_empty()
+    }
+
+    fn add(&mut self, object: u64, size: u64) -> Result<(), NoMemory>
+        requires { self.old.bytes + size < 2 ^ 64 }
+        ensures bytes { OnOk result (self.new.bytes ≡ self.old.bytes + size) }
+        ensures objects { OnOk result (self.new.objects.keys ≡ insert_key nat_cmp self.old.objects.keys object) }
+        ensures same_bytes { OnErr result (self.new.bytes ≡ self.old.bytes) }
+        ensures same_objects { OnErr result (self.new.objects.keys ≡ self.old.objects.keys) }
+    {
+        self.objects.insert(object)?;
+        self.bytes += size;
+        Ok(())
+    }
+
+    fn take(&mut self, object: u64, size: u64)
+        requires { size ≤ self.old.bytes }
+        ensures bytes { self.new.bytes + size ≡ self.old.bytes }
+        ensures objects { self.new.objects.keys ≡ remove_key (is_at (nat_cmp object)) self.old.objects.keys }
+    {
+        self.objects.remove(&object);
+        self.bytes -= size;
+    }
+}
+
+/// The objects of each block that has any. A block that has none takes no memory.
+#[derive(Drop)]
+pub struct Members {
+    alloc: Global,
+    blocks: BTreeMap<u64, Held>,
+}
+
+#[tactic(auto, unfolding(crate::specs::Members::bytes_at, crate::specs::Members::objects_at))]
+impl Members {
+    pub fn new(alloc: Global) -> Members
+        ensures bytes { (b : ℕ) → bytes_at result b ≡ 0 }
+        ensures objects { (b : ℕ) → objects_at result b ≡ [] }
+    {
+        Members {
+            alloc,
+            blocks: BTreeMap::new(alloc),
+        }
+    }
+
+    /// The bytes of the block's objects.
+    pub fn bytes(&self, serial: u64) -> u64
+        ensures { result ≡ bytes_at self.now serial }
+    {
+        match self.blocks.get(&serial) {
+            Some(held) => held.bytes,
+            None => 0,
+        }
+    }
+
+    /// The least of the block's objects.
+    pub fn first(&self, serial: u64) -> Option<u64>
+        ensures { result ≡ slice_get (objects_at self.now serial) 0 }
+    {
+        match self.blocks.get(&serial) {
+            Some(held) => held.objects.first().copied(),
+            None => None,
+        }
+    }
+
+    /// An object comes to the block. Refused memory leaves all as it was.
+    pub fn add(&mut self, serial: u64, object: u64, size: u64) -> Result<(), NoMemory>
+        requires { bytes_at self.old serial + size < 2 ^ 64 }
+        ensures bytes { OnOk result ((b : ℕ) → bytes_at self.new b ≡ bytes_at self.old b + cond (nat_eq serial b) size 0) }
+        ensures objects { OnOk result ((b : ℕ) → objects_at self.new b ≡ cond (nat_eq serial b) (insert_key nat_cmp (objects_at self.old b) object) (objects_at self.old b)) }
+        ensures same_bytes { OnErr result ((b : ℕ) → bytes_at self.new b ≡ bytes_at self.old b) }
+        ensures same_objects { OnErr result ((b : ℕ) → objects_at self.new b ≡ objects_at self.old b) }
+    {
+        match self.blocks.get_mut(&serial) {
+            Some(held) => held.add(object, size)?,
+            None => {
+                let mut held = Held::new(self.alloc);
+                held.add(object, size)?;
+                self.blocks.insert(serial, held)?;
+            }
+        }
+        Ok(())
+    }
+
+    /// An object leaves the block.
+    pub fn take(&mut self, serial: u64, object: u64, size: u64)
+        requires { size ≤ bytes_at self.old serial }
+        ensures bytes { (b : ℕ) → bytes_at self.new b + cond (nat_eq serial b) size 0 ≡ bytes_at self.old b }
+        ensures objects { (b : ℕ) → objects_at self.new b ≡ cond (nat_eq serial b) (remove_key (is_at (nat_cmp object)) (objects_at self.old b)) (objects_at self.old b) }
+    {
+        let mut idle = false;
+        if let Some(held) = self.blocks.get_mut(&serial) {
+            held.take(object, size);
+            idle = held.is_idle();
+        }
+        if idle {
+            self.blocks.remove(&serial);
+        }
+    }
+}

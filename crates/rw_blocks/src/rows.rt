@@ -1,0 +1,148 @@
+// The rows of a queue, with their index by block.
+ghost use Rattle.std.specs.Prelude.{◌≡◌, ◌<◌, ◌+◌, ◌^◌, ℕ, [], Some, None, OnOk, OnErr, IsSome, IfOk, find, nat_eq};
+ghost use Rattle.std.specs.Option.{option_map};
+ghost use Rattle.std.specs.Ordering.{nat_cmp};
+ghost use Rattle.std.specs.Map.{lookup, remove_entry, values_of, keys_of};
+ghost use Rattle.std.specs.List.Sorted.{IsStrictlySortedBy};
+ghost use Rattle.std.specs.BTreeMap.{insert_entry, is_at};
+ghost use Rattle.rw_blocks.specs.Sums.{size_of};
+ghost use Rattle.rw_blocks.specs.Index.{bytes_of, home_of, place_of};
+
+use crate::Place;
+use crate::members::Members;
+use rw_vt::NoMemory;
+use std::alloc::Global;
+use std::collections::BTreeMap;
+use std::marker::Model;
+
+/// The rows, one for each object that is stored. Contracts see them as the list of objects with their rows, in the
+/// order of the objects. Beside them stand the objects of each home and of each place, and the bytes of all rows.
+#[derive(Drop)]
+pub struct Rows {
+    rows: BTreeMap<u64, Place>,
+    homes: Members,
+    places: Members,
+    total: u64,
+}
+
+impl Model for Rows {
+    ghost use Rattle.std.specs.Prelude.{List, ℕ};
+    ghost use Rattle.rw_blocks.specs.declared.Place.{Place};
+
+    ghost Value = { List (ℕ × Place) };
+
+    ghost use Rattle.rw_blocks.specs.Index.{IsIndexed};
+
+    ghost view = { λ r. r.rows.entries };
+
+    ghost invariant = { λ r. IsIndexed r.rows.entries r.homes r.places r.total };
+}
+
+#[tactic(auto, using(crate::proofs::Filed::filed_laws))]
+impl Rows {
+    pub fn new(alloc: Global) -> Rows
+        ensures { result ≡ [] }
+    {
+        Rows {
+            rows: BTreeMap::new(alloc),
+            homes: Members::new(alloc),
+            places: Members::new(alloc),
+            total: 0,
+        }
+    }
+
+    pub fn get(&self, object: u64) -> Option<Place>
+        ensures { result ≡ lookup (is_at (nat_cmp object)) self.now }
+    {
+        self.rows.get(&object).copied()
+    }
+
+    /// The bytes of all rows.
+    pub fn total(&self) -> u64
+        ensures { result ≡ size_of (values_of self.now) }
+    {
+        self.total
+    }
+
+    /// The bytes of the rows whose home is the block.
+    pub fn home_bytes(&self, serial: u64) -> u64
+        ensures { result ≡ bytes_of home_of serial self.now }
+    {
+        self.homes.bytes(serial)
+    }
+
+    /// The bytes of the rows whose place is the block.
+    pub fn place_bytes(&self, serial: u64) -> u64
+        ensures { result ≡ bytes_of place_of serial self.now }
+    {
+        self.places.bytes(serial)
+    }
+
+    /// The least object whose home is the block.
+    pub fn first_home(&self, serial: u64) -> Option<u64>
+        ensures { result ≡ option_map (λ e. e.0) (find (λ e. nat_eq e.1.home serial) self.now) }
+    {
+        self.homes.first(serial)
+    }
+
+    /// The least object whose place is the block.
+    pub fn first_place(&self, serial: u64) -> Option<u64>
+        ensures { result ≡ option_map (λ e. e.0) (find (λ e. nat_eq e.1.place serial) self.now) }
+    {
+        self.places.first(serial)
+    }
+
+    /// A row comes, of an object that has none. Refused memory leaves the rows as they were.
+    pub fn add(&mut self, object: u64, row: Place) -> Result<(), NoMemory>
+        requires new { lookup (is_at (nat_cmp object)) self.old ≡ None }
+        requires room { size_of (values_of self.old) + row.size < 2 ^ 64 }
+        ensures added { OnOk result (self.new ≡ insert_entry nat_cmp self.old object row) }
+        ensures same { OnErr result (self.new ≡ self.old) }
+        ensures ordered { IsStrictlySortedBy nat_cmp (keys_of self.old) }
+    {
+        let Place { size, home, place } = row;
+        self.homes.add(home, object, size)?;
+        if let Err(refused) = self.places.add(place, object, size) {
+            self.homes.take(home, object, size);
+            return Err(refused);
+        }
+        if let Err(refused) = self.rows.insert(object, row) {
+            self.homes.take(home, object, size);
+            self.places.take(place, object, size);
+            return Err(refused.into());
+        }
+        self.total += size;
+        Ok(())
+    }
+
+    /// The row of an object goes, which has one.
+    pub fn remove(&mut self, object: u64) -> Place
+        requires { IsSome (lookup (is_at (nat_cmp object)) self.old) }
+        ensures row { lookup (is_at (nat_cmp object)) self.old ≡ Some result }
+        ensures rest { self.new ≡ remove_entry (is_at (nat_cmp object)) self.old }
+    {
+        let row = self.rows.remove(&object).unwrap();
+        let Place { size, home, place } = row;
+        self.homes.take(home, object, size);
+        self.places.take(place, object, size);
+        self.total -= size;
+        row
+    }
+
+    /// The row of an object that has one gets another place. Refused memory leaves the rows as they were.
+    pub fn replace(&mut self, object: u64, place: u64) -> Result<Place, NoMemory>
+        requires { IsSome (lookup (is_at (nat_cmp object)) self.old) }
+        ensures row { IfOk result (λ row. lookup (is_at (nat_cmp object)) self.old ≡ Some row) }
+        ensures replaced { IfOk result (λ row. self.new ≡ insert_entry nat_cmp self.old object (record row { place = place })) }
+        ensures same { OnErr result (self.new ≡ self.old) }
+    {
+        let row = self.get(object).unwrap();
+        if row.place == place {
+            return Ok(row);
+        }
+        self.places.add(place, object, row.size)?;
+        self.places.take(row.place, object, row.size);
+        self.rows.insert(object, Place { place, ..row })?;
+        Ok(row)
+    }
+}

@@ -1,0 +1,329 @@
+// The sections of a queue from head to tail, with an index of their blocks.
+ghost use Rattle.std.specs.Prelude.{◌≡◌, ◌<◌, ◌≤◌, ◌+◌, ℕ, [], ◌∷◌, ◌++◌, length, Some, None, OnOk, OnErr, IfOk, IfSome, IsNone, cond, ◌||◌, ◌&&◌, nat_eq, position, slice_get, slice_set, slice_index_or, sum_by, insert, remove, take, drop, true, false, ◌^◌};
+ghost use Rattle.std.specs.Ordering.{nat_cmp};
+ghost use Rattle.std.specs.BTreeMap.{get};
+ghost use Rattle.rw_blocks.specs.State.{active_of};
+ghost use Rattle.std.specs.List.{list_any};
+ghost use Rattle.rw_blocks.specs.Sums.{has_block, has_serial};
+ghost use Rattle.rw_blocks.specs.Loose.{devices_in};
+ghost use Rattle.rw_blocks.specs.Primitives.{section_sealing, section_joining};
+ghost use Rattle.rw_blocks.specs.Undo.{section_unsealing, upper_of, lower_of};
+ghost use Rattle.rw_blocks.specs.Tags.{section_in, IsAbsent, IsOnlyIn, Parts, ComesFrom, Joins, vanishes};
+
+use crate::Kind;
+use crate::section::Section;
+use rw_vt::NoMemory;
+use std::alloc::Global;
+use std::collections::BTreeMap;
+use std::marker::Model;
+use std::mem;
+
+/// The sections. Contracts see them as their list. Each has a tag, a number that no other section has, and `owners` has
+/// the tag of each block's section.
+///
+/// A change that needs memory takes the list out while it works: where memory is refused, no section is left.
+#[derive(Drop)]
+pub struct Sections {
+    alloc: Global,
+    list: Vec<Section>,
+    tags: Vec<u64>,
+    owners: BTreeMap<u64, u64>,
+}
+
+impl Model for Sections {
+    ghost use Rattle.std.specs.Prelude.{List, ◌<◌, length};
+    ghost use Rattle.std.specs.Ordering.{nat_cmp};
+    ghost use Rattle.std.specs.BTreeMap.{get};
+    ghost use Rattle.rw_blocks.specs.State.{SectionState};
+
+    ghost Value = { List SectionState };
+
+    ghost use Rattle.rw_blocks.specs.Tags.{IsTagged};
+
+    ghost view = { λ s. s.list.items };
+
+    ghost invariant = { λ s. 0 < length s.list.items → IsTagged s.list.items s.tags.items (λ b. get nat_cmp s.owners b) };
+}
+
+/// A tag that none of these is.
+fn free_tag(tags: &[u64]) -> u64
+    ensures { list_any (nat_eq result) tags.now ≡ false }
+{
+    let mut tag = 0;
+    while is_used(tags, tag) {
+        tag += 1;
+    }
+    tag
+}
+
+fn is_used(tags: &[u64], tag: u64) -> bool
+    ensures { result ≡ list_any (nat_eq tag) tags.now }
+{
+    tags.iter().any(|t| tag == *t)
+}
+
+fn place_of(tags: &[u64], tag: u64) -> Option<usize>
+    ensures { result ≡ position (λ t. nat_eq t tag) tags.now }
+{
+    tags.iter().position(|t| *t == tag)
+}
+
+/// Each block of the section gets the tag.
+fn tag_all(owners: &mut BTreeMap<u64, u64>, section: &Section, tag: u64) -> Result<(), NoMemory>
+    ensures { OnOk result ((b : ℕ) → get nat_cmp owners.new b ≡ cond (has_block b section.now) (Some tag) (get nat_cmp owners.old b)) }
+{
+    tag_sealed(owners, section, tag)?;
+    owners.insert(section.active(Kind::Device), tag)?;
+    owners.insert(section.active(Kind::Virtual), tag)?;
+    Ok(())
+}
+
+fn tag_sealed(owners: &mut BTreeMap<u64, u64>, section: &Section, tag: u64) -> Result<(), NoMemory>
+    ensures { OnOk result ((b : ℕ) → get nat_cmp owners.new b ≡ cond (list_any (has_serial b) section.now.sealed) (Some tag) (get nat_cmp owners.old b)) }
+{
+    for position in 0..section.sealed() {
+        let (serial, _) = section.sealed_at(position);
+        owners.insert(serial, tag)?;
+    }
+    Ok(())
+}
+
+/// Each block of the section gets the tag, but for the active ones that vanish: they get none.
+fn retag(
+    owners: &mut BTreeMap<u64, u64>,
+    section: &Section,
+    tag: u64,
+    device_vanishes: bool,
+    virtual_vanishes: bool,
+) -> Result<(), NoMemory>
+    ensures { OnOk result ((b : ℕ) → get nat_cmp owners.new b ≡ cond (has_block b section.now) (cond (vanishes device_vanishes virtual_vanishes section.now b) None (Some tag)) (get nat_cmp owners.old b)) }
+{
+    tag_all(owners, section, tag)?;
+    untag(owners, section.active(Kind::Device), device_vanishes);
+    untag(owners, section.active(Kind::Virtual), virtual_vanishes);
+    Ok(())
+}
+
+/// The block gets no tag, where it vanishes.
+fn untag(owners: &mut BTreeMap<u64, u64>, serial: u64, vanishes: bool)
+    ensures { (b : ℕ) → get nat_cmp owners.new b ≡ cond (vanishes && nat_eq serial b) None (get nat_cmp owners.old b) }
+{
+    if vanishes {
+        owners.remove(&serial);
+    }
+}
+
+/// Questions.
+impl Sections {
+    /// How many sections there are.
+    pub fn len(&self) -> usize
+        ensures { result ≡ length self.now }
+    {
+        self.list.len()
+    }
+
+    /// The serial of the section's active block of the kind, which no other section has.
+    pub fn active(&self, section: usize, kind: Kind) -> u64
+        requires { section < length self.now }
+        ensures active { result ≡ active_of kind (section_in self.now section) }
+        ensures here { has_block result (section_in self.now section) ≡ true }
+        ensures only { IsOnlyIn section result self.now }
+    {
+        self.list[section].active(kind)
+    }
+
+    pub fn sealed(&self, section: usize) -> usize
+        requires { section < length self.now }
+        ensures { result ≡ length (section_in self.now section).sealed }
+    {
+        self.list[section].sealed()
+    }
+
+    pub fn sealed_at(&self, section: usize, position: usize) -> (u64, Kind)
+        requires there { section < length self.now }
+        requires sealed { position < length (section_in self.now section).sealed }
+        ensures { slice_get (section_in self.now section).sealed position ≡ Some result }
+    {
+        self.list[section].sealed_at(position)
+    }
+
+    /// Where the last sealed block stands, as section and position.
+    pub fn last_sealed(&self) -> Option<(usize, usize)>
+        ensures there { IfSome result (λ at. at.0 < length self.now) }
+        ensures last { IfSome result (λ at. at.1 + 1 ≡ length (section_in self.now at.0).sealed) }
+        ensures behind { IfSome result (λ at. (j : ℕ) → at.0 < j → j < length self.now → (section_in self.now j).sealed ≡ []) }
+        ensures none { IsNone result → (j : ℕ) → j < length self.now → (section_in self.now j).sealed ≡ [] }
+    {
+        let section = self.list.iter().rposition(|s| s.sealed() > 0)?;
+        Some((section, self.list[section].sealed() - 1))
+    }
+
+    /// How many device blocks are sealed.
+    pub fn sealed_devices(&self) -> usize
+        requires { sum_by devices_in self.now < 2 ^ 64 }
+        ensures { result ≡ sum_by devices_in self.now }
+    {
+        self.list.iter().map(|s| s.sealed_devices()).sum()
+    }
+
+    /// The section that has the block.
+    pub fn section_of(&self, serial: u64) -> Option<usize>
+        ensures first { result ≡ position (has_block serial) self.now }
+        ensures there { IfSome result (λ i. i < length self.now) }
+        ensures here { IfSome result (λ i. has_block serial (section_in self.now i) ≡ true) }
+        ensures none { IsNone result → IsAbsent serial self.now }
+        ensures only { IfSome result (λ i. IsOnlyIn i serial self.now) }
+    {
+        if self.list.is_empty() {
+            return None;
+        }
+        let tag = *self.owners.get(&serial)?;
+        place_of(&self.tags, tag)
+    }
+}
+
+/// Changes.
+impl Sections {
+    /// One section with these active blocks.
+    pub fn new(alloc: Global, device: u64, virtual_block: u64) -> Result<Sections, NoMemory>
+        ensures { IfOk result (λ s. s ≡ record { active_device = device; active_virtual = virtual_block; sealed = [] } ∷ []) }
+    {
+        let mut owners = BTreeMap::new(alloc);
+        let section = Section::new(alloc, device, virtual_block);
+        tag_all(&mut owners, &section, 0)?;
+        let mut list = Vec::new(alloc);
+        list.push(section)?;
+        let mut tags = Vec::new(alloc);
+        tags.push(0)?;
+        Ok(Sections {
+            alloc,
+            list,
+            tags,
+            owners,
+        })
+    }
+
+    /// Seals the section's active block of the kind; the fresh one, which no section has, is active in its place.
+    pub fn seal(&mut self, section: usize, kind: Kind, fresh: u64) -> Result<(), NoMemory>
+        requires there { section < length self.old }
+        requires fresh { IsAbsent fresh self.old }
+        ensures sealed { OnOk result (self.new ≡ slice_set self.old section (section_sealing kind fresh (section_in self.old section))) }
+        ensures refused { OnErr result (self.new ≡ []) }
+    {
+        let mut list = mem::replace(&mut self.list, Vec::new(self.alloc));
+        list[section].seal(kind, fresh)?;
+        self.owners.insert(fresh, self.tags[section])?;
+        self.list = list;
+        Ok(())
+    }
+
+    /// Makes the front sealed block of the section active again, as one of the kind. The active block, which then is
+    /// not the section's, is gone.
+    pub fn unseal(&mut self, section: usize, kind: Kind)
+        requires there { section < length self.old }
+        requires some { 0 < length (section_in self.old section).sealed }
+        requires gone { has_block (active_of kind (section_in self.old section)) (section_unsealing kind (section_in self.old section)) ≡ false }
+        ensures { self.new ≡ slice_set self.old section (section_unsealing kind (section_in self.old section)) }
+    {
+        let active = self.list[section].active(kind);
+        self.list[section].unseal(kind);
+        self.owners.remove(&active);
+    }
+
+    /// Takes a sealed block out of its list, whose serial no other block of the section has.
+    pub fn take_out(&mut self, section: usize, position: usize) -> (u64, Kind)
+        requires there { section < length self.old }
+        requires sealed { position < length (section_in self.old section).sealed }
+        requires once { has_block (slice_index_or (section_in self.old section).sealed position (0, Kind.Device)).0 (record (section_in self.old section) { sealed = remove (section_in self.old section).sealed position }) ≡ false }
+        ensures block { slice_get (section_in self.old section).sealed position ≡ Some result }
+        ensures rest { self.new ≡ slice_set self.old section (record (section_in self.old section) { sealed = remove (section_in self.old section).sealed position }) }
+    {
+        let (serial, kind) = self.list[section].take_out(position);
+        self.owners.remove(&serial);
+        (serial, kind)
+    }
+
+    /// Puts a block, which no section has, into the section's sealed list.
+    pub fn put_back(
+        &mut self,
+        section: usize,
+        position: usize,
+        serial: u64,
+        kind: Kind,
+    ) -> Result<(), NoMemory>
+        requires there { section < length self.old }
+        requires within { position ≤ length (section_in self.old section).sealed }
+        requires absent { IsAbsent serial self.old }
+        ensures put { OnOk result (self.new ≡ slice_set self.old section (record (section_in self.old section) { sealed = insert (section_in self.old section).sealed position (serial, kind) })) }
+        ensures refused { OnErr result (self.new ≡ []) }
+    {
+        let mut list = mem::replace(&mut self.list, Vec::new(self.alloc));
+        list[section].put_back(position, serial, kind)?;
+        self.owners.insert(serial, self.tags[section])?;
+        self.list = list;
+        Ok(())
+    }
+
+    /// Parts a section in two: the upper one keeps its active blocks and its first sealed blocks, and the lower one has
+    /// these active blocks and the other sealed ones, of which the first is dropped for each of the active ones that
+    /// did not vanish.
+    pub fn part(
+        &mut self,
+        section: usize,
+        upper_sealed: usize,
+        device: u64,
+        virtual_block: u64,
+        device_vanished: bool,
+        virtual_vanished: bool,
+    ) -> Result<(), NoMemory>
+        requires there { section < length self.old }
+        requires within { upper_sealed ≤ length (section_in self.old section).sealed }
+        requires parts { Parts (section_in self.old section) (upper_of upper_sealed (section_in self.old section)) (lower_of upper_sealed device virtual_block device_vanished virtual_vanished (section_in self.old section)) }
+        requires from { ComesFrom (lower_of upper_sealed device virtual_block device_vanished virtual_vanished (section_in self.old section)) (section_in self.old section) self.old }
+        ensures parted { OnOk result (self.new ≡ insert (slice_set self.old section (upper_of upper_sealed (section_in self.old section))) (section + 1) (lower_of upper_sealed device virtual_block device_vanished virtual_vanished (section_in self.old section))) }
+        ensures refused { OnErr result (self.new ≡ []) }
+    {
+        let mut list = mem::replace(&mut self.list, Vec::new(self.alloc));
+        let lower = list[section].part(
+            upper_sealed,
+            device,
+            virtual_block,
+            device_vanished,
+            virtual_vanished,
+        )?;
+        let tag = free_tag(&self.tags);
+        tag_all(&mut self.owners, &lower, tag)?;
+        list.insert(section + 1, lower)?;
+        self.tags.insert(section + 1, tag)?;
+        self.list = list;
+        Ok(())
+    }
+
+    /// Joins a section with the next one, whose active blocks vanish where it says so.
+    pub fn join(
+        &mut self,
+        section: usize,
+        device_vanishes: bool,
+        virtual_vanishes: bool,
+    ) -> Result<(), NoMemory>
+        requires there { section + 1 < length self.old }
+        requires joins { Joins (section_in self.old section) (section_in self.old (section + 1)) (vanishes device_vanishes virtual_vanishes (section_in self.old (section + 1))) (section_joining device_vanishes virtual_vanishes (section_in self.old section) (section_in self.old (section + 1))) }
+        ensures joined { OnOk result (self.new ≡ slice_set (remove self.old (section + 1)) section (section_joining device_vanishes virtual_vanishes (section_in self.old section) (section_in self.old (section + 1)))) }
+        ensures refused { OnErr result (self.new ≡ []) }
+    {
+        let mut list = mem::replace(&mut self.list, Vec::new(self.alloc));
+        let lower = list.remove(section + 1);
+        let tag = self.tags[section];
+        self.tags.remove(section + 1);
+        retag(
+            &mut self.owners,
+            &lower,
+            tag,
+            device_vanishes,
+            virtual_vanishes,
+        )?;
+        list[section].join(lower, device_vanishes, virtual_vanishes)?;
+        self.list = list;
+        Ok(())
+    }
+}
