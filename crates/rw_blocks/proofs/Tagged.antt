@@ -3,11 +3,8 @@ use Rattle.std.proofs.Common.{◌≡◌, ℕ, zero, suc, ◌+◌, ◌-◌, ◌�
 use Rattle.std.specs.Prelude.{Option, Some, None, insert, remove, not, ◌||◌, ◌&&◌, position, IfSome, IsNone, nat_lt}
 use Rattle.std.specs.List.{position_or_len}
 use Rattle.std.proofs.lemmas.List.Sums.{position_or_len_is, passes_at_first, fails_before_first}
-use Rattle.std.specs.Ordering.{nat_cmp}
-use Rattle.std.specs.BTreeMap.{is_at}
 use Rattle.std.proofs.lemmas.Bool.{cond-false, ltb-false, ltb-true, lt-ltb, le-ltb, eq-eqb, ne_eqb, eqb-true, eqb-false, cases_eq, cases_lt, cases_order, or_parts}
 use Rattle.std.proofs.lemmas.List.Edits.{length-insert, length-remove, get_or-insert_below, get_or-insert_at, get_or-insert_above, get_or-remove_below, get_or-remove_above}
-use Rattle.rw_vt.proofs.Entries.{by_cases, nat_cmp-self}
 use Rattle.std.specs.Cmp.{ranked}
 use Rattle.std.specs.declared.cmp.Ordering.TheVariants.{Less, Equal, Greater}
 use Rattle.rw_blocks.specs.State.{SectionState, no_section}
@@ -239,28 +236,21 @@ from_tests n ss tags f long long' t =
       others = λ b none. t.others b (λ i lt. none i (omega arith));
     }
 
-at_is : (x b : ℕ) → is_at (nat_cmp x) b ≡ nat_eq x b
-at_is x b =
-    by_cases (nat_cmp x b)
-    (λ h. rw (h, ne_eqb x b (λ e. let w : Less ≡ Equal = sym h ∙ (ap (nat_cmp x) (sym e) ∙ nat_cmp-self x) in absurd (cc))) refl)
-    (λ h. rw (h, eq-eqb x b (ranked x b Equal (sym h))) refl)
-    (λ h. rw (h, ne_eqb x b (λ e. let w : Greater ≡ Equal = sym h ∙ (ap (nat_cmp x) (sym e) ∙ nat_cmp-self x) in absurd (cc))) refl)
-
 pub IsTagged-claim : (ss : List SectionState) (tags : List ℕ) (f g : ℕ → Option ℕ) (i x : ℕ) (s : SectionState) → IsTagged ss tags f → i < length ss → IsAbsent x ss
     → ((b : ℕ) → has_block b s ≡ (nat_eq x b || has_block b (section_in ss i)))
-    → ((b : ℕ) → g b ≡ cond (is_at (nat_cmp x) b) (Some (tag_in tags i)) (f b))
+    → ((b : ℕ) → g b ≡ cond (nat_eq x b) (Some (tag_in tags i)) (f b))
     → IsTagged (set ss i s) tags g
 IsTagged-claim ss tags f g i x s t lt absent has owner =
     from_tests (length ss) (set ss i s) tags g (length-set ss i s) t.long
     (claimed (length ss) (has_in ss) (has_in (set ss i s)) (tag_in tags) f g i x (to_tests ss tags f t) lt absent
     (λ b. ap (has_block b) (get_or-set_same ss i s no_section lt) ∙ has b)
     (λ j b a. ap (has_block b) (get_or-set_other ss i j s no_section (λ e. a (sym e))))
-    (λ b. owner b ∙ ap (λ c. cond c (Some (tag_in tags i)) (f b)) (at_is x b)))
+    owner)
 
 pub IsTagged-release : (ss : List SectionState) (tags : List ℕ) (f g : ℕ → Option ℕ) (i x : ℕ) (s : SectionState) → IsTagged ss tags f → i < length ss
     → ((b : ℕ) → has_block b (section_in ss i) ≡ (nat_eq x b || has_block b s))
     → has_block x s ≡ false
-    → ((b : ℕ) → g b ≡ cond (is_at (nat_cmp x) b) None (f b))
+    → ((b : ℕ) → g b ≡ cond (nat_eq x b) None (f b))
     → IsTagged (set ss i s) tags g
 IsTagged-release ss tags f g i x s t lt has gone owner =
     let same = λ (b : ℕ). ap (has_block b) (get_or-set_same ss i s no_section lt) in
@@ -269,7 +259,7 @@ IsTagged-release ss tags f g i x s t lt has gone owner =
     (λ b. has b ∙ ap (λ c. nat_eq x b || c) (sym (same b)))
     (same x ∙ gone)
     (λ j b a. ap (has_block b) (get_or-set_other ss i j s no_section (λ e. a (sym e))))
-    (λ b. owner b ∙ ap (λ c. cond c None (f b)) (at_is x b)))
+    owner)
 
 pub IsTagged-only : (ss : List SectionState) (tags : List ℕ) (f : ℕ → Option ℕ) (i b : ℕ) → IsTagged ss tags f → i < length ss → has_block b (section_in ss i) ≡ true → IsOnlyIn i b ss
 IsTagged-only ss tags f i b t lt here = λ j lt' a. only_in (length ss) (has_in ss) (tag_in tags) f (to_tests ss tags f t) i j b lt lt' here a
@@ -311,8 +301,8 @@ pub only_at-position : (ss : List SectionState) (tags : List ℕ) (owner : ℕ �
 only_at-position ss tags owner b t = if_position (has_block b) ss no_section (λ i. IsOnlyIn i b ss) (λ i lt here. IsTagged-only ss tags owner i b t lt here)
 
 -- one more block gets a tag
-pub tag_more : (x b t : ℕ) (any : Bool) (o : Option ℕ) → cond (is_at (nat_cmp x) b) (Some t) (cond any (Some t) o) ≡ cond (any || nat_eq x b) (Some t) o
-tag_more x b t any o = ap (λ c. cond c (Some t) (cond any (Some t) o)) (at_is x b) ∙ both (nat_eq x b) any
+pub tag_more : (x b t : ℕ) (any : Bool) (o : Option ℕ) → cond (nat_eq x b) (Some t) (cond any (Some t) o) ≡ cond (any || nat_eq x b) (Some t) o
+tag_more x b t any o = both (nat_eq x b) any
   where
     both : (c d : Bool) → cond c (Some t) (cond d (Some t) o) ≡ cond (d || c) (Some t) o
     both true true = refl

@@ -8,7 +8,7 @@ ghost use Rattle.rw_blocks.specs.Members.{bytes_at, objects_at};
 
 use rw_vt::NoMemory;
 use std::alloc::Global;
-use std::collections::{BTreeMap, BTreeSet};
+use std::collections::{BTreeSet, HashMap};
 
 /// The objects of one block, in rising order, and the sum of their sizes.
 #[derive(Drop)]
@@ -61,7 +61,7 @@ impl Held {
 #[derive(Drop)]
 pub struct Members {
     alloc: Global,
-    blocks: BTreeMap<u64, Held>,
+    blocks: HashMap<u64, Held>,
 }
 
 #[tactic(auto, unfolding(crate::specs::Members::bytes_at, crate::specs::Members::objects_at))]
@@ -72,7 +72,7 @@ impl Members {
     {
         Members {
             alloc,
-            blocks: BTreeMap::new(alloc),
+            blocks: HashMap::new(alloc),
         }
     }
 

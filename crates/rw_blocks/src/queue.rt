@@ -156,7 +156,7 @@ impl Queue {
         self.rows.get(object)
     }
 
-    /// The least object whose home is the serial, `None` exactly where there is none. It walks over the rows.
+    /// The least object whose home is the serial, `None` exactly where there is none.
     pub fn first_home(&self, serial: u64) -> Option<u64>
         ensures first { result ≡ first_home self.now serial }
         ensures none { IsNone result ↔ (rows_homed self.now serial ≡ []) }
@@ -164,7 +164,7 @@ impl Queue {
         self.rows.first_home(serial)
     }
 
-    /// The least object whose place is the serial, `None` exactly where there is none. It walks over the rows.
+    /// The least object whose place is the serial, `None` exactly where there is none.
     pub fn first_place(&self, serial: u64) -> Option<u64>
         ensures first { result ≡ first_place self.now serial }
         ensures none { IsNone result ↔ (rows_placed self.now serial ≡ []) }
@@ -172,7 +172,7 @@ impl Queue {
         self.rows.first_place(serial)
     }
 
-    /// The bytes of all rows. It walks over the rows.
+    /// The bytes of all rows.
     pub fn total(&self) -> u64
         requires { IsLoose self.now }
         ensures { result ≡ total self.now }
@@ -191,6 +191,18 @@ impl Queue {
     {
         // a row's place is its home, or a virtual block, which is no row's home
         self.home_bytes(serial).max(self.place_bytes(serial))
+    }
+
+    /// The fill of the section's active block of the kind, in bytes.
+    pub fn active_fill(&self, section: usize, kind: Kind) -> u64
+        requires { section < length self.now.sections }
+        ensures { result ≡ bytes_held kind self.now (active_of kind (section_at self.now section)) }
+    {
+        let serial = self.active(section, kind);
+        match kind {
+            Kind::Device => self.home_bytes(serial),
+            Kind::Virtual => self.place_bytes(serial),
+        }
     }
 
     /// The bytes of the rows whose place is one of the section's blocks, active or sealed.
@@ -403,12 +415,40 @@ impl Queue {
         ensures undoes { IfOk result (λ mark. Undoes mark self.old self.new) }
         ensures kept { OnOk result (IsLoose self.new) }
     {
+        let row = self.rows.get(object).unwrap();
+        self.replace_row(object, row, section)
+    }
+
+    /// [`replace`](Queue::replace) of an object whose row is known, and is not looked up again.
+    pub fn replace_row(
+        &mut self,
+        object: u64,
+        row: Place,
+        section: usize,
+    ) -> Result<Mark, NoMemory>
+        requires loose { IsLoose self.old }
+        requires there { section < length self.old.sections }
+        requires row { row_at self.old object ≡ Some row }
+        requires fits { bytes_held Kind.Virtual self.old (section_at self.old section).active_virtual + row.size ≤ self.old.shape.block }
+        ensures effect { OnOk result (self.new ≡ after_replace self.old object section) }
+        ensures undoes { IfOk result (λ mark. Undoes mark self.old self.new) }
+        ensures kept { OnOk result (IsLoose self.new) }
+    {
         let active = self.sections.active(section, Kind::Virtual);
-        let Place { size, place, .. } = self.rows.replace(object, active)?;
-        let from = self.sections.section_of(place).unwrap();
-        self.bytes[from] -= size;
-        self.bytes[section] += size;
-        Ok(Mark::Replace { object, place })
+        if row.place == active {
+            return Ok(Mark::Replace {
+                object,
+                place: row.place,
+            });
+        }
+        self.rows.replace(object, row, active)?;
+        let from = self.sections.section_of(row.place).unwrap();
+        self.bytes[from] -= row.size;
+        self.bytes[section] += row.size;
+        Ok(Mark::Replace {
+            object,
+            place: row.place,
+        })
     }
 
     /// Seals the section's active block of the kind: it goes to the front of the sealed list, and a fresh block with

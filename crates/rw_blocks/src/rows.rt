@@ -1,5 +1,5 @@
 // The rows of a queue, with their index by block.
-ghost use Rattle.std.specs.Prelude.{◌≡◌, ◌<◌, ◌+◌, ◌^◌, ℕ, [], Some, None, OnOk, OnErr, IsSome, IfOk, find, nat_eq};
+ghost use Rattle.std.specs.Prelude.{◌≡◌, ◌<◌, ◌+◌, ◌^◌, ℕ, [], Some, None, OnOk, OnErr, IsSome, find, nat_eq, ◌≢◌};
 ghost use Rattle.std.specs.Option.{option_map};
 ghost use Rattle.std.specs.Ordering.{nat_cmp};
 ghost use Rattle.std.specs.Map.{lookup, remove_entry, values_of, keys_of};
@@ -129,20 +129,16 @@ impl Rows {
         row
     }
 
-    /// The row of an object that has one gets another place. Refused memory leaves the rows as they were.
-    pub fn replace(&mut self, object: u64, place: u64) -> Result<Place, NoMemory>
-        requires { IsSome (lookup (is_at (nat_cmp object)) self.old) }
-        ensures row { IfOk result (λ row. lookup (is_at (nat_cmp object)) self.old ≡ Some row) }
-        ensures replaced { IfOk result (λ row. self.new ≡ insert_entry nat_cmp self.old object (record row { place = place })) }
+    /// The row of an object, which is this one, gets another place. Refused memory leaves the rows as they were.
+    pub fn replace(&mut self, object: u64, row: Place, place: u64) -> Result<(), NoMemory>
+        requires row { lookup (is_at (nat_cmp object)) self.old ≡ Some row }
+        requires other { row.place ≢ place }
+        ensures replaced { OnOk result (self.new ≡ insert_entry nat_cmp self.old object (record row { place = place })) }
         ensures same { OnErr result (self.new ≡ self.old) }
     {
-        let row = self.get(object).unwrap();
-        if row.place == place {
-            return Ok(row);
-        }
         self.places.add(place, object, row.size)?;
         self.places.take(row.place, object, row.size);
-        self.rows.insert(object, Place { place, ..row })?;
-        Ok(row)
+        self.rows.get_mut(&object).unwrap().place = place;
+        Ok(())
     }
 }

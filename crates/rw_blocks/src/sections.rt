@@ -1,7 +1,6 @@
 // The sections of a queue from head to tail, with an index of their blocks.
 ghost use Rattle.std.specs.Prelude.{◌≡◌, ◌<◌, ◌≤◌, ◌+◌, ℕ, [], ◌∷◌, ◌++◌, length, Some, None, OnOk, OnErr, IfOk, IfSome, IsNone, cond, ◌||◌, ◌&&◌, nat_eq, position, slice_get, slice_set, slice_index_or, sum_by, insert, remove, take, drop, true, false, ◌^◌};
-ghost use Rattle.std.specs.Ordering.{nat_cmp};
-ghost use Rattle.std.specs.BTreeMap.{get};
+ghost use Rattle.std.specs.HashMap.{get};
 ghost use Rattle.rw_blocks.specs.State.{active_of};
 ghost use Rattle.std.specs.List.{list_any};
 ghost use Rattle.rw_blocks.specs.Sums.{has_block, has_serial};
@@ -14,7 +13,7 @@ use crate::Kind;
 use crate::section::Section;
 use rw_vt::NoMemory;
 use std::alloc::Global;
-use std::collections::BTreeMap;
+use std::collections::HashMap;
 use std::marker::Model;
 use std::mem;
 
@@ -27,13 +26,12 @@ pub struct Sections {
     alloc: Global,
     list: Vec<Section>,
     tags: Vec<u64>,
-    owners: BTreeMap<u64, u64>,
+    owners: HashMap<u64, u64>,
 }
 
 impl Model for Sections {
-    ghost use Rattle.std.specs.Prelude.{List, ◌<◌, length};
-    ghost use Rattle.std.specs.Ordering.{nat_cmp};
-    ghost use Rattle.std.specs.BTreeMap.{get};
+    ghost use Rattle.std.specs.Prelude.{List, ◌<◌, length, nat_eq};
+    ghost use Rattle.std.specs.HashMap.{get};
     ghost use Rattle.rw_blocks.specs.State.{SectionState};
 
     ghost Value = { List SectionState };
@@ -42,7 +40,7 @@ impl Model for Sections {
 
     ghost view = { λ s. s.list.items };
 
-    ghost invariant = { λ s. 0 < length s.list.items → IsTagged s.list.items s.tags.items (λ b. get nat_cmp s.owners b) };
+    ghost invariant = { λ s. 0 < length s.list.items → IsTagged s.list.items s.tags.items (λ b. get nat_eq s.owners b) };
 }
 
 /// A tag that none of these is.
@@ -69,8 +67,8 @@ fn place_of(tags: &[u64], tag: u64) -> Option<usize>
 }
 
 /// Each block of the section gets the tag.
-fn tag_all(owners: &mut BTreeMap<u64, u64>, section: &Section, tag: u64) -> Result<(), NoMemory>
-    ensures { OnOk result ((b : ℕ) → get nat_cmp owners.new b ≡ cond (has_block b section.now) (Some tag) (get nat_cmp owners.old b)) }
+fn tag_all(owners: &mut HashMap<u64, u64>, section: &Section, tag: u64) -> Result<(), NoMemory>
+    ensures { OnOk result ((b : ℕ) → get nat_eq owners.new b ≡ cond (has_block b section.now) (Some tag) (get nat_eq owners.old b)) }
 {
     tag_sealed(owners, section, tag)?;
     owners.insert(section.active(Kind::Device), tag)?;
@@ -78,8 +76,8 @@ fn tag_all(owners: &mut BTreeMap<u64, u64>, section: &Section, tag: u64) -> Resu
     Ok(())
 }
 
-fn tag_sealed(owners: &mut BTreeMap<u64, u64>, section: &Section, tag: u64) -> Result<(), NoMemory>
-    ensures { OnOk result ((b : ℕ) → get nat_cmp owners.new b ≡ cond (list_any (has_serial b) section.now.sealed) (Some tag) (get nat_cmp owners.old b)) }
+fn tag_sealed(owners: &mut HashMap<u64, u64>, section: &Section, tag: u64) -> Result<(), NoMemory>
+    ensures { OnOk result ((b : ℕ) → get nat_eq owners.new b ≡ cond (list_any (has_serial b) section.now.sealed) (Some tag) (get nat_eq owners.old b)) }
 {
     for position in 0..section.sealed() {
         let (serial, _) = section.sealed_at(position);
@@ -90,13 +88,13 @@ fn tag_sealed(owners: &mut BTreeMap<u64, u64>, section: &Section, tag: u64) -> R
 
 /// Each block of the section gets the tag, but for the active ones that vanish: they get none.
 fn retag(
-    owners: &mut BTreeMap<u64, u64>,
+    owners: &mut HashMap<u64, u64>,
     section: &Section,
     tag: u64,
     device_vanishes: bool,
     virtual_vanishes: bool,
 ) -> Result<(), NoMemory>
-    ensures { OnOk result ((b : ℕ) → get nat_cmp owners.new b ≡ cond (has_block b section.now) (cond (vanishes device_vanishes virtual_vanishes section.now b) None (Some tag)) (get nat_cmp owners.old b)) }
+    ensures { OnOk result ((b : ℕ) → get nat_eq owners.new b ≡ cond (has_block b section.now) (cond (vanishes device_vanishes virtual_vanishes section.now b) None (Some tag)) (get nat_eq owners.old b)) }
 {
     tag_all(owners, section, tag)?;
     untag(owners, section.active(Kind::Device), device_vanishes);
@@ -105,8 +103,8 @@ fn retag(
 }
 
 /// The block gets no tag, where it vanishes.
-fn untag(owners: &mut BTreeMap<u64, u64>, serial: u64, vanishes: bool)
-    ensures { (b : ℕ) → get nat_cmp owners.new b ≡ cond (vanishes && nat_eq serial b) None (get nat_cmp owners.old b) }
+fn untag(owners: &mut HashMap<u64, u64>, serial: u64, vanishes: bool)
+    ensures { (b : ℕ) → get nat_eq owners.new b ≡ cond (vanishes && nat_eq serial b) None (get nat_eq owners.old b) }
 {
     if vanishes {
         owners.remove(&serial);
@@ -188,7 +186,7 @@ impl Sections {
     pub fn new(alloc: Global, device: u64, virtual_block: u64) -> Result<Sections, NoMemory>
         ensures { IfOk result (λ s. s ≡ record { active_device = device; active_virtual = virtual_block; sealed = [] } ∷ []) }
     {
-        let mut owners = BTreeMap::new(alloc);
+        let mut owners = HashMap::new(alloc);
         let section = Section::new(alloc, device, virtual_block);
         tag_all(&mut owners, &section, 0)?;
         let mut list = Vec::new(alloc);

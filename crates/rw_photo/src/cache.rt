@@ -1,4 +1,5 @@
-ghost use Rattle.std.specs.Prelude.{◌≡◌, ◌≢◌, ◌+◌, ◌<◌, ◌≤◌, ◌^◌, true, false, None, OnOk, IfOk};
+ghost use Rattle.std.specs.Prelude.{◌≡◌, ◌≢◌, ◌+◌, ◌<◌, ◌≤◌, ◌^◌, false, None, Some, OnOk, IfOk};
+ghost use Rattle.rw_blocks.specs.State.{row_at};
 ghost use Rattle.rw_blocks.specs.Loose.{IsWellFormed as IsWellFormedQueue};
 ghost use Rattle.rw_ripq.specs.Trail.{IsRewindable, Leads, rewind_of};
 ghost use Rattle.rw_ripq.specs.Weight.{IsShort};
@@ -9,7 +10,7 @@ ghost use Rattle.rw_photo.specs.Storing.{hit, stored};
 
 use crate::body::Body;
 use crate::counters::Counters;
-use rw_ripq::{Policy, Queue, Shape, Trail};
+use rw_ripq::{Place, Policy, Queue, Shape, Trail};
 use rw_vt::{Event, NoMemory};
 use std::alloc::Global;
 use std::collections::BTreeMap;
@@ -76,6 +77,13 @@ impl CacheState {
         rw_ripq::resident(&self.queue, object)
     }
 
+    /// Where an object lies, if it is stored.
+    pub(crate) fn row(&self, object: u64) -> Option<Place>
+        ensures { result ≡ row_at self.now.queue object }
+    {
+        self.queue.row(object)
+    }
+
     /// How many requests wait for an object, where it is awaited.
     pub(crate) fn waiting(&self, object: u64) -> Option<u64>
         ensures { result ≡ waiting self.now object }
@@ -98,23 +106,25 @@ impl CacheState {
         Ok(())
     }
 
-    /// A hit of an object that is stored: it is promoted. Hands back what takes that back, and what it counts.
+    /// A hit of an object that is stored, in this row: it is promoted. Hands back what takes that back, and what it counts.
     pub(crate) fn hit(
         &mut self,
         alloc: Global,
         policy: Policy,
         object: u64,
+        row: Place,
     ) -> Result<(Trail, Counters), NoMemory>
         requires well_formed { IsWellFormedQueue self.old.queue }
         requires stores { policy ≢ Policy.Off }
-        requires resident { is_stored self.old object ≡ true }
+        requires row { row_at self.old.queue object ≡ Some row }
         requires fresh { self.old.queue.next < 2 ^ 62 }
         ensures queue { OnOk result (self.new ≡ record self.old { queue = (hit policy self.old.queue object).queue }) }
         ensures counts { IfOk result (λ r. r.1 ≡ (hit policy self.old.queue object).counts) }
         ensures leads { IfOk result (λ r. Leads r.0 self.old.queue self.new.queue) }
         ensures short { IfOk result (λ r. IsShort r.0 self.old.queue self.new.queue) }
     {
-        let Ok((trail, moved)) = rw_ripq::promote(alloc, &mut self.queue, policy, object) else {
+        let Ok((trail, moved)) = rw_ripq::promote_row(alloc, &mut self.queue, policy, object, row)
+        else {
             return Err(NoMemory);
         };
         Ok((trail, Counters::of_hit(moved)))

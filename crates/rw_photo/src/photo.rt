@@ -123,8 +123,8 @@ impl Photo {
         requires process { process < self.now.config.edges }
         ensures { IfOk result (λ deed. HasDone (requested self.now.config process state.old time object size (is_stored state.old object)) state.old object deed state.new) }
     {
-        if state.is_stored(object) {
-            let (trail, counted) = state.hit(alloc, self.config.policy, object)?;
+        if let Some(row) = state.row(object) {
+            let (trail, counted) = state.hit(alloc, self.config.policy, object, row)?;
             return Ok(Deed {
                 trail,
                 counted,
@@ -180,8 +180,8 @@ impl Photo {
             ..
         } = self.config;
         let answer = Body::Fill { object, size };
-        if state.is_stored(object) {
-            let (trail, counted) = state.hit(alloc, policy, object)?;
+        if let Some(row) = state.row(object) {
+            let (trail, counted) = state.hit(alloc, policy, object, row)?;
             return Ok(Deed {
                 trail,
                 counted,

@@ -21,13 +21,8 @@ use Rattle.rw_ripq.proofs.Moves.{row-small}
 
 -- ---- an object is moved
 pub replace-fits : (q : QueueState) (o i : ℕ) (r : Place) → IsLoose q → i < length q.sections → row_at q o ≡ Some r
-    → bytes_held Virtual (with_room q Virtual i r.size) (section_at (with_room q Virtual i r.size) i).active_virtual + (row_or (with_room q Virtual i r.size) o).size ≤ (with_room q Virtual i r.size).shape.block
-replace-fits q o i r loose within is =
-    let w : QueueState = with_room q Virtual i r.size in
-    let size : (row_or w o).size ≡ r.size = ap (λ m. (unwrap_or m no_place).size) (row-with_room q Virtual i r.size o ∙ is) in
-    let small : r.size ≤ q.shape.block = row-small q o r loose is in
-    let fits : bytes_held Virtual w (section_at w i).active_virtual + r.size ≤ w.shape.block = rw shape-with_room (fits-with_room q Virtual i r.size loose within small) in
-    omega (arith, fits, size)
+    → bytes_held Virtual (with_room q Virtual i r.size) (section_at (with_room q Virtual i r.size) i).active_virtual + r.size ≤ (with_room q Virtual i r.size).shape.block
+replace-fits q o i r loose within is = rw shape-with_room (fits-with_room q Virtual i r.size loose within (row-small q o r loose is))
 
 -- ---- two sections are merged
 written-test : (n : ℕ) → nat_lt 0 n ≡ not (nat_eq n 0)

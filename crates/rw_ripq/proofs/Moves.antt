@@ -1,6 +1,6 @@
 -- What the code of an eviction needs at its calls.
 use Rattle.std.proofs.Common.{◌≡◌, ℕ, ◌+◌, ◌≤◌, ◌<◌, List, [], ◌∷◌, refl, sym, ap, subst, ◌∙◌, arith, Bool, true, false, length, get_or, nat_eq, inl, inr, suc}
-use Rattle.std.specs.Prelude.{Some, None, position, unwrap_or, is_none, find, filter, not}
+use Rattle.std.specs.Prelude.{Some, None, IsSome, position, unwrap_or, is_none, find, filter, not}
 use Rattle.std.specs.Option.{option_map}
 use Rattle.std.specs.Map.{values_of}
 use Rattle.std.specs.List.{list_any, position_or_len}
@@ -133,3 +133,7 @@ pub total-some : (q : QueueState) (o : ℕ) (r : Place) → IsLoose q → row_at
 total-some q o r loose is =
     let size : unwrap_or (option_map (λ (r : Place). r.size) (row_at q o)) 0 ≡ r.size = ap (λ m. unwrap_or (option_map (λ (r : Place). r.size) m) 0) is in
     omega (arith, sum_by-remove_entry (λ (r : Place). r.size) (is_at (nat_cmp o)) q.rows, size, (of_row q o r (IsSized q) loose.sizes is).0)
+
+-- an object that has a row is stored
+pub resident : (q : QueueState) (o : ℕ) (r : Place) → row_at q o ≡ Some r → IsSome (row_at q o)
+resident q o r is = rw is refl

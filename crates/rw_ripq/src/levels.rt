@@ -1,12 +1,12 @@
 // Which section a level goes to, and the level of a row.
-ghost use Rattle.std.specs.Prelude.{◌≡◌, ◌≤◌, ◌<◌, ◌≢◌, length, is_some};
+ghost use Rattle.std.specs.Prelude.{◌≡◌, ◌≤◌, ◌<◌, ◌≢◌, length, is_some, Some};
 ghost use Rattle.rw_blocks.specs.State.{row_at};
 ghost use Rattle.rw_blocks.specs.Sums.{total};
 ghost use Rattle.rw_blocks.specs.Loose.{IsLoose};
 ghost use Rattle.rw_ripq.specs.Levels.{level_of_section, level_of, reaches, slru_target, target};
 
 use crate::Policy;
-use rw_blocks::Queue;
+use rw_blocks::{Place, Queue};
 
 /// Whether the object is stored. Takes no memory.
 pub fn resident(queue: &Queue, object: u64) -> bool
@@ -16,14 +16,23 @@ pub fn resident(queue: &Queue, object: u64) -> bool
 }
 
 /// The level of an object, 1 to 3: in which third of all bytes, counted from the tail, the section begins that holds
-/// the object's place. `None` exactly where the object is not stored. It walks over the rows. Takes no memory.
+/// the object's place. `None` exactly where the object is not stored. Takes no memory.
 pub fn level_of(queue: &Queue, object: u64) -> Option<u8>
     requires { IsLoose queue.now }
     ensures { result ≡ level_of queue.now object }
 {
     let row = queue.row(object)?;
+    Some(level_of_row(queue, object, row))
+}
+
+/// The level of an object whose row is known.
+pub fn level_of_row(queue: &Queue, _object: u64, row: Place) -> u8
+    requires loose { IsLoose queue.now }
+    requires row { row_at queue.now _object ≡ Some row }
+    ensures { level_of queue.now _object ≡ Some result }
+{
     let section = queue.section_of(row.place).unwrap();
-    Some(level_of_section(queue, section))
+    level_of_section(queue, section)
 }
 
 fn level_of_section(queue: &Queue, section: usize) -> u8
@@ -46,8 +55,7 @@ fn reaches(queue: &Queue, level: u8, section: usize) -> bool
 
 /// The section, counted from 0 at the head, that an object of the level, 1 to 3, goes to. Under `Lru` it is the head.
 /// Under `Slru3` it is the head for level 3, and for a lower level the section nearest the tail that, with the sections
-/// behind it, holds as many thirds of all bytes as the level says; that walks over the rows for each section. The policy
-/// is not `Off`. Takes no memory.
+/// behind it, holds as many thirds of all bytes as the level says. The policy is not `Off`. Takes no memory.
 pub fn target(queue: &Queue, policy: Policy, level: u8) -> u32
     requires loose { IsLoose queue.now }
     requires stores { policy ≢ Policy.Off }

@@ -2,10 +2,6 @@
 //! The operations of RIPQ (Tang, Huang, Lloyd, Kumar and Li, FAST 2015) over the queue of blocks: an insertion, which
 //! may evict, merge and split, and the promotion of a hit. Each hands back a [`Trail`], by which [`rewind`] takes the
 //! whole of it back (reverse computation: Carothers, Perumalla and Fujimoto, 1999).
-//!
-//! Each sum of bytes, and each search for the objects of a block, is a walk over the rows, as the questions of
-//! [`Queue`] say. So an operation takes time in the number of rows for each section that it weighs, and for each object
-//! that leaves or is written again.
 
 mod adjusting;
 mod eviction;
@@ -18,7 +14,7 @@ mod trail;
 
 pub use insertion::insert;
 pub use levels::{level_of, resident, target};
-pub use promotion::promote;
+pub use promotion::{promote, promote_row};
 pub use rw_blocks::{Kind, Mark, Place, Queue, Shape};
 pub use rw_vt::{NoMemory, Refusal};
 pub use trail::{Trail, rewind};

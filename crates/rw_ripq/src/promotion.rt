@@ -1,5 +1,5 @@
 // Promote: a hit raises an object's priority by a virtual block, without writing it.
-ghost use Rattle.std.specs.Prelude.{◌≡◌, ◌≤◌, ◌<◌, ◌+◌, ◌^◌, ◌≢◌, ◌↔◌, length, not, nat_eq, OnOk, IfOk, IsSome, Err};
+ghost use Rattle.std.specs.Prelude.{◌≡◌, ◌≤◌, ◌<◌, ◌+◌, ◌^◌, ◌≢◌, ◌↔◌, length, not, nat_eq, OnOk, IfOk, IsSome, Some, Err};
 ghost use Rattle.rw_blocks.specs.State.{row_at, row_or, QueueState};
 ghost use Rattle.rw_blocks.specs.Loose.{IsLoose, IsWellFormed};
 ghost use Rattle.rw_vt.specs.declared.refusal.Refusal.{Refusal};
@@ -10,25 +10,25 @@ ghost use Rattle.rw_ripq.specs.Order.{KeepsOrder, LeavesFromTail};
 ghost use Rattle.rw_ripq.specs.Weight.{IsShort};
 ghost use Rattle.rw_ripq.specs.Trail.{Leads};
 
-use crate::levels::{level_of, slru_target};
+use crate::levels::{level_of_row, slru_target};
 use crate::putting::make_room;
 use crate::sealed::clear;
 use crate::{Policy, Trail};
-use rw_blocks::{Kind, Queue};
+use rw_blocks::{Kind, Place, Queue};
 use rw_vt::{NoMemory, Refusal};
 use std::alloc::Global;
 
 /// The section that a hit of the object goes to, by the level that it has before anything moves.
-fn hit_target(queue: &Queue, policy: Policy, object: u64) -> usize
+fn hit_target(queue: &Queue, policy: Policy, object: u64, row: Place) -> usize
     requires loose { IsLoose queue.now }
-    requires resident { IsSome (row_at queue.now object) }
+    requires row { row_at queue.now object ≡ Some row }
     ensures target { result ≡ hit_target policy queue.now object }
     ensures there { result < length queue.now.sections }
 {
     match policy {
         Policy::Off | Policy::Lru => 0,
         Policy::Slru3 => {
-            let level = level_of(queue, object).unwrap();
+            let level = level_of_row(queue, object, row);
             slru_target(queue, (level + 1).min(3))
         }
     }
@@ -62,12 +62,39 @@ pub fn promote(
     ensures leaves { OnOk result (LeavesWithBlock queue.old queue.new) }
     ensures tail { OnOk result (LeavesFromTail queue.old queue.new) }
 {
+    let row = queue.row(object).unwrap();
+    promote_row(alloc, queue, policy, object, row)
+}
+
+/// [`promote`] of an object whose row is known, and is not looked up again.
+pub fn promote_row(
+    alloc: Global,
+    queue: &mut Queue,
+    policy: Policy,
+    object: u64,
+    row: Place,
+) -> Result<(Trail, bool), Refusal>
+    requires well_formed { IsWellFormed queue.old }
+    requires row { row_at queue.old object ≡ Some row }
+    requires stores { policy ≢ Policy.Off }
+    ensures exhausted { (result ≡ Err Refusal.Exhausted) ↔ (2 ^ 62 ≤ queue.old.next) }
+    ensures effect { OnOk result (queue.new ≡ promote policy queue.old object) }
+    ensures changed { IfOk result (λ done. done.1 ≡ not (nat_eq (row_or queue.new object).place (row_or queue.old object).place)) }
+    ensures leads { IfOk result (λ done. Leads done.0 queue.old queue.new) }
+    ensures short { IfOk result (λ done. IsShort done.0 queue.old queue.new) }
+    ensures kept { OnOk result (IsWellFormed queue.new) }
+    ensures home { OnOk result (KeepsHome queue.old object queue.new) }
+    ensures others { OnOk result (KeepsOthers queue.old object queue.new) }
+    ensures order { OnOk result (KeepsOrder queue.old queue.new) }
+    ensures leaves { OnOk result (LeavesWithBlock queue.old queue.new) }
+    ensures tail { OnOk result (LeavesFromTail queue.old queue.new) }
+{
     if queue.next_serial() >= 1 << 62 {
         return Err(Refusal::Exhausted);
     }
     let mut trail = Trail::new(alloc);
-    let section = hit_target(queue, policy, object);
-    let changed = promote_to(queue, &mut trail, object, section)?;
+    let section = hit_target(queue, policy, object, row);
+    let changed = promote_to(queue, &mut trail, object, row, section)?;
     Ok((trail, changed))
 }
 
@@ -77,10 +104,11 @@ fn promote_to(
     queue: &mut Queue,
     trail: &mut Trail,
     object: u64,
+    row: Place,
     section: usize,
 ) -> Result<bool, NoMemory>
     requires loose { IsLoose queue.old }
-    requires resident { IsSome (row_at queue.old object) }
+    requires row { row_at queue.old object ≡ Some row }
     requires there { section < length queue.old.sections }
     requires fresh { queue.old.next < 2 ^ 63 }
     ensures effect { OnOk result (queue.new ≡ promote_to queue.old object section) }
@@ -88,14 +116,13 @@ fn promote_to(
     ensures leads { OnOk result ((start : QueueState) → Leads trail.old start queue.old → Leads trail.new start queue.new) }
     ensures marks { OnOk result (length trail.new ≤ length trail.old + 3) }
 {
-    let row = queue.row(object).unwrap();
     if row.place == queue.active(section, Kind::Device)
         || row.place == queue.active(section, Kind::Virtual)
     {
         return Ok(false);
     }
     make_room(queue, trail, section, Kind::Virtual, row.size)?;
-    let mark = queue.replace(object, section)?;
+    let mark = queue.replace_row(object, row, section)?;
     trail.push(mark)?;
     clear(queue, trail, row.place)?;
     Ok(true)

@@ -65,8 +65,7 @@ pub fn make_room(
     ensures kept { OnOk result (IsLoose queue.new) }
 {
     let (_, block, _) = queue.shape();
-    let fill = queue.fill(queue.active(section, kind));
-    if fill <= block - size {
+    if queue.active_fill(section, kind) <= block - size {
         return Ok(false);
     }
     let mark = queue.seal(section, kind)?;

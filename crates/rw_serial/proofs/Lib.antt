@@ -1,4 +1,5 @@
 pub mod Complete
+pub mod Left
 pub mod Lists
 pub mod Midrun
 pub mod Queue

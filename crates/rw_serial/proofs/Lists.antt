@@ -72,24 +72,19 @@ as_family k (x ∷ xs) (j ∷ js) f l h = joined (sym (subst (λ n. f n ≡ j) (
     joined : {C : Type 0} {a b : C} {ys bs : List C} → a ≡ b → ys ≡ bs → (a ∷ ys) ≡ (b ∷ bs)
     joined p q = cc
 
--- a family with one longer place is longer joined
-pub length_joined : {A E : Type 0} (k : ℕ) (f g : ℕ → A → List E) (xs : List A) → ((j : ℕ) (x : A) → length (f j x) ≤ length (g j x)) → length (flatten (map_from k f xs)) ≤ length (flatten (map_from k g xs))
-length_joined k f g [] h = omega arith
-length_joined k f g (x ∷ xs) h = let first = h k x in let others = length_joined (k + 1) f g xs h in omega (arith, length-append (f k x) (flatten (map_from (k + 1) f xs)), length-append (g k x) (flatten (map_from (k + 1) g xs)))
-
-pub length_joined_more : {A E : Type 0} (k i : ℕ) (f g : ℕ → A → List E) (xs : List A) (x : A) → slice_get xs i ≡ Some x → ((j : ℕ) (x : A) → length (f j x) ≤ length (g j x)) → ((y : A) → length (f (k + i) y) < length (g (k + i) y)) → length (flatten (map_from k f xs)) < length (flatten (map_from k g xs))
-length_joined_more k i f g [] x m h here = cc
-length_joined_more k zero f g (y ∷ xs) x m h here =
-    let first : length (f k y) < length (g k y) = subst (λ n. length (f n y) < length (g n y)) (add-zero k) (here y) in
-    let others = length_joined (k + 1) f g xs h in
-    omega (arith, length-append (f k y) (flatten (map_from (k + 1) f xs)), length-append (g k y) (flatten (map_from (k + 1) g xs)))
-length_joined_more k (suc i) f g (y ∷ xs) x m h here =
-    let first = h k y in
-    let others = length_joined_more (k + 1) i f g xs x m h (λ z. subst (λ n. length (f n z) < length (g n z)) shift (here z)) in
-    omega (arith, length-append (f k y) (flatten (map_from (k + 1) f xs)), length-append (g k y) (flatten (map_from (k + 1) g xs)))
-  where
-    shift : k + suc i ≡ (k + 1) + i
-    shift = omega arith
+-- what one place counts, the whole counts
+pub copies_place : {A E : Type 0} {cmp : E → E → Ordering} (o : IsExactOrder cmp) (e : E) (k i : ℕ) (f : ℕ → A → List E) (xs : List A) (x : A) → slice_get xs i ≡ Some x
+    → copies cmp e (f (k + i) x) ≤ copies cmp e (flatten (map_from k f xs))
+copies_place o e k i f [] x m = cc
+copies_place {cmp} o e k zero f (y ∷ xs) x m =
+    let is : y ≡ x = cc in
+    let here : copies cmp e (f (k + 0) x) ≡ copies cmp e (f k y) = rw (add-zero, is) refl in
+    omega (arith, here, copies-append o e (f k y) (flatten (map_from (k + 1) f xs)))
+copies_place {cmp} o e k (suc i) f (y ∷ xs) x m =
+    let rest = copies_place o e (k + 1) i f xs x m in
+    let shift : k + suc i ≡ (k + 1) + i = omega arith in
+    let here = ap (λ n. copies cmp e (f n x)) shift in
+    omega (arith, rest, here, copies-append o e (f k y) (flatten (map_from (k + 1) f xs)))
 
 -- a family that counts more at one place counts more joined
 pub copies_joined_more : {A E : Type 0} {cmp : E → E → Ordering} (o : IsExactOrder cmp) (e : E) (more : ℕ) (k i : ℕ) (f g : ℕ → A → List E) (xs : List A) (x : A) → slice_get xs i ≡ Some x
@@ -109,9 +104,3 @@ copies_joined_more {A} {E} {cmp} o e more k (suc i) f g (y ∷ xs) x m here othe
   where
     shift : k + suc i ≡ (k + 1) + i
     shift = omega arith
-
--- one more event in one of the lists
-pub length-pushed : {E : Type 0} (js : List (List E)) (p : ℕ) (x : E) → p < length js → length (flatten (slice_set js p (get_or js p [] ++ x ∷ []))) ≡ suc (length (flatten js))
-length-pushed [] p x h = absurd (omega arith)
-length-pushed (j ∷ js) zero x h = omega (arith, length-append (j ++ x ∷ []) (flatten js), length-append j (x ∷ []), length-append j (flatten js))
-length-pushed (j ∷ js) (suc p) x h = let rest = length-pushed js p x (omega arith) in omega (arith, rest, length-append j (flatten (slice_set js p (get_or js p [] ++ x ∷ []))), length-append j (flatten js))

@@ -13,7 +13,7 @@ use Rattle.rw_vt.specs.System.{System, after, outs, map_from, flatten, all_sent,
 use Rattle.rw_vt.proofs.Sorting.{IsExactOrder, IsAscending-append, IsAscending-in_order, copies-append, copies-filter, copies-in_order, absent, Has-append, Has-head, Has-cons, each_of_all, at_most_chain, at_most_both, at_most_itself}
 use Rattle.rw_vt.proofs.Runs.{IsLawful, Fits_at, earlier_at_most, outs-append, after-append, well_formed_after, copies_joined}
 use Rattle.rw_serial.proofs.Complete.{IsMidway, complete, below_more, Has-slice}
-use Rattle.rw_serial.proofs.Lists.{at_list, as_family, there_below, get_map_from, map_from_same, map_from_set, length_joined_more, copies_joined_more, length-map_from, length-pushed}
+use Rattle.rw_serial.proofs.Lists.{at_list, as_family, there_below, get_map_from, map_from_same, map_from_set, copies_place, copies_joined_more, length-map_from}
 use Rattle.rw_serial.proofs.Queue.{copies-IsPermutation}
 
 same_or_other : (p q : ℕ) → (p ≡ q) ⊎ (p ≢ q)
@@ -58,7 +58,7 @@ pub length-states : {S B : Type 0} {y : System S B} {WellFormed : ℕ → S → 
 length-states {y} {js} run = ap length run.states_are ∙ length-map_from 0 (λ q s. after (y.step q) s (at_list js q)) y.starts
 
 -- a sorted list that holds x and nothing below it begins with x
-begins : {E : Type 0} {cmp : E → E → Ordering} (o : IsExactOrder cmp) (xs : List E) (x : E) → IsAscending cmp xs → Has cmp xs x → ((a : E) → Has cmp xs a → AtMost cmp x a) → (rest : List E) × (xs ≡ x ∷ rest)
+pub begins : {E : Type 0} {cmp : E → E → Ordering} (o : IsExactOrder cmp) (xs : List E) (x : E) → IsAscending cmp xs → Has cmp xs x → ((a : E) → Has cmp xs a → AtMost cmp x a) → (rest : List E) × (xs ≡ x ∷ rest)
 begins o [] x up h l = absurd (omega arith)
 begins {E} {cmp} o (z ∷ zs) x up h l = (zs, ap (λ w. w ∷ zs) (at_most_both o z x to_x (l z (Has-head o z zs))))
   where
@@ -101,16 +101,55 @@ module _ {S B : Type 0} (y : System S B) {WellFormed : ℕ → S → Type 0} (la
       states_are : y.starts ≡ map_from 0 (λ q s. after (y.step q) s (at_list js q)) y.starts
       states_are = map_from_own 0 (λ q s. after (y.step q) s (at_list js q)) y.starts (λ q s. ap (after (y.step q) s) (none q))
 
+-- a run in the middle, where nothing that is pending is less than x, which is
+module _ {S B : Type 0} {y : System S B} {WellFormed : ℕ → S → Type 0} {ss : List S} {js : List (List (Event B))} {P : List (Event B)} (run : IsMidrun y WellFormed ss js P)
+    (x : Event B) (there : Has y.order P x) (least : (b : Event B) → Has y.order P b → AtMost y.order x b) where
+  late : (a : Event B) → Has y.order P a → x.time ≤ a.time
+  late a h = run.law.by_time x a (least a h)
+
+  early : (p : ℕ) (a : Event B) → Has y.order (at_list js p) a → a.time ≤ x.time
+  early p a h = run.law.by_time a x (run.mid.ahead p a x h there)
+
+  so_far : (q : ℕ) → at_list js q ++ slice y P x.time q ≡ below y (suc x.time) q
+  so_far q = complete y run.law (at_list js) P run.mid x.time late early q
+
+  -- what is to come at each process
+  to_come : (t : ℕ) → x.time < t → (q : ℕ) → (rest : List (Event B)) × (below y t q ≡ (at_list js q ++ slice y P x.time q) ++ rest)
+  to_come t l q =
+      let more = below_more y run.law (suc x.time) (t - suc x.time) q in
+      let e : t ≡ (t - suc x.time) + suc x.time = omega arith in
+      (more.0, ap (λ n. below y n q) e ∙ more.1 ∙ ap (λ l. l ++ more.0) (sym (so_far q)))
+
+  -- each copy of x that is pending is in its slice
+  slice_copies : copies y.order x (slice y P x.time x.to) ≡ copies y.order x P
+  slice_copies =
+      let o = run.law.exact in
+      copies-in_order o x (filter (λ e. (e.time == x.time) && (e.to == x.to)) P) ∙ copies-filter o (λ e. (e.time == x.time) && (e.to == x.to)) x P ∙ both_hold x.time x.to (copies y.order x P)
+    where
+      both_hold : (a b n : ℕ) → cond ((a == a) && (b == b)) n 0 ≡ n
+      both_hold a b n = grind (arith, nat_tests)
+
+  -- and so among all events of the whole run
+  pub copies_to_come : (t : ℕ) → x.time < t → copies y.order x P ≤ copies y.order x (flatten (map_from 0 (λ q _. below y t q) y.starts))
+  copies_to_come t l =
+      let o = run.law.exact in
+      let c = to_come t l x.to in
+      let start = there_below y.starts x.to (run.law.inside x (run.mid.sound x there)).to in
+      let in_place : copies y.order x (below y t x.to) ≤ copies y.order x (flatten (map_from 0 (λ q _. below y t q) y.starts)) =
+      subst (λ n. copies y.order x (below y t n) ≤ copies y.order x (flatten (map_from 0 (λ q _. below y t q) y.starts))) (zero-add x.to) (copies_place o x 0 x.to (λ q _. below y t q) y.starts start.0 start.1) in
+      let whole = ap (copies y.order x) c.1 in
+      omega (arith, in_place, whole, slice_copies, copies-append o x (at_list js x.to ++ slice y P x.time x.to) c.0, copies-append o x (at_list js x.to) (slice y P x.time x.to))
+
 -- a run in the middle, where x is a least event of those that are pending, and R are the others
 module _ {S B : Type 0} {y : System S B} {WellFormed : ℕ → S → Type 0} {ss : List S} {js : List (List (Event B))} {P : List (Event B)} (run : IsMidrun y WellFormed ss js P)
     {x : Event B} {R : List (Event B)} (taken : IsPermutation P (x ∷ R)) (least : All (AtMost y.order x) P) where
   law : IsLawful y WellFormed
   law = run.law
 
-  same_counts : (e : Event B) → copies y.order e P ≡ copies y.order e (x ∷ R)
+  pub same_counts : (e : Event B) → copies y.order e P ≡ copies y.order e (x ∷ R)
   same_counts e = copies-IsPermutation y.order e P (x ∷ R) taken
 
-  next_there : Has y.order P x
+  pub next_there : Has y.order P x
   next_there = omega (arith, same_counts x, Has-head law.exact x R)
 
   pub next_valid : y.valid x ≡ true
@@ -119,7 +158,7 @@ module _ {S B : Type 0} {y : System S B} {WellFormed : ℕ → S → Type 0} {ss
   pub next_inside : IsInRange (length y.starts) x
   next_inside = law.inside x next_valid
 
-  next_least : (b : Event B) → Has y.order P b → AtMost y.order x b
+  pub next_least : (b : Event B) → Has y.order P b → AtMost y.order x b
   next_least b h = each_of_all law.exact (λ b. AtMost y.order x b) P least b h
 
   pub start_of : (s0 : S) × (slice_get y.starts x.to ≡ Some s0)
@@ -134,66 +173,13 @@ module _ {S B : Type 0} {y : System S B} {WellFormed : ℕ → S → Type 0} {ss
   pub next_well_formed : (s : S) → slice_get ss x.to ≡ Some s → WellFormed x.to s
   next_well_formed s m = subst (λ w. WellFormed x.to w) (sym (state_is s m)) (well_formed_after law x.to start_of.0 (at_list js x.to) (law.starts x.to start_of.0 start_of.1) (run.mid.story.fit x.to))
 
-  late : (a : Event B) → Has y.order P a → x.time ≤ a.time
-  late a h = law.by_time x a (next_least a h)
-
-  early : (p : ℕ) (a : Event B) → Has y.order (at_list js p) a → a.time ≤ x.time
-  early p a h = law.by_time a x (run.mid.ahead p a x h next_there)
-
-  so_far : (q : ℕ) → at_list js q ++ slice y P x.time q ≡ below y (suc x.time) q
-  so_far q = complete y law (at_list js) P run.mid x.time late early q
-
-  -- what is to come at each process
-  to_come : (t : ℕ) → x.time < t → (q : ℕ) → (rest : List (Event B)) × (below y t q ≡ (at_list js q ++ slice y P x.time q) ++ rest)
-  to_come t l q =
-      let more = below_more y law (suc x.time) (t - suc x.time) q in
-      let e : t ≡ (t - suc x.time) + suc x.time = omega arith in
-      (more.0, ap (λ n. below y n q) e ∙ more.1 ∙ ap (λ l. l ++ more.0) (sym (so_far q)))
-
   slice_has : Has y.order (slice y P x.time x.to) x
-  slice_has =
-      let o = law.exact in
-      let in_slice = copies-in_order o x (filter (λ e. (e.time == x.time) && (e.to == x.to)) P) ∙ copies-filter o (λ e. (e.time == x.time) && (e.to == x.to)) x P ∙ both_hold x.time x.to (copies y.order x P) in
-      let there = next_there in
-      omega arith
-    where
-      both_hold : (a b n : ℕ) → cond ((a == a) && (b == b)) n 0 ≡ n
-      both_hold a b n = grind (arith, nat_tests)
-
-  pub midrun_room : (t : ℕ) → x.time < t → length (flatten js) < length (flatten (map_from 0 (λ q _. below y t q) y.starts))
-  midrun_room t l =
-      let family = ap (λ l. length (flatten l)) (as_family 0 y.starts js (at_list js) run.count (λ i. ap (λ n. get_or js n []) (zero-add i))) in
-      let less = length_joined_more 0 x.to (λ q _. at_list js q) (λ q _. below y t q) y.starts start_of.0 start_of.1 (λ j _. grows j) (λ _. more_here (zero-add x.to)) in
-      omega arith
-    where
-      grows : (j : ℕ) → length (at_list js j) ≤ length (below y t j)
-      grows j =
-          let c = to_come t l j in
-          let e = ap length c.1 in
-          omega (arith, e, length-append (at_list js j ++ slice y P x.time j) c.0, length-append (at_list js j) (slice y P x.time j))
-
-      more_here : {p : ℕ} → p ≡ x.to → length (at_list js p) < length (below y t p)
-      more_here {p} q =
-          let c = to_come t l x.to in
-          let e = ap length c.1 in
-          let some = has_length y.order (slice y P x.time x.to) x slice_has in
-          let here : length (at_list js x.to) < length (below y t x.to) = omega (arith, e, some, length-append (at_list js x.to ++ slice y P x.time x.to) c.0, length-append (at_list js x.to) (slice y P x.time x.to)) in
-          subst (λ n. length (at_list js n) < length (below y t n)) (sym q) here
-
-  -- each step uses up one of the events of the whole run
-  pub midrun_smaller : (t : ℕ) → x.time < t → (js' : List (List (Event B))) → js' ≡ slice_set js x.to (get_or js x.to [] ++ x ∷ [])
-      → length (flatten (map_from 0 (λ q _. below y t q) y.starts)) - length (flatten js') < length (flatten (map_from 0 (λ q _. below y t q) y.starts)) - length (flatten js)
-  midrun_smaller t l js' is =
-      let room = midrun_room t l in
-      let there = next_inside.to in
-      let n = run.count in
-      let more = ap (λ w. length (flatten w)) is ∙ length-pushed js x.to x (omega arith) in
-      omega arith
+  slice_has = let same = slice_copies run x next_there next_least in let some = next_there in omega arith
 
   pub midrun_meets : (t : ℕ) → x.time < t → (test : S → Bool) → ((s : S) → slice_get ss x.to ≡ Some s → test s ≡ true) → Meets y t test
   midrun_meets t l test h =
       let o = law.exact in
-      let c = to_come t l x.to in
+      let c = to_come run x next_there next_least t l x.to in
       let b = begins o (slice y P x.time x.to) x (IsAscending-in_order o (filter (λ e. (e.time == x.time) && (e.to == x.to)) P)) slice_has (λ a m. next_least a (Has-slice y law P x.time x.to a m).0) in
       record {
         process = x.to;
@@ -209,7 +195,7 @@ module _ {S B : Type 0} {y : System S B} {WellFormed : ℕ → S → Type 0} {ss
   -- one step further
   module _ (s : S) (there : slice_get ss x.to ≡ Some s) (ss' : List S) (js' : List (List (Event B))) (Q : List (Event B))
       (ss_is : ss' ≡ slice_set ss x.to (y.step x.to s x).0) (js_is : js' ≡ slice_set js x.to (get_or js x.to [] ++ x ∷ [])) (joined : IsPermutation (R ++ (y.step x.to s x).1) Q) where
-    added : (e : Event B) → copies y.order e Q ≡ copies y.order e R + copies y.order e (y.step x.to s x).1
+    pub added : (e : Event B) → copies y.order e Q ≡ copies y.order e R + copies y.order e (y.step x.to s x).1
     added e = sym (copies-IsPermutation y.order e (R ++ (y.step x.to s x).1) Q joined) ∙ copies-append law.exact e R (y.step x.to s x).1
 
     same_place : at_list js' x.to ≡ at_list js x.to ++ x ∷ []
@@ -257,7 +243,7 @@ module _ {S B : Type 0} {y : System S B} {WellFormed : ℕ → S → Type 0} {ss
     sound : (b : Event B) → Has y.order Q b → y.valid b ≡ true
     sound b h = elim (now_pending b h) [ inl m ↦ run.mid.sound b m | inr m ↦ (sent b m).1 ]
 
-    after_x : (b : Event B) → Has y.order Q b → AtMost y.order x b
+    pub after_x : (b : Event B) → Has y.order Q b → AtMost y.order x b
     after_x b h = elim (now_pending b h) [ inl m ↦ next_least b m | inr m ↦ earlier_at_most law x b (sent b m).0.later ]
 
     ahead : (q : ℕ) (a b : Event B) → Has y.order (at_list js' q) a → Has y.order Q b → AtMost y.order a b

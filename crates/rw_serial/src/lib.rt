@@ -5,11 +5,14 @@
 //! Warp (Jefferson 1985) is measured by: whatever its schedule, a parallel run is to leave the very journals and states
 //! that this one leaves.
 
+mod ledger;
 mod pending;
 
-ghost use Rattle.std.specs.Prelude.{◌≡◌, ◌<◌, ◌++◌, true, [], ◌∷◌, IfOk, IfErr, OnOk, length, map, replicate, slice_get, slice_index_or, slice_set};
+ghost use Rattle.std.specs.Prelude.{◌≡◌, ◌<◌, ◌++◌, true, [], ◌∷◌, List, IfOk, IfErr, OnOk, length, map, replicate, slice_get, slice_index_or, slice_set};
 ghost use Rattle.rw_vt.specs.System.{system, IsOutcome, IsReady, Meets};
+ghost use Rattle.rw_vt.specs.declared.event.Event.{Event};
 
+use ledger::{Ledger, NoJournals};
 use pending::Pending;
 use rw_vt::{END, Event, Model, Outcome, Refusal};
 use std::alloc::{AllocError, Global};
@@ -38,18 +41,54 @@ pub fn run<M: Model>(
     ensures outcome { IfOk result (λ o. IsOutcome (system M.Model M.Body.cmp model.now starts.items initial.items) END (map (λ j. j.items) o.journals.items) o.states.items) }
     ensures exhausted { IfErr result (λ r. r ≡ Refusal.Exhausted → Meets (system M.Model M.Body.cmp model.now starts.items initial.items) END (M.is_exhausted model.now)) }
 {
-    let journals = empty_journals::<M>(alloc, starts.len())?;
-    let mut outcome = Outcome {
-        journals,
-        states: starts,
-    };
+    let mut journals = empty_journals::<M>(alloc, starts.len())?;
+    let mut states = starts;
+    execute_all(alloc, model, &mut states, &mut journals, initial)?;
+    Ok(Outcome { journals, states })
+}
+
+/// The states of [`run`] alone: what each process is in once all events are executed in order.
+///
+/// No journal is kept, so what it needs of memory is the states and the pending events. Otherwise it costs what `run`
+/// costs, and is refused as `run` is.
+pub fn last_states<M: Model>(
+    alloc: Global,
+    model: &M,
+    starts: Vec<M::State>,
+    initial: Vec<Event<M::Body>>,
+) -> Result<Vec<M::State>, Refusal>
+    requires ready { IsReady M.Model model.now starts.items initial.items }
+    ensures outcome { IfOk result (λ states. (journals : List (List (Event M.Body))) × IsOutcome (system M.Model M.Body.cmp model.now starts.items initial.items) END journals states.items) }
+    ensures exhausted { IfErr result (λ r. r ≡ Refusal.Exhausted → Meets (system M.Model M.Body.cmp model.now starts.items initial.items) END (M.is_exhausted model.now)) }
+{
+    let mut states = starts;
+    execute_all(alloc, model, &mut states, &mut NoJournals, initial)?;
+    Ok(states)
+}
+
+/// Executes all events in order, from these states, and enters each in the ledger.
+///
+/// After a refusal nothing is said of `states` and `ledger`.
+fn execute_all<M: Model, L: Ledger<M::Body>>(
+    alloc: Global,
+    model: &M,
+    states: &mut Vec<M::State>,
+    ledger: &mut L,
+    initial: Vec<Event<M::Body>>,
+) -> Result<(), Refusal>
+    requires ready { IsReady M.Model model.now states.old.items initial.items }
+    requires none { L.StandsFor ledger.old (replicate (length states.old.items) []) }
+    ensures outcome { OnOk result ((journals : List (List (Event M.Body))) × L.StandsFor ledger.new journals × IsOutcome (system M.Model M.Body.cmp model.now states.old.items initial.items) END journals states.new.items) }
+    ensures exhausted { IfErr result (λ r. r ≡ Refusal.Exhausted → Meets (system M.Model M.Body.cmp model.now states.old.items initial.items) END (M.is_exhausted model.now)) }
+{
     let mut pending = Pending::new(alloc, initial)?;
     let mut sent = Vec::new(alloc);
     while let Some(event) = pending.pop() {
-        execute(alloc, model, &mut outcome, event, &mut sent)?;
+        execute(alloc, model, states, &event, &mut sent)?;
+        ledger.enter(event)?;
         pending.extend(&sent)?;
     }
-    Ok(outcome)
+    Ok(())
 }
 
 /// As many empty journals.
@@ -66,29 +105,25 @@ fn empty_journals<M: Model>(
     Ok(journals)
 }
 
-/// Executes an event at its process, enters it in that process's journal, and leaves in `sent` what it sends, in order.
+/// Executes an event at its process, and leaves in `sent` what it sends, in order.
 ///
-/// After a refusal nothing is said of `outcome` and `sent`.
+/// After a refusal nothing is said of `states` and `sent`.
 fn execute<M: Model>(
     alloc: Global,
     model: &M,
-    outcome: &mut Outcome<M>,
-    event: Event<M::Body>,
+    states: &mut Vec<M::State>,
+    event: &Event<M::Body>,
     sent: &mut Vec<Event<M::Body>>,
 ) -> Result<(), Refusal>
-    requires process { event.to < M.process_count model.now }
-    requires states { length outcome.old.states.items ≡ M.process_count model.now }
-    requires journals { length outcome.old.journals.items ≡ M.process_count model.now }
-    requires well_formed { (s : M.State) → slice_get outcome.old.states.items event.to ≡ Some s → M.IsWellFormed model.now event.to s }
-    requires valid { M.is_valid model.now event ≡ true }
-    ensures states { OnOk result ((s : M.State) → slice_get outcome.old.states.items event.to ≡ Some s → outcome.new.states.items ≡ slice_set outcome.old.states.items event.to (M.step model.now event.to s event).0) }
-    ensures sends { OnOk result ((s : M.State) → slice_get outcome.old.states.items event.to ≡ Some s → sent.new.items ≡ (M.step model.now event.to s event).1) }
-    ensures journals { OnOk result (map (λ j. j.items) outcome.new.journals.items ≡ slice_set (map (λ j. j.items) outcome.old.journals.items) event.to (slice_index_or (map (λ j. j.items) outcome.old.journals.items) event.to [] ++ event ∷ [])) }
-    ensures exhausted { IfErr result (λ r. r ≡ Refusal.Exhausted → (s : M.State) → slice_get outcome.old.states.items event.to ≡ Some s → M.is_exhausted model.now s ≡ true) }
+    requires process { event.now.to < M.process_count model.now }
+    requires enough { length states.old.items ≡ M.process_count model.now }
+    requires well_formed { (s : M.State) → slice_get states.old.items event.now.to ≡ Some s → M.IsWellFormed model.now event.now.to s }
+    requires valid { M.is_valid model.now event.now ≡ true }
+    ensures states { OnOk result ((s : M.State) → slice_get states.old.items event.now.to ≡ Some s → states.new.items ≡ slice_set states.old.items event.now.to (M.step model.now event.now.to s event.now).0) }
+    ensures sends { OnOk result ((s : M.State) → slice_get states.old.items event.now.to ≡ Some s → sent.new.items ≡ (M.step model.now event.now.to s event.now).1) }
+    ensures exhausted { IfErr result (λ r. r ≡ Refusal.Exhausted → (s : M.State) → slice_get states.old.items event.now.to ≡ Some s → M.is_exhausted model.now s ≡ true) }
 {
-    let process = event.to as usize;
     sent.clear();
-    model.execute(alloc, event.to, &mut outcome.states[process], &event, sent)?;
-    outcome.journals[process].push(event)?;
+    model.execute(alloc, event.to, &mut states[event.to as usize], event, sent)?;
     Ok(())
 }

@@ -1,8 +1,7 @@
 use Rattle.std.proofs.Common.{arith, sym, ap, ◌∙◌, ◌≡◌, ◌<◌, ◌+◌, ℕ, List, Bool, cond, length, take, get_or, nat_eq}
 use Rattle.std.specs.Prelude.{Some, ◌||◌, slice_get}
 use Rattle.std.specs.List.{list_any}
-use Rattle.std.specs.Ordering.{nat_cmp}
-use Rattle.std.specs.BTreeMap.{get}
+use Rattle.std.specs.HashMap.{get}
 use Rattle.std.proofs.lemmas.Grind.{common_steps}
 use Rattle.std.proofs.lemmas.List.Folds.{list_any_more}
 use Rattle.rw_blocks.specs.declared.Kind.{Kind}
@@ -25,4 +24,4 @@ loop-position-preserved c = λ b.
     let more : list_any (has_serial b) (take (i + 1) sealed) ≡ (list_any (has_serial b) (take i sealed) || nat_eq x b) =
     list_any_more (has_serial b) sealed i (0, Device) within ∙ ap (λ (y : ℕ). list_any (has_serial b) (take i sealed) || nat_eq y b) is in
     rw (c.in_ok-insert.ensures.updates.0 b, c.loop-position.invariant b, more)
-    (tag_more x b c.args.tag (list_any (has_serial b) (take i sealed)) (get nat_cmp c.args.owners.now b))
+    (tag_more x b c.args.tag (list_any (has_serial b) (take i sealed)) (get nat_eq c.args.owners.now b))

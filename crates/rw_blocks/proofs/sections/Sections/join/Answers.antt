@@ -1,8 +1,7 @@
 use Rattle.std.proofs.Common.{arith, sym, ap, subst, ◌∙◌, ◌≡◌, ◌<◌, ◌≤◌, ◌+◌, ℕ, List, Bool, false, true, cond, length, get_or, set, nat_eq}
 use Rattle.std.specs.Prelude.{Some, None, Option, ◌||◌, slice_get, insert, remove}
 use Rattle.std.specs.List.{list_any}
-use Rattle.std.specs.Ordering.{nat_cmp}
-use Rattle.std.specs.BTreeMap.{get, is_at}
+use Rattle.std.specs.HashMap.{get}
 use Rattle.std.proofs.lemmas.Grind.{common_steps}
 use Rattle.std.proofs.lemmas.List.{get_or_default}
 use Rattle.std.proofs.lemmas.List.Edits.{get_or-remove_below}
@@ -25,7 +24,7 @@ invariant_of-self-2 c = λ some.
     let i : ℕ = c.args.section in
     let view : ss ≡ c.args.self.now = c.self.view_is in
     let within : i + 1 < length ss = let there = c.requires.there in omega (arith, ap (λ (zs : List SectionState). length zs) view) in
-    let t : IsTagged ss tags (λ b. get nat_cmp c.self.inside.owners b) = c.self.invariant (omega arith) in
+    let t : IsTagged ss tags (λ b. get nat_eq c.self.inside.owners b) = c.self.invariant (omega arith) in
     let long = t.long in
     let u : SectionState = section_in ss i in
     let l : SectionState = section_in ss (i + 1) in
@@ -42,9 +41,9 @@ invariant_of-self-2 c = λ some.
     c.in_ok-join.ensures ∙ (ap (λ (z : SectionState). section_joining c.args.device_vanishes c.args.virtual_vanishes z c.remove-lower.result) upper ∙ ap (λ (z : SectionState). section_joining c.args.device_vanishes c.args.virtual_vanishes u z) lower) in
     let joins : Joins u l gone (section_joining c.args.device_vanishes c.args.virtual_vanishes u l) =
     subst (λ (zs : List SectionState). Joins (section_in zs i) (section_in zs (i + 1)) (vanishes c.args.device_vanishes c.args.virtual_vanishes (section_in zs (i + 1))) (section_joining c.args.device_vanishes c.args.virtual_vanishes (section_in zs i) (section_in zs (i + 1)))) (sym view) c.requires.joins in
-    let owner : (b : ℕ) → get nat_cmp c.retag.new.owners b ≡ cond (has_block b l) (cond (gone b) None (Some (tag_in tags i))) (get nat_cmp c.self.inside.owners b) =
+    let owner : (b : ℕ) → get nat_eq c.retag.new.owners b ≡ cond (has_block b l) (cond (gone b) None (Some (tag_in tags i))) (get nat_eq c.self.inside.owners b) =
     λ b. c.in_ok-retag.ensures b
-    ∙ (ap (λ (z : SectionState). cond (has_block b z) (cond (vanishes c.args.device_vanishes c.args.virtual_vanishes z b) None (Some c.index-tag.result.now)) (get nat_cmp c.self.inside.owners b)) lower
-    ∙ ap (λ (y : ℕ). cond (has_block b l) (cond (gone b) None (Some y)) (get nat_cmp c.self.inside.owners b)) tag) in
+    ∙ (ap (λ (z : SectionState). cond (has_block b z) (cond (vanishes c.args.device_vanishes c.args.virtual_vanishes z b) None (Some c.index-tag.result.now)) (get nat_eq c.self.inside.owners b)) lower
+    ∙ ap (λ (y : ℕ). cond (has_block b l) (cond (gone b) None (Some y)) (get nat_eq c.self.inside.owners b)) tag) in
     rw (list, is, new-tags)
-    (IsTagged-join ss tags (λ b. get nat_cmp c.self.inside.owners b) (λ b. get nat_cmp c.retag.new.owners b) gone i (section_joining c.args.device_vanishes c.args.virtual_vanishes u l) t within joins owner)
+    (IsTagged-join ss tags (λ b. get nat_eq c.self.inside.owners b) (λ b. get nat_eq c.retag.new.owners b) gone i (section_joining c.args.device_vanishes c.args.virtual_vanishes u l) t within joins owner)

@@ -1,8 +1,7 @@
 use Rattle.std.proofs.Common.{arith, sym, ap, subst, ◌∙◌, ◌≡◌, ◌<◌, ◌≤◌, ◌+◌, ℕ, List, Bool, false, true, cond, length, get_or, set, nat_eq}
 use Rattle.std.specs.Prelude.{Some, None, Option, ◌||◌, slice_get, insert, remove}
 use Rattle.std.specs.List.{list_any}
-use Rattle.std.specs.Ordering.{nat_cmp}
-use Rattle.std.specs.BTreeMap.{get, is_at}
+use Rattle.std.specs.HashMap.{get}
 use Rattle.std.proofs.lemmas.Grind.{common_steps}
 use Rattle.std.proofs.lemmas.List.{get_or_default}
 use Rattle.rw_blocks.specs.declared.Kind.{Kind}
@@ -24,7 +23,7 @@ invariant_of-self-2 c = λ some.
     let i : ℕ = c.args.section in
     let view : ss ≡ c.args.self.now = c.self.view_is in
     let within : i < length ss = let there = c.requires.there in omega (arith, ap (λ (zs : List SectionState). length zs) view) in
-    let t : IsTagged ss tags (λ b. get nat_cmp c.self.inside.owners b) = c.self.invariant (omega arith) in
+    let t : IsTagged ss tags (λ b. get nat_eq c.self.inside.owners b) = c.self.invariant (omega arith) in
     let s : SectionState = section_in ss i in
     let u : SectionState = upper_of c.args.upper_sealed s in
     let l : SectionState = lower_of c.args.upper_sealed c.args.device c.args.virtual_block c.args.device_vanished c.args.virtual_vanished s in
@@ -39,6 +38,6 @@ invariant_of-self-2 c = λ some.
     let from : ComesFrom l s ss =
     subst (λ (zs : List SectionState). ComesFrom (lower_of c.args.upper_sealed c.args.device c.args.virtual_block c.args.device_vanished c.args.virtual_vanished (section_in zs i)) (section_in zs i) zs) (sym view) c.requires.from in
     let fresh : list_any (nat_eq c.free_tag-tag.result) tags ≡ false = grind (arith, common_steps) in
-    let owner : (b : ℕ) → get nat_cmp c.tag_all.new.owners b ≡ cond (has_block b l) (Some c.free_tag-tag.result) (get nat_cmp c.self.inside.owners b) =
-    λ b. c.in_ok-tag_all.ensures b ∙ ap (λ (z : SectionState). cond (has_block b z) (Some c.free_tag-tag.result) (get nat_cmp c.self.inside.owners b)) below in
-    rw (list, new-tags) (IsTagged-part ss tags (λ b. get nat_cmp c.self.inside.owners b) (λ b. get nat_cmp c.tag_all.new.owners b) i c.free_tag-tag.result u l t within fresh parts from owner)
+    let owner : (b : ℕ) → get nat_eq c.tag_all.new.owners b ≡ cond (has_block b l) (Some c.free_tag-tag.result) (get nat_eq c.self.inside.owners b) =
+    λ b. c.in_ok-tag_all.ensures b ∙ ap (λ (z : SectionState). cond (has_block b z) (Some c.free_tag-tag.result) (get nat_eq c.self.inside.owners b)) below in
+    rw (list, new-tags) (IsTagged-part ss tags (λ b. get nat_eq c.self.inside.owners b) (λ b. get nat_eq c.tag_all.new.owners b) i c.free_tag-tag.result u l t within fresh parts from owner)

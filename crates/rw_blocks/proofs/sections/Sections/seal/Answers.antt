@@ -1,7 +1,6 @@
 use Rattle.std.proofs.Common.{arith, sym, ap, subst, ◌∙◌, ◌≡◌, ◌<◌, ℕ, List, cond, length, get_or, set, nat_eq}
 use Rattle.std.specs.Prelude.{Some, Option, ◌||◌}
-use Rattle.std.specs.Ordering.{nat_cmp}
-use Rattle.std.specs.BTreeMap.{get, is_at}
+use Rattle.std.specs.HashMap.{get}
 use Rattle.std.proofs.lemmas.Grind.{common_steps}
 use Rattle.rw_blocks.specs.State.{SectionState}
 use Rattle.rw_blocks.specs.Sums.{has_block}
@@ -21,12 +20,12 @@ invariant_of-self-2 c = λ some.
     let view : ss ≡ c.args.self.now = c.self.view_is in
     let items : c.replace-list.result.items ≡ ss = cc in
     let within : i < length ss = let there = c.requires.there in omega (arith, ap (λ (zs : List SectionState). length zs) view) in
-    let t : IsTagged ss tags (λ b. get nat_cmp c.self.inside.owners b) = c.self.invariant (omega arith) in
+    let t : IsTagged ss tags (λ b. get nat_eq c.self.inside.owners b) = c.self.invariant (omega arith) in
     let absent : IsAbsent x ss = subst (λ (zs : List SectionState). IsAbsent x zs) (sym view) c.requires.fresh in
     let is : c.seal.new.self ≡ section_sealing c.args.kind x (section_in ss i) = grind (arith, common_steps, get_or_default {X = SectionState}) in
     let tag : c.index.result.now ≡ tag_in tags i = let long = t.long in grind (arith, common_steps) in
-    let P : List SectionState → Type 0 = λ zs. IsTagged (set zs i c.seal.new.self) tags (λ b. get nat_cmp c.insert.new.self b) in
+    let P : List SectionState → Type 0 = λ zs. IsTagged (set zs i c.seal.new.self) tags (λ b. get nat_eq c.insert.new.self b) in
     subst P (sym items)
-    (IsTagged-claim ss tags (λ b. get nat_cmp c.self.inside.owners b) (λ b. get nat_cmp c.insert.new.self b) i x c.seal.new.self t within absent
+    (IsTagged-claim ss tags (λ b. get nat_eq c.self.inside.owners b) (λ b. get nat_eq c.insert.new.self b) i x c.seal.new.self t within absent
     (λ b. ap (has_block b) is ∙ has_block-sealing c.args.kind x b (section_in ss i))
     (λ b. let h = c.in_ok-insert.ensures.updates.0 b in rw (← tag) h))

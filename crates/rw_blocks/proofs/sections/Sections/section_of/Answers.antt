@@ -1,7 +1,6 @@
 use Rattle.std.proofs.Common.{rules, arith, sym, ap, subst, ◌∙◌, ◌≡◌, ◌<◌, ℕ, List, cond, length, true}
 use Rattle.std.specs.Prelude.{position, Some, None, Option, nat_eq, IfSome, IsNone}
-use Rattle.std.specs.Ordering.{nat_cmp}
-use Rattle.std.specs.BTreeMap.{get}
+use Rattle.std.specs.HashMap.{get}
 use Rattle.std.proofs.lemmas.Grind.{common_steps}
 use Rattle.rw_blocks.specs.State.{SectionState}
 use Rattle.rw_blocks.specs.Sums.{has_block}
@@ -13,8 +12,8 @@ pub returns-clause-first : goal.returns-clause-first
 returns-clause-first c =
     let ss : List SectionState = c.self.inside.list.items in
     let some : 0 < length ss = grind (arith, common_steps) in
-    let own : get nat_cmp c.self.inside.owners c.args.serial ≡ Some c.in_ok-tag.field-0.now = grind (arith, common_steps) in
-    let h = position-tagged ss c.self.inside.tags.items (λ b. get nat_cmp c.self.inside.owners b) c.args.serial c.in_ok-tag.field-0.now (c.self.invariant some) own in
+    let own : get nat_eq c.self.inside.owners c.args.serial ≡ Some c.in_ok-tag.field-0.now = grind (arith, common_steps) in
+    let h = position-tagged ss c.self.inside.tags.items (λ b. get nat_eq c.self.inside.owners b) c.args.serial c.in_ok-tag.field-0.now (c.self.invariant some) own in
     let found : c.place_of.result ≡ position (λ u. nat_eq u c.in_ok-tag.field-0.now) c.self.inside.tags.items = cc in
     found ∙ (h ∙ ap (λ (zs : List SectionState). position (has_block c.args.serial) zs) c.self.view_is)
 
@@ -22,8 +21,8 @@ pub returns-in_err-tag-clause-first : goal.returns-in_err-tag-clause-first
 returns-in_err-tag-clause-first c =
     let ss : List SectionState = c.self.inside.list.items in
     let some : 0 < length ss = grind (arith, common_steps) in
-    let own : get nat_cmp c.self.inside.owners c.args.serial ≡ None = grind (arith, common_steps) in
-    let h = position-untagged ss c.self.inside.tags.items (λ b. get nat_cmp c.self.inside.owners b) c.args.serial (c.self.invariant some) own in
+    let own : get nat_eq c.self.inside.owners c.args.serial ≡ None = grind (arith, common_steps) in
+    let h = position-untagged ss c.self.inside.tags.items (λ b. get nat_eq c.self.inside.owners b) c.args.serial (c.self.invariant some) own in
     c.from_residual.ensures ∙ (h ∙ ap (λ (zs : List SectionState). position (has_block c.args.serial) zs) c.self.view_is)
 
 pub returns-clause-only : goal.returns-clause-only
@@ -31,7 +30,7 @@ returns-clause-only c =
     let ss : List SectionState = c.self.inside.list.items in
     let some : 0 < length ss = grind (arith, common_steps) in
     let P : Option ℕ → List SectionState → Type 0 = λ o zs. IfSome o (λ i. IsOnlyIn i c.args.serial zs) in
-    let h = only_at-position ss c.self.inside.tags.items (λ b. get nat_cmp c.self.inside.owners b) c.args.serial (c.self.invariant some) in
+    let h = only_at-position ss c.self.inside.tags.items (λ b. get nat_eq c.self.inside.owners b) c.args.serial (c.self.invariant some) in
     subst (λ (o : Option ℕ). P o c.args.self.now) (sym (returns-clause-first c))
     (subst (λ (zs : List SectionState). P (position (has_block c.args.serial) zs) zs) c.self.view_is h)
 

@@ -4,11 +4,13 @@ use Rattle.std.specs.Ordering.{nat_cmp}
 use Rattle.std.specs.Map.{lookup, values_of, remove_entry}
 use Rattle.std.specs.BTreeMap.{is_at, insert_entry}
 use Rattle.std.proofs.lemmas.List.{get_or_default}
-use Rattle.rw_vt.proofs.Entries.{lookup-remove_entry, sorted-remove_entry}
+use Rattle.rw_vt.proofs.Entries.{insert_entry-same, lookup-remove_entry, sorted-remove_entry}
 use Rattle.rw_blocks.specs.declared.Place.{Place}
 use Rattle.rw_blocks.specs.State.{QueueState, SectionState, row_at, section_at}
 use Rattle.rw_blocks.specs.Sums.{has_block, size_of}
 use Rattle.rw_blocks.specs.Loose.{IsLoose}
+use Rattle.rw_blocks.specs.Undo.{Undoes}
+use Rattle.rw_blocks.specs.declared.Mark.TheVariants.{Replace}
 use Rattle.rw_blocks.specs.Primitives.{with_row, after_replace}
 use Rattle.rw_blocks.specs.Tags.{section_in, IsOnlyIn, IsAbsent}
 use Rattle.rw_blocks.specs.Weights.{weight_in, IsWeighed}
@@ -18,7 +20,7 @@ use Rattle.rw_blocks.proofs.Present.{row-there}
 use Rattle.rw_blocks.proofs.Filed.{write-again}
 use Rattle.rw_blocks.proofs.Moving.{room-again}
 use Rattle.rw_blocks.proofs.Weighed.{IsWeighed-insert, IsWeighed-remove, row-le-weight, among-le}
-use Rattle.rw_blocks.proofs.queue.Queue.replace.Goals as goal
+use Rattle.rw_blocks.proofs.queue.Queue.replace_row.Goals as goal
 
 at_some : (o : Option ℕ) (i : ℕ) (P : ℕ → Type 0) → o ≡ Some i → IfSome o P → P i
 at_some o i P e h = let g = rw e at h in g
@@ -28,8 +30,8 @@ unwrap-from-requires c =
     let q : QueueState = record { shape = c.self.inside.shape; sections = c.self.inside.sections; rows = c.self.inside.rows; next = c.self.inside.next } in
     let o : ℕ = c.args.object in
     let loose : IsLoose q = subst IsLoose (sym c.self.view_is) c.requires.loose in
-    let r : Place = c.in_ok-size.field-0 in
-    let is : row_at q o ≡ Some r = c.in_ok-size.ensures.row in
+    let r : Place = c.args.row in
+    let is : row_at q o ≡ Some r = ap (λ (z : QueueState). row_at z o) c.self.view_is ∙ c.requires.row in
     row-there q o r c.section_of.result loose is c.section_of.ensures.none
 
 pub overflow_sub-index_mut : goal.overflow_sub-index_mut
@@ -37,8 +39,8 @@ overflow_sub-index_mut c =
     let q : QueueState = record { shape = c.self.inside.shape; sections = c.self.inside.sections; rows = c.self.inside.rows; next = c.self.inside.next } in
     let o : ℕ = c.args.object in
     let loose : IsLoose q = subst IsLoose (sym c.self.view_is) c.requires.loose in
-    let r : Place = c.in_ok-size.field-0 in
-    let is : row_at q o ≡ Some r = c.in_ok-size.ensures.row in
+    let r : Place = c.args.row in
+    let is : row_at q o ≡ Some r = ap (λ (z : QueueState). row_at z o) c.self.view_is ∙ c.requires.row in
     let rows : List (ℕ × Place) = q.rows in
     let ss : List SectionState = q.sections in
     let bs : List ℕ = c.self.inside.bytes.items in
@@ -62,8 +64,8 @@ overflow_add-index_mut c =
     let q : QueueState = record { shape = c.self.inside.shape; sections = c.self.inside.sections; rows = c.self.inside.rows; next = c.self.inside.next } in
     let o : ℕ = c.args.object in
     let loose : IsLoose q = subst IsLoose (sym c.self.view_is) c.requires.loose in
-    let r : Place = c.in_ok-size.field-0 in
-    let is : row_at q o ≡ Some r = c.in_ok-size.ensures.row in
+    let r : Place = c.args.row in
+    let is : row_at q o ≡ Some r = ap (λ (z : QueueState). row_at z o) c.self.view_is ∙ c.requires.row in
     let rows : List (ℕ × Place) = q.rows in
     let ss : List SectionState = q.sections in
     let bs : List ℕ = c.self.inside.bytes.items in
@@ -95,8 +97,8 @@ invariant_of-self-2 c =
     let q : QueueState = record { shape = c.self.inside.shape; sections = c.self.inside.sections; rows = c.self.inside.rows; next = c.self.inside.next } in
     let o : ℕ = c.args.object in
     let loose : IsLoose q = subst IsLoose (sym c.self.view_is) c.requires.loose in
-    let r : Place = c.in_ok-size.field-0 in
-    let is : row_at q o ≡ Some r = c.in_ok-size.ensures.row in
+    let r : Place = c.args.row in
+    let is : row_at q o ≡ Some r = ap (λ (z : QueueState). row_at z o) c.self.view_is ∙ c.requires.row in
     let rows : List (ℕ × Place) = q.rows in
     let ss : List SectionState = q.sections in
     let bs : List ℕ = c.self.inside.bytes.items in
@@ -122,7 +124,7 @@ invariant_of-self-2 c =
     let new : Place = record r { place = d } in
     let sum : c.index_mut-2.result.now + r.size ≡ get_or (set bs j y) i 0 + r.size = ap (λ (n : ℕ). n + r.size) read' in (
       c.self.invariant.0,
-      λ some. rw (c.in_ok-size.ensures.replaced, ← (write-again rows o r new loose.ordered is))
+      λ some. rw (c.in_ok-replace.ensures.replaced, ← (write-again rows o r new loose.ordered is))
           (IsWeighed-insert (remove_entry (is_at (nat_cmp o)) rows) ss (set bs j y) o i (c.index_mut-2.result.now + r.size) new w' (sorted-remove_entry rows o loose.ordered) (lookup-remove_entry rows o loose.ordered) lt c.active-active.ensures.here c.active-active.ensures.only sum),
     )
 
@@ -131,26 +133,48 @@ returns-clause-effect c =
     let q : QueueState = record { shape = c.self.inside.shape; sections = c.self.inside.sections; rows = c.self.inside.rows; next = c.self.inside.next } in
     let o : ℕ = c.args.object in
     let loose : IsLoose q = subst IsLoose (sym c.self.view_is) c.requires.loose in
-    let r : Place = c.in_ok-size.field-0 in
-    let is : row_at q o ≡ Some r = c.in_ok-size.ensures.row in
+    let r : Place = c.args.row in
+    let is : row_at q o ≡ Some r = ap (λ (z : QueueState). row_at z o) c.self.view_is ∙ c.requires.row in
     let v : ℕ = (section_at c.args.self.now c.args.section).active_virtual in
     let active : c.active-active.result ≡ v = c.active-active.ensures.active ∙ ap (λ (z : QueueState). (section_at z c.args.section).active_virtual) c.self.view_is in
-    let found : row_at c.args.self.now o ≡ Some r = ap (λ (z : QueueState). row_at z o) (sym c.self.view_is) ∙ is in
+    let found : row_at c.args.self.now o ≡ Some r = c.requires.row in
     let whole : after_replace c.args.self.now o c.args.section ≡ with_row c.args.self.now o (record r { place = v }) = rw found refl in
-    ap (λ (rs : List (ℕ × Place)). record q { rows = rs }) c.in_ok-size.ensures.replaced
+    ap (λ (rs : List (ℕ × Place)). record q { rows = rs }) c.in_ok-replace.ensures.replaced
     ∙ (ap (λ (z : QueueState). with_row z o (record r { place = c.active-active.result })) c.self.view_is
     ∙ (ap (λ (p : ℕ). with_row c.args.self.now o (record r { place = p })) active ∙ sym whole))
 
 pub returns-clause-undoes : goal.returns-clause-undoes
 returns-clause-undoes c =
-    let r : Place = c.in_ok-size.field-0 in
-    let is : row_at c.args.self.now c.args.object ≡ Some r = ap (λ (z : QueueState). row_at z c.args.object) (sym c.self.view_is) ∙ c.in_ok-size.ensures.row in
+    let r : Place = c.args.row in
+    let is : row_at c.args.self.now c.args.object ≡ Some r = c.requires.row in
     rw (returns-clause-effect c)
     (Undoes-after_replace _ _ _ r c.requires.loose is
-    (IsLoose-after_replace _ _ _ r c.requires.loose c.requires.there is (rw is at c.requires.fits)))
+    (IsLoose-after_replace _ _ _ r c.requires.loose c.requires.there is c.requires.fits))
 
 pub returns-clause-kept : goal.returns-clause-kept
 returns-clause-kept c =
-    let r : Place = c.in_ok-size.field-0 in
-    let is : row_at c.args.self.now c.args.object ≡ Some r = ap (λ (z : QueueState). row_at z c.args.object) (sym c.self.view_is) ∙ c.in_ok-size.ensures.row in
-    rw (returns-clause-effect c) (IsLoose-after_replace _ _ _ r c.requires.loose c.requires.there is (rw is at c.requires.fits))
+    let r : Place = c.args.row in
+    let is : row_at c.args.self.now c.args.object ≡ Some r = c.requires.row in
+    rw (returns-clause-effect c) (IsLoose-after_replace _ _ _ r c.requires.loose c.requires.there is c.requires.fits)
+
+-- an object that is at the active virtual block already stays as it is
+pub returns-then-row-active-clause-effect : goal.returns-then-row-active-clause-effect
+returns-then-row-active-clause-effect c =
+    let q : QueueState = c.args.self.now in
+    let o : ℕ = c.args.object in
+    let r : Place = c.args.row in
+    let v : ℕ = (section_at q c.args.section).active_virtual in
+    let active : c.active-active.result ≡ v = c.active-active.ensures.active ∙ ap (λ (z : QueueState). (section_at z c.args.section).active_virtual) c.self.view_is in
+    let there : r.place ≡ v = c.if-row-active.true ∙ active in
+    let whole : after_replace q o c.args.section ≡ with_row q o (record r { place = v }) = rw c.requires.row refl in
+    let same : with_row q o r ≡ q = ap (λ (rs : List (ℕ × Place)). record q { rows = rs }) (insert_entry-same q.rows o r c.requires.loose.ordered c.requires.row) in
+    sym (whole ∙ (ap (λ (p : ℕ). with_row q o (record r { place = p })) (sym there) ∙ same))
+
+pub returns-then-row-active-clause-undoes : goal.returns-then-row-active-clause-undoes
+returns-then-row-active-clause-undoes c =
+    subst (λ (z : QueueState). Undoes (Replace c.args.object c.args.row.place) c.args.self.now z) (sym (returns-then-row-active-clause-effect c))
+    (Undoes-after_replace _ _ _ c.args.row c.requires.loose c.requires.row
+    (IsLoose-after_replace _ _ _ c.args.row c.requires.loose c.requires.there c.requires.row c.requires.fits))
+
+pub returns-then-row-active-clause-kept : goal.returns-then-row-active-clause-kept
+returns-then-row-active-clause-kept c = c.requires.loose

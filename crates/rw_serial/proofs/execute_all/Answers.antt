@@ -1,0 +1,63 @@
+use Rattle.std.proofs.Common.{rules, arith, ◌≡◌, ◌<◌, ◌^◌, ◌-◌, ◌∙◌, sym, ap, subst, refl, [], ◌∷◌, ◌++◌, get_or, length, replicate}
+use Rattle.std.specs.List.{slice_set}
+use Rattle.std.proofs.lemmas.Result.{err_from_is_err_and}
+use Rattle.rw_vt.specs.System.{system}
+use Rattle.rw_vt.proofs.Laws.{lawful}
+use Rattle.rw_serial.proofs.Left.{midrun_falls}
+use Rattle.rw_serial.proofs.Midrun.{length-states, midrun_start, next_valid, next_inside, next_well_formed, midrun_step_by, midrun_meets, midrun_done}
+use Rattle.rw_serial.proofs.execute_all.Goals as goal
+
+pub loop-event-init : goal.loop-event-init
+loop-event-init g c =
+    let m = c.args.model.now in
+    let starts = c.args.states.now.items in
+    let law = lawful g.M.Model m starts c.args.initial.items g.met.M.Body.Ord.total g.met.M.Model.same (g.met.M.Model.keeps m) (g.met.M.Model.future m) (g.met.M.Model.ranges m) c.requires.ready in
+    (replicate (length starts) [], c.requires.none, midrun_start (system g.M.Model g.M.Body.Ord.cmp m starts c.args.initial.items) law (replicate (length starts) []) c.in_ok-pending.pending refl c.in_ok-pending.ensures)
+
+pub execute-requires-clause-process : goal.execute-requires-clause-process
+execute-requires-clause-process g c =
+    let inside = next_inside c.loop-event.invariant.2 c.in-Some.ensures.taken c.in-Some.ensures.least in
+    subst (λ n. c.in-Some.event.to < n) c.requires.ready.enough inside.to
+
+pub execute-requires-clause-enough : goal.execute-requires-clause-enough
+execute-requires-clause-enough g c = length-states c.loop-event.invariant.2 ∙ c.requires.ready.enough
+
+pub execute-requires-clause-well_formed : goal.execute-requires-clause-well_formed
+execute-requires-clause-well_formed g c = next_well_formed c.loop-event.invariant.2 c.in-Some.ensures.taken c.in-Some.ensures.least
+
+pub execute-requires-clause-valid : goal.execute-requires-clause-valid
+execute-requires-clause-valid g c = next_valid c.loop-event.invariant.2 c.in-Some.ensures.taken c.in-Some.ensures.least
+
+pub enter-requires : goal.enter-requires
+enter-requires g c =
+    let run = c.loop-event.invariant.2 in
+    let inside = next_inside run c.in-Some.ensures.taken c.in-Some.ensures.least in
+    (c.loop-event.invariant.0, c.loop-event.invariant.1, subst (λ n. c.in-Some.event.to < n) (sym run.count) inside.to)
+
+pub loop-event-smaller : goal.loop-event-smaller
+loop-event-smaller g c =
+    let journals = c.loop-event.invariant.0 in
+    let x = c.in-Some.event in
+    midrun_falls c.loop-event.invariant.2 c.in-Some.ensures.taken c.in-Some.ensures.least
+    c.execute.new.states.items (slice_set journals x.to (get_or journals x.to [] ++ x ∷ [])) c.execute.new.sent.items c.extend.new.self
+    c.in_ok-execute.ensures.states refl c.in_ok-execute.ensures.sends (search rules) (2 ^ 40) (λ e inside. inside.time)
+
+pub loop-event-preserved : goal.loop-event-preserved
+loop-event-preserved g c =
+    let journals = c.loop-event.invariant.0 in
+    let x = c.in-Some.event in
+    let entered = slice_set journals x.to (get_or journals x.to [] ++ x ∷ []) in
+    (entered, c.in_ok-enter.ensures journals c.loop-event.invariant.1, midrun_step_by c.loop-event.invariant.2 c.in-Some.ensures.taken c.in-Some.ensures.least
+    c.execute.new.states.items entered c.execute.new.sent.items c.extend.new.self
+    c.in_ok-execute.ensures.states refl c.in_ok-execute.ensures.sends (search rules))
+
+pub returns-in_err-execute-clause-exhausted : goal.returns-in_err-execute-clause-exhausted
+returns-in_err-execute-clause-exhausted g c =
+    let run = c.loop-event.invariant.2 in
+    let inside = next_inside run c.in-Some.ensures.taken c.in-Some.ensures.least in
+    let meets = midrun_meets run c.in-Some.ensures.taken c.in-Some.ensures.least (2 ^ 40) inside.time (g.M.Model.is_exhausted c.args.model.now) in
+    let p = err_from_is_err_and c.from_residual-in_err-execute.result c.from_residual-in_err-execute.ensures.1 in
+    rw (p.1, p.2) (λ e. meets (λ s there. c.in_err-execute.ensures.exhausted e s there))
+
+pub returns-clause-outcome : goal.returns-clause-outcome
+returns-clause-outcome g c = (c.loop-event.invariant.0, c.loop-event.invariant.1, midrun_done c.loop-event.invariant.2 (2 ^ 40) (2 ^ 40 - 1) refl (λ e inside. inside.time) c.in_default.ensures.none)
