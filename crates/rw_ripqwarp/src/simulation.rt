@@ -13,9 +13,10 @@ use crate::journal_text::journal;
 use crate::mode::Mode;
 use crate::output::Out;
 use crate::sim_fault::SimFault;
-use crate::text::report;
+use crate::text::{report, report_of_states};
 use rw_photo::{Body, CacheState, Config, Photo, requests};
 use rw_rounds::{Open, Traffic};
+use rw_serial::last_states;
 use rw_trace::read;
 use rw_vt::{Event, Model as VtModel, NoMemory};
 use rw_world::World;
@@ -82,8 +83,9 @@ fn text_of<R: Threads + Wait + Sync>(
     let photo = Photo::new(*config);
     match mode {
         Mode::Serial => {
-            let outcome = rw_serial::run(alloc, &photo, starts, initial)?;
-            Ok((report(alloc, config, &outcome)?, Traffic::default()))
+            let states = last_states(alloc, &photo, starts, initial)?;
+            let text = report_of_states(alloc, config, states.as_slice())?;
+            Ok((text, Traffic::default()))
         }
         Mode::Warp(plan) => {
             let world = World::open(alloc, photo, starts, initial)?;

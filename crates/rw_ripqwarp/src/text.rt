@@ -2,7 +2,7 @@ ghost use Rattle.std.specs.Prelude.{◌≡◌, ◌+◌, ◌<◌, ◌++◌, lengt
 ghost use Rattle.rw_ripqwarp.specs.Report.{line, name_of, report_text};
 
 use itoa::Buffer;
-use rw_photo::{Config, Counters, Photo};
+use rw_photo::{CacheState, Config, Counters, Photo};
 use rw_vt::{NoMemory, Outcome};
 use std::alloc::Global;
 
@@ -14,9 +14,21 @@ pub fn report(alloc: Global, config: &Config, outcome: &Outcome<Photo>) -> Resul
     requires { length outcome.now.states.items ≡ config.now.edges + config.now.origins }
     ensures { IfOk result (λ text. text.items ≡ report_text config.now (map (λ s. s.counters) outcome.now.states.items)) }
 {
+    report_of_states(alloc, config, outcome.states.as_slice())
+}
+
+/// The report of caches that are in these states.
+pub(crate) fn report_of_states(
+    alloc: Global,
+    config: &Config,
+    states: &[CacheState],
+) -> Result<Vec<u8>, NoMemory>
+    requires { length states.now ≡ config.now.edges + config.now.origins }
+    ensures { IfOk result (λ text. text.items ≡ report_text config.now (map (λ s. s.counters) states.now)) }
+{
     let mut text = Vec::new(alloc);
     let mut total = Counters::default();
-    for (process, state) in outcome.states.iter().enumerate() {
+    for (process, state) in states.iter().enumerate() {
         let counters = state.counters();
         write_name(&mut text, config, process as u64)?;
         write_counters(&mut text, &counters)?;

@@ -10,14 +10,15 @@ use Rattle.rw_lp.specs.declared.step.Answer.{Answer}
 use Rattle.rw_world.specs.declared.step.Step.{Step}
 use Rattle.rw_world.specs.Calls.{Simulation}
 use Rattle.rw_ripqwarp.specs.Journal.{journal_text}
+use Rattle.rw_ripqwarp.specs.Report.{report_text}
 use Rattle.rw_ripqwarp.specs.declared.mode.Mode.{Mode}
 use Rattle.rw_ripqwarp.specs.Simulate.{HasBadPlan, IsExhausting, IsExhaustingBySteps, IsExhaustingInOrder, IsJournalOf, IsReportOf, IsTextOf}
 use Rattle.rw_ripqwarp.proofs.Runs.{err-exhausted, err-plan, err-up-to-plan, length-states, ready-at, simulates}
 use Rattle.rw_ripqwarp.proofs.Schedules.{length-opened, length-processes, met, opened-simulates, same-model, told}
 use Rattle.rw_ripqwarp.proofs.simulation.text_of.Goals as goal
 
-pub run-requires : goal.run-requires
-run-requires g c = record { ready = ready-at c.args.config.now c.new-photo.result c.in_ok-starts.starts.items c.in_ok-starts.initial.items c.new-photo.ensures c.in_ok-starts.ensures.beginning.ready }
+pub last_states-requires : goal.last_states-requires
+last_states-requires g c = record { ready = ready-at c.args.config.now c.new-photo.result c.in_ok-starts.starts.items c.in_ok-starts.initial.items c.new-photo.ensures c.in_ok-starts.ensures.beginning.ready }
 
 pub open-requires : goal.open-requires
 open-requires g c = record { ready = ready-at c.args.config.now c.new-photo.result c.in_ok-starts.starts.items c.in_ok-starts.initial.items c.new-photo.ensures c.in_ok-starts.ensures.beginning.ready }
@@ -25,50 +26,52 @@ open-requires g c = record { ready = ready-at c.args.config.now c.new-photo.resu
 pub open-requires-in-Journal : goal.open-requires-in-Journal
 open-requires-in-Journal g c = record { ready = ready-at c.args.config.now c.new-photo.result c.in_ok-starts.starts.items c.in_ok-starts.initial.items c.new-photo.ensures c.in_ok-starts.ensures.beginning.ready }
 
-pub report-requires : goal.report-requires
-report-requires g c =
+pub report_of_states-requires : goal.report_of_states-requires
+report_of_states-requires g c =
     let config : Config = c.args.config.now in
-    length-states _ (2 ^ 40) (map (λ j. j.items) c.in_ok-outcome-in-Serial.outcome.journals.items) c.in_ok-outcome-in-Serial.outcome.states.items c.in_ok-outcome-in-Serial.ensures.outcome
+    let outcome = c.in_ok-states.ensures.outcome in
+    ap length c.as_slice.ensures.value
+    ∙ length-states _ (2 ^ 40) outcome.0 c.in_ok-states.states.items outcome.1
     ∙ ap length c.in_ok-starts.ensures.beginning.starts_are
     ∙ length-map-range_with_len (start config) 0 (config.edges + config.origins)
 
-pub returns-in_ok-report-in-Serial-clause-text : goal.returns-in_ok-report-in-Serial-clause-text
-returns-in_ok-report-in-Serial-clause-text g c =
+pub returns-in_ok-text-clause-text : goal.returns-in_ok-text-clause-text
+returns-in_ok-text-clause-text g c =
     let config : Config = c.args.config.now in
     let bytes : List ℕ = c.args.bytes.now in
     let starts : List Cache = c.in_ok-starts.starts.items in
     let initial : List (Event Body) = c.in_ok-starts.initial.items in
-    let text : List ℕ = c.in_ok-report-in-Serial.field-0.items in
+    let text : List ℕ = c.in_ok-text.text.items in
     let beginning = c.in_ok-starts.ensures.beginning in
-    let journals = map (λ j. j.items) c.in_ok-outcome-in-Serial.outcome.journals.items in
-    let states : List Cache = c.in_ok-outcome-in-Serial.outcome.states.items in
+    let outcome = c.in_ok-states.ensures.outcome in
+    let states : List Cache = c.in_ok-states.states.items in
     let same = simulates config c.new-photo.result bytes starts initial c.new-photo.ensures beginning in
     let is : IsReportOf config bytes text =
     record {
       rows = beginning.rows;
-      journals = journals;
+      journals = outcome.0;
       states = states;
       accepted = beginning.accepted;
-      outcome = subst (λ (y : System Cache Body). IsOutcome y (2 ^ 40) journals states) same c.in_ok-outcome-in-Serial.ensures.outcome;
-      told = c.in_ok-report-in-Serial.ensures;
+      outcome = subst (λ (y : System Cache Body). IsOutcome y (2 ^ 40) outcome.0 states) same outcome.1;
+      told = c.in_ok-text.ensures ∙ ap (λ (ss : List Cache). report_text config (map (λ s. s.counters) ss)) c.as_slice.ensures.value;
     } in
     subst (λ (mode : Mode). IsTextOf mode config bytes text) (sym c.in-Serial.is) is
 
-pub returns-in_err-outcome-in-Serial-clause-exhausted : goal.returns-in_err-outcome-in-Serial-clause-exhausted
-returns-in_err-outcome-in-Serial-clause-exhausted g c =
+pub returns-in_err-states-clause-exhausted : goal.returns-in_err-states-clause-exhausted
+returns-in_err-states-clause-exhausted g c =
     let config : Config = c.args.config.now in
     let bytes : List ℕ = c.args.bytes.now in
     let starts : List Cache = c.in_ok-starts.starts.items in
     let initial : List (Event Body) = c.in_ok-starts.initial.items in
     let beginning = c.in_ok-starts.ensures.beginning in
     let same = simulates config c.new-photo.result bytes starts initial c.new-photo.ensures beginning in
-    err-exhausted c.from_residual-in_err-outcome-in-Serial.result c.in_err-outcome-in-Serial.field-0.0 (IsExhausting c.args.mode config bytes) c.from_residual-in_err-outcome-in-Serial.ensures.1
+    err-exhausted c.from_residual-in_err-states.result c.in_err-states.field-0.0 (IsExhausting c.args.mode config bytes) c.from_residual-in_err-states.ensures.1
     (λ exhausted.
     let is : IsExhaustingInOrder config bytes =
     record {
       rows = beginning.rows;
       accepted = beginning.accepted;
-      met = subst (λ (y : System Cache Body). Meets y (2 ^ 40) is_exhausted) same (c.in_err-outcome-in-Serial.ensures.exhausted exhausted);
+      met = subst (λ (y : System Cache Body). Meets y (2 ^ 40) is_exhausted) same (c.in_err-states.ensures.exhausted exhausted);
     } in
     subst (λ (mode : Mode). IsExhausting mode config bytes) (sym c.in-Serial.is) is)
 

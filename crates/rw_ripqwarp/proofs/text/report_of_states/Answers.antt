@@ -5,18 +5,17 @@ use Rattle.rw_photo.specs.declared.counters.Counters.{Counters}
 use Rattle.rw_photo.specs.Counts.{added}
 use Rattle.rw_ripqwarp.specs.Report.{cache_lines, line, name_of, totals}
 use Rattle.rw_ripqwarp.proofs.Lines.{line-append, lines-more, totals-more}
-use Rattle.rw_ripqwarp.proofs.text.report.Goals as goal
+use Rattle.rw_ripqwarp.proofs.text.report_of_states.Goals as goal
 
 pub loop-process-preserved : goal.loop-process-preserved
 loop-process-preserved c =
     let n = c.loop-process.process in
-    let states : List Cache = c.args.outcome.now.states.items in
+    let states : List Cache = c.args.states.now in
     let config = c.args.config.now in
     let counted : Cache → Counters = λ s. s.counters in
-    let seen = c.deref-state-items.ensures.value in
     let next : n + 1 ≡ suc n = omega arith in
-    let here : c.state-item.result ≡ get_or states n c.state-item.result = rw seen at c.state-item.is in
-    let within : n < length states = rw seen at c.loop-process-test.true in
+    let here : c.state-item.result ≡ get_or states n c.state-item.result = c.state-item.is in
+    let within : n < length states = c.loop-process-test.true in
     let counters : c.counters-counters.result ≡ (get_or states n c.state-item.result).counters = c.counters-counters.ensures ∙ ap counted here in
     rw next (record {
       lines =
@@ -36,10 +35,10 @@ loop-process-preserved c =
 pub returns : goal.returns
 returns c =
     let n = c.loop-process.process in
-    let states : List Cache = c.args.outcome.now.states.items in
+    let states : List Cache = c.args.states.now in
     let counted : Cache → Counters = λ s. s.counters in
     let config = c.args.config.now in
-    let all : take n states ≡ states = take_all n states (rw c.deref-state-items.ensures.value at c.loop-process-test.false) in
+    let all : take n states ≡ states = take_all n states c.loop-process-test.false in
     let good : is_ok c.extend_from_slice.result ≡ true = search rules in
     let word = rw good at c.extend_from_slice.ensures.items in
     c.in_ok-write_counters-2.ensures
