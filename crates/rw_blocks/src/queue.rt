@@ -420,12 +420,7 @@ impl Queue {
     }
 
     /// [`replace`](Queue::replace) of an object whose row is known, and is not looked up again.
-    pub fn replace_row(
-        &mut self,
-        object: u64,
-        row: Place,
-        section: usize,
-    ) -> Result<Mark, NoMemory>
+    pub fn replace_row(&mut self, object: u64, row: Place, section: usize) -> Result<Mark, NoMemory>
         requires loose { IsLoose self.old }
         requires there { section < length self.old.sections }
         requires row { row_at self.old object ≡ Some row }

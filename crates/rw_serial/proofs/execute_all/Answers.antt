@@ -46,10 +46,13 @@ pub loop-event-preserved : goal.loop-event-preserved
 loop-event-preserved g c =
     let journals = c.loop-event.invariant.0 in
     let x = c.in-Some.event in
-    let entered = slice_set journals x.to (get_or journals x.to [] ++ x ∷ []) in
-    (entered, c.in_ok-enter.ensures journals c.loop-event.invariant.1, midrun_step_by c.loop-event.invariant.2 c.in-Some.ensures.taken c.in-Some.ensures.least
-    c.execute.new.states.items entered c.execute.new.sent.items c.extend.new.self
-    c.in_ok-execute.ensures.states refl c.in_ok-execute.ensures.sends (search rules))
+    let entered = slice_set journals x.to (get_or journals x.to [] ++ x ∷ []) in (
+      entered,
+      c.in_ok-enter.ensures journals c.loop-event.invariant.1,
+      midrun_step_by c.loop-event.invariant.2 c.in-Some.ensures.taken c.in-Some.ensures.least
+          c.execute.new.states.items entered c.execute.new.sent.items c.extend.new.self
+          c.in_ok-execute.ensures.states refl c.in_ok-execute.ensures.sends (search rules),
+    )
 
 pub returns-in_err-execute-clause-exhausted : goal.returns-in_err-execute-clause-exhausted
 returns-in_err-execute-clause-exhausted g c =

@@ -29,22 +29,22 @@ open-requires-in-Journal g c = record { ready = ready-at c.args.config.now c.new
 pub report_of_states-requires : goal.report_of_states-requires
 report_of_states-requires g c =
     let config : Config = c.args.config.now in
-    let outcome = c.in_ok-states.ensures.outcome in
+    let outcome = c.in_ok-states-in-Serial.ensures.outcome in
     ap length c.as_slice.ensures.value
-    ∙ length-states _ (2 ^ 40) outcome.0 c.in_ok-states.states.items outcome.1
+    ∙ length-states _ (2 ^ 40) outcome.0 c.in_ok-states-in-Serial.states.items outcome.1
     ∙ ap length c.in_ok-starts.ensures.beginning.starts_are
     ∙ length-map-range_with_len (start config) 0 (config.edges + config.origins)
 
-pub returns-in_ok-text-clause-text : goal.returns-in_ok-text-clause-text
-returns-in_ok-text-clause-text g c =
+pub returns-in_ok-text-in-Serial-clause-text : goal.returns-in_ok-text-in-Serial-clause-text
+returns-in_ok-text-in-Serial-clause-text g c =
     let config : Config = c.args.config.now in
     let bytes : List ℕ = c.args.bytes.now in
     let starts : List Cache = c.in_ok-starts.starts.items in
     let initial : List (Event Body) = c.in_ok-starts.initial.items in
-    let text : List ℕ = c.in_ok-text.text.items in
+    let text : List ℕ = c.in_ok-text-in-Serial.text.items in
     let beginning = c.in_ok-starts.ensures.beginning in
-    let outcome = c.in_ok-states.ensures.outcome in
-    let states : List Cache = c.in_ok-states.states.items in
+    let outcome = c.in_ok-states-in-Serial.ensures.outcome in
+    let states : List Cache = c.in_ok-states-in-Serial.states.items in
     let same = simulates config c.new-photo.result bytes starts initial c.new-photo.ensures beginning in
     let is : IsReportOf config bytes text =
     record {
@@ -53,30 +53,30 @@ returns-in_ok-text-clause-text g c =
       states = states;
       accepted = beginning.accepted;
       outcome = subst (λ (y : System Cache Body). IsOutcome y (2 ^ 40) outcome.0 states) same outcome.1;
-      told = c.in_ok-text.ensures ∙ ap (λ (ss : List Cache). report_text config (map (λ s. s.counters) ss)) c.as_slice.ensures.value;
+      told = c.in_ok-text-in-Serial.ensures ∙ ap (λ (ss : List Cache). report_text config (map (λ s. s.counters) ss)) c.as_slice.ensures.value;
     } in
     subst (λ (mode : Mode). IsTextOf mode config bytes text) (sym c.in-Serial.is) is
 
-pub returns-in_err-states-clause-exhausted : goal.returns-in_err-states-clause-exhausted
-returns-in_err-states-clause-exhausted g c =
+pub returns-in_err-states-in-Serial-clause-exhausted : goal.returns-in_err-states-in-Serial-clause-exhausted
+returns-in_err-states-in-Serial-clause-exhausted g c =
     let config : Config = c.args.config.now in
     let bytes : List ℕ = c.args.bytes.now in
     let starts : List Cache = c.in_ok-starts.starts.items in
     let initial : List (Event Body) = c.in_ok-starts.initial.items in
     let beginning = c.in_ok-starts.ensures.beginning in
     let same = simulates config c.new-photo.result bytes starts initial c.new-photo.ensures beginning in
-    err-exhausted c.from_residual-in_err-states.result c.in_err-states.field-0.0 (IsExhausting c.args.mode config bytes) c.from_residual-in_err-states.ensures.1
+    err-exhausted c.from_residual-in_err-states-in-Serial.result c.in_err-states-in-Serial.field-0.0 (IsExhausting c.args.mode config bytes) c.from_residual-in_err-states-in-Serial.ensures.1
     (λ exhausted.
     let is : IsExhaustingInOrder config bytes =
     record {
       rows = beginning.rows;
       accepted = beginning.accepted;
-      met = subst (λ (y : System Cache Body). Meets y (2 ^ 40) is_exhausted) same (c.in_err-states.ensures.exhausted exhausted);
+      met = subst (λ (y : System Cache Body). Meets y (2 ^ 40) is_exhausted) same (c.in_err-states-in-Serial.ensures.exhausted exhausted);
     } in
     subst (λ (mode : Mode). IsExhausting mode config bytes) (sym c.in-Serial.is) is)
 
-pub report-requires-in-Warp : goal.report-requires-in-Warp
-report-requires-in-Warp g c =
+pub report-requires : goal.report-requires
+report-requires g c =
     let config : Config = c.args.config.now in
     length-states _ (2 ^ 40) (map (λ j. j.items) c.in_ok-outcome-in-Warp.outcome.journals.items) c.in_ok-outcome-in-Warp.outcome.states.items c.in_ok-outcome-in-Warp.ensures.outcome
     ∙ length-opened c.new-photo.result c.in_ok-starts.starts.items c.in_ok-starts.initial.items c.in_ok-world-in-Warp.world c.in_ok-world-in-Warp.ensures.opened
@@ -120,7 +120,7 @@ pub journal-requires : goal.journal-requires
 journal-requires g c =
     let starts : List Cache = c.in_ok-starts.starts.items in
     let initial : List (Event Body) = c.in_ok-starts.initial.items in
-    let steps : List Step = c.as_slice.result.now in
+    let steps : List Step = c.as_slice-in-Journal.result.now in
     let photo : Photo = c.new-photo.result in
     let first = c.in_ok-world-in-Journal.ensures.opened in
     let last = c.in_ok-world-in-Journal-2.ensures.world in
@@ -140,14 +140,14 @@ returns-in_ok-text-in-Journal-clause-text g c =
     let bytes : List ℕ = c.args.bytes.now in
     let starts : List Cache = c.in_ok-starts.starts.items in
     let initial : List (Event Body) = c.in_ok-starts.initial.items in
-    let steps : List Step = c.as_slice.result.now in
+    let steps : List Step = c.as_slice-in-Journal.result.now in
     let given : List Answer = c.in_ok-world-in-Journal-2.answers.items in
     let text : List ℕ = c.in_ok-text-in-Journal.text.items in
     let beginning = c.in_ok-starts.ensures.beginning in
     let world : Simulation Photo Cache Body = c.in_ok-world-in-Journal-2.world in
     let written : text ≡ journal_text given world.world =
     c.in_ok-text-in-Journal.ensures
-    ∙ ap (λ ws. journal_text ws world.world) c.as_slice-in-Journal.ensures.value in
+    ∙ ap (λ ws. journal_text ws world.world) c.as_slice-in-Journal-2.ensures.value in
     let by : IsJournalOf steps config bytes text =
     record {
       rows = beginning.rows;
@@ -157,7 +157,7 @@ returns-in_ok-text-in-Journal-clause-text g c =
           ∙ told config c.new-photo.result bytes starts initial steps c.in_ok-world-in-Journal.world world given c.new-photo.ensures beginning c.in_ok-world-in-Journal.ensures.opened
           c.in_ok-world-in-Journal-2.ensures.world c.in_ok-world-in-Journal-2.ensures.answers;
     } in
-    let is : IsJournalOf c.in-Journal.steps.items config bytes text = subst (λ ss. IsJournalOf ss config bytes text) c.as_slice.ensures.value by in
+    let is : IsJournalOf c.in-Journal.steps.items config bytes text = subst (λ ss. IsJournalOf ss config bytes text) c.as_slice-in-Journal.ensures.value by in
     subst (λ (mode : Mode). IsTextOf mode config bytes text) (sym c.in-Journal.is) is
 
 pub returns-in_err-world-in-Journal-2-clause-exhausted : goal.returns-in_err-world-in-Journal-2-clause-exhausted
@@ -166,7 +166,7 @@ returns-in_err-world-in-Journal-2-clause-exhausted g c =
     let bytes : List ℕ = c.args.bytes.now in
     let starts : List Cache = c.in_ok-starts.starts.items in
     let initial : List (Event Body) = c.in_ok-starts.initial.items in
-    let steps : List Step = c.as_slice.result.now in
+    let steps : List Step = c.as_slice-in-Journal.result.now in
     let beginning = c.in_ok-starts.ensures.beginning in
     err-exhausted c.from_residual-in_err-world-in-Journal-2.result c.in_err-world-in-Journal-2.field-0.0 (IsExhausting c.args.mode config bytes) c.from_residual-in_err-world-in-Journal-2.ensures.1
     (λ exhausted.
@@ -177,5 +177,5 @@ returns-in_err-world-in-Journal-2-clause-exhausted g c =
       met = met config c.new-photo.result bytes starts initial steps c.in_ok-world-in-Journal.world c.new-photo.ensures beginning c.in_ok-world-in-Journal.ensures.opened
           (c.in_err-world-in-Journal-2.ensures.exhausted (ap Err exhausted));
     } in
-    let is : IsExhaustingBySteps c.in-Journal.steps.items config bytes = subst (λ ss. IsExhaustingBySteps ss config bytes) c.as_slice.ensures.value by in
+    let is : IsExhaustingBySteps c.in-Journal.steps.items config bytes = subst (λ ss. IsExhaustingBySteps ss config bytes) c.as_slice-in-Journal.ensures.value by in
     subst (λ (mode : Mode). IsExhausting mode config bytes) (sym c.in-Journal.is) is)

@@ -14,9 +14,9 @@ loop-process-preserved c =
     let config = c.args.config.now in
     let counted : Cache → Counters = λ s. s.counters in
     let next : n + 1 ≡ suc n = omega arith in
-    let here : c.state-item.result ≡ get_or states n c.state-item.result = c.state-item.is in
+    let here : c.index-states-process.result ≡ get_or states n c.index-states-process.result = c.index-states-process.is in
     let within : n < length states = c.loop-process-test.true in
-    let counters : c.counters-counters.result ≡ (get_or states n c.state-item.result).counters = c.counters-counters.ensures ∙ ap counted here in
+    let counters : c.counters-counters.result ≡ (get_or states n c.index-states-process.result).counters = c.counters-counters.ensures ∙ ap counted here in
     rw next (record {
       lines =
           c.in_ok-write_counters.ensures
@@ -24,12 +24,12 @@ loop-process-preserved c =
           ∙ line-append c.loop-process.text.items (name_of config n) c.counters-counters.result
           ∙ ap (λ text. text ++ line (name_of config n) c.counters-counters.result) c.loop-process.invariant.lines
           ∙ ap (λ k. cache_lines config 0 (map counted (take n states)) ++ line (name_of config n) k) counters
-          ∙ sym (lines-more counted config 0 n states c.state-item.result within ∙ rw zero-add refl);
+          ∙ sym (lines-more counted config 0 n states c.index-states-process.result within ∙ rw zero-add refl);
       total =
           c.add.ensures
           ∙ ap (λ t. added t c.counters-counters.result) c.loop-process.invariant.total
           ∙ ap (λ k. added (totals (map counted (take n states))) k) counters
-          ∙ sym (totals-more counted n states c.state-item.result within);
+          ∙ sym (totals-more counted n states c.index-states-process.result within);
     })
 
 pub returns : goal.returns
