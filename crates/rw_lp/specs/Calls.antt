@@ -1,5 +1,5 @@
 -- What contracts see of a logical process, and what a call on it answers against the turn that it is to take.
-use Rattle.std.specs.Prelude.{◌≡◌, ℕ, min, List, [], ◌∷◌}
+use Rattle.std.specs.Prelude.{◌≡◌, ℕ, min, Bool, true, false, List, [], ◌∷◌}
 use Rattle.std.specs.declared.cmp.Ordering.{Ordering}
 use Rattle.rw_vt.specs.declared.event.Event.{Event}
 use Rattle.rw_vt.specs.declared.event.Letter.{Letter}
@@ -9,7 +9,7 @@ use Rattle.rw_vt.specs.Order.{in_order}
 use Rattle.rw_lp.specs.declared.step.Answer.{Answer}
 use Rattle.rw_lp.specs.declared.step.Answer.TheVariants.{Done, Refused}
 use Rattle.rw_lp.specs.Past.{Past}
-use Rattle.rw_lp.specs.Process.{Process, Turn, Turned, Stays}
+use Rattle.rw_lp.specs.Process.{Process, done, Turn, Turned, Stays, is_less_than_last, split_last}
 
 -- a process, with the model that it runs and its number there
 pub record LogicalProcess (M S B : Type 0) : Type 0 where
@@ -38,6 +38,14 @@ unstarted cmp start initial = record { start = start; committed = []; processed 
 abbrev pub Took : {S B : Type 0} → Process S B → Process S B → Answer → List (Letter B) → Turn S B → Type 0
 Took x z a given (Turned after out) = (z ≡ after) × (a ≡ Done) × (given ≡ out)
 Took x z a given (Stays fault) = (z ≡ x) × (a ≡ Refused fault) × (given ≡ [])
+
+-- next, x would execute its least pending event, which is no straggler, in a state that passes the test
+pub record MeetsNext {S B : Type 0} (cmp : Event B → Event B → Ordering) (x : Process S B) (test : S → Bool) : Type 0 where
+  pub next : Event B
+  pub rest : List (Event B)
+  pub pending : x.pending ≡ next ∷ rest
+  pub in_time : is_less_than_last cmp next (split_last (done x)) ≡ false
+  pub passes : test x.state ≡ true
 
 -- what a delivery takes up: the letter, unless it is refused
 abbrev pub came : {B : Type 0} → Answer → Letter B → List (Letter B)

@@ -6,7 +6,7 @@ ghost use Rattle.rw_vt.specs.declared.event.Letter.{Letter};
 ghost use Rattle.rw_vt.specs.declared.refusal.Refusal.TheVariants.{Memory};
 ghost use Rattle.rw_lp.specs.HeldMessages.{held_messages};
 ghost use Rattle.rw_lp.specs.Process.{Process, done, deliver, execute_next, undo_one, collect};
-ghost use Rattle.rw_lp.specs.Calls.{LogicalProcess, process_of, rules, unstarted, Took, came, least};
+ghost use Rattle.rw_lp.specs.Calls.{LogicalProcess, process_of, rules, unstarted, MeetsNext, Took, came, least};
 ghost use Rattle.rw_lp.specs.Sound.{Change};
 ghost use Rattle.rw_lp.specs.Arrival.{Arrived, is_barred};
 
@@ -98,7 +98,8 @@ impl<M: VtModel> Lp<M> {
     /// Executes the least pending event, and appends messages of its sends to `out`, in order.
     ///
     /// Answers `NothingPending`, or `Straggler` where that event is less than the last done one; the process and `out` are
-    /// then as they were. Refused as `Exhausted` only where the model's state can take no further event.
+    /// then as they were. Refused as `Exhausted` only where it would execute that event, in a state that can take no
+    /// further one.
     pub fn execute_next(
         self,
         alloc: Global,
@@ -109,7 +110,7 @@ impl<M: VtModel> Lp<M> {
         ensures same { IfOk result (λ r. (r.0.model ≡ self.model) × (r.0.number ≡ self.number)) }
         ensures turn { IfOk result (λ r. (given : List (Letter M.Body)) × (out.new.items ≡ out.old.items ++ given) × Took self.process r.0.process r.1 given (execute_next (rules M.Model M.Body.cmp self.model) self.number self.process)) }
         ensures balance { IfOk result (λ r. (given : List (Letter M.Body)) × (out.new.items ≡ out.old.items ++ given) × Change (rules M.Model M.Body.cmp self.model) self.number self.process r.0.process [] given) }
-        ensures exhausted { result ≡ Err Refusal.Exhausted → M.is_exhausted self.model self.process.state ≡ true }
+        ensures exhausted { result ≡ Err Refusal.Exhausted → MeetsNext (event_cmp M.Body.cmp) self.process (M.is_exhausted self.model) }
     {
         let Some(first) = self.pending.first() else {
             return Ok((self, Answer::Refused(StepFault::NothingPending)));

@@ -15,7 +15,7 @@ use Rattle.rw_lp.specs.declared.step.Answer.{Answer}
 use Rattle.rw_lp.specs.declared.step.Answer.TheVariants.{Done, Refused}
 use Rattle.rw_lp.specs.Process as process
 use Rattle.rw_lp.specs.Process.{Process, Turn, Turned, Stays, execute_least, execute_next, undo_last, undo_one, split_last}
-use Rattle.rw_lp.specs.Calls.{LogicalProcess, rules, Took}
+use Rattle.rw_lp.specs.Calls.{LogicalProcess, MeetsNext, rules, Took}
 use Rattle.rw_world.specs.declared.parts.Parts.{Parts}
 use Rattle.rw_world.specs.declared.step.Step.{Step}
 use Rattle.rw_world.specs.declared.step.Step.TheVariants.{Execute, Undo, Deliver}
@@ -138,11 +138,12 @@ module _ {M S B U : Type 0} (model : Ghosts M S B U) (order : B → B → Orderi
       ∙ ap length whole.sound.starts
       ∙ whole.ready.enough
 
-  pub exhausted_at : (p : ℕ) (old : LogicalProcess M S B) → slice_get x.processes.items p ≡ Some old → model.is_exhausted old.model old.process.state ≡ true → ExecutesAt (world_of x) (model.is_exhausted x.model) (Execute p)
+  pub exhausted_at : (p : ℕ) (old : LogicalProcess M S B) → slice_get x.processes.items p ≡ Some old → MeetsNext (event_cmp order) old.process (model.is_exhausted old.model)
+      → ExecutesAt (event_cmp order) (world_of x) (model.is_exhausted x.model) (Execute p)
   exhausted_at p old there h = record {
     number = p;
     process = old.process;
     executes = refl;
     there = slice_get-map (λ l. l.process) x.processes.items p ∙ ap (option_map (λ l. l.process)) there;
-    passes = subst (λ m. model.is_exhausted m old.process.state ≡ true) (whole.numbered p old there).0 h;
+    meets = subst (λ m. MeetsNext (event_cmp order) old.process (model.is_exhausted m)) (whole.numbered p old there).0 h;
   }

@@ -6,7 +6,7 @@ use Rattle.rw_vt.specs.declared.model.Model.{Ghosts}
 use Rattle.rw_vt.specs.System.{System, system, IsReady}
 use Rattle.rw_lp.specs.Process as process
 use Rattle.rw_lp.specs.Process.{Process}
-use Rattle.rw_lp.specs.Calls.{LogicalProcess}
+use Rattle.rw_lp.specs.Calls.{LogicalProcess, MeetsNext}
 use Rattle.rw_lp.specs.declared.step.Answer.{Answer}
 use Rattle.rw_world.specs.declared.parts.Parts.{Parts}
 use Rattle.rw_world.specs.declared.step.Step.{Step}
@@ -57,13 +57,13 @@ pub record Made {M S B U : Type 0} (model : Ghosts M S B U) (order : B → B →
   pub answered : answer ≡ (apply (system_of model order (simulation_of x)) (world_of x) step).1
   pub numbered : AreNumbered z.model z.processes.items
 
--- the step is to execute an event at a process whose state passes the test
-pub record ExecutesAt {S B : Type 0} (w : WorldState S B) (test : S → Bool) (step : Step) : Type 0 where
+-- the step is to execute an event at a process that has one to execute next, in a state that passes the test
+pub record ExecutesAt {S B : Type 0} (cmp : Event B → Event B → Ordering) (w : WorldState S B) (test : S → Bool) (step : Step) : Type 0 where
   pub number : ℕ
   pub process : Process S B
   pub executes : step ≡ Execute number
   pub there : slice_get w.processes number ≡ Some process
-  pub passes : test process.state ≡ true
+  pub meets : MeetsNext cmp process test
 
 -- one of the steps is, when its turn comes
 pub record MeetsAt {S B : Type 0} (y : System S B) (w : WorldState S B) (test : S → Bool) (steps : List Step) : Type 0 where
@@ -71,4 +71,4 @@ pub record MeetsAt {S B : Type 0} (y : System S B) (w : WorldState S B) (test : 
   pub step : Step
   pub rest : List Step
   pub steps_are : steps ≡ before ++ step ∷ rest
-  pub executes : ExecutesAt (run y w before) test step
+  pub executes : ExecutesAt y.order (run y w before) test step

@@ -18,7 +18,7 @@ impl<M: VtModel> Parts<M> {
     pub(crate) fn make(&mut self, alloc: Global, step: Step) -> Result<Answer, Refusal>
         requires whole { IsWhole M.Model M.Body.cmp self.old }
         ensures made { IfOk result (λ a. Made M.Model M.Body.cmp self.old self.new step a) }
-        ensures exhausted { result ≡ Err Refusal.Exhausted → ExecutesAt (world_of self.old) (M.is_exhausted self.old.model) step }
+        ensures exhausted { result ≡ Err Refusal.Exhausted → ExecutesAt (event_cmp M.Body.cmp) (world_of self.old) (M.is_exhausted self.old.model) step }
     {
         match step {
             Step::Execute(p) => self.execute(alloc, p),
@@ -32,7 +32,7 @@ impl<M: VtModel> Parts<M> {
     fn execute(&mut self, alloc: Global, p: u32) -> Result<Answer, Refusal>
         requires whole { IsWhole M.Model M.Body.cmp self.old }
         ensures made { IfOk result (λ a. Made M.Model M.Body.cmp self.old self.new (Step.Execute p) a) }
-        ensures exhausted { result ≡ Err Refusal.Exhausted → ExecutesAt (world_of self.old) (M.is_exhausted self.old.model) (Step.Execute p) }
+        ensures exhausted { result ≡ Err Refusal.Exhausted → ExecutesAt (event_cmp M.Body.cmp) (world_of self.old) (M.is_exhausted self.old.model) (Step.Execute p) }
     {
         let place = p as usize;
         if self.processes.len() <= place {

@@ -73,15 +73,15 @@ impl<M: VtModel + Drop> World<M> {
     ///
     /// # Errors
     ///
-    /// `Exhausted` only where the step is to execute an event in a state that can take no further one, and `Memory` only
-    /// where memory was refused.
+    /// `Exhausted` only where the step would execute an event, which is pending and no straggler, in a state that can take
+    /// no further one, and `Memory` only where memory was refused.
     pub fn apply(self, alloc: Global, step: Step) -> Result<(World<M>, Answer), Refusal>
         ensures world { IfOk result (λ r. r.0 ≡ with_world self (apply (system_of M.Model M.Body.cmp self) self.world step).0) }
         ensures answer { IfOk result (λ r. r.1 ≡ (apply (system_of M.Model M.Body.cmp self) self.world step).1) }
         ensures refused { IfOk result (λ r. (fault : StepFault) → r.1 ≡ Refused fault → r.0 ≡ self) }
         ensures exactly { IfOk result (λ r. (fault : StepFault) → (r.1 ≡ Refused fault) ↔ Applies (event_cmp M.Body.cmp) self.world step fault) }
         ensures sound { IfOk result (λ r. Sound (system_of M.Model M.Body.cmp r.0) r.0.world) }
-        ensures exhausted { result ≡ Err Refusal.Exhausted → ExecutesAt self.world (M.is_exhausted self.model) step }
+        ensures exhausted { result ≡ Err Refusal.Exhausted → ExecutesAt (event_cmp M.Body.cmp) self.world (M.is_exhausted self.model) step }
     {
         let mut parts = self.parts;
         let answer = parts.make(alloc, step)?;
@@ -95,8 +95,8 @@ impl<M: VtModel + Drop> World<M> {
     ///
     /// # Errors
     ///
-    /// `Exhausted` only where a step, when its turn comes, is to execute an event in a state that can take no further one,
-    /// and `Memory` only where memory was refused.
+    /// `Exhausted` only where a step, when its turn comes, would execute an event, which is pending and no straggler, in a
+    /// state that can take no further one, and `Memory` only where memory was refused.
     pub fn run_steps(
         self,
         alloc: Global,

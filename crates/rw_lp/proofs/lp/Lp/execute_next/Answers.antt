@@ -1,4 +1,6 @@
-use Rattle.std.proofs.Common.{◌≡◌, ◌<◌, true, false, List, [], ◌++◌, refl, sym, ap, ◌∙◌, subst, append-nil}
+use Rattle.std.proofs.Common.{◌≡◌, ◌<◌, true, false, List, [], ◌++◌, refl, sym, ap, ◌∙◌, subst, append-nil, Err}
+use Rattle.std.proofs.lemmas.Result.{err_from_is_err_and}
+use Rattle.rw_vt.specs.declared.refusal.Refusal.TheVariants.{Exhausted}
 use Rattle.rw_vt.specs.declared.event.Letter.{Letter}
 use Rattle.rw_vt.specs.Letters.{letters_of}
 use Rattle.rw_vt.specs.Order.{event_cmp, copies, Has, without}
@@ -9,7 +11,7 @@ use Rattle.rw_lp.specs.declared.step.StepFault.TheVariants.{Straggler}
 use Rattle.rw_lp.specs.declared.step.Answer.TheVariants.{Done, Refused}
 use Rattle.rw_lp.specs.Past.{Past}
 use Rattle.rw_lp.specs.Process.{Process, executed, execute_next}
-use Rattle.rw_lp.specs.Calls.{LogicalProcess, process_of, rules, Took}
+use Rattle.rw_lp.specs.Calls.{LogicalProcess, process_of, rules, MeetsNext, Took}
 use Rattle.rw_lp.proofs.Bridges.{is_straggler, is_executed}
 use Rattle.rw_lp.proofs.Orders.{without_head}
 use Rattle.rw_lp.proofs.Balance.{unchanged, execution_balanced}
@@ -41,6 +43,18 @@ invariant_of-lp g c = λ e k.
     let o : IsExactOrder (event_cmp g.M.Body.Ord.cmp) = events_exact (record { total = g.met.M.Body.Ord.total; same = g.met.M.Model.same }) in
     subst (λ (w : Past g.row.M.Denot g.row.M-State.Denot g.row.M-Body.Denot). (g.M.Model.is_valid w.model e ≡ true) × (e.to ≡ w.number)) (sym c.in_ok-history.ensures.after)
     (Each-without o (λ e. (g.M.Model.is_valid c.self.inside.history.model e ≡ true) × (e.to ≡ c.self.inside.history.number)) c.in-Some.first.now c.self.inside.pending c.self.invariant e (subst (λ l. Has (event_cmp g.M.Body.Ord.cmp) l e) c.take-taken.ensures.rest k))
+
+pub returns-in_err-history-clause-exhausted : goal.returns-in_err-history-clause-exhausted
+returns-in_err-history-clause-exhausted g c = λ e.
+    let x = process_of c.self.inside.history c.self.inside.pending c.self.inside.debts in
+    let head = c.in-Some.ensures.first in
+    let p = err_from_is_err_and c.from_residual.result c.from_residual.ensures.1 in
+    let same : Err p.0 ≡ Err Exhausted = sym p.1 ∙ e in
+    let cause : p.0 ≡ Exhausted = cc in
+    let full : g.M.Model.is_exhausted x.model x.process.state ≡ true = c.in_err-history.ensures.exhausted.0 (ap Err (sym p.2 ∙ cause)) in
+    let meets : MeetsNext (event_cmp g.M.Body.Ord.cmp) x.process (g.M.Model.is_exhausted x.model) =
+    record { next = c.in-Some.first.now; rest = head.0; pending = head.1; in_time = sym c.is_past.ensures ∙ c.if-is_past.false; passes = full } in
+    subst (λ (w : LogicalProcess g.row.M.Denot g.row.M-State.Denot g.row.M-Body.Denot). MeetsNext (event_cmp g.M.Body.Ord.cmp) w.process (g.M.Model.is_exhausted w.model)) c.self.view_is meets
 
 pub returns-clause-turn : goal.returns-clause-turn
 returns-clause-turn g c =
