@@ -1,15 +1,16 @@
 -- Chains of events with the records that take them back: one more, the last one taken off, and the first ones committed.
-use Rattle.std.proofs.Common.{◌≡◌, ℕ, zero, suc, true, List, [], ◌∷◌, ◌++◌, length, refl, sym, ◌∙◌, ap, subst, take, drop, arith}
+use Rattle.std.proofs.Common.{◌≡◌, ℕ, zero, suc, true, List, [], ◌∷◌, ◌++◌, length, refl, sym, ◌∙◌, ap, subst, take, drop, arith, append_assoc}
+use Rattle.std.proofs.Math.ListN.{take-append-drop}
 use Rattle.std.specs.declared.cmp.Ordering.{Ordering}
 use Rattle.rw_vt.specs.declared.event.Event.{Event}
 use Rattle.rw_vt.specs.declared.model.Model.{Ghosts}
 use Rattle.rw_vt.specs.System.{after}
-use Rattle.rw_vt.specs.Order.{IsAscending}
+use Rattle.rw_vt.specs.Order.{Each, IsAscending}
 use Rattle.rw_vt.proofs.Runs.{after-append}
 use Rattle.rw_vt.proofs.Sorting.{IsExactOrder}
-use Rattle.rw_vt.proofs.Bags.{IsAscending-front}
+use Rattle.rw_vt.proofs.Bags.{Each-nil, Each-cons, Each-append, Each-front, IsAscending-front}
 use Rattle.rw_lp.specs.declared.undo_record.UndoRecord.{UndoRecord}
-use Rattle.rw_lp.specs.Past.{Past, IsRecordOf, Leads, IsLinked}
+use Rattle.rw_lp.specs.Past.{Past, IsFor, IsRecordOf, Leads, IsLinked}
 
 -- a step keeps a state well formed
 abbrev pub KeepsWell : {M S B U : Type 0} → Ghosts M S B U → M → Type 0
@@ -74,15 +75,26 @@ module _ {M S B U : Type 0} (model : Ghosts M S B U) {cmp : Event B → Event B 
   pub linked_well_formed : (x : Past M S B) (rs : List (UndoRecord B U)) → KeepsWell model x.model → IsLinked model cmp x rs → model.IsWellFormed x.model x.number x.state
   linked_well_formed x rs keeps h = leads_well_formed model x.model x.number keeps (after (model.step x.model x.number) x.start x.committed) x.state x.processed rs h.well_formed h.leads
 
+  leads_for : (m : M) (p : ℕ) (s t : S) (es : List (Event B)) (rs : List (UndoRecord B U)) → Leads model m p s es rs t → Each cmp (IsFor model m p) es
+  leads_for m p s t [] [] h = Each-nil o (IsFor model m p)
+  leads_for m p s t [] (r ∷ rs) h = absurd h
+  leads_for m p s t (e ∷ es) [] h = absurd h
+  leads_for m p s t (e ∷ es) (r ∷ rs) h = Each-cons o (IsFor model m p) e es (h.0.valid, h.0.here) (leads_for m p (model.step m p s e).0 t es rs h.1)
+
+  -- what is processed is for the process
+  pub linked_for : (x : Past M S B) (rs : List (UndoRecord B U)) → IsLinked model cmp x rs → Each cmp (IsFor model x.model x.number) x.processed
+  linked_for x rs h = leads_for x.model x.number (after (model.step x.model x.number) x.start x.committed) x.state x.processed rs h.leads
+
   -- one more is executed
   pub linked_push : (x : Past M S B) (rs all : List (UndoRecord B U)) (events : List (Event B)) (now : S) (e : Event B) (r : UndoRecord B U) → IsLinked model cmp x rs → IsRecordOf model x.model x.number x.state e r
-      → all ≡ rs ++ r ∷ [] → events ≡ x.processed ++ e ∷ [] → now ≡ (model.step x.model x.number x.state e).0 → IsAscending cmp (x.processed ++ e ∷ [])
+      → all ≡ rs ++ r ∷ [] → events ≡ x.processed ++ e ∷ [] → now ≡ (model.step x.model x.number x.state e).0 → IsAscending cmp ((x.committed ++ x.processed) ++ e ∷ [])
       → IsLinked model cmp (record { model = x.model; number = x.number; start = x.start; committed = x.committed; processed = events; state = now }) all
   linked_push x rs all events now e r h k rs_is es_is now_is up = record {
     number = h.number;
     well_formed = h.well_formed;
     leads = rw (rs_is, es_is, now_is) (leads_push model x.model x.number (after (model.step x.model x.number) x.start x.committed) x.state x.processed rs e r h.leads k);
-    order = subst (IsAscending cmp) (sym es_is) up;
+    committed = h.committed;
+    order = subst (IsAscending cmp) (append_assoc x.committed x.processed (e ∷ []) ∙ ap (λ l. x.committed ++ l) (sym es_is)) up;
   }
 
   -- the last one and its record
@@ -102,25 +114,34 @@ module _ {M S B U : Type 0} (model : Ghosts M S B U) {cmp : Event B → Event B 
           number = h.number;
           well_formed = h.well_formed;
           leads = subst (Leads model m p s front rs) same q.1;
-          order = IsAscending-front o front (e ∷ []) (subst (IsAscending cmp) is h.order);
+          committed = h.committed;
+          order = IsAscending-front o (x.committed ++ front) (e ∷ []) (subst (IsAscending cmp) (ap (λ l. x.committed ++ l) is ∙ sym (append_assoc x.committed front (e ∷ []))) h.order);
         },
       )
 
   -- the first k are committed
   pub linked_commit : (x : Past M S B) (rs : List (UndoRecord B U)) (k : ℕ) (committed kept : List (Event B)) (left : List (UndoRecord B U)) → KeepsWell model x.model → IsLinked model cmp x rs
-      → committed ≡ x.committed ++ take k x.processed → kept ≡ drop k x.processed → left ≡ drop k rs → IsAscending cmp (drop k x.processed)
+      → committed ≡ x.committed ++ take k x.processed → kept ≡ drop k x.processed → left ≡ drop k rs
       → IsLinked model cmp (record { model = x.model; number = x.number; start = x.start; committed = committed; processed = kept; state = x.state }) left
-  linked_commit x rs k committed kept left keeps h c_is k_is l_is up =
+  linked_commit x rs k committed kept left keeps h c_is k_is l_is =
       let m = x.model in
       let p = x.number in
       let s : S = after (model.step m p) x.start x.committed in
       let q = leads_drop model m p keeps k s x.state x.processed rs h.well_formed h.leads in
+      let first : Each cmp (IsFor model m p) (take k x.processed) =
+      Each-front o (IsFor model m p) (take k x.processed) (drop k x.processed) (subst (Each cmp (IsFor model m p)) (sym (take-append-drop k x.processed)) (linked_for x rs h)) in
+      let joined : committed ++ kept ≡ x.committed ++ x.processed =
+      ap (λ l. l ++ kept) c_is
+      ∙ ap (λ l. (x.committed ++ take k x.processed) ++ l) k_is
+      ∙ append_assoc x.committed (take k x.processed) (drop k x.processed)
+      ∙ ap (λ l. x.committed ++ l) (take-append-drop k x.processed) in
       let same : after (model.step m p) s (take k x.processed) ≡ after (model.step m p) x.start committed = sym (ap (after (model.step m p) x.start) c_is ∙ after-append (model.step m p) x.start x.committed (take k x.processed)) in
       record {
         number = h.number;
         well_formed = subst (model.IsWellFormed m p) same q.0;
         leads = rw (k_is, l_is) (subst (λ w. Leads model m p w (drop k x.processed) (drop k rs) x.state) same q.1);
-        order = subst (IsAscending cmp) (sym k_is) up;
+        committed = subst (Each cmp (IsFor model m p)) (sym c_is) (Each-append o (IsFor model m p) x.committed (take k x.processed) h.committed first);
+        order = subst (IsAscending cmp) (sym joined) h.order;
       }
 
 pub past_same : {M S B : Type 0} (m : M) (n : ℕ) (s t : S) (a b c d : List (Event B)) → a ≡ b → c ≡ d → (let x : Past M S B = record { model = m; number = n; start = s; committed = a; processed = c; state = t } in x) ≡ record { model = m; number = n; start = s; committed = b; processed = d; state = t }

@@ -1,10 +1,9 @@
 -- The last element of a list, and of one list behind another.
-use Rattle.std.proofs.Common.{◌≡◌, false, List, [], ◌∷◌, ◌++◌, refl, sym, ap, ◌∙◌, append_assoc, append-nil, length, arith, Option, Some, None}
+use Rattle.std.proofs.Common.{◌≡◌, false, List, [], ◌∷◌, ◌++◌, refl, sym, ap, ◌∙◌, append_assoc, append-nil, length, arith}
 use Rattle.std.specs.declared.cmp.Ordering.{Ordering}
 use Rattle.std.specs.Ordering.{is_gt}
 use Rattle.rw_lp.specs.Process.{is_less_than_last, split_last}
 use Rattle.rw_lp.proofs.Bridges.{split_push}
-use Rattle.rw_lp.proofs.Splits.{IsSplit, split_is}
 
 pub nil_if : {A : Type 0} (xs : List A) → length xs ≡ 0 → xs ≡ []
 nil_if [] h = refl
@@ -23,11 +22,3 @@ module _ {E : Type 0} (cmp : E → E → Ordering) (e : E) where
 
   pub last_before_none : (xs ys : List E) → ys ≡ [] → is_less_than_last cmp e (split_last (xs ++ ys)) ≡ is_less_than_last cmp e (split_last xs)
   last_before_none xs ys is = ap (λ v. is_less_than_last cmp e (split_last v)) (ap (λ v. xs ++ v) is ∙ append-nil xs)
-
-  -- what is not less than the last of all is not less than the last of those behind
-  pub last_of_back : (xs ys : List E) → is_less_than_last cmp e (split_last (xs ++ ys)) ≡ false → is_less_than_last cmp e (split_last ys) ≡ false
-  last_of_back xs ys h = go (split_last ys) (split_is ys) refl
-    where
-      go : (r : Option (List E × E)) → IsSplit ys r → split_last ys ≡ r → is_less_than_last cmp e (split_last ys) ≡ false
-      go None is same = last_none ys is
-      go (Some r) is same = last_is ys r.0 r.1 is ∙ sym (last_behind xs ys r.0 r.1 is) ∙ h

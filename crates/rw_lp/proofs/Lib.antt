@@ -12,3 +12,4 @@ mod Orders
 mod Lasts
 mod Arriving
 mod Balance
+mod Own

@@ -1,5 +1,5 @@
 -- Sorted lists of events: what a sort leaves, where a time cuts them, and their least.
-use Rattle.std.proofs.Common.{◌≡◌, ℕ, zero, suc, ◌+◌, ◌≤◌, min, Bool, true, false, cond, List, [], ◌∷◌, ◌++◌, get_or, refl, sym, ◌∙◌, ap, subst, take, drop, arith, true≢false, IsPermutation, Option, Some, None}
+use Rattle.std.proofs.Common.{◌≡◌, ℕ, suc, ◌+◌, ◌≤◌, min, Bool, true, false, cond, List, [], ◌∷◌, ◌++◌, get_or, refl, sym, ◌∙◌, ap, subst, take, drop, arith, true≢false, IsPermutation, Option, Some, None}
 use Rattle.std.specs.Prelude.{not, nat_lt, nat_le, filter}
 use Rattle.std.specs.declared.cmp.Ordering.{Ordering}
 use Rattle.std.specs.declared.cmp.Ordering.TheVariants.{Less, Equal, Greater}
@@ -55,11 +55,6 @@ module _ {E : Type 0} {cmp : E → E → Ordering} (o : IsExactOrder cmp) where
   -- the first copy is the head
   pub without_head : (x : E) (xs : List E) → without cmp x (x ∷ xs) ≡ xs
   without_head x xs = let same : is_eq (cmp x x) ≡ true = ap is_eq (tied_itself o.total x) in rw same refl
-
-  pub IsAscending-drop : (k : ℕ) (xs : List E) → IsAscending cmp xs → IsAscending cmp (drop k xs)
-  IsAscending-drop zero xs up = up
-  IsAscending-drop (suc k) [] up = up
-  IsAscending-drop (suc k) (x ∷ xs) up = IsAscending-drop k xs up.1
 
   -- what is not less than the last goes to the end
   pub pushed_up : (e : E) (xs : List E) → IsAscending cmp xs → is_less_than_last cmp e (split_last xs) ≡ false → IsAscending cmp (xs ++ e ∷ [])

@@ -4,7 +4,7 @@ use Rattle.std.specs.declared.cmp.Ordering.{Ordering}
 use Rattle.rw_vt.specs.declared.event.Event.{Event}
 use Rattle.rw_vt.specs.declared.event.Letter.{Letter}
 use Rattle.rw_vt.specs.declared.model.Model.{Ghosts}
-use Rattle.rw_vt.specs.Order.{IsAscending}
+use Rattle.rw_vt.specs.Order.{Each, IsAscending}
 use Rattle.rw_vt.specs.Letters.{letters_of}
 use Rattle.rw_vt.specs.System.{after}
 use Rattle.rw_lp.specs.declared.undo_record.UndoRecord.{UndoRecord}
@@ -17,6 +17,10 @@ pub record Past (M S B : Type 0) : Type 0 where
   pub committed : List (Event B)
   pub processed : List (Event B)
   pub state : S
+
+-- e is valid in the model m, and goes to process p
+abbrev pub IsFor : {M S B U : Type 0} → Ghosts M S B U → M → ℕ → Event B → Type 0
+IsFor model m p e = (model.is_valid m e ≡ true) × (e.to ≡ p)
 
 -- the record takes back event e, which process p may execute in the state before
 pub record IsRecordOf {M S B U : Type 0} (model : Ghosts M S B U) (m : M) (p : ℕ) (before : S) (e : Event B) (r : UndoRecord B U) : Type 0 where
@@ -32,12 +36,18 @@ Leads model m p s [] (r ∷ rs) t = ⊥
 Leads model m p s (e ∷ es) [] t = ⊥
 Leads model m p s (e ∷ es) (r ∷ rs) t = IsRecordOf model m p s e r × Leads model m p (model.step m p s e).0 es rs t
 
--- from a well-formed start the committed events and then the processed ones, which are in order, lead to the state, and each processed one can be taken back
+-- from a well-formed start the committed events and then the processed ones, which are in order and for the process, lead to the state, and each processed one can be taken back
 pub record IsLinked {M S B U : Type 0} (model : Ghosts M S B U) (cmp : Event B → Event B → Ordering) (x : Past M S B) (records : List (UndoRecord B U)) : Type 0 where
   pub number : x.number < model.process_count x.model
   pub well_formed : model.IsWellFormed x.model x.number (after (model.step x.model x.number) x.start x.committed)
   pub leads : Leads model x.model x.number (after (model.step x.model x.number) x.start x.committed) x.processed records x.state
-  pub order : IsAscending cmp x.processed
+  pub committed : Each cmp (IsFor model x.model x.number) x.committed
+  pub order : IsAscending cmp (x.committed ++ x.processed)
+
+-- what is pending and what is owed is for the process
+pub record AreFor {M S B U : Type 0} (model : Ghosts M S B U) (cmp : Event B → Event B → Ordering) (x : Past M S B) (ps ds : List (Event B)) : Type 0 where
+  pub pending : Each cmp (IsFor model x.model x.number) ps
+  pub debts : Each cmp (IsFor model x.model x.number) ds
 
 -- the last processed event e of x is taken back, which leads to z and gives these letters out
 pub record IsTakenBack {M S B U : Type 0} (model : Ghosts M S B U) (x z : Past M S B) (e : Event B) (given : List (Letter B)) : Type 0 where

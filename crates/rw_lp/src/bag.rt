@@ -76,6 +76,13 @@ impl<M: VtModel> Bag<M> {
         self.find(event).is_some()
     }
 
+    /// The events stand in order. This is a law of every bag; the call itself does nothing.
+    pub fn order(&self)
+        ensures { IsAscending (event_cmp M.Body.cmp) self.now }
+    {
+        let _known = &self.events;
+    }
+
     /// The least event. Takes no memory.
     pub fn first(&self) -> Option<&Event<M::Body>>
         ensures first { MatchOption result (self.now ≡ []) (λ e. (rest : List (Event M.Body)) × (self.now ≡ e.now ∷ rest)) }

@@ -1,12 +1,12 @@
 ghost use Rattle.std.specs.Prelude.{◌≡◌, ◌<◌, ◌≤◌, ◌++◌, ◌∷◌, ◌↔◌, true, false, List, [], IfOk, IfErr, OnOk, filter, nat_lt, nat_le, length};
 ghost use Rattle.std.specs.List.{position_or_len};
-ghost use Rattle.rw_vt.specs.Order.{event_cmp, has, IsAscending};
+ghost use Rattle.rw_vt.specs.Order.{event_cmp, has, Each, IsAscending};
 ghost use Rattle.rw_vt.specs.Letters.{letters_of};
 ghost use Rattle.rw_vt.specs.System.{after};
 ghost use Rattle.rw_vt.specs.declared.event.Letter.{Letter};
 ghost use Rattle.rw_vt.specs.declared.refusal.Refusal.TheVariants.{Memory};
 ghost use Rattle.rw_lp.specs.Process.{is_less_than_last, split_last};
-ghost use Rattle.rw_lp.specs.Past.{Past, IsLinked, TookBack};
+ghost use Rattle.rw_lp.specs.Past.{Past, IsFor, IsLinked, TookBack};
 
 use crate::bags::holds;
 use crate::letters::give;
@@ -144,6 +144,17 @@ impl<M: VtModel> History<M> {
         ensures { result ≡ has (event_cmp M.Body.cmp) event self.now.processed }
     {
         holds(&self.processed, event)
+    }
+
+    /// What is done is in order and for the process, and leads to the state. This is a law of every history; the call itself
+    /// does nothing.
+    pub fn soundness(&self)
+        ensures order { IsAscending (event_cmp M.Body.cmp) (self.now.committed ++ self.now.processed) }
+        ensures committed { Each (event_cmp M.Body.cmp) (IsFor M.Model self.now.model self.now.number) self.now.committed }
+        ensures processed { Each (event_cmp M.Body.cmp) (IsFor M.Model self.now.model self.now.number) self.now.processed }
+        ensures fold { self.now.state ≡ after (M.step self.now.model self.now.number) self.now.start (self.now.committed ++ self.now.processed) }
+    {
+        let _known = &self.state;
     }
 
     /// The committed events. Takes no memory.

@@ -7,7 +7,8 @@ ghost use Rattle.rw_vt.specs.declared.refusal.Refusal.TheVariants.{Memory};
 ghost use Rattle.rw_lp.specs.HeldMessages.{held_messages};
 ghost use Rattle.rw_lp.specs.Process.{Process, done, deliver, execute_next, undo_one, collect};
 ghost use Rattle.rw_lp.specs.Calls.{LogicalProcess, process_of, rules, unstarted, MeetsNext, Took, came, least};
-ghost use Rattle.rw_lp.specs.Sound.{Change};
+ghost use Rattle.rw_lp.specs.Past.{AreFor};
+ghost use Rattle.rw_lp.specs.Sound.{Change, IsSoundOnceCollected};
 ghost use Rattle.rw_lp.specs.Arrival.{Arrived, is_barred};
 
 use crate::bag::Bag;
@@ -37,7 +38,7 @@ impl<M: VtModel> Model for Lp<M> {
 
     ghost view = { λ x. process_of x.history x.pending x.debts };
 
-    ghost invariant = { λ x. Each (event_cmp M.Body.cmp) (λ e. (M.is_valid x.history.model e ≡ true) × (e.to ≡ x.history.number)) x.pending };
+    ghost invariant = { λ x. AreFor M.Model (event_cmp M.Body.cmp) x.history x.pending x.debts };
 }
 
 impl<M: VtModel> Lp<M> {
@@ -234,6 +235,16 @@ impl<M: VtModel> Lp<M> {
             pending,
             debts,
         })
+    }
+
+    /// A process that has collected up to some time is sound there: what it has done is in order and leads to its state, and
+    /// all its events are valid and go to it. This is a law of every process; the call itself does nothing.
+    pub fn soundness(&self)
+        ensures { IsSoundOnceCollected M.Model M.Body.cmp self.now }
+    {
+        self.history.soundness();
+        self.pending.order();
+        self.debts.order();
     }
 
     /// The least time of pending events, debts and held messages, in ticks, or [`END`](rw_vt::END) if there is none. Takes no

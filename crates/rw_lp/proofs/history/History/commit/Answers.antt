@@ -9,7 +9,8 @@ use Rattle.rw_vt.proofs.EventOrder.{events_exact, time_at_most}
 use Rattle.rw_vt.proofs.Sorting.{IsExactOrder}
 use Rattle.rw_lp.specs.Past.{Past}
 use Rattle.rw_lp.proofs.Chains.{leads_length, linked_commit, past_same}
-use Rattle.rw_lp.proofs.Orders.{cut_at, IsAscending-drop}
+use Rattle.rw_vt.proofs.Bags.{IsAscending-back}
+use Rattle.rw_lp.proofs.Orders.{cut_at}
 use Rattle.rw_lp.proofs.history.History.commit.Goals as goal
 
 pub split_off-requires-2 : goal.split_off-requires-2
@@ -24,14 +25,14 @@ invariant_of-history g c =
     let o : IsExactOrder (event_cmp g.M.Body.Ord.cmp) = events_exact (record { total = g.met.M.Body.Ord.total; same = g.met.M.Model.same }) in
     let x : Past g.row.M.Denot g.row.M-State.Denot g.row.M-Body.Denot = record { model = c.history.inside.model.value; number = c.history.inside.number; start = c.history.inside.start.value; committed = c.history.inside.committed.items; processed = c.history.inside.processed.items; state = c.history.inside.state } in
     linked_commit g.M.Model o x c.history.inside.records.items c.count_before-count.result c.append.new.self.items c.in_ok-rest.rest.items c.in_ok-history-inside.field-0.items (g.met.M.Model.keeps x.model) c.history.invariant
-    (c.in_ok-append.ensures.items ∙ ap (λ l. x.committed ++ l) c.in_ok-rest.ensures.items) c.in_ok-rest.ensures.tail c.in_ok-history-inside.ensures.tail (IsAscending-drop o c.count_before-count.result x.processed c.history.invariant.order)
+    (c.in_ok-append.ensures.items ∙ ap (λ l. x.committed ++ l) c.in_ok-rest.ensures.items) c.in_ok-rest.ensures.tail c.in_ok-history-inside.ensures.tail
 
 pub returns-clause-committed : goal.returns-clause-committed
 returns-clause-committed g c =
     let o : IsExactOrder (event_cmp g.M.Body.Ord.cmp) = events_exact (record { total = g.met.M.Body.Ord.total; same = g.met.M.Model.same }) in
     let x : Past g.row.M.Denot g.row.M-State.Denot g.row.M-Body.Denot = record { model = c.history.inside.model.value; number = c.history.inside.number; start = c.history.inside.start.value; committed = c.history.inside.committed.items; processed = c.history.inside.processed.items; state = c.history.inside.state } in
     let place : c.count_before-count.result ≡ position_or_len (λ (e : Event g.row.M-Body.Denot). nat_le c.args.time e.time) x.processed = c.count_before-count.ensures.first ∙ ap (position_or_len (λ (e : Event g.row.M-Body.Denot). nat_le c.args.time e.time)) c.as_slice.ensures.value in
-    let cut = cut_at o (time_at_most g.M.Body.Ord.cmp) c.args.time x.processed c.history.invariant.order in
+    let cut = cut_at o (time_at_most g.M.Body.Ord.cmp) c.args.time x.processed (IsAscending-back o x.committed x.processed c.history.invariant.order) in
     let first : c.append.new.self.items ≡ x.committed ++ filter (λ (e : Event g.row.M-Body.Denot). nat_lt e.time c.args.time) x.processed =
     c.in_ok-append.ensures.items ∙ ap (λ l. x.committed ++ l) (c.in_ok-rest.ensures.items ∙ ap (λ n. take n x.processed) place ∙ sym cut.0) in
     let rest : c.in_ok-rest.rest.items ≡ filter (λ (e : Event g.row.M-Body.Denot). nat_le c.args.time e.time) x.processed = c.in_ok-rest.ensures.tail ∙ ap (λ n. drop n x.processed) place ∙ sym cut.1 in

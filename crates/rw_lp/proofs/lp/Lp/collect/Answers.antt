@@ -1,11 +1,15 @@
-use Rattle.std.proofs.Common.{◌≡◌, true, sym, ap, subst}
+use Rattle.std.proofs.Common.{◌≡◌, ap, subst}
 use Rattle.rw_lp.specs.Past.{Past}
 use Rattle.rw_lp.specs.Process.{collect}
 use Rattle.rw_lp.specs.Calls.{LogicalProcess, process_of}
+use Rattle.rw_lp.proofs.Own.{still_for}
 use Rattle.rw_lp.proofs.lp.Lp.collect.Goals as goal
 
 pub invariant_of-result : goal.invariant_of-result
-invariant_of-result g c = λ e k. subst (λ (w : Past g.row.M.Denot g.row.M-State.Denot g.row.M-Body.Denot). (g.M.Model.is_valid w.model e ≡ true) × (e.to ≡ w.number)) (sym c.in_ok-history.ensures.committed) (c.self.invariant e k)
+invariant_of-result g c =
+    still_for g.M.Model c.self.inside.history c.self.inside.pending c.self.inside.debts c.self.invariant c.in_ok-history.history
+    (ap (λ (w : Past g.row.M.Denot g.row.M-State.Denot g.row.M-Body.Denot). w.model) c.in_ok-history.ensures.committed)
+    (ap (λ (w : Past g.row.M.Denot g.row.M-State.Denot g.row.M-Body.Denot). w.number) c.in_ok-history.ensures.committed)
 
 pub returns-clause-collected : goal.returns-clause-collected
 returns-clause-collected g c =

@@ -1,18 +1,19 @@
-use Rattle.std.proofs.Common.{◌≡◌, true, [], ◌∷◌, sym, ◌∙◌, subst}
-use Rattle.rw_vt.specs.Order.{event_cmp, Each}
+use Rattle.std.proofs.Common.{[], ◌∷◌, sym, ◌∙◌, subst}
+use Rattle.rw_vt.specs.Order.{event_cmp}
 use Rattle.rw_vt.proofs.EventOrder.{events_exact}
 use Rattle.rw_vt.proofs.Sorting.{IsExactOrder}
-use Rattle.rw_vt.proofs.Bags.{Each-insert, Each-without}
+use Rattle.rw_lp.specs.Past.{IsFor}
 use Rattle.rw_lp.specs.Process.{Process}
 use Rattle.rw_lp.specs.Calls.{LogicalProcess, process_of, rules}
 use Rattle.rw_lp.specs.Sound.{Change}
+use Rattle.rw_lp.proofs.Own.{pending_less, pending_more, debts_less, debts_more}
 use Rattle.rw_lp.proofs.Balance.{anti_meets, anti_owed, anti_refused, message_meets, message_put}
 use Rattle.rw_lp.proofs.lp.Lp.deliver.Goals as goal
 
 pub invariant_of-lp : goal.invariant_of-lp
 invariant_of-lp g c =
     let o : IsExactOrder (event_cmp g.M.Body.Ord.cmp) = events_exact (record { total = g.met.M.Body.Ord.total; same = g.met.M.Model.same }) in
-    subst (Each (event_cmp g.M.Body.Ord.cmp) (λ e. (g.M.Model.is_valid c.lp.inside.history.model e ≡ true) × (e.to ≡ c.lp.inside.history.number))) (sym c.take.ensures.rest) (Each-without o (λ e. (g.M.Model.is_valid c.lp.inside.history.model e ≡ true) × (e.to ≡ c.lp.inside.history.number)) c.args.letter.event c.lp.inside.pending c.lp.invariant)
+    pending_less g.M.Model c.lp.inside.history c.lp.inside.pending c.lp.inside.debts c.lp.invariant o c.args.letter.event c.take.new.self c.take.ensures.rest
 
 pub returns-then-take-clause-balance : goal.returns-then-take-clause-balance
 returns-then-take-clause-balance g c =
@@ -26,7 +27,7 @@ returns-then-take-clause-balance g c =
 pub invariant_of-lp-then-holds : goal.invariant_of-lp-then-holds
 invariant_of-lp-then-holds g c =
     let o : IsExactOrder (event_cmp g.M.Body.Ord.cmp) = events_exact (record { total = g.met.M.Body.Ord.total; same = g.met.M.Model.same }) in
-    subst (Each (event_cmp g.M.Body.Ord.cmp) (λ e. (g.M.Model.is_valid c.lp.inside.history.model e ≡ true) × (e.to ≡ c.lp.inside.history.number))) (sym c.take.ensures.rest) (Each-without o (λ e. (g.M.Model.is_valid c.lp.inside.history.model e ≡ true) × (e.to ≡ c.lp.inside.history.number)) c.args.letter.event c.lp.inside.pending c.lp.invariant)
+    pending_less g.M.Model c.lp.inside.history c.lp.inside.pending c.lp.inside.debts c.lp.invariant o c.args.letter.event c.take.new.self c.take.ensures.rest
 
 pub returns-then-holds-clause-balance : goal.returns-then-holds-clause-balance
 returns-then-holds-clause-balance g c =
@@ -40,7 +41,9 @@ returns-then-holds-clause-balance g c =
 pub invariant_of-lp-then-letter : goal.invariant_of-lp-then-letter
 invariant_of-lp-then-letter g c =
     let o : IsExactOrder (event_cmp g.M.Body.Ord.cmp) = events_exact (record { total = g.met.M.Body.Ord.total; same = g.met.M.Model.same }) in
-    subst (Each (event_cmp g.M.Body.Ord.cmp) (λ e. (g.M.Model.is_valid c.lp.inside.history.model e ≡ true) × (e.to ≡ c.lp.inside.history.number))) (sym c.take.ensures.rest) (Each-without o (λ e. (g.M.Model.is_valid c.lp.inside.history.model e ≡ true) × (e.to ≡ c.lp.inside.history.number)) c.args.letter.event c.lp.inside.pending c.lp.invariant)
+    let here = subst (λ (w : LogicalProcess g.row.M.Denot g.row.M-State.Denot g.row.M-Body.Denot). IsFor g.M.Model w.model w.number c.args.letter.event) (sym c.lp.view_is) (c.requires.valid, c.requires.here) in
+    let less = pending_less g.M.Model c.lp.inside.history c.lp.inside.pending c.lp.inside.debts c.lp.invariant o c.args.letter.event c.take.new.self c.take.ensures.rest in
+    debts_more g.M.Model c.lp.inside.history c.take.new.self c.lp.inside.debts less o c.args.letter.event c.put.new.self here c.in_ok-put.ensures.ok
 
 pub returns-then-letter-clause-balance : goal.returns-then-letter-clause-balance
 returns-then-letter-clause-balance g c =
@@ -50,6 +53,11 @@ returns-then-letter-clause-balance g c =
     let z : Process g.row.M-State.Denot g.row.M-Body.Denot = (process_of c.lp.inside.history c.take.new.self c.put.new.self).process in
     subst (λ (w : LogicalProcess g.row.M.Denot g.row.M-State.Denot g.row.M-Body.Denot). Change (rules g.M.Model g.M.Body.Ord.cmp w.model) w.number w.process z (c.args.letter ∷ []) []) c.lp.view_is
     (anti_owed y o x.number x.process c.args.letter c.take.new.self c.put.new.self c.if-letter.true (c.take.ensures.kept c.if-take.false) c.in_ok-put.ensures.ok)
+
+pub invariant_of-lp-then-take-2 : goal.invariant_of-lp-then-take-2
+invariant_of-lp-then-take-2 g c =
+    let o : IsExactOrder (event_cmp g.M.Body.Ord.cmp) = events_exact (record { total = g.met.M.Body.Ord.total; same = g.met.M.Model.same }) in
+    debts_less g.M.Model c.lp-2.inside.history c.lp-2.inside.pending c.lp-2.inside.debts c.lp-2.invariant o c.args.letter.event c.take-2.new.self c.take-2.ensures.rest
 
 pub returns-then-take-2-clause-balance : goal.returns-then-take-2-clause-balance
 returns-then-take-2-clause-balance g c =
@@ -63,8 +71,9 @@ returns-then-take-2-clause-balance g c =
 pub invariant_of-lp-2 : goal.invariant_of-lp-2
 invariant_of-lp-2 g c =
     let o : IsExactOrder (event_cmp g.M.Body.Ord.cmp) = events_exact (record { total = g.met.M.Body.Ord.total; same = g.met.M.Model.same }) in
-    let here = subst (λ (w : LogicalProcess g.row.M.Denot g.row.M-State.Denot g.row.M-Body.Denot). (g.M.Model.is_valid w.model c.args.letter.event ≡ true) × (c.args.letter.event.to ≡ w.number)) (sym c.lp-2.view_is) (c.requires.valid, c.requires.here) in
-    subst (Each (event_cmp g.M.Body.Ord.cmp) (λ e. (g.M.Model.is_valid c.lp-2.inside.history.model e ≡ true) × (e.to ≡ c.lp-2.inside.history.number))) (sym c.in_ok-put-2.ensures.ok) (Each-insert o (λ e. (g.M.Model.is_valid c.lp-2.inside.history.model e ≡ true) × (e.to ≡ c.lp-2.inside.history.number)) c.args.letter.event c.lp-2.inside.pending here c.lp-2.invariant)
+    let here = subst (λ (w : LogicalProcess g.row.M.Denot g.row.M-State.Denot g.row.M-Body.Denot). IsFor g.M.Model w.model w.number c.args.letter.event) (sym c.lp-2.view_is) (c.requires.valid, c.requires.here) in
+    let less = debts_less g.M.Model c.lp-2.inside.history c.lp-2.inside.pending c.lp-2.inside.debts c.lp-2.invariant o c.args.letter.event c.take-2.new.self c.take-2.ensures.rest in
+    pending_more g.M.Model c.lp-2.inside.history c.lp-2.inside.pending c.take-2.new.self less o c.args.letter.event c.put-2.new.self here c.in_ok-put-2.ensures.ok
 
 pub returns-clause-balance : goal.returns-clause-balance
 returns-clause-balance g c =

@@ -3,16 +3,16 @@ use Rattle.std.proofs.lemmas.Result.{err_from_is_err_and}
 use Rattle.rw_vt.specs.declared.refusal.Refusal.TheVariants.{Exhausted}
 use Rattle.rw_vt.specs.declared.event.Letter.{Letter}
 use Rattle.rw_vt.specs.Letters.{letters_of}
-use Rattle.rw_vt.specs.Order.{event_cmp, copies, Has, without}
+use Rattle.rw_vt.specs.Order.{event_cmp, copies, without}
 use Rattle.rw_vt.proofs.EventOrder.{events_exact}
 use Rattle.rw_vt.proofs.Sorting.{IsExactOrder, Has-head}
-use Rattle.rw_vt.proofs.Bags.{Each-without}
 use Rattle.rw_lp.specs.declared.step.StepFault.TheVariants.{Straggler}
 use Rattle.rw_lp.specs.declared.step.Answer.TheVariants.{Done, Refused}
 use Rattle.rw_lp.specs.Past.{Past}
 use Rattle.rw_lp.specs.Process.{Process, executed, execute_next}
 use Rattle.rw_lp.specs.Calls.{LogicalProcess, process_of, rules, MeetsNext, Took}
 use Rattle.rw_lp.proofs.Bridges.{is_straggler, is_executed}
+use Rattle.rw_lp.proofs.Own.{pending_less, still_for}
 use Rattle.rw_lp.proofs.Orders.{without_head}
 use Rattle.rw_lp.proofs.Balance.{unchanged, execution_balanced}
 use Rattle.rw_lp.specs.Sound.{Change}
@@ -30,19 +30,20 @@ pub execute-requires-clause-valid : goal.execute-requires-clause-valid
 execute-requires-clause-valid g c =
     let o : IsExactOrder (event_cmp g.M.Body.Ord.cmp) = events_exact (record { total = g.met.M.Body.Ord.total; same = g.met.M.Model.same }) in
     let head = c.in-Some.ensures.first in
-    (c.self.invariant c.in-Some.first.now (subst (λ l. 0 < copies (event_cmp g.M.Body.Ord.cmp) c.in-Some.first.now l) (sym head.1) (Has-head o c.in-Some.first.now head.0))).0
+    (c.self.invariant.pending c.in-Some.first.now (subst (λ l. 0 < copies (event_cmp g.M.Body.Ord.cmp) c.in-Some.first.now l) (sym head.1) (Has-head o c.in-Some.first.now head.0))).0
 
 pub execute-requires-clause-here : goal.execute-requires-clause-here
 execute-requires-clause-here g c =
     let o : IsExactOrder (event_cmp g.M.Body.Ord.cmp) = events_exact (record { total = g.met.M.Body.Ord.total; same = g.met.M.Model.same }) in
     let head = c.in-Some.ensures.first in
-    (c.self.invariant c.in-Some.first.now (subst (λ l. 0 < copies (event_cmp g.M.Body.Ord.cmp) c.in-Some.first.now l) (sym head.1) (Has-head o c.in-Some.first.now head.0))).1
+    (c.self.invariant.pending c.in-Some.first.now (subst (λ l. 0 < copies (event_cmp g.M.Body.Ord.cmp) c.in-Some.first.now l) (sym head.1) (Has-head o c.in-Some.first.now head.0))).1
 
 pub invariant_of-lp : goal.invariant_of-lp
-invariant_of-lp g c = λ e k.
+invariant_of-lp g c =
     let o : IsExactOrder (event_cmp g.M.Body.Ord.cmp) = events_exact (record { total = g.met.M.Body.Ord.total; same = g.met.M.Model.same }) in
-    subst (λ (w : Past g.row.M.Denot g.row.M-State.Denot g.row.M-Body.Denot). (g.M.Model.is_valid w.model e ≡ true) × (e.to ≡ w.number)) (sym c.in_ok-history.ensures.after)
-    (Each-without o (λ e. (g.M.Model.is_valid c.self.inside.history.model e ≡ true) × (e.to ≡ c.self.inside.history.number)) c.in-Some.first.now c.self.inside.pending c.self.invariant e (subst (λ l. Has (event_cmp g.M.Body.Ord.cmp) l e) c.take-taken.ensures.rest k))
+    let less = pending_less g.M.Model c.self.inside.history c.self.inside.pending c.self.inside.debts c.self.invariant o c.in-Some.first.now c.take-taken.new.self c.take-taken.ensures.rest in
+    still_for g.M.Model c.self.inside.history c.take-taken.new.self c.self.inside.debts less c.in_ok-history.history
+    (ap (λ (w : Past g.row.M.Denot g.row.M-State.Denot g.row.M-Body.Denot). w.model) c.in_ok-history.ensures.after) (ap (λ (w : Past g.row.M.Denot g.row.M-State.Denot g.row.M-Body.Denot). w.number) c.in_ok-history.ensures.after)
 
 pub returns-in_err-history-clause-exhausted : goal.returns-in_err-history-clause-exhausted
 returns-in_err-history-clause-exhausted g c = λ e.

@@ -1,14 +1,14 @@
-use Rattle.std.proofs.Common.{◌≡◌, true, List, [], ◌++◌, sym, ap, ◌∙◌, subst}
+use Rattle.std.proofs.Common.{◌≡◌, List, [], ◌++◌, ap, ◌∙◌, subst}
 use Rattle.rw_vt.specs.declared.event.Letter.{Letter}
-use Rattle.rw_vt.specs.Order.{event_cmp, Has}
+use Rattle.rw_vt.specs.Order.{event_cmp}
 use Rattle.rw_vt.proofs.EventOrder.{events_exact}
 use Rattle.rw_vt.proofs.Sorting.{IsExactOrder}
-use Rattle.rw_vt.proofs.Bags.{Each-insert}
 use Rattle.rw_lp.specs.declared.step.Answer.TheVariants.{Done}
 use Rattle.rw_lp.specs.Past.{Past}
 use Rattle.rw_lp.specs.Process.{Process, undone, undo_one}
 use Rattle.rw_lp.specs.Calls.{LogicalProcess, process_of, rules, Took}
 use Rattle.rw_lp.proofs.Bridges.{is_undone}
+use Rattle.rw_lp.proofs.Own.{pending_more, still_for}
 use Rattle.rw_lp.proofs.Balance.{undoing_balanced}
 use Rattle.rw_lp.specs.Sound.{Change}
 use Rattle.rw_vt.specs.System.{after}
@@ -16,18 +16,20 @@ use Rattle.rw_lp.specs.Past.{TookBack, IsTakenBack}
 use Rattle.rw_lp.proofs.lp.Lp.undo_one.Goals as goal
 
 pub invariant_of-lp : goal.invariant_of-lp
-invariant_of-lp g c = λ e k.
+invariant_of-lp g c =
     let back = c.in_ok-history.ensures.back in
     let none = subst (λ r. TookBack g.M.Model c.self.inside.history c.in_ok-history.history r back.0) c.in_default.is back.2 in
-    subst (λ (w : Past g.row.M.Denot g.row.M-State.Denot g.row.M-Body.Denot). (g.M.Model.is_valid w.model e ≡ true) × (e.to ≡ w.number)) (sym none.1) (c.self.invariant e k)
+    still_for g.M.Model c.self.inside.history c.self.inside.pending c.self.inside.debts c.self.invariant c.in_ok-history.history
+    (ap (λ (w : Past g.row.M.Denot g.row.M-State.Denot g.row.M-Body.Denot). w.model) none.1) (ap (λ (w : Past g.row.M.Denot g.row.M-State.Denot g.row.M-Body.Denot). w.number) none.1)
 
 pub invariant_of-lp-2 : goal.invariant_of-lp-2
-invariant_of-lp-2 g c = λ e k.
+invariant_of-lp-2 g c =
     let o : IsExactOrder (event_cmp g.M.Body.Ord.cmp) = events_exact (record { total = g.met.M.Body.Ord.total; same = g.met.M.Model.same }) in
     let back = c.in_ok-history.ensures.back in
     let last : IsTakenBack g.M.Model c.self.inside.history c.in_ok-history.history c.in-Some.event back.0 = subst (λ r. TookBack g.M.Model c.self.inside.history c.in_ok-history.history r back.0) c.in-Some.is back.2 in
-    subst (λ (w : Past g.row.M.Denot g.row.M-State.Denot g.row.M-Body.Denot). (g.M.Model.is_valid w.model e ≡ true) × (e.to ≡ w.number)) (sym last.rest)
-    (Each-insert o (λ e. (g.M.Model.is_valid c.self.inside.history.model e ≡ true) × (e.to ≡ c.self.inside.history.number)) c.in-Some.event c.self.inside.pending (last.valid, last.here) c.self.invariant e (subst (λ l. Has (event_cmp g.M.Body.Ord.cmp) l e) c.in_ok-put.ensures.ok k))
+    let more = pending_more g.M.Model c.self.inside.history c.self.inside.pending c.self.inside.debts c.self.invariant o c.in-Some.event c.put.new.self (last.valid, last.here) c.in_ok-put.ensures.ok in
+    still_for g.M.Model c.self.inside.history c.put.new.self c.self.inside.debts more c.in_ok-history.history
+    (ap (λ (w : Past g.row.M.Denot g.row.M-State.Denot g.row.M-Body.Denot). w.model) last.rest) (ap (λ (w : Past g.row.M.Denot g.row.M-State.Denot g.row.M-Body.Denot). w.number) last.rest)
 
 pub returns-clause-turn : goal.returns-clause-turn
 returns-clause-turn g c =
