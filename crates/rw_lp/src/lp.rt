@@ -1,4 +1,4 @@
-ghost use Rattle.std.specs.Prelude.{◌≡◌, ◌<◌, ◌≤◌, ◌++◌, ◌∷◌, ◌↔◌, ◌^◌, true, false, List, [], IfOk, IfErr, MatchOption, All};
+ghost use Rattle.std.specs.Prelude.{◌≡◌, ◌<◌, ◌≤◌, ◌++◌, ◌∷◌, ◌↔◌, ◌^◌, true, false, List, [], IfOk, IfErr, OnOk, MatchOption, All};
 ghost use Rattle.rw_vt.specs.Order.{event_cmp, AtMost, Each, Has, IsAscending};
 ghost use Rattle.rw_vt.specs.System.{after};
 ghost use Rattle.rw_vt.specs.declared.event.Event.{Event};
@@ -7,7 +7,7 @@ ghost use Rattle.rw_vt.specs.declared.refusal.Refusal.TheVariants.{Memory};
 ghost use Rattle.rw_lp.specs.HeldMessages.{held_messages};
 ghost use Rattle.rw_lp.specs.Process.{Process, done, deliver, execute_next, undo_one, collect};
 ghost use Rattle.rw_lp.specs.Calls.{LogicalProcess, process_of, rules, unstarted, MeetsNext, Took, came, least};
-ghost use Rattle.rw_lp.specs.Past.{AreFor};
+ghost use Rattle.rw_lp.specs.Past.{AreFor, IsFor};
 ghost use Rattle.rw_lp.specs.Sound.{Change, IsSoundOnceCollected};
 ghost use Rattle.rw_lp.specs.Arrival.{Arrived, is_barred};
 
@@ -16,7 +16,7 @@ use crate::bags::{ends_after, holds};
 use crate::history::History;
 use crate::step::{Answer, StepFault};
 use rw_vt::{Event, Letter, Model as VtModel, Refusal};
-use std::alloc::Global;
+use std::alloc::{AllocError, Global};
 use std::marker::Model;
 
 /// A logical process of a model (Jefferson 1985): it executes its pending events in order, ahead of the other
@@ -77,23 +77,18 @@ impl<M: VtModel> Lp<M> {
         ensures balance { IfOk result (λ r. Change (rules M.Model M.Body.cmp self.model) self.number self.process r.0.process (came r.1 letter) []) }
         ensures memory { IfErr result (λ e. e ≡ Memory) }
     {
-        let mut lp = self;
-        let event = letter.event;
-        if letter.anti {
-            if lp.pending.take(event) {
-                return Ok((lp, Answer::Done));
-            }
-            if lp.history.holds(event) {
-                return Ok((lp, Answer::Refused(StepFault::StillDone)));
-            }
-            lp.debts.put(event)?;
-            return Ok((lp, Answer::Done));
-        }
-        if lp.debts.take(event) {
-            return Ok((lp, Answer::Done));
-        }
-        lp.pending.put(event)?;
-        Ok((lp, Answer::Done))
+        let Lp {
+            history,
+            mut pending,
+            mut debts,
+        } = self;
+        let answer = meet(&history, &mut pending, &mut debts, letter)?;
+        let lp = Lp {
+            history,
+            pending,
+            debts,
+        };
+        Ok((lp, answer))
     }
 
     /// Executes the least pending event, and appends messages of its sends to `out`, in order.
@@ -299,4 +294,35 @@ impl<M: VtModel> Lp<M> {
         } = self;
         history.into_outcome()
     }
+}
+
+/// A letter comes to what is pending and owed beside this history: see [`Lp::deliver`].
+fn meet<M: VtModel>(
+    history: &History<M>,
+    pending: &mut Bag<M>,
+    debts: &mut Bag<M>,
+    letter: Letter<M::Body>,
+) -> Result<Answer, AllocError>
+    requires own { AreFor M.Model (event_cmp M.Body.cmp) history.now pending.old debts.old }
+    requires here { IsFor M.Model history.now.model history.now.number letter.event }
+    ensures own { OnOk result (AreFor M.Model (event_cmp M.Body.cmp) history.now pending.new debts.new) }
+    ensures turn { IfOk result (λ a. Took (process_of history.now pending.old debts.old).process (process_of history.now pending.new debts.new).process a [] (deliver (event_cmp M.Body.cmp) letter (process_of history.now pending.old debts.old).process)) }
+    ensures balance { IfOk result (λ a. Change (rules M.Model M.Body.cmp history.now.model) history.now.number (process_of history.now pending.old debts.old).process (process_of history.now pending.new debts.new).process (came a letter) []) }
+{
+    let event = letter.event;
+    if letter.anti {
+        if pending.take(event) {
+            return Ok(Answer::Done);
+        }
+        if history.holds(event) {
+            return Ok(Answer::Refused(StepFault::StillDone));
+        }
+        debts.put(event)?;
+        return Ok(Answer::Done);
+    }
+    if debts.take(event) {
+        return Ok(Answer::Done);
+    }
+    pending.put(event)?;
+    Ok(Answer::Done)
 }
