@@ -6,17 +6,23 @@ use Rattle.rw_vt.specs.Letters.{letters_of}
 use Rattle.rw_vt.specs.Order.{event_cmp, copies, without}
 use Rattle.rw_vt.proofs.EventOrder.{events_exact}
 use Rattle.rw_vt.proofs.Sorting.{IsExactOrder, Has-head}
-use Rattle.rw_lp.specs.declared.step.StepFault.TheVariants.{Straggler}
+use Rattle.rw_lp.specs.declared.step.StepFault.TheVariants.{NothingPending, Straggler}
 use Rattle.rw_lp.specs.declared.step.Answer.TheVariants.{Done, Refused}
 use Rattle.rw_lp.specs.Past.{Past}
 use Rattle.rw_lp.specs.Process.{Process, executed, execute_next}
 use Rattle.rw_lp.specs.Calls.{LogicalProcess, process_of, rules, MeetsNext, Took}
-use Rattle.rw_lp.proofs.Bridges.{is_straggler, is_executed}
+use Rattle.rw_lp.proofs.Bridges.{nothing_pending, is_straggler, is_executed}
 use Rattle.rw_lp.proofs.Own.{pending_less, still_for}
 use Rattle.rw_lp.proofs.Orders.{without_head}
 use Rattle.rw_lp.proofs.Balance.{unchanged, execution_balanced}
 use Rattle.rw_lp.specs.Sound.{Change}
 use Rattle.rw_lp.proofs.lp.Lp.execute_next.Goals as goal
+
+pub returns-in_default-clause-turn : goal.returns-in_default-clause-turn
+returns-in_default-clause-turn g c =
+    let x = process_of c.self.inside.history c.self.inside.pending c.self.inside.debts in
+    subst (λ (w : LogicalProcess g.row.M.Denot g.row.M-State.Denot g.row.M-Body.Denot). (given : List (Letter g.row.M-Body.Denot)) × (c.args.out.now.items ≡ c.args.out.now.items ++ given) × Took w.process w.process (Refused NothingPending) given (execute_next (rules g.M.Model g.M.Body.Ord.cmp w.model) w.number w.process)) c.self.view_is
+    ([], sym (append-nil c.args.out.now.items), nothing_pending (rules g.M.Model g.M.Body.Ord.cmp x.model) x.number x.process c.in_default.ensures.first)
 
 pub returns-then-is_past-clause-turn : goal.returns-then-is_past-clause-turn
 returns-then-is_past-clause-turn g c =
