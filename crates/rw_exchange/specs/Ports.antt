@@ -3,7 +3,8 @@ use Rattle.std.specs.Prelude.{◌≡◌, ◌≢◌, ℕ, ◌<◌, List, [], ◌�
 use Rattle.std.specs.List.{All}
 use Rattle.rw_exchange.specs.Rings.{Ring, AllButOwn, cell}
 
--- A worker's port: the rings to and from each worker, and all that went through this end of each, oldest first
+-- A worker's port: the rings to and from each worker, all that went through this end of each, oldest first, and how many
+-- slots of the ring to each worker the port knows to be free
 pub record PortState (T : Type 0) : Type 0 where
   pub worker : ℕ
   pub capacity : ℕ
@@ -11,6 +12,7 @@ pub record PortState (T : Type 0) : Type 0 where
   pub into : List (Option Ring)
   pub sent : List (List T)
   pub received : List (List T)
+  pub free : List ℕ
 
 module _ {T : Type 0} where
   abbrev pub sent_to : PortState T → ℕ → List T
@@ -19,9 +21,14 @@ module _ {T : Type 0} where
   abbrev pub received_from : PortState T → ℕ → List T
   received_from p k = slice_index_or p.received k []
 
-  -- the port, once it has sent the letter to the worker k
-  abbrev pub having_sent : PortState T → ℕ → T → PortState T
-  having_sent p k x = record p { sent = slice_set p.sent k (sent_to p k ++ x ∷ []) }
+  -- the slots of the ring to k that the port knows to be free
+  abbrev pub free_to : PortState T → ℕ → ℕ
+  free_to p k = slice_index_or p.free k 0
+
+  -- the port, once it has sent the letter to the worker k, and then knows of so many free slots there
+  abbrev pub having_sent : PortState T → ℕ → T → ℕ → PortState T
+  having_sent p k x free =
+      record p { sent = slice_set p.sent k (sent_to p k ++ x ∷ []); free = slice_set p.free k free }
 
   -- the port, once it has received the letter from the worker k
   abbrev pub having_received : PortState T → ℕ → T → PortState T

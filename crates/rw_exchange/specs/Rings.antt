@@ -28,6 +28,11 @@ module _ {T : Type 0} where
   out_sent None = []
   out_sent (Some p) = ring.sent p
 
+  -- how many of its slots are known to be free where letters go in
+  abbrev pub out_free : Option (Producer T Global AnyItems) → ℕ
+  out_free None = 0
+  out_free (Some p) = ring.known_free p
+
   -- all that came out of it, oldest first
   abbrev pub in_received : Option (Consumer T Global AnyItems) → List T
   in_received None = []

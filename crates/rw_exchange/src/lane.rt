@@ -1,15 +1,18 @@
 //! One end of a ring, or none: a worker has no ring to itself.
 ghost use Rattle.std.specs.Prelude.{◌≡◌, ℕ, ◌+◌, ◌≤◌, ◌<◌, [], ◌∷◌, ◌++◌, length, IsSome, IsOk, IfErr, OnErr, OnOk, IfSome, IfNone};
-ghost use Rattle.rw_exchange.specs.Rings.{out_ring, in_ring, out_sent, in_received, HasCapacity};
+ghost use Rattle.rw_exchange.specs.Rings.{out_ring, in_ring, out_sent, out_free, in_received, HasCapacity};
 
 use rtrb::{Consumer, Producer, PushError};
 
-// Puts a letter into the ring, or hands it back where the ring is not known to have room.
+// Puts a letter into the ring, or hands it back where no slot of the ring is known to be free.
 pub(crate) fn push<T: Copy>(lane: &mut Option<Producer<T>>, letter: T) -> Result<(), T>
     requires { IsSome lane.old }
     ensures ring { out_ring lane.new ≡ out_ring lane.old }
     ensures ok { OnOk result (out_sent lane.new ≡ out_sent lane.old ++ letter ∷ []) }
     ensures err { IfErr result (λ x. (x ≡ letter) × (out_sent lane.new ≡ out_sent lane.old)) }
+    ensures free { OnOk result (out_free lane.old ≤ out_free lane.new + 1) }
+    ensures full { OnErr result ((out_free lane.old ≡ 0) × (out_free lane.new ≡ 0)) }
+    ensures known { 0 < out_free lane.old → IsOk result }
     ensures capacity { (n : ℕ) → HasCapacity n lane.old → HasCapacity n lane.new × (length (out_sent lane.old) < n → IsOk result) }
 {
     match lane {

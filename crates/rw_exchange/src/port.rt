@@ -1,7 +1,7 @@
 //! A worker's port.
-ghost use Rattle.std.specs.Prelude.{◌≡◌, ◌≢◌, ℕ, ◌<◌, length, map, slice_index_or, All, IsSome, IsOk, OnOk, IfErr, IfSome, IfNone};
-ghost use Rattle.rw_exchange.specs.Rings.{out_rings, in_rings, out_sent, in_received, HasCapacity};
-ghost use Rattle.rw_exchange.specs.Ports.{IsOther, SamePort, sent_to, having_sent, having_received};
+ghost use Rattle.std.specs.Prelude.{◌≡◌, ◌≢◌, ℕ, ◌+◌, ◌<◌, ◌≤◌, length, map, slice_index_or, All, IsSome, IsOk, OnOk, OnErr, IfErr, IfSome, IfNone};
+ghost use Rattle.rw_exchange.specs.Rings.{out_rings, in_rings, out_sent, out_free, in_received, HasCapacity};
+ghost use Rattle.rw_exchange.specs.Ports.{IsOther, SamePort, sent_to, free_to, having_sent, having_received};
 
 use crate::lane;
 use rtrb::{Consumer, Producer};
@@ -10,8 +10,9 @@ use std::marker::Model;
 
 /// One worker's ends of the rings between it and each other worker.
 ///
-/// A contract sees the worker, the capacity of the rings, which rings they are, and all letters that were sent to and
-/// received from each worker. A port may move to a thread of its own.
+/// A contract sees the worker, the capacity of the rings, which rings they are, all letters that were sent to and
+/// received from each worker, and how many slots of the ring to each worker the port knows to be free. A port may move to a
+/// thread of its own.
 #[derive(Drop)]
 pub struct Port<B> {
     worker: usize,
@@ -24,11 +25,11 @@ impl<B> Model for Port<B> {
     ghost use Rattle.std.specs.Prelude.{◌≡◌, ◌≢◌, ℕ, ◌<◌, length, map, slice_index_or, None, IsSome, All};
     ghost use Rattle.rw_vt.specs.declared.event.Letter.{Letter};
     ghost use Rattle.rw_exchange.specs.Ports.{PortState};
-    ghost use Rattle.rw_exchange.specs.Rings.{out_ring, in_ring, out_sent, in_received, HasCapacity};
+    ghost use Rattle.rw_exchange.specs.Rings.{out_ring, in_ring, out_sent, out_free, in_received, HasCapacity};
 
     ghost Value = { PortState (Letter B) };
 
-    ghost view = { λ p. record { worker = p.worker; capacity = p.capacity; out = map out_ring p.outs.items; into = map in_ring p.ins.items; sent = map out_sent p.outs.items; received = map in_received p.ins.items } };
+    ghost view = { λ p. record { worker = p.worker; capacity = p.capacity; out = map out_ring p.outs.items; into = map in_ring p.ins.items; sent = map out_sent p.outs.items; received = map in_received p.ins.items; free = map out_free p.outs.items } };
 
     ghost invariant = { λ p. (length p.ins.items ≡ length p.outs.items)
         × ((k : ℕ) → k < length p.outs.items → k ≢ p.worker → IsSome (slice_index_or p.outs.items k None) × IsSome (slice_index_or p.ins.items k None))
@@ -49,6 +50,7 @@ impl<B: Copy> Port<B> {
         ensures numbers { (result.worker ≡ worker) × (result.capacity ≡ capacity) }
         ensures rings { (result.out ≡ out_rings outs.items) × (result.into ≡ in_rings ins.items) }
         ensures lists { (result.sent ≡ map out_sent outs.items) × (result.received ≡ map in_received ins.items) }
+        ensures free { result.free ≡ map out_free outs.items }
     {
         Port {
             worker,
@@ -92,14 +94,17 @@ impl<B: Copy> Port<B> {
         self.outs.len()
     }
 
-    /// Sends a letter to another worker, or hands it back where the ring is not known to have room.
+    /// Sends a letter to another worker, or hands it back where the port knows of no free slot on the ring to it.
     ///
-    /// It succeeds while fewer letters were sent to that worker in all than the ring has slots. Takes no memory and never
-    /// waits.
+    /// A letter takes one of the slots that are known to be free, and the port may learn of more. It succeeds while fewer
+    /// letters were sent to that worker in all than the ring has slots. Takes no memory and never waits.
     pub fn send(&mut self, to: usize, letter: Letter<B>) -> Result<(), Letter<B>>
         requires other { IsOther self.old to }
-        ensures ok { OnOk result (self.new ≡ having_sent self.old to letter) }
+        ensures ok { OnOk result (self.new ≡ having_sent self.old to letter (free_to self.new to)) }
+        ensures free { OnOk result (free_to self.old to ≤ free_to self.new to + 1) }
         ensures err { IfErr result (λ back. (back ≡ letter) × (self.new ≡ self.old)) }
+        ensures full { OnErr result (free_to self.new to ≡ 0) }
+        ensures known { 0 < free_to self.old to → IsOk result }
         ensures succeeds { length (sent_to self.old to) < self.old.capacity → IsOk result }
         ensures same { SamePort self.old self.new }
     {

@@ -1,17 +1,35 @@
-use Rattle.std.proofs.Common.{◌<◌, length, subst, sym, ap}
-use Rattle.std.proofs.lemmas.Result.{on_ok_weaker, IfErr-weaker}
-use Rattle.rw_exchange.specs.Rings.{HasCapacity}
-use Rattle.rw_exchange.specs.Ports.{sent_to}
-use Rattle.rw_exchange.proofs.Ends.{sends, sends_nothing, sent_is, within_outs, same_sent}
+use Rattle.std.proofs.Common.{◌≡◌, ◌<◌, length, subst, sym, ap, ◌∙◌}
+use Rattle.std.proofs.lemmas.Result.{on_ok_weaker, on_err_weaker, IfErr-weaker}
+use Rattle.rw_exchange.specs.Rings.{HasCapacity, out_free}
+use Rattle.rw_exchange.specs.Ports.{sent_to, free_to}
+use Rattle.rw_exchange.proofs.Ends.{sends, sends_nothing, sent_is, free_is, free_now, within_outs, err_too, one_less, same_sent}
 use Rattle.rw_exchange.proofs.port.Port.send.Goals as goal
 
 pub returns-clause-ok : goal.returns-clause-ok
 returns-clause-ok g c = on_ok_weaker c.push.result
     (λ e. sends c.self.inside.worker c.self.inside.capacity c.self.inside.outs.items c.self.inside.ins.items c.args.self.now c.self.view_is c.args.to c.index_mut.result.now c.push.new.lane c.args.letter (within_outs c.self.inside.worker c.self.inside.capacity c.self.inside.outs.items c.self.inside.ins.items c.args.self.now c.self.view_is c.args.to c.requires.other.0) c.index_mut.ensures.value c.push.ensures.ring e) c.push.ensures.ok
 
+pub returns-clause-free : goal.returns-clause-free
+returns-clause-free g c =
+    let within : c.args.to < length c.self.inside.outs.items = within_outs c.self.inside.worker c.self.inside.capacity c.self.inside.outs.items c.self.inside.ins.items c.args.self.now c.self.view_is c.args.to c.requires.other.0 in
+    let was : free_to c.args.self.now c.args.to ≡ out_free c.index_mut.result.now = free_is c.self.inside.worker c.self.inside.capacity c.self.inside.outs.items c.self.inside.ins.items c.args.self.now c.self.view_is c.args.to c.index_mut.result.now within c.index_mut.ensures.value in
+    let is = free_now c.self.inside.worker c.self.inside.capacity c.self.inside.outs.items c.self.inside.ins.items c.args.self.now c.self.view_is c.args.to c.push.new.lane within in
+    on_ok_weaker c.push.result (one_less _ _ _ _ was is) c.push.ensures.free
+
+pub returns-clause-full : goal.returns-clause-full
+returns-clause-full g c =
+    let within : c.args.to < length c.self.inside.outs.items = within_outs c.self.inside.worker c.self.inside.capacity c.self.inside.outs.items c.self.inside.ins.items c.args.self.now c.self.view_is c.args.to c.requires.other.0 in
+    on_err_weaker c.push.result (λ e. free_now c.self.inside.worker c.self.inside.capacity c.self.inside.outs.items c.self.inside.ins.items c.args.self.now c.self.view_is c.args.to c.push.new.lane within ∙ e.1) c.push.ensures.full
+
+pub returns-clause-known : goal.returns-clause-known
+returns-clause-known g c h =
+    let within : c.args.to < length c.self.inside.outs.items = within_outs c.self.inside.worker c.self.inside.capacity c.self.inside.outs.items c.self.inside.ins.items c.args.self.now c.self.view_is c.args.to c.requires.other.0 in
+    c.push.ensures.known (subst (λ n. 0 < n) (free_is c.self.inside.worker c.self.inside.capacity c.self.inside.outs.items c.self.inside.ins.items c.args.self.now c.self.view_is c.args.to c.index_mut.result.now within c.index_mut.ensures.value) h)
+
 pub returns-clause-err : goal.returns-clause-err
 returns-clause-err g c = IfErr-weaker c.push.result _ _
-    (λ x e. (e.0, sends_nothing c.self.inside.worker c.self.inside.capacity c.self.inside.outs.items c.self.inside.ins.items c.args.self.now c.self.view_is c.args.to c.index_mut.result.now c.push.new.lane (within_outs c.self.inside.worker c.self.inside.capacity c.self.inside.outs.items c.self.inside.ins.items c.args.self.now c.self.view_is c.args.to c.requires.other.0) c.index_mut.ensures.value c.push.ensures.ring e.1)) c.push.ensures.err
+    (λ x e. (e.0.0, sends_nothing c.self.inside.worker c.self.inside.capacity c.self.inside.outs.items c.self.inside.ins.items c.args.self.now c.self.view_is c.args.to c.index_mut.result.now c.push.new.lane (within_outs c.self.inside.worker c.self.inside.capacity c.self.inside.outs.items c.self.inside.ins.items c.args.self.now c.self.view_is c.args.to c.requires.other.0) c.index_mut.ensures.value c.push.ensures.ring e.0.1 (e.1.1 ∙ sym e.1.0)))
+    (err_too _ _ c.push.result c.push.ensures.err c.push.ensures.full)
 
 pub returns-clause-succeeds : goal.returns-clause-succeeds
 returns-clause-succeeds g c =
