@@ -7,8 +7,8 @@ use Rattle.std.specs.declared.alloc.Global.{Global}
 use Rattle.rtrb.specs.declared.AnyItems.{AnyItems}
 use Rattle.rtrb.specs.declared.producer.Producer.{Producer}
 use Rattle.rtrb.specs.declared.consumer.Consumer.{Consumer}
-use Rattle.rw_exchange.specs.Rings.{Ring, out_ring, in_ring, push_each, AllButOwn, cell, AreCrossed}
-use Rattle.rw_exchange.specs.Ports.{PortState, IsOpening, outs_of, intos_of}
+use Rattle.rw_exchange.specs.Rings.{Ring, out_ring, in_ring, out_free, KnowsFree, push_each, AllButOwn, cell, AreCrossed}
+use Rattle.rw_exchange.specs.Ports.{PortState, IsOpening, IsOther, free_to, outs_of, intos_of}
 use Rattle.rw_exchange.proofs.Tables.{length-push_each}
 
 -- the last of a list that is one longer than n, or one before it
@@ -97,6 +97,18 @@ pub all_nothing : {A X : Type 0} (f : A → List X) (xs : List A) → All (λ x.
 all_nothing f [] all k = refl
 all_nothing f (x ∷ xs) all zero = All-head (λ x. f x ≡ []) x xs all
 all_nothing f (x ∷ xs) all (suc k) = all_nothing f xs (All-tail (λ x. f x ≡ []) x xs all) k
+
+module _ {T : Type 0} where
+  free_is : (n : ℕ) (x : Option (Producer T Global AnyItems)) → KnowsFree n x → IsSome x → out_free x ≡ n
+  free_is n None h some = absurd (cc)
+  free_is n (Some p) h some = h
+
+  -- what a new port knows to be free
+  pub all_free : (n : ℕ) (outs : List (Option (Producer T Global AnyItems))) (p : PortState T) → All (KnowsFree n) outs → p.out ≡ map out_ring outs → p.free ≡ map out_free outs
+      → ((k : ℕ) → k < length outs → k ≢ p.worker → IsSome (get_or outs k None)) → (k : ℕ) → IsOther p k → free_to p k ≡ n
+  all_free n outs p all out free some k other =
+      let lt : k < length outs = subst (λ z. k < z) (ap length out ∙ length-map outs out_ring) other.0 in
+      ap (λ z. get_or z k 0) free ∙ (get_or-map out_free outs k None 0 lt ∙ free_is n (get_or outs k None) (all k None lt) (some k lt other.1))
 
 -- the next of a list that is walked
 pub next_is : {A B : Type 0} (f : A → B) (done whole : List B) (rest rest' : List A) (x : A) (n : ℕ) (d : B) → done ++ map f rest ≡ whole → rest ≡ x ∷ rest' → length done ≡ n → get_or whole n d ≡ f x

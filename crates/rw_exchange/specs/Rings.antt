@@ -43,6 +43,11 @@ module _ {T : Type 0} where
   HasCapacity n None = Unit {0}
   HasCapacity n (Some p) = ring.producer_capacity p ≡ n
 
+  -- all n slots of the ring, where there is one, are known to be free
+  abbrev pub KnowsFree : ℕ → Option (Producer T Global AnyItems) → Type 0
+  KnowsFree n None = Unit {0}
+  KnowsFree n (Some p) = ring.known_free p ≡ n
+
   -- an end through which nothing went
   abbrev pub NothingSent : Option (Producer T Global AnyItems) → Type 0
   NothingSent x = out_sent x ≡ []

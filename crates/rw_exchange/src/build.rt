@@ -1,6 +1,6 @@
 //! The rings of an opening, before they are dealt to ports.
 ghost use Rattle.std.specs.Prelude.{◌≡◌, ◌≢◌, ℕ, ◌+◌, ◌≤◌, ◌<◌, ◌==◌, not, [], ◌∷◌, ◌++◌, length, map, slice_set, slice_index_or, is_some, All, IfOk, OnOk, vec_len};
-ghost use Rattle.rw_exchange.specs.Rings.{out_ring, in_ring, out_rings, in_table, HasCapacity, NothingSent, NothingReceived, AllButOwn, push_each};
+ghost use Rattle.rw_exchange.specs.Rings.{out_ring, in_ring, out_rings, in_table, HasCapacity, KnowsFree, NothingSent, NothingReceived, AllButOwn, push_each};
 
 use rtrb::{Consumer, Producer, RingBuffer};
 use rw_vt::NoMemory;
@@ -14,6 +14,7 @@ fn ends<T: Drop>(
 ) -> Result<(Option<Producer<T>>, Option<Consumer<T>>), NoMemory>
     ensures ring { IfOk result (λ r. (out_ring r.0 ≡ in_ring r.1) × (is_some (out_ring r.0) ≡ wanted)) }
     ensures capacity { IfOk result (λ r. HasCapacity capacity r.0) }
+    ensures free { IfOk result (λ r. KnowsFree capacity r.0) }
     ensures new { IfOk result (λ r. NothingSent r.0 × NothingReceived r.1) }
 {
     if !wanted {
@@ -52,6 +53,7 @@ pub(crate) fn row<T: Drop>(
     ensures rings { IfOk result (λ r. in_table columns.new.items ≡ push_each (in_table columns.old.items) (out_rings r.items)) }
     ensures others { IfOk result (λ r. AllButOwn own (out_rings r.items)) }
     ensures capacity { IfOk result (λ r. All (HasCapacity capacity) r.items) }
+    ensures free { IfOk result (λ r. All (KnowsFree capacity) r.items) }
     ensures sent { IfOk result (λ r. All NothingSent r.items) }
     ensures received { IfOk result (λ r. All (λ c. All NothingReceived c.items) columns.new.items) }
 {

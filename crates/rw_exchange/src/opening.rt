@@ -1,7 +1,7 @@
 //! The ports of an opening.
 ghost use Rattle.std.specs.Prelude.{◌≡◌, ℕ, ◌+◌, ◌≤◌, ◌<◌, [], length, map, All, IfOk, vec_len};
-ghost use Rattle.rw_exchange.specs.Ports.{IsNew, IsOpening, StayAnOpening};
-ghost use Rattle.rw_exchange.specs.Rings.{out_table, in_table, HasCapacity, NothingSent, NothingReceived, AreCrossed};
+ghost use Rattle.rw_exchange.specs.Ports.{IsNew, IsOpening, IsOther, StayAnOpening, free_to};
+ghost use Rattle.rw_exchange.specs.Rings.{out_table, in_table, HasCapacity, KnowsFree, NothingSent, NothingReceived, AreCrossed};
 
 use crate::Port;
 use crate::build::row;
@@ -28,6 +28,7 @@ fn tables<T: Drop>(
 ) -> Result<(Vec<Vec<Option<Producer<T>>>>, Vec<Vec<Option<Consumer<T>>>>), NoMemory>
     ensures crossed { IfOk result (λ r. AreCrossed count count (out_table r.0.items) (in_table r.1.items)) }
     ensures capacity { IfOk result (λ r. All (λ v. All (HasCapacity capacity) v.items) r.0.items) }
+    ensures free { IfOk result (λ r. All (λ v. All (KnowsFree capacity) v.items) r.0.items) }
     ensures sent { IfOk result (λ r. All (λ v. All NothingSent v.items) r.0.items) }
     ensures received { IfOk result (λ r. All (λ v. All NothingReceived v.items) r.1.items) }
 {
@@ -40,7 +41,7 @@ fn tables<T: Drop>(
 }
 
 /// One port for each of 1 to 16 workers, in order, with a ring of 1 to 4096 slots for each ordered pair of different
-/// workers.
+/// workers. Each port knows that all slots of its rings are free.
 ///
 /// Refused only where memory is. All memory of the rings is taken here.
 pub fn open<B: Copy>(
@@ -55,6 +56,7 @@ pub fn open<B: Copy>(
     ensures stays { IfOk result (λ ports. StayAnOpening ports.items) }
     ensures new { IfOk result (λ ports. All IsNew ports.items) }
     ensures capacity { IfOk result (λ ports. All (λ port. port.capacity ≡ capacity) ports.items) }
+    ensures free { IfOk result (λ ports. All (λ port. (k : ℕ) → IsOther port k → free_to port k ≡ capacity) ports.items) }
 {
     let (rows, columns) = tables(alloc, workers, capacity)?;
     let mut columns = columns.into_iter();

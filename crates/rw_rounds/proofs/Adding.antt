@@ -7,7 +7,7 @@ use Rattle.rw_vt.specs.declared.event.Letter.{Letter}
 use Rattle.rw_vt.specs.System.{System}
 use Rattle.rw_lp.specs.Process.{Process}
 use Rattle.rw_lp.specs.Calls.{LogicalProcess}
-use Rattle.rw_exchange.specs.Ports.{PortState, SamePort, sent_to, received_from, having_sent, having_received}
+use Rattle.rw_exchange.specs.Ports.{PortState, SamePort, sent_to, free_to, received_from, having_sent, having_received}
 use Rattle.rw_board.specs.Seats.{having_noted}
 use Rattle.rw_rounds.specs.Bags.{weigh, only, Every, total}
 use Rattle.rw_rounds.specs.Deeds.{Deed, Arrival, Undoing, Execution, Did, Goes, arrivals, executions}
@@ -53,8 +53,8 @@ module _ {T : Type 0} where
           ∙ sym (append-nil (slice_index_or rows j []))
           ∙ ap (λ l. slice_index_or rows j [] ++ l) (sym (at_other k j (x ∷ []) n))
 
-  pub sent_at : (p : PortState T) (k j : ℕ) (x : T) → k < length p.sent → sent_to (having_sent p k x) j ≡ sent_to p j ++ at_only k (x ∷ []) j
-  sent_at p k j x h = put_at p.sent k j x h
+  pub sent_at : (p : PortState T) (k j : ℕ) (x : T) (free : ℕ) → k < length p.sent → sent_to (having_sent p k x free) j ≡ sent_to p j ++ at_only k (x ∷ []) j
+  sent_at p k j x free h = put_at p.sent k j x h
 
   pub received_at : (p : PortState T) (k j : ℕ) (x : T) → k < length p.received → received_from (having_received p k x) j ≡ received_from p j ++ at_only k (x ∷ []) j
   received_at p k j x h = put_at p.received k j x h
@@ -282,7 +282,7 @@ module _ {M S B : Type 0} (y : System S B) (r : Role) where
   module _ (a b : WorkerState M S B) (before : a.role ≡ r) (after : b.role ≡ r) (inbox : b.inbox ≡ a.inbox) where
     module _ (l : Letter B) (other : is_own r l ≡ false) (processes : b.processes ≡ a.processes) (aside : b.aside ≡ a.aside) where
       -- the letter was pushed, and its time was noted
-      pub works_sent : (within : owner r l < r.plan.workers) (wide : length a.port.sent ≡ r.plan.workers) → b.kept ≡ a.kept → b.port ≡ having_sent a.port (owner r l) l → SamePort a.port b.port → b.seat ≡ having_noted a.seat l.event.time → Works y r a b (l ∷ []) [] 0
+      pub works_sent : (within : owner r l < r.plan.workers) (wide : length a.port.sent ≡ r.plan.workers) → b.kept ≡ a.kept → b.port ≡ having_sent a.port (owner r l) l (free_to b.port (owner r l)) → SamePort a.port b.port → b.seat ≡ having_noted a.seat l.event.time → Works y r a b (l ∷ []) [] 0
       works_sent within wide kept port same_port seat = record {
         before = before;
         after = after;
@@ -296,7 +296,7 @@ module _ {M S B : Type 0} (y : System S B) (r : Role) where
         received = λ k. [];
         noted = l.event.time ∷ [];
         goes = (ap (process_at r) processes, refl);
-        sent_more = λ k. ap (λ p. sent_to p k) port ∙ sent_at a.port (owner r l) k l (omega arith);
+        sent_more = λ k. ap (λ p. sent_to p k) port ∙ sent_at a.port (owner r l) k l (free_to b.port (owner r l)) (omega arith);
         received_more = λ k. ap (λ p. received_from p k) port ∙ sym (append-nil (received_from a.port k));
         noted_more = ap (λ s. s.noted) seat;
         arrived = λ h. (let o = only_other r h l other in omega (arith, none_at r, o.0));

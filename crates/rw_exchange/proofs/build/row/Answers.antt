@@ -1,7 +1,7 @@
 use Rattle.std.proofs.Common.{rules, ◌≡◌, ◌<◌, List, [], ◌∷◌, ◌++◌, length, subst, sym, ap, ◌∙◌, arith, set, get_or, not, ◌==◌}
 use Rattle.std.proofs.lemmas.List.{map_push, length-map}
 use Rattle.std.proofs.lemmas.List.Elements.{All-nil, All-same, All-push}
-use Rattle.rw_exchange.specs.Rings.{out_ring, out_rings, in_rings, in_table, push_each, AllButOwn, HasCapacity, NothingSent}
+use Rattle.rw_exchange.specs.Rings.{out_ring, out_rings, in_rings, in_table, push_each, AllButOwn, HasCapacity, KnowsFree, NothingSent}
 use Rattle.rw_exchange.proofs.Tables.{push_none, row_more, all_but_more}
 use Rattle.rw_exchange.proofs.build.row.Goals as goal
 
@@ -15,6 +15,7 @@ loop-k-init g c =
       rings = sym (ap (λ xs. push_each (in_table c.args.columns.now.items) (out_rings xs)) none ∙ push_none (in_table c.args.columns.now.items));
       others = subst (λ xs. AllButOwn c.args.own (out_rings xs)) (sym none) (λ k lt. absurd (omega arith));
       capacity = All-same (HasCapacity c.args.capacity) _ _ none (All-nil (HasCapacity c.args.capacity));
+      free = All-same (KnowsFree c.args.capacity) _ _ none (All-nil (KnowsFree c.args.capacity));
       sent = All-same NothingSent _ _ none (All-nil NothingSent);
       received = c.requires;
     }
@@ -37,6 +38,7 @@ loop-k-preserved g c =
           ∙ ap (push_each (in_table c.args.columns.now.items)) (sym rings);
       others = subst (AllButOwn c.args.own) (sym rings) (all_but_more c.args.own (out_rings xs) (out_ring x) inv.others (c.in_ok-producer.ensures.ring.1 ∙ ap (λ n. not (n == c.args.own)) (sym long)));
       capacity = All-same (HasCapacity c.args.capacity) _ _ items (All-push (HasCapacity c.args.capacity) xs x inv.capacity c.in_ok-producer.ensures.capacity);
+      free = All-same (KnowsFree c.args.capacity) _ _ items (All-push (KnowsFree c.args.capacity) xs x inv.free c.in_ok-producer.ensures.free);
       sent = All-same NothingSent _ _ items (All-push NothingSent xs x inv.sent c.in_ok-producer.ensures.new.0);
       received = c.in_ok-push_at.ensures.received c.in_ok-producer.ensures.new.1 inv.received;
     }

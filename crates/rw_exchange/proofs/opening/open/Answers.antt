@@ -1,11 +1,13 @@
-use Rattle.std.proofs.Common.{◌≡◌, ◌<◌, [], ◌∷◌, ◌++◌, length, All, sym, ap, ◌∙◌, arith, get_or}
+use Rattle.std.proofs.Common.{◌≡◌, ◌≢◌, ℕ, ◌<◌, [], ◌∷◌, ◌++◌, length, All, sym, ap, ◌∙◌, arith, get_or, None, IsSome}
 use Rattle.std.proofs.lemmas.List.{length-map, nil_from_length}
 use Rattle.std.proofs.lemmas.List.Elements.{All-head, All-tail, All-same, All-push}
-use Rattle.rw_exchange.specs.Ports.{outs_of, intos_of, IsNew}
-use Rattle.rw_exchange.specs.Rings.{out_ring, in_ring, out_rings, in_rings, out_table, in_table, out_sent, in_received, HasCapacity, NothingSent, NothingReceived}
-use Rattle.rw_exchange.proofs.Crossing.{next_is, moves_on, all_walked, numbered_more, opening_of, ends_fit, all_nothing}
+use Rattle.rw_exchange.specs.Ports.{outs_of, intos_of, IsNew, IsOther, free_to}
+use Rattle.rw_exchange.specs.Rings.{out_ring, in_ring, out_rings, in_rings, out_table, in_table, out_sent, in_received, HasCapacity, KnowsFree, NothingSent, NothingReceived}
+use Rattle.rw_exchange.proofs.Crossing.{next_is, moves_on, all_walked, numbered_more, opening_of, ends_fit, all_nothing, all_free}
 use Rattle.rw_exchange.proofs.Kept.{stay}
+use Rattle.rw_exchange.proofs.opening.open.Given as given
 use Rattle.rw_exchange.proofs.opening.open.Goals as goal
+use Rattle.rw_exchange.proofs.opening.open.Goals.{After-len}
 
 pub of-port-requires-clause-same : goal.of-port-requires-clause-same
 of-port-requires-clause-same g c =
@@ -22,8 +24,9 @@ of-port-requires-clause-same g c =
     let fit = ends_fit c.args.workers c.len.result (out_table rows) (in_table cols) c.in-Some.outs.items c.in-Some-next.ins.items c.in_ok-rows.ensures.crossed within row column in
     fit.1 ∙ sym fit.0
 
-pub of-port-requires-clause-others : goal.of-port-requires-clause-others
-of-port-requires-clause-others g c =
+-- a port has both ends of the rings to and from each other worker
+others_there : (g : given.Over) (c : After-len g) → (k : ℕ) → k < length c.in-Some.outs.items → k ≢ c.len.result → IsSome (get_or c.in-Some.outs.items k None) × IsSome (get_or c.in-Some-next.ins.items k None)
+others_there g c =
     let inv = c.loop-outs.invariant in
     let ports = c.loop-outs.ports.items in
     let rows = c.in_ok-rows.rows.items in
@@ -36,6 +39,9 @@ of-port-requires-clause-others g c =
     let column = next_is (λ v. in_rings v.items) (intos_of ports) (in_table cols) c.loop-outs.columns.rest.items c.next-in-loop-outs.new.self.rest.items c.in-Some-next.ins c.len.result [] into c.in-Some-next.ensures.items (length-map ports (λ f. f.into) ∙ count) in
     (ends_fit c.args.workers c.len.result (out_table rows) (in_table cols) c.in-Some.outs.items c.in-Some-next.ins.items c.in_ok-rows.ensures.crossed within row column).2
 
+pub of-port-requires-clause-others : goal.of-port-requires-clause-others
+of-port-requires-clause-others g c = others_there g (goal.at.of-port-requires-clause-others g c).After-len
+
 pub loop-outs-preserved : goal.loop-outs-preserved
 loop-outs-preserved g c =
     let inv = c.loop-outs.invariant in
@@ -46,6 +52,7 @@ loop-outs-preserved g c =
     let q : c.loop-outs.columns.rest.items ≡ ins ∷ c.next-in-loop-outs.new.self.rest.items = c.in-Some-next.ensures.items in
     let more : c.push_reserved.new.self.items ≡ ports ++ c.of-port.result ∷ [] = c.push_reserved.ensures.items in
     let some_sent : All NothingSent outs.items = All-head (λ v. All NothingSent v.items) outs c.next.new.self.rest.items (All-same (λ v. All NothingSent v.items) _ _ (sym r) inv.sent) in
+    let some_free : All (KnowsFree c.args.capacity) outs.items = All-head (λ v. All (KnowsFree c.args.capacity) v.items) outs c.next.new.self.rest.items (All-same (λ v. All (KnowsFree c.args.capacity) v.items) _ _ (sym r) inv.free) in
     let some_got : All NothingReceived ins.items = All-head (λ v. All NothingReceived v.items) ins c.next-in-loop-outs.new.self.rest.items (All-same (λ v. All NothingReceived v.items) _ _ (sym q) inv.received) in
     record {
       room = c.push_reserved.ensures.capacity ∙ inv.room;
@@ -59,11 +66,14 @@ loop-outs-preserved g c =
         (λ k. ap (λ z. get_or z k []) c.of-port.ensures.lists.1 ∙ all_nothing in_received ins.items some_got k),
       ));
       same = All-same (λ p. p.capacity ≡ c.args.capacity) _ _ more (All-push (λ p. p.capacity ≡ c.args.capacity) ports c.of-port.result inv.same c.of-port.ensures.numbers.1);
+      knows = All-same (λ p. (k : ℕ) → IsOther p k → free_to p k ≡ c.args.capacity) _ _ more (All-push (λ p. (k : ℕ) → IsOther p k → free_to p k ≡ c.args.capacity) ports c.of-port.result inv.knows
+          (all_free c.args.capacity outs.items c.of-port.result some_free c.of-port.ensures.rings.0 c.of-port.ensures.free (λ k lt other. (others_there g (goal.at.loop-outs-preserved g c).After-len k lt (λ e. other (e ∙ sym c.of-port.ensures.numbers.0))).0)));
       lists = All-same (λ p. (length p.sent ≡ length p.out) × (length p.received ≡ length p.into)) _ _ more (All-push (λ p. (length p.sent ≡ length p.out) × (length p.received ≡ length p.into)) ports c.of-port.result inv.lists (
         ap length c.of-port.ensures.lists.0 ∙ (length-map outs.items out_sent ∙ (sym (length-map outs.items out_ring) ∙ ap length (sym c.of-port.ensures.rings.0))),
         ap length c.of-port.ensures.lists.1 ∙ (length-map ins.items in_received ∙ (sym (length-map ins.items in_ring) ∙ ap length (sym c.of-port.ensures.rings.1))),
       ));
       capacity = All-tail (λ v. All (HasCapacity c.args.capacity) v.items) outs _ (All-same (λ v. All (HasCapacity c.args.capacity) v.items) _ _ (sym r) inv.capacity);
+      free = All-tail (λ v. All (KnowsFree c.args.capacity) v.items) outs _ (All-same (λ v. All (KnowsFree c.args.capacity) v.items) _ _ (sym r) inv.free);
       sent = All-tail (λ v. All NothingSent v.items) outs _ (All-same (λ v. All NothingSent v.items) _ _ (sym r) inv.sent);
       received = All-tail (λ v. All NothingReceived v.items) ins _ (All-same (λ v. All NothingReceived v.items) _ _ (sym q) inv.received);
     }

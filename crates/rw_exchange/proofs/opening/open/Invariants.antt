@@ -1,6 +1,6 @@
 use Rattle.std.proofs.Common.{◌≡◌, ℕ, ◌+◌, ◌++◌, ◌<◌, All, length, vec_len, vec_capacity, slice_index_or}
-use Rattle.rw_exchange.specs.Ports.{IsNew, outs_of, intos_of}
-use Rattle.rw_exchange.specs.Rings.{out_table, in_table, HasCapacity, NothingSent, NothingReceived}
+use Rattle.rw_exchange.specs.Ports.{IsNew, IsOther, outs_of, intos_of, free_to}
+use Rattle.rw_exchange.specs.Rings.{out_table, in_table, HasCapacity, KnowsFree, NothingSent, NothingReceived}
 use Rattle.rw_exchange.proofs.opening.open.Given as goal
 
 abbrev pub invariant-loop-outs : goal.invariant-loop-outs
@@ -13,8 +13,10 @@ invariant-loop-outs g l = record {
   numbered : (i : ℕ) (d : _) → i < length l.ports.items → (slice_index_or l.ports.items i d).worker ≡ i;
   new : All IsNew l.ports.items;
   same : All (λ p. p.capacity ≡ l.capacity) l.ports.items;
+  knows : All (λ p. (k : ℕ) → IsOther p k → free_to p k ≡ l.capacity) l.ports.items;
   lists : All (λ p. (length p.sent ≡ length p.out) × (length p.received ≡ length p.into)) l.ports.items;
   capacity : All (λ v. All (HasCapacity l.capacity) v.items) l.outs-iterator.rest.items;
+  free : All (λ v. All (KnowsFree l.capacity) v.items) l.outs-iterator.rest.items;
   sent : All (λ v. All NothingSent v.items) l.outs-iterator.rest.items;
   received : All (λ v. All NothingReceived v.items) l.columns.rest.items;
 }
