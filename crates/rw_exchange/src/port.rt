@@ -97,7 +97,8 @@ impl<B: Copy> Port<B> {
     /// Sends a letter to another worker, or hands it back where the port knows of no free slot on the ring to it.
     ///
     /// A letter takes one of the slots that are known to be free, and the port may learn of more. It succeeds while fewer
-    /// letters were sent to that worker in all than the ring has slots. Takes no memory and never waits.
+    /// letters were sent to that worker in all than the ring has slots. That a slot which the receiver frees is seen is
+    /// tested, not proved. Takes no memory and never waits.
     pub fn send(&mut self, to: usize, letter: Letter<B>) -> Result<(), Letter<B>>
         requires other { IsOther self.old to }
         ensures ok { OnOk result (self.new ≡ having_sent self.old to letter (free_to self.new to)) }
