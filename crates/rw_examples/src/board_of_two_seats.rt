@@ -1,5 +1,7 @@
 // A board of two seats: what each reads, and what closing gives.
-use rw_board::{close, open};
+ghost use Rattle.std.specs.Prelude.{◌≡◌};
+
+use rw_board::{Board, Seat, close, open};
 use rw_vt::END;
 use std::test::Fail;
 
@@ -18,6 +20,22 @@ fn closes_at_the_least_note_of_two_seats(rt: HostRuntime) -> Result<(), Fail> {
 fn closes_at_the_end_without_a_note(rt: HostRuntime) -> Result<(), Fail> {
     let (board, seats) = open(rt.alloc(), 2)?;
     assert_eq!(rt; close(board, seats), 1099511627776);
+    Ok(())
+}
+
+// Notes a time and reads the board. Its signature is the point: it is given a board and a seat, and no handle of the runtime.
+// What may wait, as for a lock, would need one, so no lock is round the board.
+fn note_and_read(board: &Board, seat: &mut Seat, time: u64) -> u64
+    requires board { seat.old.board ≡ board.now.board }
+{
+    board.note(seat, time);
+    board.floor(seat)
+}
+
+#[test]
+fn notes_and_reads_without_a_handle(rt: HostRuntime) -> Result<(), Fail> {
+    let (board, mut seats) = open(rt.alloc(), 1)?;
+    assert_eq!(rt; note_and_read(&board, &mut seats[0], 9), 9);
     Ok(())
 }
 

@@ -218,7 +218,8 @@ impl Trader {
     }
 }
 
-// All that one worker does, in its thread.
+// All that one worker does, in its thread. Its signature is a point too: it sends and receives with its port and no handle of
+// the runtime. What may wait, as for a lock, would need one, so no lock is round the ports.
 fn trade(alloc: Global, port: Port<u64>) -> Result<Trader, NoMemory>
     ensures same { IfOk result (λ t. SamePort port t.port) }
 {
