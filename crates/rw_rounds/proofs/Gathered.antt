@@ -21,7 +21,7 @@ use Rattle.rw_rounds.specs.Turns.{WorkerState, StandsSound, TookTurns}
 use Rattle.rw_rounds.specs.Rounds.{role, Begins, Closes, TookRound}
 use Rattle.rw_rounds.specs.Seated.{IsSeated}
 use Rattle.rw_rounds.proofs.Governing.{Laws}
-use Rattle.rw_rounds.proofs.Sums.{total_same, weigh-append}
+use Rattle.rw_rounds.proofs.Sums.{total_add, weigh-append}
 use Rattle.rw_rounds.proofs.ByPlace.{get_within}
 use Rattle.rw_rounds.proofs.Beginning.{as_many, begins_fit}
 use Rattle.rw_rounds.proofs.Hands.{AreDealt, get_there, get_past}
@@ -240,9 +240,10 @@ module _ {M S B U : Type 0} {model : Ghosts M S B U} {order : B → B → Orderi
           let e : get_or seats' i d.seat ≡ (get_or ws' i d).seat = ap (λ z. get_or z i d.seat) is ∙ get_or-map (λ w. w.seat) ws' i d d.seat within in
           every_from_least l (get_or ws' i d).seat.noted (subst (λ s. l ≤ least s.noted) e (all i d.seat (subst (λ n. i < n) (sym (ap length is ∙ length-map ws' (λ w. w.seat))) within)))
 
-      pub kept_after : (h : Letter B → ℕ) (kept : List (Letter B)) (d : WorkerState M S B) → kept ≡ flatten (map (λ w. w.kept ++ w.aside) ws') → weigh h kept ≡ total plan.workers (λ i. weigh h (get_or ws' i d).kept + weigh h (get_or ws' i d).aside)
-      kept_after h kept d is =
-          ap (weigh h) is
-          ∙ weigh_flatten h (λ w. w.kept ++ w.aside) ws' d
-          ∙ ap (λ n. total n (λ i. weigh h ((get_or ws' i d).kept ++ (get_or ws' i d).aside))) (took.long ∙ up.many)
-          ∙ total_same plan.workers (λ i. weigh h ((get_or ws' i d).kept ++ (get_or ws' i d).aside)) (λ i. weigh h (get_or ws' i d).kept + weigh h (get_or ws' i d).aside) (λ i l. weigh-append h (get_or ws' i d).kept (get_or ws' i d).aside)
+      pub kept_after : (h : Letter B → ℕ) (kept aside : List (List (Letter B))) (d : WorkerState M S B) → kept ≡ map (λ w. w.kept) ws' → aside ≡ map (λ w. w.aside) ws'
+          → weigh h (flatten kept) + weigh h (flatten aside) ≡ total plan.workers (λ i. weigh h (get_or ws' i d).kept + weigh h (get_or ws' i d).aside)
+      kept_after h kept aside d is too =
+          let many : length ws' ≡ plan.workers = took.long ∙ up.many in
+          let k : weigh h (flatten kept) ≡ total plan.workers (λ i. weigh h (get_or ws' i d).kept) = ap (λ z. weigh h (flatten z)) is ∙ weigh_flatten h (λ w. w.kept) ws' d ∙ ap (λ n. total n (λ i. weigh h (get_or ws' i d).kept)) many in
+          let a : weigh h (flatten aside) ≡ total plan.workers (λ i. weigh h (get_or ws' i d).aside) = ap (λ z. weigh h (flatten z)) too ∙ weigh_flatten h (λ w. w.aside) ws' d ∙ ap (λ n. total n (λ i. weigh h (get_or ws' i d).aside)) many in
+          omega (arith, k, a, total_add plan.workers (λ i. weigh h (get_or ws' i d).kept) (λ i. weigh h (get_or ws' i d).aside))

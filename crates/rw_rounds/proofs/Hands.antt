@@ -4,6 +4,7 @@ use Rattle.std.proofs.Common.{◌≡◌, ℕ, zero, suc, ◌+◌, ◌*◌, ◌<�
 use Rattle.std.specs.Prelude.{◌⊎◌, ◌/◌, ◌%◌, ◌==◌, filter, slice_get, slice_set}
 use Rattle.std.proofs.lemmas.Bool.{cases_eq, eq-eqb, ne_eqb}
 use Rattle.std.proofs.lemmas.List.{map-set, get_or-map, get_or-set_same, get_or-set_other, take_more, map_push, nil_from_length}
+use Rattle.rw_vt.specs.System.{flatten}
 use Rattle.std.proofs.lemmas.List.Elements.{filter-append}
 use Rattle.rw_rounds.proofs.ByPlace.{number_place}
 
@@ -224,6 +225,18 @@ module _ {X : Type 0} where
 pub one_done : {A C : Type 0} (h : C → A) (done done' : List C) (rest rest' whole : List A) (x : A) (p : C) → map h done ++ rest ≡ whole → rest ≡ x ∷ rest' → h p ≡ x → done' ≡ done ++ p ∷ [] → map h done' ++ rest' ≡ whole
 one_done h done done' rest rest' whole x p e r same more =
     ap (λ z. map h z ++ rest') more ∙ (ap (λ z. z ++ rest') (map_push h done p) ∙ (append_assoc (map h done) (h p ∷ []) rest' ∙ (ap (λ z. map h done ++ (z ∷ rest')) same ∙ (ap (λ z. map h done ++ z) (sym r) ∙ e))))
+
+-- a piece more is done, of a list that is walked
+pub piece_done : {A : Type 0} (done done' rest rest' whole piece : List A) → done ++ rest ≡ whole → rest ≡ piece ++ rest' → done' ≡ done ++ piece → done' ++ rest' ≡ whole
+piece_done done done' rest rest' whole piece e r more = ap (λ z. z ++ rest') more ∙ (append_assoc done piece rest' ∙ (ap (λ z. done ++ z) (sym r) ∙ e))
+
+flatten_push : {A X : Type 0} (f : A → List X) (xs : List A) (x : A) → flatten (map f (xs ++ x ∷ [])) ≡ flatten (map f xs) ++ f x
+flatten_push f [] x = append-nil (f x)
+flatten_push f (y ∷ ys) x = ap (λ z. f y ++ z) (flatten_push f ys x) ∙ sym (append_assoc (f y) (flatten (map f ys)) (f x))
+
+-- one list more is joined, of those that are walked
+pub joined_one : {A X : Type 0} (f : A → List X) (xs : List A) (k : ℕ) (x : A) → k < length xs → x ≡ get_or xs k x → flatten (map f (take (k + 1) xs)) ≡ flatten (map f (take k xs)) ++ f x
+joined_one f xs k x within is = ap (λ z. flatten (map f z)) (take_more xs k x within ∙ ap (λ y. take k xs ++ y ∷ []) (sym is)) ∙ flatten_push f (take k xs) x
 
 -- all are done
 pub all_walked : {A : Type 0} (done rest whole : List A) → done ++ rest ≡ whole → length rest ≡ 0 → done ≡ whole

@@ -91,7 +91,9 @@ pub(crate) fn set_up<M: VtModel>(
         let Some(seat) = seats.next() else {
             unreachable!()
         };
-        workers.push(Worker::new(alloc, number, plan, processes, inbox, port, seat, collected))?;
+        workers.push_reserved(Worker::new(
+            alloc, number, plan, processes, inbox, port, seat, collected,
+        ));
         number += 1;
     }
     Ok(workers)

@@ -1,9 +1,11 @@
-ghost use Rattle.std.specs.Prelude.{◌≡◌, ◌+◌, ◌/◌, ◌%◌, ◌<◌, ◌++◌, ℕ, [], None, IfOk, OnOk, length, map, slice_get, slice_index_or};
+ghost use Rattle.std.specs.Prelude.{◌≡◌, ◌+◌, ◌/◌, ◌%◌, ◌<◌, ◌++◌, ℕ, [], None, IfOk, OnOk, length, map, slice_get, slice_index_or, vec_capacity};
+ghost use Rattle.std.specs.VecDeque.{deque_capacity};
 ghost use Rattle.rw_vt.specs.declared.event.Letter.{Letter};
 ghost use Rattle.rw_vt.specs.System.{flatten};
 ghost use Rattle.rw_exchange.specs.Ports.{entry};
 ghost use Rattle.rw_rounds.specs.Bags.{weigh, total};
 
+use crate::desk::Desk;
 use crate::traffic::Traffic;
 use crate::worker::Worker;
 use rw_board::Seat;
@@ -22,20 +24,46 @@ pub(crate) fn all_done<M: VtModel>(
 {
     let mut workers = Vec::with_capacity(alloc, results.len())?;
     for worker in results {
-        workers.push(worker?)?;
+        let worker = worker?;
+        workers.push_reserved(worker);
     }
     Ok(workers)
 }
 
-/// What the workers of a round leave.
+/// What the workers of a round leave, by worker.
 #[derive(Drop)]
 pub(crate) struct Leavings<M: VtModel> {
-    /// The processes of each worker, by worker.
+    /// The processes of each.
     pub(crate) hands: VecDeque<VecDeque<Lp<M>>>,
-    /// All letters that they kept or set aside.
-    pub(crate) kept: Vec<Letter<M::Body>>,
+    /// The letters that each kept.
+    pub(crate) kept: Vec<Vec<Letter<M::Body>>>,
+    /// The letters that each set aside.
+    pub(crate) aside: Vec<Vec<Letter<M::Body>>>,
     pub(crate) ports: Vec<Port<M::Body>>,
     pub(crate) seats: Vec<Seat>,
+}
+
+impl<M: VtModel> Leavings<M> {
+    /// Nothing yet, with room for what so many workers leave.
+    fn with_capacity(alloc: Global, workers: usize) -> Result<Leavings<M>, NoMemory>
+        ensures letters { IfOk result (λ l. (l.kept.items ≡ []) × (l.aside.items ≡ [])) }
+        ensures others { IfOk result (λ l. (l.hands.items ≡ []) × (l.ports.items ≡ []) × (l.seats.items ≡ [])) }
+        ensures letters_room { IfOk result (λ l. (vec_capacity l.kept ≡ workers) × (vec_capacity l.aside ≡ workers)) }
+        ensures room { IfOk result (λ l. (deque_capacity l.hands ≡ workers) × (vec_capacity l.ports ≡ workers) × (vec_capacity l.seats ≡ workers)) }
+    {
+        let hands = VecDeque::with_capacity(alloc, workers)?;
+        let kept = Vec::with_capacity(alloc, workers)?;
+        let aside = Vec::with_capacity(alloc, workers)?;
+        let ports = Vec::with_capacity(alloc, workers)?;
+        let seats = Vec::with_capacity(alloc, workers)?;
+        Ok(Leavings {
+            hands,
+            kept,
+            aside,
+            ports,
+            seats,
+        })
+    }
 }
 
 /// Takes the workers apart, and adds what they did to the traffic.
@@ -45,27 +73,32 @@ pub(crate) fn take_apart<M: VtModel>(
     traffic: &mut Traffic,
 ) -> Result<Leavings<M>, NoMemory>
     ensures hands { IfOk result (λ l. map (λ h. h.items) l.hands.items ≡ map (λ w. w.processes) workers.items) }
-    ensures kept { IfOk result (λ l. l.kept.items ≡ flatten (map (λ w. w.kept ++ w.aside) workers.items)) }
+    ensures kept { IfOk result (λ l. map (λ k. k.items) l.kept.items ≡ map (λ w. w.kept) workers.items) }
+    ensures aside { IfOk result (λ l. map (λ a. a.items) l.aside.items ≡ map (λ w. w.aside) workers.items) }
     ensures ports { IfOk result (λ l. l.ports.items ≡ map (λ w. w.port) workers.items) }
     ensures seats { IfOk result (λ l. l.seats.items ≡ map (λ w. w.seat) workers.items) }
 {
-    let mut hands = VecDeque::with_capacity(alloc, workers.len())?;
-    let mut kept = Vec::new(alloc);
-    let mut ports = Vec::with_capacity(alloc, workers.len())?;
-    let mut seats = Vec::with_capacity(alloc, workers.len())?;
+    let mut leavings = Leavings::with_capacity(alloc, workers.len())?;
     for worker in workers {
         traffic.add(&worker.traffic());
-        let (processes, port, seat) = worker.leave(&mut kept)?;
-        hands.push_back(VecDeque::from(processes))?;
-        ports.push(port)?;
-        seats.push(seat)?;
+        let Desk {
+            number: _,
+            plan: _,
+            collected: _,
+            processes,
+            kept,
+            aside,
+            port,
+            seat,
+            traffic: _,
+        } = worker.leave();
+        leavings.hands.push_back_reserved(VecDeque::from(processes));
+        leavings.kept.push_reserved(kept);
+        leavings.aside.push_reserved(aside);
+        leavings.ports.push_reserved(port);
+        leavings.seats.push_reserved(seat);
     }
-    Ok(Leavings {
-        hands,
-        kept,
-        ports,
-        seats,
-    })
+    Ok(leavings)
 }
 
 /// So many processes in the order of their numbers: each worker in turn gives its next one.
@@ -94,20 +127,33 @@ pub(crate) fn join_processes<M: VtModel>(
     Ok(processes)
 }
 
-/// The letters that are on their way: those left in the rings, by sender and then by receiver, and then those kept.
+/// The letters that are on their way: those left in the rings, by sender and then by receiver, those kept, and those set
+/// aside.
 pub(crate) fn join_letters<B: Copy>(
     alloc: Global,
     left: &Left<B>,
-    kept: &[Letter<B>],
+    kept: &[Vec<Letter<B>>],
+    aside: &[Vec<Letter<B>>],
 ) -> Result<Vec<Letter<B>>, NoMemory>
-    ensures all { IfOk result (λ all. (h : Letter B → ℕ) → weigh h all.items ≡ total (length left.now) (λ i. total (length left.now) (λ k. weigh h (entry left.now i k))) + weigh h kept.now) }
+    ensures all { IfOk result (λ all. (h : Letter B → ℕ) → weigh h all.items ≡ total (length left.now) (λ i. total (length left.now) (λ k. weigh h (entry left.now i k))) + weigh h (flatten (map (λ k. k.items) kept.now)) + weigh h (flatten (map (λ a. a.items) aside.now))) }
 {
     let mut letters = Vec::new(alloc);
     for from in 0..left.workers() {
         add_sent(&mut letters, left, from)?;
     }
-    letters.extend_from_slice(kept)?;
+    add_all(&mut letters, kept)?;
+    add_all(&mut letters, aside)?;
     Ok(letters)
+}
+
+/// Adds the letters of all these lists.
+fn add_all<B: Copy>(letters: &mut Vec<Letter<B>>, lists: &[Vec<Letter<B>>]) -> Result<(), NoMemory>
+    ensures more { OnOk result (letters.new.items ≡ letters.old.items ++ flatten (map (λ l. l.items) lists.now)) }
+{
+    for list in lists {
+        letters.extend_from_slice(list)?;
+    }
+    Ok(())
 }
 
 /// Adds the letters that one sender left in the rings.

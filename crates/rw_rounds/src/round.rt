@@ -108,7 +108,7 @@ where
     let left = rw_exchange::settle(alloc, leavings.ports)?;
     let floor = rw_board::close(board, leavings.seats);
     let processes = join_processes(alloc, count, leavings.hands)?;
-    let letters = join_letters(alloc, &left, &leavings.kept)?;
+    let letters = join_letters(alloc, &left, &leavings.kept, &leavings.aside)?;
     traffic.rounds = traffic.rounds.wrapping_add(1);
     let parts = Parts {
         model,

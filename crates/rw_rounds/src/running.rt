@@ -67,12 +67,13 @@ fn outcome<M: VtModel + Drop>(alloc: Global, world: World<M>) -> Result<Outcome<
     // What the world promises of every world of the model.
     every_sound_world::<M>();
     let parts = world.take();
-    let mut journals = Vec::with_capacity(alloc, parts.processes.len())?;
-    let mut states = Vec::with_capacity(alloc, parts.processes.len())?;
+    let count = parts.processes.len();
+    let mut journals = Vec::with_capacity(alloc, count)?;
+    let mut states = Vec::with_capacity(alloc, count)?;
     for process in parts.processes {
         let (journal, state) = process.into_outcome();
-        journals.push(journal)?;
-        states.push(state)?;
+        journals.push_reserved(journal);
+        states.push_reserved(state);
     }
     Ok(Outcome { journals, states })
 }

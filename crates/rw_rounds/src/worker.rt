@@ -1,4 +1,4 @@
-ghost use Rattle.std.specs.Prelude.{◌≡◌, ◌++◌, [], IfOk, OnOk};
+ghost use Rattle.std.specs.Prelude.{◌≡◌, [], IfOk};
 ghost use Rattle.rw_lp.specs.Calls.{rules};
 ghost use Rattle.rw_rounds.specs.Rounds.{Closes};
 ghost use Rattle.rw_rounds.specs.Turns.{IsFit, TookTurn};
@@ -9,7 +9,7 @@ use crate::traffic::Traffic;
 use rw_board::{Board, Seat};
 use rw_exchange::Port;
 use rw_lp::Lp;
-use rw_vt::{Letter, Model as VtModel, NoMemory, Refusal};
+use rw_vt::{Letter, Model as VtModel, Refusal};
 use std::alloc::Global;
 use std::marker::Model;
 
@@ -105,32 +105,16 @@ impl<M: VtModel> Worker<M> {
         Worker { desk, inbox }
     }
 
-    /// The worker's processes, its port and its seat. The letters that it kept, and then those that it set aside, are
-    /// appended to `letters`.
-    pub(crate) fn leave(
-        self,
-        letters: &mut Vec<Letter<M::Body>>,
-    ) -> Result<(Vec<Lp<M>>, Port<M::Body>, Seat), NoMemory>
-        ensures processes { IfOk result (λ r. r.0.items ≡ self.processes) }
-        ensures port { IfOk result (λ r. r.1 ≡ self.port) }
-        ensures seat { IfOk result (λ r. r.2 ≡ self.seat) }
-        ensures letters { OnOk result (letters.new.items ≡ letters.old.items ++ (self.kept ++ self.aside)) }
+    /// What the worker worked on. Takes no memory.
+    pub(crate) fn leave(self) -> Desk<M>
+        ensures processes { result.processes.items ≡ self.processes }
+        ensures kept { result.kept.items ≡ self.kept }
+        ensures aside { result.aside.items ≡ self.aside }
+        ensures port { result.port ≡ self.port }
+        ensures seat { result.seat ≡ self.seat }
     {
         let Worker { desk, inbox: _ } = self;
-        let Desk {
-            number: _,
-            plan: _,
-            collected: _,
-            processes,
-            mut kept,
-            mut aside,
-            port,
-            seat,
-            traffic: _,
-        } = desk;
-        letters.append(&mut kept)?;
-        letters.append(&mut aside)?;
-        Ok((processes, port, seat))
+        desk
     }
 
     /// The worker's number, from 0. Takes no memory.

@@ -1,4 +1,4 @@
-use Rattle.std.proofs.Common.{◌≡◌, ◌+◌, ◌<◌, ℕ, [], ◌++◌, length, map, All, Some}
+use Rattle.std.proofs.Common.{◌≡◌, ◌+◌, ◌<◌, ℕ, [], ◌++◌, length, map, All, Some, vec_capacity}
 use Rattle.std.specs.Prelude.{slice_get}
 use Rattle.rw_rounds.specs.Rounds.{role}
 use Rattle.rw_rounds.proofs.dealing_out.set_up.Given as goal
@@ -6,6 +6,7 @@ use Rattle.rw_rounds.proofs.dealing_out.set_up.Given as goal
 abbrev pub invariant-loop-processes : goal.invariant-loop-processes
 invariant-loop-processes g l = record {
   as_many : (length l.inboxes.rest.items ≡ length l.processes-iterator.rest.items) × (length l.ports.rest.items ≡ length l.processes-iterator.rest.items) × (length l.seats.rest.items ≡ length l.processes-iterator.rest.items);
+  capacity : vec_capacity l.workers ≡ length l.fn.hands.items;
   room : l.number + length l.processes-iterator.rest.items ≡ length l.fn.hands.items;
   count : length l.workers.items ≡ l.number;
   roles : (i : ℕ) → i < l.number → slice_get (map (λ w. w.role) l.workers.items) i ≡ Some (role l.plan l.collected i);

@@ -1,4 +1,5 @@
-use Rattle.std.proofs.Common.{◌≡◌, ◌+◌, length, ap, ◌∙◌, arith}
+use Rattle.std.proofs.Common.{◌≡◌, ◌+◌, ◌++◌, length, map, ap, ◌∙◌, arith}
+use Rattle.rw_vt.specs.System.{flatten}
 use Rattle.rw_exchange.specs.Ports.{entry}
 use Rattle.rw_rounds.specs.Bags.{weigh, total}
 use Rattle.rw_rounds.proofs.Sums.{weigh-append}
@@ -9,7 +10,10 @@ returns g c = record {
   all = λ h.
       let n = length c.args.left.now in
       let all : c.loop-from.from ≡ n = omega (arith, c.workers-from-end.ensures.count) in
-      ap (weigh h) c.in_ok-extend_from_slice.ensures.items
-      ∙ weigh-append h c.loop-from.letters.items c.args.kept.now
-      ∙ ap (λ w. w + weigh h c.args.kept.now) (c.loop-from.invariant h ∙ ap (λ m. total m (λ i. total n (λ k. weigh h (entry c.args.left.now i k)))) all);
+      let kept = flatten (map (λ k. k.items) c.args.kept.now) in
+      let aside = flatten (map (λ a. a.items) c.args.aside.now) in
+      ap (weigh h) (c.in_ok-add_all-2.ensures.more ∙ ap (λ ls. ls ++ aside) c.in_ok-add_all.ensures.more)
+      ∙ weigh-append h (c.loop-from.letters.items ++ kept) aside
+      ∙ ap (λ w. w + weigh h aside) (weigh-append h c.loop-from.letters.items kept)
+      ∙ ap (λ w. w + weigh h kept + weigh h aside) (c.loop-from.invariant h ∙ ap (λ m. total m (λ i. total n (λ k. weigh h (entry c.args.left.now i k)))) all);
 }

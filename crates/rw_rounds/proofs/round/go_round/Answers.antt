@@ -1,7 +1,8 @@
-use Rattle.std.proofs.Common.{◌≡◌, ◌+◌, ◌<◌, length, map, refl, sym, ap, ◌∙◌, subst, arith, get_or}
+use Rattle.std.proofs.Common.{◌≡◌, ◌+◌, ◌<◌, length, map, refl, sym, ap, ◌∙◌, subst, arith, add_assoc, get_or}
 use denote.Param.Send.{param_send}
 use Rattle.std.specs.Prelude.{filter, ◌%◌, ◌==◌}
 use Rattle.std.proofs.lemmas.List.{length-map}
+use Rattle.rw_vt.specs.System.{flatten}
 use Rattle.rw_exchange.specs.Ports.{entry}
 use Rattle.rw_rounds.specs.Bags.{weigh, total}
 use Rattle.rw_rounds.specs.Rounds.{TookRound}
@@ -121,7 +122,8 @@ returns-clause-round g c =
       processes_are = joined (laws g) c.requires.plan c.requires.whole up took c.in_ok-processes.processes.items hands' d (length c.in_ok-leavings.leavings.hands.items) c.in_ok-leavings.ensures.hands many (c.in_ok-processes.ensures.count ∙ as_many) (λ q within. c.in_ok-processes.ensures.each q (subst (λ n. q < n) (sym as_many) within));
       letters_are = λ h.
           c.in_ok-letters.ensures.all h
-          ∙ ap (λ ls. total (length left) (λ i. total (length left) (λ k. weigh h (entry left i k))) + weigh h ls) c.deref-2.ensures.value
-          ∙ ap (λ n. total n (λ i. total n (λ k. weigh h (entry left i k))) + weigh h c.in_ok-leavings.leavings.kept.items) left_many
-          ∙ ap (λ w. total plan.workers (λ i. total plan.workers (λ k. weigh h (entry left i k))) + w) (kept_after (laws g) c.requires.plan c.requires.whole up took h c.in_ok-leavings.leavings.kept.items d c.in_ok-leavings.ensures.kept);
+          ∙ add_assoc (total (length left) (λ i. total (length left) (λ k. weigh h (entry left i k)))) (weigh h (flatten (map (λ k. k.items) c.deref-2.result.now))) (weigh h (flatten (map (λ a. a.items) c.deref-3.result.now)))
+          ∙ ap (λ n. total n (λ i. total n (λ k. weigh h (entry left i k))) + (weigh h (flatten (map (λ k. k.items) c.deref-2.result.now)) + weigh h (flatten (map (λ a. a.items) c.deref-3.result.now)))) left_many
+          ∙ ap (λ w. total plan.workers (λ i. total plan.workers (λ k. weigh h (entry left i k))) + w) (kept_after (laws g) c.requires.plan c.requires.whole up took h (map (λ k. k.items) c.deref-2.result.now) (map (λ a. a.items) c.deref-3.result.now) d
+          (ap (map (λ k. k.items)) c.deref-2.ensures.value ∙ c.in_ok-leavings.ensures.kept) (ap (map (λ a. a.items)) c.deref-3.ensures.value ∙ c.in_ok-leavings.ensures.aside));
     }
