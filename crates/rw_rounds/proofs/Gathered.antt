@@ -11,7 +11,7 @@ use Rattle.rw_vt.specs.System.{System, flatten}
 use Rattle.rw_lp.specs.Calls.{LogicalProcess, rules}
 use Rattle.rw_world.specs.declared.parts.Parts.{Parts}
 use Rattle.rw_world.specs.Calls.{IsWhole}
-use Rattle.rw_exchange.specs.Ports.{PortState, SamePort, IsNew, IsWide, IsOpening, StayAnOpening, entry, sent_to, received_from, sent_between, received_between}
+use Rattle.rw_exchange.specs.Ports.{PortState, SamePort, IsNew, IsWide, IsOpening, StayAnOpening, sent_to, received_from, sent_between, received_between}
 use Rattle.rw_board.specs.Least.{least}
 use Rattle.rw_board.specs.Seats.{SeatState, BoardState, new_seat}
 use Rattle.rw_rounds.specs.declared.plan.Plan.{Plan}
@@ -88,6 +88,13 @@ weigh_flatten h f (w ∷ ws) d =
     weigh-append h (f w) (flatten (map f ws))
     ∙ ap (λ k. weigh h (f w) + k) (weigh_flatten h f ws d)
     ∙ sym (total_first (length ws) (λ i. weigh h (f (get_or (w ∷ ws) i d))))
+
+-- what each place of the hands holds, by number
+pub same_hands : {V W X : Type 0} (f : V → List X) (k : W → List X) (hands : List V) (ws : List W) → map f hands ≡ map k ws → (q : ℕ)
+    → slice_get (get_or (map f hands) (q % length hands) []) (q / length hands) ≡ slice_get (get_or (map k ws) (q % length ws) []) (q / length ws)
+same_hands f k hands ws is q =
+    ap (λ n. slice_get (get_or (map f hands) (q % n) []) (q / n)) (sym (length-map hands f) ∙ (ap length is ∙ length-map ws k))
+    ∙ ap (λ z. slice_get (get_or z (q % length ws) []) (q / length ws)) is
 
 -- the workers are set up as dealt out
 pub record AreSetUp {M S B U : Type 0} (plan : Plan) (x : Parts M S B U) (ws : List (WorkerState M S B)) (hands : List (List (LogicalProcess M S B))) (boxes : List (List (Letter B))) (ports : List (PortState (Letter B))) (seats : List SeatState) (its : BoardState) : Type 0 where
@@ -226,13 +233,13 @@ module _ {M S B U : Type 0} {model : Ghosts M S B U} {order : B → B → Orderi
           go (inr past) = get_past all q (omega (arith, count, past)) ∙ sym (none_past d q past)
 
       -- what was left on the way between two workers
-      pub settled : (ports' : List (PortState (Letter B))) (left : List (List (List (Letter B)))) (d : WorkerState M S B) → ports' ≡ map (λ w. w.port) ws' → ((i k : ℕ) → i < plan.workers → k < plan.workers → received_between ports' i k ++ entry left i k ≡ sent_between ports' i k)
-          → (i k : ℕ) → i < plan.workers → k < plan.workers → received_from (get_or ws' k d).port i ++ entry left i k ≡ sent_to (get_or ws' i d).port k
+      pub settled : (ports' : List (PortState (Letter B))) (left : ℕ → ℕ → List (Letter B)) (d : WorkerState M S B) → ports' ≡ map (λ w. w.port) ws' → ((i k : ℕ) → i < plan.workers → k < plan.workers → received_between ports' i k ++ left i k ≡ sent_between ports' i k)
+          → (i k : ℕ) → i < plan.workers → k < plan.workers → received_from (get_or ws' k d).port i ++ left i k ≡ sent_to (get_or ws' i d).port k
       settled ports' left d is fifo i k li lk =
           let within : (j : ℕ) → j < plan.workers → j < length ws' = λ j l. subst (λ n. j < n) (sym (took.long ∙ up.many)) l in
           let r : received_between ports' i k ≡ received_from (get_or ws' k d).port i = ap (λ z. get_or (get_or (map (λ p. p.received) z) k []) i []) is ∙ ap (λ z. get_or z i []) (two_maps (λ p. p.received) (λ w. w.port) ws' k d [] (within k lk)) in
           let s : sent_between ports' i k ≡ sent_to (get_or ws' i d).port k = ap (λ z. get_or (get_or (map (λ p. p.sent) z) i []) k []) is ∙ ap (λ z. get_or z k []) (two_maps (λ p. p.sent) (λ w. w.port) ws' i d [] (within i li)) in
-          ap (λ z. z ++ entry left i k) (sym r) ∙ fifo i k li lk ∙ s
+          ap (λ z. z ++ left i k) (sym r) ∙ fifo i k li lk ∙ s
 
       pub noted_after : (seats' : List SeatState) (l : ℕ) (d : WorkerState M S B) → seats' ≡ map (λ w. w.seat) ws' → All (λ s. l ≤ least s.noted) seats' → (i : ℕ) → i < plan.workers → Every (λ t. l ≤ t) (get_or ws' i d).seat.noted
       noted_after seats' l d is all i below =

@@ -1,17 +1,17 @@
 -- A round: each worker takes its turns and closes, and then all are joined.
-use Rattle.std.specs.Prelude.{◌≡◌, ℕ, ◌+◌, ◌*◌, ◌/◌, ◌%◌, ◌^◌, ◌<◌, ◌≤◌, max, List, [], ◌∷◌, ◌++◌, map, filter, slice_get, Some}
+use Rattle.std.specs.Prelude.{◌≡◌, ℕ, ◌+◌, ◌*◌, ◌/◌, ◌%◌, ◌^◌, ◌<◌, ◌≤◌, max, List, [], ◌∷◌, ◌++◌, length, map, filter, slice_get, Some}
 use Rattle.std.specs.declared.cmp.Ordering.{Ordering}
 use Rattle.rw_vt.specs.declared.event.Letter.{Letter}
 use Rattle.rw_vt.specs.declared.model.Model.{Ghosts}
 use Rattle.rw_vt.specs.Order.{Each}
-use Rattle.rw_vt.specs.System.{System}
+use Rattle.rw_vt.specs.System.{System, flatten}
 use Rattle.rw_lp.specs.Process.{Process}
 use Rattle.rw_lp.specs.Calls.{LogicalProcess, rules}
 use Rattle.rw_world.specs.declared.parts.Parts.{Parts}
 use Rattle.rw_world.specs.Calls.{Simulation, system_of}
 use Rattle.rw_world.specs.Sound.{Sound}
 use Rattle.rw_world.specs.WorldState.{floor}
-use Rattle.rw_exchange.specs.Ports.{IsNew, IsWide, sent_to, received_from}
+use Rattle.rw_exchange.specs.Ports.{IsNew, IsWide, sent_to, received_from, sent_between, received_between}
 use Rattle.rw_rounds.specs.declared.plan.Plan.{Plan}
 use Rattle.rw_rounds.specs.Bags.{weigh, Every, total}
 use Rattle.rw_rounds.specs.Turns.{Role, WorkerState, is_own, IsFit, TookTurns}
@@ -45,6 +45,13 @@ pub record TookRound {M S B U : Type 0} (model : Ghosts M S B U) (order : B → 
   pub turns_are : TookTurns (rules model order m) turns a between
   pub closes : Closes (rules model order m) between b
   pub fit : IsFit model order m b
+
+-- these letters are on their way once the workers are done: those left in the rings between them, those kept and those set aside
+pub record AreOnTheirWay {M S B : Type 0} (ws : List (WorkerState M S B)) (letters : List (Letter B)) : Type 0 where
+  -- what was left in the rings, by sender and receiver
+  pub left : ℕ → ℕ → List (Letter B)
+  pub settled : (i k : ℕ) → i < length ws → k < length ws → received_between (map (λ w. w.port) ws) i k ++ left i k ≡ sent_between (map (λ w. w.port) ws) i k
+  pub letters_are : (h : Letter B → ℕ) → weigh h letters ≡ total (length ws) (λ i. total (length ws) (λ k. weigh h (left i k))) + weigh h (flatten (map (λ w. w.kept) ws)) + weigh h (flatten (map (λ w. w.aside) ws))
 
 -- the workers of the plan take the parts x to the parts z
 pub record Round {M S B U : Type 0} (model : Ghosts M S B U) (order : B → B → Ordering) (plan : Plan) (x z : Parts M S B U) (least : ℕ) : Type 0 where

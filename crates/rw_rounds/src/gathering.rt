@@ -1,17 +1,19 @@
-ghost use Rattle.std.specs.Prelude.{◌≡◌, ◌+◌, ◌/◌, ◌%◌, ◌<◌, ◌++◌, ℕ, [], None, IfOk, OnOk, length, map, slice_get, slice_index_or, vec_capacity};
+ghost use Rattle.std.specs.Prelude.{◌≡◌, ◌+◌, ◌/◌, ◌%◌, ◌<◌, ◌≤◌, ◌++◌, ℕ, [], All, None, IfOk, OnOk, length, map, slice_get, slice_index_or, vec_capacity};
 ghost use Rattle.std.specs.VecDeque.{deque_capacity};
 ghost use Rattle.rw_vt.specs.declared.event.Letter.{Letter};
 ghost use Rattle.rw_vt.specs.System.{flatten};
-ghost use Rattle.rw_exchange.specs.Ports.{entry};
+ghost use Rattle.rw_board.specs.Least.{least};
+ghost use Rattle.rw_exchange.specs.Ports.{entry, IsOpening};
 ghost use Rattle.rw_rounds.specs.Bags.{weigh, total};
+ghost use Rattle.rw_rounds.specs.Rounds.{AreOnTheirWay};
 
 use crate::desk::Desk;
 use crate::traffic::Traffic;
 use crate::worker::Worker;
-use rw_board::Seat;
+use rw_board::{Board, Seat};
 use rw_exchange::{Left, Port};
 use rw_lp::Lp;
-use rw_vt::{Letter, Model as VtModel, NoMemory, Refusal};
+use rw_vt::{END, Letter, Model as VtModel, NoMemory, Refusal};
 use std::alloc::Global;
 use std::collections::VecDeque;
 
@@ -30,17 +32,65 @@ pub(crate) fn all_done<M: VtModel>(
     Ok(workers)
 }
 
+/// What a round leaves, once its workers are joined.
+#[derive(Drop)]
+pub(crate) struct Gathered<M: VtModel> {
+    /// All processes in the order of their numbers.
+    pub(crate) processes: Vec<Lp<M>>,
+    /// The letters that are on their way.
+    pub(crate) letters: Vec<Letter<M::Body>>,
+    /// The least time noted, in ticks.
+    pub(crate) floor: u64,
+}
+
+/// Joins the workers of a round, which have so many processes, closes their board and adds what they did to the traffic.
+pub(crate) fn gather<M: VtModel>(
+    alloc: Global,
+    count: usize,
+    board: Board,
+    workers: Vec<Worker<M>>,
+    traffic: &mut Traffic,
+) -> Result<Gathered<M>, NoMemory>
+    requires opening { IsOpening (map (λ w. w.port) workers.items) }
+    requires seats { length workers.items ≡ board.seats }
+    requires board { All (λ s. s.board ≡ board.board) (map (λ w. w.seat) workers.items) }
+    requires some { 0 < length workers.items }
+    requires complete { (q : ℕ) → q < count → slice_get (slice_index_or (map (λ w. w.processes) workers.items) (q % length workers.items) []) (q / length workers.items) ≡ None → ⊥ }
+    ensures count { IfOk result (λ r. length r.processes.items ≡ count) }
+    ensures processes { IfOk result (λ r. (q : ℕ) → q < count → slice_get r.processes.items q ≡ slice_get (slice_index_or (map (λ w. w.processes) workers.items) (q % length workers.items) []) (q / length workers.items)) }
+    ensures letters { IfOk result (λ r. AreOnTheirWay workers.items r.letters.items) }
+    ensures end { IfOk result (λ r. r.floor ≤ END) }
+    ensures noted { IfOk result (λ r. All (λ s. r.floor ≤ least s.noted) (map (λ w. w.seat) workers.items)) }
+{
+    let Leavings {
+        hands,
+        kept,
+        aside,
+        ports,
+        seats,
+    } = take_apart(alloc, workers, traffic)?;
+    let floor = rw_board::close(board, seats);
+    let left = rw_exchange::settle(alloc, ports)?;
+    let letters = join_letters(alloc, &left, &kept, &aside)?;
+    let processes = join_processes(alloc, count, hands)?;
+    Ok(Gathered {
+        processes,
+        letters,
+        floor,
+    })
+}
+
 /// What the workers of a round leave, by worker.
 #[derive(Drop)]
-pub(crate) struct Leavings<M: VtModel> {
+struct Leavings<M: VtModel> {
     /// The processes of each.
-    pub(crate) hands: VecDeque<VecDeque<Lp<M>>>,
+    hands: VecDeque<VecDeque<Lp<M>>>,
     /// The letters that each kept.
-    pub(crate) kept: Vec<Vec<Letter<M::Body>>>,
+    kept: Vec<Vec<Letter<M::Body>>>,
     /// The letters that each set aside.
-    pub(crate) aside: Vec<Vec<Letter<M::Body>>>,
-    pub(crate) ports: Vec<Port<M::Body>>,
-    pub(crate) seats: Vec<Seat>,
+    aside: Vec<Vec<Letter<M::Body>>>,
+    ports: Vec<Port<M::Body>>,
+    seats: Vec<Seat>,
 }
 
 impl<M: VtModel> Leavings<M> {
@@ -67,7 +117,7 @@ impl<M: VtModel> Leavings<M> {
 }
 
 /// Takes the workers apart, and adds what they did to the traffic.
-pub(crate) fn take_apart<M: VtModel>(
+fn take_apart<M: VtModel>(
     alloc: Global,
     workers: Vec<Worker<M>>,
     traffic: &mut Traffic,
@@ -102,7 +152,7 @@ pub(crate) fn take_apart<M: VtModel>(
 }
 
 /// So many processes in the order of their numbers: each worker in turn gives its next one.
-pub(crate) fn join_processes<M: VtModel>(
+fn join_processes<M: VtModel>(
     alloc: Global,
     count: usize,
     hands: VecDeque<VecDeque<Lp<M>>>,
@@ -129,7 +179,7 @@ pub(crate) fn join_processes<M: VtModel>(
 
 /// The letters that are on their way: those left in the rings, by sender and then by receiver, those kept, and those set
 /// aside.
-pub(crate) fn join_letters<B: Copy>(
+fn join_letters<B: Copy>(
     alloc: Global,
     left: &Left<B>,
     kept: &[Vec<Letter<B>>],

@@ -6,7 +6,7 @@ ghost use Rattle.rw_rounds.specs.Stops.{EndsRound};
 
 use crate::dealing_out::{deal_letters, deal_processes, set_up};
 use crate::gate::Gate;
-use crate::gathering::{all_done, join_letters, join_processes, take_apart};
+use crate::gathering::{all_done, gather};
 use crate::plan::Plan;
 use crate::sim::Sim;
 use crate::stop::Stop;
@@ -104,19 +104,15 @@ where
     may_move::<Port<M::Body>>();
     let results = run_each(rt, alloc, workers, &work)?;
     let workers = all_done(alloc, results)?;
-    let leavings = take_apart(alloc, workers, traffic)?;
-    let left = rw_exchange::settle(alloc, leavings.ports)?;
-    let floor = rw_board::close(board, leavings.seats);
-    let processes = join_processes(alloc, count, leavings.hands)?;
-    let letters = join_letters(alloc, &left, &leavings.kept, &leavings.aside)?;
+    let gathered = gather(alloc, count, board, workers, traffic)?;
     traffic.rounds = traffic.rounds.wrapping_add(1);
     let parts = Parts {
         model,
-        processes,
-        letters,
+        processes: gathered.processes,
+        letters: gathered.letters,
         collected,
         starts,
         initial,
     };
-    Ok((parts, floor))
+    Ok((parts, gathered.floor))
 }

@@ -10,6 +10,7 @@ use crate::round::run_round;
 use crate::sim::Sim;
 use crate::stop::Stop;
 use crate::traffic::Traffic;
+use rw_lp::Lp;
 use rw_vt::{END, Model as VtModel, NoMemory, Outcome};
 use rw_world::{World, every_sound_world};
 use std::alloc::Global;
@@ -67,10 +68,17 @@ fn outcome<M: VtModel + Drop>(alloc: Global, world: World<M>) -> Result<Outcome<
     // What the world promises of every world of the model.
     every_sound_world::<M>();
     let parts = world.take();
-    let count = parts.processes.len();
+    outcomes(alloc, parts.processes)
+}
+
+/// The committed events and the state of each of these processes.
+fn outcomes<M: VtModel>(alloc: Global, processes: Vec<Lp<M>>) -> Result<Outcome<M>, NoMemory>
+    ensures { IfOk result (λ o. (map (λ j. j.items) o.journals.items ≡ map (λ x. x.process.committed) processes.items) × (o.states.items ≡ map (λ x. x.process.state) processes.items)) }
+{
+    let count = processes.len();
     let mut journals = Vec::with_capacity(alloc, count)?;
     let mut states = Vec::with_capacity(alloc, count)?;
-    for process in parts.processes {
+    for process in processes {
         let (journal, state) = process.into_outcome();
         journals.push_reserved(journal);
         states.push_reserved(state);
