@@ -1,5 +1,5 @@
 -- Where all is collected, the committed events and the states are what executing all events in order leaves.
-use Rattle.std.proofs.Common.{◌≡◌, ℕ, zero, suc, ◌+◌, ◌^◌, ◌≤◌, Bool, List, [], ◌∷◌, ◌++◌, length, map, refl, sym, ap, ◌∙◌, arith, append-nil, Some}
+use Rattle.std.proofs.Common.{◌≡◌, ℕ, zero, suc, ◌+◌, ◌^◌, ◌≤◌, Bool, List, [], ◌∷◌, ◌++◌, map, refl, sym, ap, ◌∙◌, arith, append-nil, Some}
 use Rattle.std.specs.Prelude.{filter, nat_lt, slice_get}
 use Rattle.std.specs.declared.cmp.Ordering.{Ordering}
 use Rattle.std.proofs.lemmas.Bool.{lt-ltb, le-ltb}
@@ -24,11 +24,6 @@ by_starts {X = X} start f g k (x ∷ xs) h =
     let first : f x ≡ g k (start x) = h zero k x refl (omega arith) in
     let rest = by_starts start f g (k + 1) xs (λ i j a m q. h (suc i) j a m (omega arith)) in
     ap (λ a. a ∷ map f xs) first ∙ ap (λ l. g k (start x) ∷ l) rest
-
--- what is made of a whole list, one element after another
-pub of_all : {X C : Type 0} (f : X → C) (made : List C) (rest xs : List X) → made ++ map f rest ≡ map f xs → length rest ≡ 0 → made ≡ map f xs
-of_all f made [] xs walked none = sym (append-nil made) ∙ walked
-of_all f made (x ∷ rest) xs walked none = absurd (omega arith)
 
 module _ {S B : Type 0} (y : System S B) {WellFormed : ℕ → S → Type 0} (law : IsLawful y WellFormed) (w : WorldState S B) (sound : Sound y w) (ordered : IsInOrder y w) (floored : 2 ^ 40 ≤ floor w) (collected : 2 ^ 40 ≤ w.collected) where
   -- no event is at the end or after, and none before it is left uncommitted

@@ -220,9 +220,6 @@ module _ {M S B U : Type 0} {model : Ghosts M S B U} {order : B → B → Orderi
           let below : q % plan.workers < plan.workers = omega arith in
           ap (λ n. slice_get (get_or hands' (q % n) []) (q / n)) same ∙ ap (λ h. slice_get h (q / plan.workers)) (hand_after hands' d (q % plan.workers) is below)
 
-      pub hands_many : (hands' : List (List (LogicalProcess M S B))) → hands' ≡ map (λ w. w.processes) ws' → length hands' ≡ plan.workers
-      hands_many hands' is = ap length is ∙ length-map ws' (λ w. w.processes) ∙ took.long ∙ up.many
-
       -- the processes are joined in the order of their numbers
       pub joined : (all : List (LogicalProcess M S B)) (hands' : List (List (LogicalProcess M S B))) (d : WorkerState M S B) (k : ℕ) → hands' ≡ map (λ w. w.processes) ws' → k ≡ plan.workers → length all ≡ length x.processes.items
           → ((q : ℕ) → q < length x.processes.items → slice_get all q ≡ slice_get (get_or hands' (q % k) []) (q / k)) → (q : ℕ) → slice_get all q ≡ slice_get (get_or ws' (q % plan.workers) d).processes (q / plan.workers)
