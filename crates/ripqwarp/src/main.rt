@@ -2,11 +2,11 @@
 //! The program `ripqwarp`: hands its words, its files and its streams to the library, and ends with the status that it
 //! answers.
 
-use rw_ripqwarp::{Out, Source, SourceFault, command};
+use rw_command::{Fault, Out, Source, SourceFault, command};
 use std::alloc::Global;
-use std::io::{ErrorKind, Read, Write};
+use std::io::{ErrorKind, Read};
 use std::process::ExitCode;
-use std::rt::Files;
+use std::rt::{Env, Files};
 use std::{env, fs};
 
 /// Traces in files, and `-` for the one on standard input.
@@ -37,21 +37,12 @@ impl<R: Files + Input + AllocGlobal> Source for Traces<'_, R> {
 fn main(rt: HostRuntime) -> ExitCode {
     let alloc = rt.alloc();
     let mut err = rt.stderr();
-    let words: Result<Vec<String>, _> = match env::args(&rt) {
-        Ok(words) => words.collect(alloc),
-        Err(error) if error.kind() == ErrorKind::OutOfMemory => return refuse(
-            &mut err,
-            b"memory\n",
-            5,
-        ),
-        Err(_) => return refuse(
-            &mut err,
-            b"error: a word of the command line is no text\n",
-            2,
-        ),
-    };
-    let Ok(words) = words else {
-        return refuse(&mut err, b"memory\n", 5);
+    let words = match words(&rt, alloc) {
+        Ok(words) => words,
+        Err(fault) => {
+            fault.tell(&mut err);
+            return ExitCode::from(fault.status());
+        }
     };
     let mut traces = Traces { rt: &rt };
     let mut out = Out::new(rt.stdout());
@@ -59,8 +50,14 @@ fn main(rt: HostRuntime) -> ExitCode {
     ExitCode::from(status)
 }
 
-/// Says why the words can't be had.
-fn refuse<E: Write>(err: &mut E, line: &[u8], status: u8) -> ExitCode {
-    let _ = err.write_all(line);
-    ExitCode::from(status)
+/// The program's words.
+fn words<R: Env + AllocGlobal>(rt: &R, alloc: Global) -> Result<Vec<String>, Fault> {
+    match env::args(rt) {
+        Ok(words) => Ok(words.collect(alloc)?),
+        Err(error) if error.kind() == ErrorKind::OutOfMemory => Err(Fault::Memory),
+        Err(_) => {
+            let text = "error: a word of the command line is no text";
+            Err(Fault::CommandLine(String::from_str(alloc, text)?))
+        }
+    }
 }

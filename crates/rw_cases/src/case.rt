@@ -1,6 +1,6 @@
 use crate::given::Given;
 use anyhow::Result;
-use rw_ripqwarp::{Out, command};
+use rw_command::{Out, command};
 use serde_json::Value;
 use std::alloc::{AllocError, Global};
 use std::sync::Wait;

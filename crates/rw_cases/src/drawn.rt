@@ -1,6 +1,6 @@
 //! Drawn runs: a trace and the options of its caches come from a seed, and it is run in rounds and on one thread.
 use crate::given::Given;
-use rw_ripqwarp::{Out, command};
+use rw_command::{Out, command};
 use std::alloc::{AllocError, Global};
 use std::sync::Wait;
 use std::thread::Threads;

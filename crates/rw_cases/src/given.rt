@@ -1,4 +1,4 @@
-use rw_ripqwarp::{Source, SourceFault};
+use rw_command::{Source, SourceFault};
 use std::alloc::Global;
 
 /// The bytes of standard input; there is no file.

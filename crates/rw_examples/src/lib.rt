@@ -6,6 +6,8 @@
 #[cfg(test)]
 mod board_of_two_seats;
 #[cfg(test)]
+mod commands;
+#[cfg(test)]
 mod desk;
 #[cfg(test)]
 mod edge_process;
@@ -16,6 +18,10 @@ mod insertions;
 #[cfg(test)]
 mod parcels;
 #[cfg(test)]
+mod photo_rounds;
+#[cfg(test)]
+mod pipe;
+#[cfg(test)]
 mod primitives;
 #[cfg(test)]
 mod queue_text;
@@ -23,6 +29,8 @@ mod queue_text;
 mod relay_rounds;
 #[cfg(test)]
 mod relay_world;
+#[cfg(test)]
+mod reports;
 #[cfg(test)]
 mod rings;
 #[cfg(test)]

@@ -1,34 +1,24 @@
 #![tactic(auto)]
-//! The program as a library: from the bytes of a trace to the bytes of a report, or of a journal under a schedule, and the
-//! command line around it.
+//! The program as a library: from the bytes of a trace to the bytes of a report, or of a journal under a schedule.
 
 ghost use Rattle.std.specs.Prelude.{◌≡◌, ℕ, List};
 ghost use Rattle.rw_photo.specs.declared.config.Config.{Config};
 ghost use Rattle.rw_ripqwarp.specs.Simulate.{IsReportOf};
 
-mod command_line;
 mod journal_text;
 mod mode;
-mod options;
 mod output;
-#[cfg(test)]
-mod round_tests;
 mod schedule_text;
 mod sim_fault;
 mod simulation;
-mod source;
-#[cfg(test)]
-mod tests;
 mod text;
 
-pub use command_line::command;
 pub use mode::Mode;
 pub use output::Out;
 pub use rw_rounds::{Plan, Traffic};
 pub use schedule_text::{ScheduleFault, schedule};
 pub use sim_fault::SimFault;
-pub use simulation::simulate;
-pub use source::{Source, SourceFault};
+pub use simulation::{beginning, simulate};
 pub use text::report;
 
 /// A trace has one report under a configuration. So a run in rounds, however many workers it has and whatever they take

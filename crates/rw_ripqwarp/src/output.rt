@@ -54,8 +54,9 @@ impl<W> Out<W> {
 }
 
 impl<W: Write> Out<W> {
-    /// Writes a text and then flushes the writer, up to the first failure; whether there was none.
-    pub(crate) fn write_text(&mut self, text: &[u8]) -> bool
+    /// Writes a text by a loop over `write` and then flushes the writer, up to the first failure; whether there was none. Takes
+    /// no memory.
+    pub fn write_text(&mut self, text: &[u8]) -> bool
         ensures failures { MatchBool result (self.new.failures ≡ self.old.failures) (self.new.failures ≡ one_more self.old.failures) }
         ensures whole { MatchBool result (Appends (W.contents self.old.writer) (W.contents self.new.writer) text.now) (Unit {0}) }
         ensures beginning { AppendsBeginning (W.contents self.old.writer) (W.contents self.new.writer) text.now }

@@ -102,7 +102,7 @@ fn text_of<R: Threads + Wait + Sync>(
 }
 
 /// What a run of a trace begins with: each cache as it starts, and the requests.
-pub(crate) fn beginning(
+pub fn beginning(
     alloc: Global,
     bytes: &[u8],
     config: &Config,

@@ -1,6 +1,6 @@
-// Runs in rounds, with gates that hold workers back.
-use crate::simulation::beginning;
+// Runs of photo caches in rounds, with gates that hold workers back.
 use rw_photo::{CacheState, Config, Photo, Policy, Shape};
+use rw_ripqwarp::beginning;
 use rw_rounds::{Gate, Open, Plan, Traffic, run};
 use rw_vt::{END, Outcome};
 use rw_world::World;

@@ -1,0 +1,61 @@
+use crate::lines::write_line;
+use crate::source::SourceFault;
+use rw_ripqwarp::{ScheduleFault, SimFault};
+use std::alloc::AllocError;
+use std::io::Write;
+
+/// Why the program did not do what its words ask, each shown as one line.
+#[derive(Debug, Drop, thiserror::Error)]
+pub enum Fault {
+    /// The command line is not one of the program's, for this reason.
+    #[error("{}", .0.trim_end())]
+    CommandLine(String),
+    /// The options are out of their ranges.
+    #[error("plan")]
+    Plan,
+    /// The schedule has a word that says no step.
+    #[error("{0}")]
+    Schedule(ScheduleFault),
+    /// A request for memory was refused.
+    #[error("memory")]
+    Memory,
+    /// The trace cannot be read.
+    #[error("{0}")]
+    Source(SourceFault),
+    /// The run has no report.
+    #[error("{0}")]
+    Run(SimFault),
+}
+
+impl Fault {
+    /// The exit status that tells it. Takes no memory.
+    pub fn status(&self) -> u8 {
+        match self {
+            Fault::CommandLine(_)
+            | Fault::Plan
+            | Fault::Schedule(ScheduleFault::Word(_))
+            | Fault::Run(SimFault::Plan) => 2,
+            Fault::Run(SimFault::Trace(_)) => 3,
+            Fault::Source(SourceFault::Read) => 4,
+            Fault::Memory
+            | Fault::Schedule(ScheduleFault::Memory)
+            | Fault::Source(SourceFault::Memory)
+            | Fault::Run(SimFault::Memory) => 5,
+            Fault::Run(SimFault::Rounds | SimFault::NoThread) => 6,
+            Fault::Run(SimFault::Exhausted) => 7,
+            Fault::Run(SimFault::Output) => 8,
+        }
+    }
+
+    /// Writes it as one line; a writer that fails is let be, and nothing is tried again. Takes no memory, so that what is
+    /// told is always what the status says.
+    pub fn tell<E: Write>(&self, err: &mut E) {
+        write_line(err, self);
+    }
+}
+
+impl From<AllocError> for Fault {
+    fn from(_error: AllocError) -> Fault {
+        Fault::Memory
+    }
+}

@@ -1,0 +1,45 @@
+// What a command's options say.
+use clap::ArgMatches;
+use rw_photo::{Config, Policy, Shape};
+use rw_ripqwarp::Plan;
+
+/// The caches that a command's options say; None where one is missing or out of its range, which the command line rules
+/// out.
+pub(crate) fn config(options: &ArgMatches<'_>) -> Option<Config> {
+    let sections = options.get_one("sections")?;
+    let block = options.get_one("block")?;
+    let edge_shape = Shape::new(sections, block, options.get_one("edge-blocks")?)?;
+    let origin_shape = Shape::new(sections, block, options.get_one("origin-blocks")?)?;
+    Config::new(
+        options.get_one("edges")?,
+        options.get_one("origins")?,
+        policy(options.get_str("policy")?)?,
+        edge_shape,
+        origin_shape,
+        options.get_one("up")?,
+        options.get_one("down")?,
+        options.get_one("back")?,
+    )
+}
+
+/// The policy of this name.
+fn policy(name: &str) -> Option<Policy> {
+    match name {
+        "off" => Some(Policy::Off),
+        "lru" => Some(Policy::Lru),
+        "slru3" => Some(Policy::Slru3),
+        _ => None,
+    }
+}
+
+/// The plan that a command's options say; None where one is missing, which the command line rules out.
+pub(crate) fn plan(options: &ArgMatches<'_>) -> Option<Plan> {
+    Some(Plan {
+        workers: options.get_one("workers")?,
+        turns: options.get_one("turns")?,
+        batch: options.get_one("batch")?,
+        window: options.get_one("window")?,
+        ring: options.get_one("ring")?,
+        max_rounds: options.get_one("rounds")?,
+    })
+}

@@ -1,0 +1,154 @@
+// The program's words, what it says on standard error, and its exit status.
+use crate::pipe::Pipe;
+use rw_command::{Fault, Out, ScheduleFault, SimFault, Source, SourceFault, command};
+use rw_trace::TraceFault;
+use std::alloc::{AllocError, Global};
+use std::io::Write;
+use std::sync::Wait;
+use std::thread::Threads;
+
+/// The trace of one request; its report with nothing stored has 409 bytes, as that of a trace without one.
+const TRACE: &[u8] = b"time,edge,object,size\n5,0,7,4\n";
+
+/// Whether a fault is told by this line and status.
+fn is_told(alloc: Global, fault: Fault, line: &str, status: u8) -> bool {
+    let mut err = Vec::new(alloc);
+    fault.tell(&mut err);
+    err.as_slice() == line.as_bytes() && fault.status() == status
+}
+
+// What the stored cases can't make the program say.
+#[test]
+fn a_fault_is_one_line_and_a_status(rt: HostRuntime) {
+    let alloc = rt.alloc();
+    let many = SimFault::Trace(TraceFault::TooManyRows);
+    assert!(rt; is_told(alloc, Fault::Plan, "plan\n", 2));
+    assert!(rt; is_told(alloc, Fault::Run(many), "trace: too many rows\n", 3));
+    assert!(rt; is_told(alloc, Fault::Run(SimFault::Plan), "plan\n", 2));
+    assert!(rt; is_told(alloc, Fault::Run(SimFault::NoThread), "no thread\n", 6));
+    assert!(rt; is_told(alloc, Fault::Run(SimFault::Exhausted), "exhausted\n", 7));
+    assert!(rt; is_told(alloc, Fault::Run(SimFault::Output), "output\n", 8));
+}
+
+#[test]
+fn want_of_memory_is_memory_wherever_it_is(rt: HostRuntime) {
+    let alloc = rt.alloc();
+    assert!(rt; is_told(alloc, Fault::Memory, "memory\n", 5));
+    assert!(rt; is_told(alloc, Fault::Schedule(ScheduleFault::Memory), "memory\n", 5));
+    assert!(rt; is_told(alloc, Fault::Source(SourceFault::Memory), "memory\n", 5));
+    assert!(rt; is_told(alloc, Fault::Run(SimFault::Memory), "memory\n", 5));
+}
+
+/// A trace on standard input; there is no file.
+#[derive(Drop)]
+struct Given {
+    trace: &'static [u8],
+}
+
+impl Source for Given {
+    fn bytes(&mut self, alloc: Global, path: &str) -> Result<Vec<u8>, SourceFault> {
+        if path != "-" {
+            return Err(SourceFault::Read);
+        }
+        Vec::from_slice(alloc, self.trace).map_err(|_| SourceFault::Memory)
+    }
+}
+
+/// Does what these words ask of a trace; the exit status, and how many bytes are then written.
+fn ripqwarp<E: Write, R: Threads + Wait + Sync>(
+    rt: &R,
+    alloc: Global,
+    text: &str,
+    trace: &'static [u8],
+    err: &mut E,
+) -> Result<(u8, usize), AllocError> {
+    let mut words = Vec::new(alloc);
+    for word in text.split(' ') {
+        words.push(String::from_str(alloc, word)?)?;
+    }
+    let mut out = Out::new(Vec::new(alloc));
+    let status = command(rt, alloc, words, &mut Given { trace }, &mut out, err);
+    Ok((status, out.into_inner().len()))
+}
+
+#[test]
+fn a_run_in_rounds_tells_what_they_did(rt: HostRuntime) -> Result<(), AllocError> {
+    let alloc = rt.alloc();
+    let once = "traffic rounds 1 executed 3 undone 0 ring 0 kept 0\n";
+    for (words, trace, told) in [
+        (
+            "ripqwarp warp - --policy off",
+            b"time,edge,object,size\n".as_slice(),
+            "traffic rounds 1 executed 0 undone 0 ring 0 kept 0\n",
+        ),
+        ("ripqwarp warp - --policy off --workers 1", TRACE, once),
+        (
+            "ripqwarp warp - --policy off --workers 1 --turns 3 --batch 1",
+            TRACE,
+            once,
+        ),
+        (
+            "ripqwarp warp - --policy off --workers 1 --turns 1 --batch 1",
+            TRACE,
+            "traffic rounds 3 executed 3 undone 0 ring 0 kept 0\n",
+        ),
+    ] {
+        let mut err = Vec::new(alloc);
+        assert_eq!(rt; ripqwarp(&rt, alloc, words, trace, &mut err)?, (0, 409));
+        assert!(rt; err.as_slice() == told.as_bytes());
+    }
+    Ok(())
+}
+
+// A writer that is interrupted for ever, and one that takes nothing, change neither what is done nor its status.
+#[test]
+fn a_failing_standard_error_is_ignored(rt: HostRuntime) -> Result<(), AllocError> {
+    let alloc = rt.alloc();
+    for fails_in in [0, 9] {
+        let warp = "ripqwarp warp - --policy off --workers 1";
+        let mut err = Pipe::new(alloc, 0, fails_in, true);
+        assert_eq!(rt; ripqwarp(&rt, alloc, warp, TRACE, &mut err)?, (0, 409));
+        let mut err = Pipe::new(alloc, 0, fails_in, true);
+        assert_eq!(rt;
+            ripqwarp(&rt, alloc, "ripqwarp serial nothing", TRACE, &mut err)?,
+            (4, 0)
+        );
+    }
+    Ok(())
+}
+
+/// The exit status of these words, where the line on standard error is the one that this status has: for a fault of the
+/// command line one that begins like this, and for want of memory `memory`.
+fn told<R: Threads + Wait + Sync>(
+    rt: &R,
+    alloc: Global,
+    words: &str,
+    begins: &str,
+) -> Result<Option<u8>, AllocError> {
+    let mut held = [0; 800];
+    let mut left = held.as_mut_slice();
+    let (status, _written) = ripqwarp(rt, alloc, words, TRACE, &mut left)?;
+    let length = 800 - left.len();
+    let line = &held[..length];
+    let is_its_line = if status == 5 {
+        line == b"memory\n".as_slice()
+    } else {
+        line.starts_with(begins.as_bytes())
+    };
+    Ok(is_its_line.then_some(status))
+}
+
+// Where a request for memory is refused, these answer 5 with that line, and no other status.
+#[test]
+fn a_line_and_its_status_agree(rt: HostRuntime) -> Result<(), AllocError> {
+    let alloc = rt.alloc();
+    for (words, begins, status) in [
+        ("ripqwarp serial --edges 0 -", "error: invalid value '0'", 2),
+        ("ripqwarp journal - --schedule E", "schedule: word 0\n", 2),
+        ("ripqwarp serial nothing", "file: cannot read\n", 4),
+    ] {
+        let answer = told(&rt, alloc, words, begins)?;
+        assert!(rt; answer == Some(status) || answer == Some(5), "for {words}");
+    }
+    Ok(())
+}
