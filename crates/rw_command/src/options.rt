@@ -8,21 +8,15 @@ use std::alloc::{AllocError, Global};
 
 /// The program with its commands.
 pub(crate) fn program<'a>(alloc: Global) -> Result<Command<'a>, AllocError> {
-    let program = Command::new(alloc, "ripqwarp")
-        .about("Simulates edge and origin photo caches from a trace")
-        .subcommand_required(true)
-        .arg_required_else_help(true);
-    let program = with_command(program, serial(alloc))?;
-    let program = with_command(program, warp(alloc))?;
-    with_command(program, journal(alloc))
-}
-
-/// The program with one command more.
-fn with_command<'a>(
-    program: Command<'a>,
-    command: Result<Command<'a>, AllocError>,
-) -> Result<Command<'a>, AllocError> {
-    program.subcommand(command?)
+    Ok(
+        Command::new(alloc, "ripqwarp")
+            .about("Simulates edge and origin photo caches from a trace")
+            .subcommand_required(true)
+            .arg_required_else_help(true)
+            .subcommand(serial(alloc)?)?
+            .subcommand(warp(alloc)?)?
+            .subcommand(journal(alloc)?)?,
+    )
 }
 
 /// The command that runs a trace on one thread.
@@ -158,10 +152,7 @@ fn with_count<'a>(
     default: &'static str,
     help: &'static str,
 ) -> Result<Command<'a>, AllocError> {
-    let count = option(alloc, name, default, help)
-        .value_name("N")
-        .value_parser(value_parser!(u32).range(1..=i64::from(most)));
-    command.arg(count)
+    command.arg(count(alloc, name, most, default).help(help))
 }
 
 /// The command with an option that says how large something is, from 1.
@@ -175,10 +166,7 @@ fn with_size<'a>(
 ) -> Result<Command<'a>, AllocError>
     requires { most < 2 ^ 63 }
 {
-    let size = option(alloc, name, default, help)
-        .value_name("N")
-        .value_parser(value_parser!(u64).range(1..=most as i64));
-    command.arg(size)
+    command.arg(size(alloc, name, most, default).help(help))
 }
 
 /// The command with an option in ticks, from 1.
@@ -192,21 +180,26 @@ fn with_ticks<'a>(
 ) -> Result<Command<'a>, AllocError>
     requires { most < 2 ^ 63 }
 {
-    let ticks = option(alloc, name, default, help)
-        .value_name("TICKS")
-        .value_parser(value_parser!(u64).range(1..=most as i64));
-    command.arg(ticks)
+    let ticks = size(alloc, name, most, default).value_name("TICKS");
+    command.arg(ticks.help(help))
 }
 
-/// An option with a value that it has where it is not given.
-fn option<'a>(
-    alloc: Global,
-    name: &'static str,
-    default: &'static str,
-    help: &'static str,
-) -> Arg<'a> {
+/// An option that counts, from 1.
+fn count<'a>(alloc: Global, name: &'static str, most: u32, default: &'static str) -> Arg<'a> {
     Arg::new(alloc, name)
         .long(name)
+        .value_name("N")
+        .value_parser(value_parser!(u32).range(1..=i64::from(most)))
         .default_value(default)
-        .help(help)
+}
+
+/// An option that says how large something is, from 1.
+fn size<'a>(alloc: Global, name: &'static str, most: u64, default: &'static str) -> Arg<'a>
+    requires { most < 2 ^ 63 }
+{
+    Arg::new(alloc, name)
+        .long(name)
+        .value_name("N")
+        .value_parser(value_parser!(u64).range(1..=most as i64))
+        .default_value(default)
 }
