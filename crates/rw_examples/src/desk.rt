@@ -2,7 +2,7 @@
 ghost use Rattle.std.specs.Prelude.{◌≡◌, ◌<◌};
 
 use rw_lp::{Answer, Lp, StepFault};
-use rw_vt::{Event, Letter, Model, Refusal};
+use rw_vt::{END, Event, Letter, Model, Refusal};
 use std::alloc::Global;
 use std::test::Fail;
 
@@ -25,6 +25,25 @@ pub enum Call<B> {
     Deliver(Letter<B>),
     Arrive(Letter<B>),
     Collect(u64),
+}
+
+/// What is done with a process, and what is then expected.
+#[derive(Clone, Copy)]
+pub enum Line<'a, B> {
+    /// The call is accepted and gives out nothing.
+    Does(Call<B>),
+    /// The call is accepted and gives out these letters.
+    Gives(Call<B>, &'a [Letter<B>]),
+    /// The call is refused like this and gives out nothing.
+    Refuses(Call<B>, StepFault),
+    /// Nothing is committed or processed, this one is the next, and nothing outstanding is earlier than this time.
+    Waits(Option<Event<B>>, u64),
+    /// Nothing is committed, these events are processed, and so on.
+    Ahead(&'a [Event<B>], Option<Event<B>>, u64),
+    /// The first events are committed, the second processed, and so on.
+    Shows(&'a [Event<B>], &'a [Event<B>], Option<Event<B>>, u64),
+    /// These events are committed, and nothing is left to do.
+    Settled(&'a [Event<B>]),
 }
 
 impl<M: Model + Drop> Desk<M> {
@@ -148,7 +167,7 @@ impl<M: Model + Drop> Desk<M> {
 
     /// Makes a call; a letter that is not valid here, and a collection above what is outstanding, are answered as of no
     /// process.
-    pub fn call(self, alloc: Global, call: Call<M::Body>) -> Result<(Desk<M>, Answer), Refusal> {
+    fn call(self, alloc: Global, call: Call<M::Body>) -> Result<(Desk<M>, Answer), Refusal> {
         match call {
             Call::ExecuteNext => self.execute_next(alloc),
             Call::UndoOne => self.undo_one(alloc),
@@ -158,8 +177,34 @@ impl<M: Model + Drop> Desk<M> {
         }
     }
 
-    /// Makes a call that is accepted and gives out these letters.
-    pub fn does(
+    /// Goes through these lines, up to the first that does not hold.
+    pub fn does(self, alloc: Global, lines: &[Line<'_, M::Body>]) -> Result<Desk<M>, Fail> {
+        let mut desk = self;
+        for line in lines {
+            desk = desk.goes_through(alloc, line)?;
+        }
+        Ok(desk)
+    }
+
+    fn goes_through(self, alloc: Global, line: &Line<'_, M::Body>) -> Result<Desk<M>, Fail> {
+        let no_letters = [];
+        let no_events = [];
+        match *line {
+            Line::Does(call) => self.gives(alloc, call, &no_letters),
+            Line::Gives(call, given) => self.gives(alloc, call, given),
+            Line::Refuses(call, fault) => self.refuses(alloc, call, fault),
+            Line::Waits(next, least) => self.shows(&no_events, &no_events, next, least),
+            Line::Ahead(processed, next, least) => {
+                self.shows(&no_events, processed, next, least)
+            }
+            Line::Settled(committed) => self.shows(committed, &no_events, None, END),
+            Line::Shows(committed, processed, next, least) => {
+                self.shows(committed, processed, next, least)
+            }
+        }
+    }
+
+    fn gives(
         self,
         alloc: Global,
         call: Call<M::Body>,
@@ -173,8 +218,7 @@ impl<M: Model + Drop> Desk<M> {
         Ok(desk)
     }
 
-    /// Makes a call that is refused like this and gives out nothing.
-    pub fn refuses(
+    fn refuses(
         self,
         alloc: Global,
         call: Call<M::Body>,
@@ -187,19 +231,22 @@ impl<M: Model + Drop> Desk<M> {
         Ok(desk)
     }
 
-    /// Whether these events are committed and processed, this one is the next, and nothing outstanding is earlier than
-    /// `least`.
-    pub fn shows(
-        &self,
+    fn shows(
+        self,
         committed: &[Event<M::Body>],
         processed: &[Event<M::Body>],
         next: Option<Event<M::Body>>,
         least: u64,
-    ) -> bool {
-        self.lp.journal() == committed
+    ) -> Result<Desk<M>, Fail> {
+        let holds = self.lp.journal() == committed
             && self.lp.processed() == processed
             && self.lp.next().copied() == next
-            && self.lp.least() == least
+            && self.lp.least() == least;
+        if holds {
+            Ok(self)
+        } else {
+            Err(Fail::from("other events"))
+        }
     }
 
     /// The state.

@@ -1,6 +1,8 @@
 // One edge process of the photo caches, with nothing stored: it executes two requests ahead, a fill comes late and is
 // cancelled again, an anti-message comes before its message, and the past is committed.
-use crate::desk::{Call, Desk};
+use crate::desk::Call::{Arrive, Collect, Deliver, ExecuteNext};
+use crate::desk::Desk;
+use crate::desk::Line::{Ahead, Does, Gives, Settled};
 use rw_photo::{Body, Config, Photo, Policy, Shape};
 use rw_vt::{END, Event, Letter};
 use std::alloc::Global;
@@ -72,39 +74,73 @@ fn counted(desk: &Desk<Photo>) -> (u64, u64) {
     (counters.coalesced, counters.late)
 }
 
-/// The same, after a fill came late and both requests were executed again.
+/// The same, which has executed both requests: the second one has joined the first.
+fn joined(alloc: Global) -> Result<Desk<Photo>, Fail> {
+    opened(alloc)?.does(
+        alloc,
+        &[
+            Gives(ExecuteNext, &[message(miss(8, 0))]),
+            Does(ExecuteNext),
+            Ahead(&[request(5, 0), request(22, 1)], None, END),
+        ],
+    )
+}
+
+/// The same, after a fill came late and the second request was executed again.
 fn filled(alloc: Global) -> Result<Desk<Photo>, Fail> {
-    let fill_first = fill(21, 0);
-    let desk = opened(alloc)?.does(alloc, Call::ExecuteNext, &[message(miss(8, 0))])?;
-    let desk = desk.does(alloc, Call::ExecuteNext, &[])?;
-    if counted(&desk) != (1, 0) {
-        return Err(Fail::from("the second request has not joined the first"));
-    }
-    let desk = desk.does(alloc, Call::Arrive(message(fill_first)), &[])?;
-    if !desk.shows(&[], &[request(5, 0)], Some(fill_first), 21) {
-        return Err(Fail::from("the second request is not undone"));
-    }
-    let desk = desk.does(alloc, Call::ExecuteNext, &[])?;
-    desk.does(alloc, Call::ExecuteNext, &[message(miss(25, 1))])
+    joined(alloc)?.does(
+        alloc,
+        &[
+            Does(Arrive(message(fill(21, 0)))),
+            Ahead(&[request(5, 0)], Some(fill(21, 0)), 21),
+            Does(ExecuteNext),
+            Gives(ExecuteNext, &[message(miss(25, 1))]),
+        ],
+    )
+}
+
+/// The same, after the fill was cancelled.
+fn cancelled(alloc: Global) -> Result<Desk<Photo>, Fail> {
+    filled(alloc)?.does(
+        alloc,
+        &[
+            Gives(Arrive(anti(fill(21, 0))), &[anti(miss(25, 1))]),
+            Ahead(&[request(5, 0)], Some(request(22, 1)), 22),
+        ],
+    )
 }
 
 #[test]
-fn an_edge_undoes_what_a_fill_changes(rt: HostRuntime) -> Result<(), Fail> {
+fn a_fill_makes_a_request_late(rt: HostRuntime) -> Result<(), Fail> {
+    let alloc = rt.alloc();
+    assert_eq!(rt; counted(&joined(alloc)?), (1, 0));
+    assert_eq!(rt; counted(&filled(alloc)?), (0, 1));
+    Ok(())
+}
+
+#[test]
+fn a_cancelled_fill_is_undone(rt: HostRuntime) -> Result<(), Fail> {
+    let desk = cancelled(rt.alloc())?;
+    assert_eq!(rt; counted(&desk), (0, 0));
+    Ok(())
+}
+
+#[test]
+fn an_anti_message_comes_before_its_message(rt: HostRuntime) -> Result<(), Fail> {
     let alloc = rt.alloc();
     let (first, second) = (request(5, 0), request(22, 1));
-    let desk = filled(alloc)?;
-    assert_eq!(rt; counted(&desk), (0, 1));
-    let desk = desk.does(alloc, Call::Arrive(anti(fill(21, 0))), &[anti(miss(25, 1))])?;
-    assert!(rt; desk.shows(&[], &[first], Some(second), 22));
-    assert_eq!(rt; counted(&desk), (0, 0));
-    let desk = desk.does(alloc, Call::ExecuteNext, &[])?;
-    assert!(rt; desk.shows(&[], &[first, second], None, END));
+    let desk = cancelled(alloc)?.does(
+        alloc,
+        &[
+            Does(ExecuteNext),
+            Does(Deliver(anti(fill(30, 1)))),
+            Ahead(&[first, second], None, 30),
+            Does(Deliver(message(fill(30, 1)))),
+            Ahead(&[first, second], None, END),
+            Does(Collect(END)),
+            Settled(&[first, second]),
+        ],
+    )?;
     assert_eq!(rt; counted(&desk), (1, 0));
-    let desk = desk.does(alloc, Call::Deliver(anti(fill(30, 1))), &[])?;
-    assert!(rt; desk.shows(&[], &[first, second], None, 30));
-    let desk = desk.does(alloc, Call::Deliver(message(fill(30, 1))), &[])?;
-    assert!(rt; desk.shows(&[], &[first, second], None, END));
-    let desk = desk.does(alloc, Call::Collect(END), &[])?;
-    assert!(rt; desk.shows(&[first, second], &[], None, END));
     Ok(())
 }

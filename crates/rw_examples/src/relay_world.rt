@@ -9,7 +9,6 @@ use rw_world::{
     every_step, every_way,
 };
 use std::alloc::Global;
-use std::process::Abort;
 use std::test::Fail;
 
 // A parcel to station 0 with one hop left.
@@ -38,36 +37,39 @@ fn opened(alloc: Global) -> Result<World<Relay>, Fail> {
     Ok(World::open(alloc, relay, starts, initial)?)
 }
 
-// An anti-message that overtakes its message, a straggler, an anti-message that waits for an undoing, and each refusal.
+// An anti-message that overtakes its message, a straggler, and an anti-message that waits for an undoing.
+const STEPS: [Step; 20] = [
+    Step::Collect(6),
+    Step::Execute(1),
+    Step::Execute(0),
+    Step::Undo(0),
+    Step::Deliver(1),
+    Step::Deliver(0),
+    Step::Execute(0),
+    Step::Deliver(0),
+    Step::Execute(1),
+    Step::Undo(1),
+    Step::Execute(1),
+    Step::Undo(0),
+    Step::Deliver(0),
+    Step::Undo(1),
+    Step::Deliver(0),
+    Step::Execute(0),
+    Step::Deliver(0),
+    Step::Execute(1),
+    Step::Execute(1),
+    Step::Execute(1),
+];
+
 #[test]
 fn runs_ahead_and_back(rt: HostRuntime) -> Result<(), Fail> {
     let alloc = rt.alloc();
     let world = opened(alloc)?;
     assert_eq!(rt; world.floor(), 5);
     assert!(rt; !world.finished());
-    let steps = [
-        Step::Collect(6),
-        Step::Execute(1),
-        Step::Execute(0),
-        Step::Undo(0),
-        Step::Deliver(1),
-        Step::Deliver(0),
-        Step::Execute(0),
-        Step::Deliver(0),
-        Step::Execute(1),
-        Step::Undo(1),
-        Step::Execute(1),
-        Step::Undo(0),
-        Step::Deliver(0),
-        Step::Undo(1),
-        Step::Deliver(0),
-        Step::Execute(0),
-        Step::Deliver(0),
-        Step::Execute(1),
-        Step::Execute(1),
-        Step::Execute(1),
-    ];
-    let (world, answers) = world.run_steps(alloc, &steps)?;
+    let (world, answers) = world.run_steps(alloc, &STEPS)?;
+    assert!(rt; world.finished());
+    assert!(rt; world.journal(1).is_empty());
     let refused = [
         (0, StepFault::AboveFloor),
         (8, StepFault::Straggler),
@@ -80,26 +82,45 @@ fn runs_ahead_and_back(rt: HostRuntime) -> Result<(), Fail> {
         assert_eq!(rt; *answer, want, "at step {place}");
     }
     assert_eq!(rt; answers.len(), 20);
-    assert!(rt; world.finished());
-    assert!(rt; world.journal(1).is_empty());
-    is_committed(&rt, alloc, World::put(world.take()))
+    Ok(())
 }
 
-// Collects a finished world, and sees what is committed and what is refused from then on.
-fn is_committed(rt: &impl Abort, alloc: Global, world: World<Relay>) -> Result<(), Fail> {
-    let (world, answer) = world.apply(alloc, Step::Collect(END))?;
+// The world to which the steps lead.
+fn finished(alloc: Global) -> Result<World<Relay>, Fail> {
+    let (world, _answers) = opened(alloc)?.run_steps(alloc, &STEPS)?;
+    Ok(World::put(world.take()))
+}
+
+#[test]
+fn a_finished_world_is_committed(rt: HostRuntime) -> Result<(), Fail> {
+    let alloc = rt.alloc();
+    let (world, answer) = finished(alloc)?.apply(alloc, Step::Collect(END))?;
     assert_eq!(rt; answer, Answer::Done);
     assert_eq!(rt; world.floor(), END);
     assert_eq!(rt; world.journal(0), [coming()].as_slice());
     assert_eq!(rt; world.journal(1), [sent(), later()].as_slice());
     assert_eq!(rt; *world.state(0), station(1, 1, 1));
     assert_eq!(rt; *world.state(1), station(0, 0, 0));
-    let (world, answer) = world.apply(alloc, Step::Undo(0))?;
-    assert_eq!(rt; answer, Answer::Refused(StepFault::NothingToUndo));
-    let (world, answer) = world.apply(alloc, Step::Execute(2))?;
-    assert_eq!(rt; answer, Answer::Refused(StepFault::NoSuchProcess));
-    let (_world, answer) = world.apply(alloc, Step::Deliver(0))?;
-    assert_eq!(rt; answer, Answer::Refused(StepFault::NoSuchLetter));
+    Ok(())
+}
+
+#[test]
+fn a_committed_world_refuses_the_rest(rt: HostRuntime) -> Result<(), Fail> {
+    let alloc = rt.alloc();
+    let steps = [
+        Step::Collect(END),
+        Step::Undo(0),
+        Step::Execute(2),
+        Step::Deliver(0),
+    ];
+    let (_world, answers) = finished(alloc)?.run_steps(alloc, &steps)?;
+    let want = [
+        Answer::Done,
+        Answer::Refused(StepFault::NothingToUndo),
+        Answer::Refused(StepFault::NoSuchProcess),
+        Answer::Refused(StepFault::NoSuchLetter),
+    ];
+    assert_eq!(rt; answers.as_slice(), want.as_slice());
     Ok(())
 }
 

@@ -1,5 +1,7 @@
 // A station of the relay, through every call of a logical process.
-use crate::desk::{Call, Desk};
+use crate::desk::Call::{Arrive, Collect, Deliver, ExecuteNext, UndoOne};
+use crate::desk::Desk;
+use crate::desk::Line::{Ahead, Does, Gives, Refuses, Settled, Shows, Waits};
 use crate::parcels::{parcel, station};
 use rw_lp::StepFault;
 use rw_relay::{Parcel, Relay, Station};
@@ -38,74 +40,172 @@ fn opened(alloc: Global) -> Result<Desk<Relay>, Fail> {
 /// The same, which has executed both.
 fn ahead(alloc: Global) -> Result<Desk<Relay>, Fail> {
     let (first_on, second_on) = passed_on();
-    let desk = opened(alloc)?.does(alloc, Call::ExecuteNext, &[message(first_on)])?;
-    desk.does(alloc, Call::ExecuteNext, &[message(second_on)])
+    opened(alloc)?.does(
+        alloc,
+        &[
+            Gives(ExecuteNext, &[message(first_on)]),
+            Gives(ExecuteNext, &[message(second_on)]),
+        ],
+    )
 }
 
 #[test]
-fn executes_and_undoes(rt: HostRuntime) -> Result<(), Fail> {
+fn waits_for_its_parcels(rt: HostRuntime) -> Result<(), Fail> {
+    let (first, _) = coming();
+    let _desk = opened(rt.alloc())?.does(
+        rt.alloc(),
+        &[
+            Refuses(UndoOne, StepFault::NothingToUndo),
+            Waits(Some(first), 5),
+        ],
+    )?;
+    Ok(())
+}
+
+#[test]
+fn executes_its_parcels(rt: HostRuntime) -> Result<(), Fail> {
     let alloc = rt.alloc();
     let (first, second) = coming();
     let (first_on, second_on) = passed_on();
-    let desk = opened(alloc)?;
-    assert!(rt; desk.shows(&[], &[], Some(first), 5));
-    let desk = desk.refuses(alloc, Call::UndoOne, StepFault::NothingToUndo)?;
-    let desk = desk.does(alloc, Call::ExecuteNext, &[message(first_on)])?;
-    assert!(rt; desk.shows(&[], &[first], Some(second), 8));
-    let desk = desk.does(alloc, Call::ExecuteNext, &[message(second_on)])?;
-    assert!(rt; desk.shows(&[], &[first, second], None, END));
+    let desk = opened(alloc)?.does(
+        alloc,
+        &[
+            Gives(ExecuteNext, &[message(first_on)]),
+            Ahead(&[first], Some(second), 8),
+            Gives(ExecuteNext, &[message(second_on)]),
+            Ahead(&[first, second], None, END),
+        ],
+    )?;
     assert_eq!(rt; *desk.state(), station(7, 4, 2));
-    let desk = desk.refuses(alloc, Call::ExecuteNext, StepFault::NothingPending)?;
-    let desk = desk.does(alloc, Call::UndoOne, &[anti(second_on)])?;
-    assert!(rt; desk.shows(&[], &[first], Some(second), 8));
+    Ok(())
+}
+
+#[test]
+fn has_nothing_left_to_execute(rt: HostRuntime) -> Result<(), Fail> {
+    let alloc = rt.alloc();
+    let steps = [Refuses(ExecuteNext, StepFault::NothingPending)];
+    let _desk = ahead(alloc)?.does(alloc, &steps)?;
+    Ok(())
+}
+
+#[test]
+fn an_undoing_gives_back_the_state(rt: HostRuntime) -> Result<(), Fail> {
+    let alloc = rt.alloc();
+    let (first, second) = coming();
+    let (_, second_on) = passed_on();
+    let desk = ahead(alloc)?.does(
+        alloc,
+        &[
+            Gives(UndoOne, &[anti(second_on)]),
+            Ahead(&[first], Some(second), 8),
+        ],
+    )?;
     assert_eq!(rt; *desk.state(), station(3, 3, 1));
     Ok(())
+}
+
+/// A parcel that comes between the two, and what station 0 then passes on for it and for the second one.
+fn late() -> (Event<Parcel>, Event<Parcel>, Event<Parcel>) {
+    (
+        parcel(6, 2, 0, 0, 2),
+        parcel(16, 1, 1, 1, 1),
+        parcel(18, 1, 2, 1, 3),
+    )
+}
+
+/// The station that has executed the late one in its place, and the second one again.
+fn caught_up(alloc: Global) -> Result<Desk<Relay>, Fail> {
+    let (first, _) = coming();
+    let (_, second_on) = passed_on();
+    let (late, late_on, then_on) = late();
+    ahead(alloc)?.does(
+        alloc,
+        &[
+            Gives(Arrive(message(late)), &[anti(second_on)]),
+            Ahead(&[first], Some(late), 6),
+            Gives(ExecuteNext, &[message(late_on)]),
+            Gives(ExecuteNext, &[message(then_on)]),
+        ],
+    )
 }
 
 #[test]
 fn a_late_parcel_is_executed_in_its_place(rt: HostRuntime) -> Result<(), Fail> {
+    let desk = caught_up(rt.alloc())?;
+    assert_eq!(rt; *desk.state(), station(9, 4, 3));
+    Ok(())
+}
+
+#[test]
+fn a_late_parcel_is_a_straggler_until_it_is_cancelled(rt: HostRuntime) -> Result<(), Fail> {
     let alloc = rt.alloc();
     let (first, second) = coming();
-    let (_, second_on) = passed_on();
-    let late = parcel(6, 2, 0, 0, 2);
-    let desk = ahead(alloc)?.does(alloc, Call::Deliver(message(late)), &[])?;
-    let desk = desk.refuses(alloc, Call::ExecuteNext, StepFault::Straggler)?;
-    assert!(rt; desk.shows(&[], &[first, second], Some(late), 6));
-    let desk = desk.does(alloc, Call::Deliver(anti(late)), &[])?;
-    let desk = desk.does(alloc, Call::Arrive(message(late)), &[anti(second_on)])?;
-    assert!(rt; desk.shows(&[], &[first], Some(late), 6));
-    let (late_on, then_on) = (parcel(16, 1, 1, 1, 1), parcel(18, 1, 2, 1, 3));
-    let desk = desk.does(alloc, Call::ExecuteNext, &[message(late_on)])?;
-    let desk = desk.does(alloc, Call::ExecuteNext, &[message(then_on)])?;
-    assert_eq!(rt; *desk.state(), station(9, 4, 3));
-    let desk = desk.refuses(alloc, Call::Deliver(anti(late)), StepFault::StillDone)?;
-    let desk = desk.does(
+    let (late, _, _) = late();
+    let _desk = ahead(alloc)?.does(
         alloc,
-        Call::Arrive(anti(late)),
-        &[anti(then_on), anti(late_on)],
+        &[
+            Does(Deliver(message(late))),
+            Refuses(ExecuteNext, StepFault::Straggler),
+            Ahead(&[first, second], Some(late), 6),
+            Does(Deliver(anti(late))),
+            Ahead(&[first, second], None, END),
+        ],
     )?;
-    assert!(rt; desk.shows(&[], &[first], Some(second), 8));
+    Ok(())
+}
+
+#[test]
+fn what_a_late_parcel_changed_is_taken_back(rt: HostRuntime) -> Result<(), Fail> {
+    let alloc = rt.alloc();
+    let (first, second) = coming();
+    let (late, late_on, then_on) = late();
+    let desk = caught_up(alloc)?.does(
+        alloc,
+        &[
+            Refuses(Deliver(anti(late)), StepFault::StillDone),
+            Gives(Arrive(anti(late)), &[anti(then_on), anti(late_on)]),
+            Ahead(&[first], Some(second), 8),
+        ],
+    )?;
     assert_eq!(rt; *desk.state(), station(3, 3, 1));
     Ok(())
 }
 
 #[test]
-fn a_debt_is_paid_and_the_past_committed(rt: HostRuntime) -> Result<(), Fail> {
+fn a_debt_is_paid(rt: HostRuntime) -> Result<(), Fail> {
+    let alloc = rt.alloc();
+    let (first, second) = coming();
+    let owed = parcel(9, 2, 1, 0, 1);
+    let _desk = ahead(alloc)?.does(
+        alloc,
+        &[
+            Does(Deliver(anti(owed))),
+            Ahead(&[first, second], None, 9),
+            Refuses(Collect(10), StepFault::AboveFloor),
+            Does(Deliver(message(owed))),
+            Ahead(&[first, second], None, END),
+        ],
+    )?;
+    Ok(())
+}
+
+#[test]
+fn the_past_is_committed(rt: HostRuntime) -> Result<(), Fail> {
     let alloc = rt.alloc();
     let (first, second) = coming();
     let (_, second_on) = passed_on();
-    let owed = parcel(9, 2, 1, 0, 1);
-    let desk = ahead(alloc)?.does(alloc, Call::Deliver(anti(owed)), &[])?;
-    assert!(rt; desk.shows(&[], &[first, second], None, 9));
-    let desk = desk.refuses(alloc, Call::Collect(10), StepFault::AboveFloor)?;
-    let desk = desk.does(alloc, Call::Collect(8), &[])?;
-    assert!(rt; desk.shows(&[first], &[second], None, 9));
-    let desk = desk.does(alloc, Call::Deliver(message(owed)), &[])?;
-    let desk = desk.does(alloc, Call::UndoOne, &[anti(second_on)])?;
-    let desk = desk.refuses(alloc, Call::UndoOne, StepFault::NothingToUndo)?;
-    let desk = desk.does(alloc, Call::ExecuteNext, &[message(second_on)])?;
-    let desk = desk.does(alloc, Call::Collect(END), &[])?;
-    assert!(rt; desk.shows(&[first, second], &[], None, END));
+    let desk = ahead(alloc)?.does(
+        alloc,
+        &[
+            Does(Collect(8)),
+            Shows(&[first], &[second], None, END),
+            Gives(UndoOne, &[anti(second_on)]),
+            Refuses(UndoOne, StepFault::NothingToUndo),
+            Gives(ExecuteNext, &[message(second_on)]),
+            Does(Collect(END)),
+            Settled(&[first, second]),
+        ],
+    )?;
     let (journal, state) = desk.into_outcome();
     assert!(rt; journal.as_slice() == [first, second].as_slice());
     assert_eq!(rt; state, station(7, 4, 2));
