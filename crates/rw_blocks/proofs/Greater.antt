@@ -1,19 +1,18 @@
 -- The fill of a block is the greater of what it holds as a home and as a place.
-use Rattle.std.proofs.Common.{◌≡◌, ℕ, ◌+◌, ◌≤◌, ◌<◌, List, [], ◌∷◌, refl, sym, ap, ◌∙◌, arith, Bool, true, false, cond, nat_eq, ◌⊎◌, inl, inr, length, get_or, max}
+use Rattle.std.proofs.Common.{◌≡◌, ℕ, ◌≤◌, List, [], ◌∷◌, refl, sym, ap, ◌∙◌, arith, Bool, true, false, cond, nat_eq, ◌⊎◌, inl, inr, get_or, max}
 use Rattle.std.specs.Prelude.{sum_by, All}
 use Rattle.std.specs.Map.{values_of}
-use Rattle.std.proofs.lemmas.Bool.{eqb-true, eq-eqb, ne_eqb, cases_lt}
+use Rattle.std.proofs.lemmas.Bool.{eqb-true, eq-eqb, cases_lt}
 use Rattle.std.proofs.lemmas.List.Sums.{sum_by-cons}
 use Rattle.std.proofs.lemmas.List.Elements.{All-tail}
 use Rattle.rw_blocks.specs.declared.Kind.TheVariants.{Device, Virtual}
 use Rattle.rw_blocks.specs.declared.Place.{Place}
 use Rattle.rw_blocks.specs.State.{QueueState}
-use Rattle.rw_blocks.specs.Sums.{fill, bytes_held, has_kind}
+use Rattle.rw_blocks.specs.Sums.{fill, bytes_held}
 use Rattle.rw_blocks.specs.Loose.{IsLoose, count}
 use Rattle.rw_blocks.proofs.Kept.{bytes_held-is, weight}
 use Rattle.rw_blocks.proofs.Grown.{bytes_held-nowhere}
 use Rattle.rw_blocks.proofs.Fills.{has_kind-some, has_kind-none}
-use Rattle.rw_blocks.proofs.Filed.{by_test}
 
 sum_le : (f g : Place → ℕ) (rs : List Place) → All (λ r. f r ≤ g r) rs → sum_by f rs ≤ sum_by g rs
 sum_le f g [] all = omega arith

@@ -1,10 +1,10 @@
 -- Which blocks a section has, after a change.
-use Rattle.std.proofs.Common.{◌≡◌, ℕ, zero, suc, ◌+◌, ◌≤◌, ◌<◌, List, [], ◌∷◌, ◌++◌, refl, sym, ap, ◌∙◌, arith, Bool, true, false, cond, nat_eq, take, drop, length, get_or}
+use Rattle.std.proofs.Common.{◌≡◌, ℕ, zero, suc, ◌<◌, List, [], ◌∷◌, refl, ap, ◌∙◌, arith, Bool, true, false, nat_eq, length, get_or}
 use Rattle.std.specs.Prelude.{◌||◌, insert, remove}
 use Rattle.std.specs.List.{list_any}
 use Rattle.rw_blocks.specs.declared.Kind.{Kind}
 use Rattle.rw_blocks.specs.declared.Kind.TheVariants.{Device, Virtual}
-use Rattle.rw_blocks.specs.State.{SectionState, blocks_of, active_of}
+use Rattle.rw_blocks.specs.State.{SectionState, active_of}
 use Rattle.rw_blocks.specs.Sums.{has_block, has_serial}
 use Rattle.rw_blocks.specs.Primitives.{section_sealing}
 use Rattle.rw_blocks.specs.Undo.{section_unsealing}

@@ -1,9 +1,9 @@
 -- What a loose queue says of sections that are parted and joined, and of rows whose places they hold.
-use Rattle.std.proofs.Common.{◌≡◌, ℕ, zero, suc, ◌+◌, ◌-◌, ◌≤◌, ◌<◌, List, [], ◌∷◌, ◌++◌, refl, sym, ap, subst, ◌∙◌, arith, Bool, true, false, cond, nat_eq, ◌⊎◌, inl, inr, length, set, get_or, take, drop, length-set}
-use Rattle.std.specs.Prelude.{sum_by, count_by, insert, remove, not, ◌||◌, ◌&&◌, nat_lt, All, slice_get, Some}
+use Rattle.std.proofs.Common.{◌≡◌, ℕ, zero, suc, ◌+◌, ◌-◌, ◌≤◌, ◌<◌, List, [], ◌∷◌, ◌++◌, refl, sym, ap, subst, ◌∙◌, arith, Bool, true, false, cond, nat_eq, inl, inr, length, set, get_or, take, drop, length-set}
+use Rattle.std.specs.Prelude.{sum_by, insert, remove, ◌||◌, ◌&&◌, nat_lt, All, slice_get, Some}
 use Rattle.std.specs.List.{list_any}
 use Rattle.std.specs.Map.{values_of}
-use Rattle.std.proofs.lemmas.Bool.{eq-eqb, ne_eqb, eqb-true, lt-ltb, le-ltb, ltb-true, ltb-false, cases_lt, cases_eq, or_parts}
+use Rattle.std.proofs.lemmas.Bool.{eq-eqb, ne_eqb, eqb-true, lt-ltb, le-ltb, ltb-true, cases_lt, cases_eq, or_parts}
 use Rattle.std.proofs.lemmas.Bool.Decides.{nat_tests}
 use Rattle.std.proofs.Common.{get_or-set_same, get_or-set_other}
 use Rattle.std.proofs.lemmas.List.{drop_at, length-take-le}
@@ -12,8 +12,8 @@ use Rattle.std.proofs.lemmas.List.Sums.{sum_by-cons, get_or-le-sum_by, sum_by-se
 use Rattle.rw_blocks.specs.declared.Kind.{Kind}
 use Rattle.rw_blocks.specs.declared.Kind.TheVariants.{Device, Virtual}
 use Rattle.rw_blocks.specs.declared.Place.{Place}
-use Rattle.rw_blocks.specs.State.{QueueState, SectionState, no_section, section_at, blocks_of}
-use Rattle.rw_blocks.specs.Sums.{has_block, has_serial, is_kind, size_of}
+use Rattle.rw_blocks.specs.State.{QueueState, SectionState, no_section, blocks_of}
+use Rattle.rw_blocks.specs.Sums.{has_block, has_serial}
 use Rattle.rw_blocks.specs.Loose.{IsLoose, count, count_in}
 use Rattle.rw_blocks.specs.Primitives.{section_joining, block_unless}
 use Rattle.rw_blocks.specs.Undo.{upper_of, lower_of}
@@ -27,8 +27,8 @@ use Rattle.rw_blocks.proofs.Grown.{at_block, count_in-cons}
 use Rattle.rw_blocks.specs.Primitives.{after_take_out, with_section}
 use Rattle.rw_blocks.proofs.Filed.{by_test}
 use Rattle.rw_blocks.proofs.Tagged.{insert_old, remove_old, before_insert, after_insert, low, high}
-use Rattle.rw_blocks.proofs.Weighed.{among-same, among-two, among-le}
-use Rattle.rw_blocks.proofs.Present.{any-count, times, has-times, absent-none, all-places, times-joining, gone-times, gone-le, Joins-once, Parts-once}
+use Rattle.rw_blocks.proofs.Weighed.{among-same, among-two}
+use Rattle.rw_blocks.proofs.Present.{any-count, times, has-times, absent-none, all-places, times-joining, gone-times, Joins-once, Parts-once}
 
 -- ---- rows
 -- a serial that no block has is no row's place

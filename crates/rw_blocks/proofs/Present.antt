@@ -1,23 +1,22 @@
 -- Which sections have a block, by the counts of a loose queue.
-use Rattle.std.proofs.Common.{◌≡◌, ℕ, zero, suc, ◌+◌, ◌≤◌, ◌<◌, List, [], ◌∷◌, ◌++◌, refl, sym, ap, subst, ◌∙◌, arith, Bool, true, false, cond, nat_eq, ◌⊎◌, inl, inr, length, set, get_or}
-use Rattle.std.specs.Prelude.{sum_by, count_by, insert, remove, not, ◌||◌, ◌&&◌, nat_lt, All, take, drop, Option, Some, None, IsSome, IsNone}
+use Rattle.std.proofs.Common.{◌≡◌, ℕ, ◌+◌, ◌≤◌, ◌<◌, List, [], ◌∷◌, refl, sym, ap, ◌∙◌, arith, Bool, true, false, cond, nat_eq, ◌⊎◌, inl, inr, length, get_or}
+use Rattle.std.specs.Prelude.{count_by, not, ◌||◌, ◌&&◌, nat_lt, All, Option, Some, None, IsSome, IsNone}
 use Rattle.std.specs.List.{list_any}
 use Rattle.std.specs.Map.{values_of}
-use Rattle.std.proofs.lemmas.Bool.{eq-eqb, lt-ltb, le-ltb, ltb-true, ltb-false, cases_lt, or_parts}
+use Rattle.std.proofs.lemmas.Bool.{lt-ltb, le-ltb, ltb-false}
 use Rattle.std.proofs.lemmas.Bool.Decides.{nat_tests}
-use Rattle.std.proofs.lemmas.List.Sums.{sum_by-cons, get_or-le-sum_by, sum_by-le, sum_by-set, sum_by-insert, sum_by-remove}
-use Rattle.rw_blocks.specs.declared.Kind.{Kind}
+use Rattle.std.proofs.lemmas.List.Sums.{sum_by-cons, get_or-le-sum_by, sum_by-le}
 use Rattle.rw_blocks.specs.declared.Kind.TheVariants.{Device, Virtual}
 use Rattle.rw_blocks.specs.declared.Place.{Place}
-use Rattle.rw_blocks.specs.State.{QueueState, SectionState, no_section, section_at, blocks_of, row_at}
-use Rattle.rw_blocks.specs.Sums.{has_block, has_serial, is_kind}
+use Rattle.rw_blocks.specs.State.{QueueState, SectionState, no_section, blocks_of, row_at}
+use Rattle.rw_blocks.specs.Sums.{has_block, has_serial}
 use Rattle.rw_blocks.specs.Loose.{IsLoose, count, count_in}
 use Rattle.rw_blocks.specs.Primitives.{section_joining}
-use Rattle.rw_blocks.specs.Tags.{section_in, IsAbsent, Parts, ComesFrom, Joins, vanishes}
+use Rattle.rw_blocks.specs.Tags.{section_in, IsAbsent, Parts, Joins, vanishes}
 use Rattle.rw_blocks.proofs.Serials.{kinds}
 use Rattle.rw_blocks.proofs.Kept.{of_row}
 use Rattle.std.proofs.lemmas.List.{get_or_default}
-use Rattle.rw_blocks.proofs.Grown.{one, count_in-cons}
+use Rattle.rw_blocks.proofs.Grown.{count_in-cons}
 use Rattle.rw_blocks.proofs.Moved.{vanished, count_in-section_joining}
 use Rattle.rw_blocks.proofs.Filed.{by_test}
 

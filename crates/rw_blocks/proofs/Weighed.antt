@@ -1,16 +1,14 @@
 -- How the bytes of the sections follow the rows and the sections.
-use Rattle.std.proofs.Common.{◌≡◌, ℕ, zero, suc, ◌+◌, ◌-◌, ◌≤◌, ◌<◌, List, [], ◌∷◌, refl, sym, ap, subst, ◌∙◌, arith, Bool, true, false, cond, nat_eq, ◌⊎◌, inl, inr, length, set, get_or, length-set, get_or-set_same, get_or-set_other, map}
-use Rattle.std.specs.Prelude.{Some, None, sum_by, filter, insert, remove, not, ◌||◌, ◌&&◌, All, IsSome, sum, drop}
-use Rattle.std.specs.List.{list_any}
+use Rattle.std.proofs.Common.{◌≡◌, ℕ, zero, suc, ◌+◌, ◌≤◌, ◌<◌, List, [], ◌∷◌, refl, sym, ap, subst, ◌∙◌, arith, Bool, true, false, cond, inl, inr, length, set, get_or, length-set, get_or-set_same, get_or-set_other}
+use Rattle.std.specs.Prelude.{Some, None, sum_by, ◌||◌, ◌&&◌, All, sum, drop}
 use Rattle.std.specs.Ordering.{nat_cmp}
 use Rattle.std.specs.Cmp.{nat_cmp_total}
 use Rattle.std.specs.List.Sorted.{IsStrictlySortedBy}
 use Rattle.std.specs.Map.{lookup, remove_entry, keys_of, values_of}
 use Rattle.std.specs.BTreeMap.{insert_entry, is_at}
-use Rattle.std.proofs.lemmas.Bool.{eq-eqb, ne_eqb, eqb-true, cases_eq, cases_lt}
+use Rattle.std.proofs.lemmas.Bool.{cases_eq}
 use Rattle.std.proofs.lemmas.List.Sums.{sum_by-cons, sum_by-le-sum_by}
-use Rattle.std.proofs.lemmas.List.Elements.{All-head, All-tail}
-use Rattle.std.proofs.lemmas.List.Edits.{length-insert, length-remove, get_or-insert_below, get_or-insert_at, get_or-insert_above, get_or-remove_below, get_or-remove_above}
+use Rattle.std.proofs.lemmas.List.Elements.{All-tail}
 use Rattle.std.proofs.lemmas.Map.Entries.{sum_by-insert_entry, sum_by-remove_entry}
 use Rattle.rw_blocks.specs.declared.Place.{Place}
 use Rattle.rw_blocks.specs.State.{QueueState, SectionState, no_section}
@@ -18,7 +16,6 @@ use Rattle.rw_blocks.specs.Sums.{has_block, bytes_in, size_of, below}
 use Rattle.rw_blocks.specs.Tags.{section_in, IsOnlyIn}
 use Rattle.rw_blocks.specs.Weights.{among, weight_in, IsWeighed}
 use Rattle.rw_blocks.proofs.Sums.{sum_by-filter}
-use Rattle.rw_blocks.proofs.Filed.{by_test}
 
 pub bytes_in-weight : (q : QueueState) (s : SectionState) → bytes_in q s ≡ weight_in q.rows s
 bytes_in-weight q s = sum_by-filter (λ r. r.size) (λ r. has_block r.place s) (values_of q.rows)

@@ -3,7 +3,6 @@ use Rattle.std.specs.Prelude.{ℕ, List, [], nat_eq, unwrap_or}
 use Rattle.std.specs.Option.{option_map}
 use Rattle.std.specs.HashMap.{get}
 use Rattle.rw_blocks.specs.declared.members.Members.{Members}
-use Rattle.rw_blocks.specs.declared.members.Held.{Held}
 
 -- the bytes of a block's objects, and those objects in rising order
 unfoldable pub bytes_at : Members → ℕ → ℕ

@@ -1,5 +1,5 @@
 -- What the index of the blocks by section says: each section has a tag of its own, and each block the tag of its section.
-use Rattle.std.specs.Prelude.{◌≡◌, ℕ, ◌≤◌, ◌<◌, Bool, true, false, List, Option, Some, None, nat_eq, length, slice_index_or, not, ◌&&◌, ◌||◌, ◌⊎◌}
+use Rattle.std.specs.Prelude.{◌≡◌, ℕ, ◌<◌, Bool, true, false, List, Option, Some, None, nat_eq, length, slice_index_or, not, ◌&&◌, ◌||◌, ◌⊎◌}
 use Rattle.rw_blocks.specs.State.{SectionState, no_section}
 use Rattle.rw_blocks.specs.Sums.{has_block}
 

@@ -1,10 +1,10 @@
 -- What the code of an operation has made, as the definitions say it.
 use Rattle.std.proofs.Common.{◌≡◌, ℕ, ◌+◌, ◌≤◌, ◌<◌, ◌^◌, refl, sym, ap, subst, ◌∙◌, arith, length, nat_eq, zero, suc}
-use Rattle.std.specs.Prelude.{Some, unwrap_or, nat_lt, not}
+use Rattle.std.specs.Prelude.{Some, nat_lt, not}
 use Rattle.std.proofs.lemmas.Bool.{ne_eqb, lt-ltb}
 use Rattle.rw_blocks.specs.declared.Kind.TheVariants.{Device, Virtual}
 use Rattle.rw_blocks.specs.declared.Place.{Place}
-use Rattle.rw_blocks.specs.State.{QueueState, no_place, row_at, row_or, section_at}
+use Rattle.rw_blocks.specs.State.{QueueState, row_at, section_at}
 use Rattle.rw_blocks.specs.Sums.{bytes_held}
 use Rattle.rw_blocks.specs.Loose.{IsLoose}
 use Rattle.rw_blocks.specs.Primitives.{after_add, after_merge}
@@ -15,7 +15,6 @@ use Rattle.rw_ripq.specs.Adjust.{merge, is_written}
 use Rattle.rw_ripq.specs.Record.{HasHeadroom, IsInsertable}
 use Rattle.rw_ripq.proofs.Rooms.{fits-with_room, shape-with_room}
 use Rattle.rw_ripq.proofs.Folds.{next-if}
-use Rattle.rw_ripq.proofs.Reputs.{row-with_room}
 use Rattle.rw_ripq.proofs.Serials.{displaced-few}
 use Rattle.rw_ripq.proofs.Moves.{row-small}
 

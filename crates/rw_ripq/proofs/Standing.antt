@@ -1,23 +1,22 @@
 -- Where a sealed block stands, found by the section that has it.
-use Rattle.std.proofs.Common.{◌≡◌, ℕ, ◌+◌, ◌-◌, ◌≤◌, ◌<◌, List, [], ◌∷◌, refl, sym, ap, ◌∙◌, arith, subst, Bool, true, false, cond, length, get_or, nat_eq, inl, inr}
-use Rattle.std.specs.Prelude.{Some, None, Option, position, sum_by, count_by, remove, ◌||◌, IsNone}
-use Rattle.std.specs.List.{list_any, position_or_len}
+use Rattle.std.proofs.Common.{◌≡◌, ℕ, ◌+◌, ◌≤◌, ◌<◌, List, ◌∷◌, refl, sym, ap, ◌∙◌, arith, subst, Bool, true, false, cond, length, get_or, inl, inr}
+use Rattle.std.specs.Prelude.{Some, None, position, sum_by, count_by, remove, IsNone}
+use Rattle.std.specs.List.{position_or_len}
 use Rattle.std.proofs.lemmas.Bool.{ltb-true, or_parts, lt-ltb, cases_order}
-use Rattle.std.proofs.lemmas.List.Sums.{position_or_len_is, get_or-le-sum_by, sum_by-remove, sum_by-cons}
+use Rattle.std.proofs.lemmas.List.Sums.{position_or_len_is, get_or-le-sum_by, sum_by-remove}
 use Rattle.std.proofs.lemmas.List.Edits.{get_or-remove_below, length-remove}
 use Rattle.std.proofs.lemmas.List.Quantifiers.{position-Some}
-use Rattle.rw_blocks.specs.declared.Kind.{Kind}
 use Rattle.rw_blocks.specs.declared.Kind.TheVariants.{Device, Virtual}
 use Rattle.rw_blocks.specs.State.{QueueState, SectionState, no_section, section_at, blocks_of}
 use Rattle.rw_blocks.specs.Sums.{has_block, has_serial}
-use Rattle.rw_blocks.specs.Loose.{IsLoose, count, count_in}
+use Rattle.rw_blocks.specs.Loose.{IsLoose, count_in}
 use Rattle.rw_blocks.specs.Questions.{section_of}
-use Rattle.rw_blocks.proofs.Serials.{serials, serials-cons, kinds}
+use Rattle.rw_blocks.proofs.Serials.{serials-cons, kinds}
 use Rattle.rw_blocks.proofs.Present.{times, has-times}
 use Rattle.rw_blocks.proofs.Tagged.{absent_from-position}
 use Rattle.rw_ripq.proofs.Moves.{stands-nowhere, position-none}
 use Rattle.rw_ripq.specs.Sealed.{has_sealed, is_sealed}
-use Rattle.rw_ripq.proofs.Basics.{by_bool, true_not_false}
+use Rattle.rw_ripq.proofs.Basics.{by_bool}
 
 -- what a test counts in a list, at two places
 two_places : {X : Type 0} (f : X → ℕ) (xs : List X) (k i : ℕ) (d : X) → k < i → i < length xs → f (get_or xs k d) + f (get_or xs i d) ≤ sum_by f xs

@@ -1,5 +1,5 @@
 -- How much of a whole run is left, said by the events that are pending alone.
-use Rattle.std.proofs.Common.{◌≡◌, ℕ, suc, ◌+◌, ◌<◌, ◌≤◌, Bool, true, false, cond, List, [], ◌∷◌, ◌++◌, Some, get_or, length, refl, sym, ◌∙◌, ap, subst, arith, true≢false, inl, inr}
+use Rattle.std.proofs.Common.{◌≡◌, ℕ, ◌+◌, ◌<◌, ◌≤◌, Bool, true, false, cond, List, [], ◌∷◌, ◌++◌, Some, get_or, length, refl, sym, ◌∙◌, ap, subst, arith, true≢false, inl, inr}
 use Rattle.std.specs.declared.cmp.Ordering.{Ordering}
 use Rattle.std.specs.Ordering.{is_gt, is_eq}
 use Rattle.rw_vt.specs.Order.{AtMost, copies, Has, IsAscending, in_order}
@@ -11,7 +11,7 @@ use Rattle.rw_vt.specs.Valid.{IsInRange}
 use Rattle.rw_vt.specs.System.{System, after, map_from, flatten, below}
 use Rattle.rw_vt.proofs.Runs.{none_sent_back}
 use Rattle.rw_serial.proofs.Lists.{at_list}
-use Rattle.rw_serial.proofs.Midrun.{IsMidrun, begins, same_counts, next_there, next_least, next_valid, next_inside, next_well_formed, start_of, state_there, added, after_x, midrun_step, copies_to_come}
+use Rattle.rw_serial.proofs.Midrun.{IsMidrun, begins, same_counts, next_there, next_least, next_valid, next_well_formed, start_of, state_there, added, after_x, midrun_step, copies_to_come}
 
 -- how many are greater than x
 abbrev pub greater : {E : Type 0} → (E → E → Ordering) → E → List E → ℕ

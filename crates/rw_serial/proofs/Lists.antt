@@ -2,7 +2,7 @@
 use Rattle.std.proofs.Common.{◌≡◌, ◌≢◌, ℕ, zero, suc, ◌+◌, ◌<◌, ◌≤◌, List, [], ◌∷◌, ◌++◌, refl, sym, ◌∙◌, ap, subst, arith, Some, map, length, get_or, add-zero}
 use Rattle.std.specs.declared.cmp.Ordering.{Ordering}
 use Rattle.std.specs.List.{slice_get, slice_set}
-use Rattle.std.proofs.lemmas.List.{map-set, get_or-map, length-append}
+use Rattle.std.proofs.lemmas.List.{map-set, get_or-map}
 use Rattle.rw_vt.specs.Order.{copies}
 use Rattle.rw_vt.specs.System.{map_from, flatten}
 use Rattle.rw_vt.proofs.Sorting.{IsExactOrder, copies-append}

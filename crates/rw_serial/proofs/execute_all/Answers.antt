@@ -1,4 +1,4 @@
-use Rattle.std.proofs.Common.{rules, arith, ◌≡◌, ◌<◌, ◌^◌, ◌-◌, ◌∙◌, sym, ap, subst, refl, [], ◌∷◌, ◌++◌, get_or, length, replicate}
+use Rattle.std.proofs.Common.{rules, ◌<◌, ◌^◌, ◌-◌, ◌∙◌, sym, subst, refl, [], ◌∷◌, ◌++◌, get_or, length, replicate}
 use Rattle.std.specs.List.{slice_set}
 use Rattle.std.proofs.lemmas.Result.{err_from_is_err_and}
 use Rattle.rw_vt.specs.System.{system}

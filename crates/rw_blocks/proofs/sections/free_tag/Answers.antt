@@ -1,4 +1,4 @@
-use Rattle.std.proofs.Common.{arith, sym, ◌∙◌, ◌≡◌, true, nat_eq}
+use Rattle.std.proofs.Common.{arith, ◌≡◌, true, nat_eq}
 use Rattle.std.specs.List.{list_any}
 use Rattle.rw_blocks.proofs.Using.{fewer_above}
 use Rattle.rw_blocks.proofs.sections.free_tag.Goals as goal

@@ -1,4 +1,4 @@
-use Rattle.std.proofs.Common.{ℕ, ◌+◌, ◌≤◌, length}
+use Rattle.std.proofs.Common.{◌+◌, ◌≤◌, length}
 use Rattle.std.specs.Prelude.{count_by}
 use Rattle.rw_blocks.proofs.Using.{at_least}
 use Rattle.rw_blocks.proofs.sections.free_tag.Given as goal

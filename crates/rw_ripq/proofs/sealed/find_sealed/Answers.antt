@@ -1,7 +1,5 @@
-use Rattle.std.proofs.Common.{sym, ap, arith, ◌≡◌, ◌∙◌, ◌<◌, ℕ, Bool, true, false, length}
-use Rattle.std.specs.Prelude.{Some, None, position}
-use Rattle.rw_blocks.specs.State.{section_at}
-use Rattle.rw_blocks.specs.Sums.{has_serial}
+use Rattle.std.proofs.Common.{sym, ◌≡◌, ◌∙◌}
+use Rattle.std.specs.Prelude.{Some}
 use Rattle.rw_blocks.specs.Questions.{section_of}
 use Rattle.rw_ripq.proofs.Standing.{section-within, section-first, nowhere, nowhere-here}
 use Rattle.rw_ripq.proofs.Moves.{stands-at}

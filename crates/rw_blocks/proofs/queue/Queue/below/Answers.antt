@@ -1,4 +1,4 @@
-use Rattle.std.proofs.Common.{arith, sym, ap, ◌≡◌, ◌∙◌, ◌<◌, ◌+◌, ◌-◌, ◌^◌, ℕ, List, length, drop, take}
+use Rattle.std.proofs.Common.{arith, ap, ◌≡◌, ◌∙◌, ◌<◌, ◌+◌, ◌-◌, ◌^◌, ℕ, List, length, drop, take}
 use Rattle.std.specs.Prelude.{sum}
 use Rattle.std.proofs.lemmas.List.{take_rest}
 use Rattle.rw_blocks.specs.State.{QueueState}

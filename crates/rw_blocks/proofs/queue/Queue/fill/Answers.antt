@@ -1,6 +1,6 @@
-use Rattle.std.proofs.Common.{arith, sym, ap, ◌≡◌, ◌∙◌, ◌<◌, ◌≤◌, ℕ, max}
-use Rattle.rw_blocks.specs.declared.Kind.TheVariants.{Device, Virtual}
-use Rattle.rw_blocks.specs.Sums.{fill, bytes_held}
+use Rattle.std.proofs.Common.{ap, ◌∙◌, ℕ, max}
+use Rattle.rw_blocks.specs.declared.Kind.TheVariants.{Device}
+use Rattle.rw_blocks.specs.Sums.{bytes_held}
 use Rattle.rw_blocks.proofs.Fills.{fill-of, fill-active}
 use Rattle.rw_blocks.proofs.Greater.{fill-greater}
 use Rattle.rw_blocks.proofs.queue.Queue.fill.Goals as goal

@@ -1,4 +1,4 @@
-use Rattle.std.proofs.Common.{arith, subst, sym, ap, ◌≡◌, ◌∙◌, ℕ, []}
+use Rattle.std.proofs.Common.{subst, sym, ap, ◌≡◌, ◌∙◌, ℕ, []}
 use Rattle.std.specs.Prelude.{Option, IsNone, ◌↔◌}
 use Rattle.rw_blocks.specs.State.{QueueState}
 use Rattle.rw_blocks.specs.Sums.{rows_placed}

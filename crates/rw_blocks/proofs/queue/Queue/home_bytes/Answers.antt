@@ -1,6 +1,5 @@
-use Rattle.std.proofs.Common.{sym, ap, ◌≡◌, ◌∙◌, ℕ, List}
+use Rattle.std.proofs.Common.{sym, ap, ◌∙◌}
 use Rattle.rw_blocks.specs.declared.Kind.TheVariants.{Device}
-use Rattle.rw_blocks.specs.declared.Place.{Place}
 use Rattle.rw_blocks.specs.State.{QueueState}
 use Rattle.rw_blocks.specs.Index.{bytes_of, home_of}
 use Rattle.rw_blocks.proofs.Kept.{bytes_held-is}

@@ -1,5 +1,5 @@
-use Rattle.std.proofs.Common.{arith, sym, ap, subst, ◌∙◌, ◌≡◌, ℕ, refl}
-use Rattle.std.specs.Prelude.{Some, None}
+use Rattle.std.proofs.Common.{sym, ap, subst, ◌∙◌, ◌≡◌, ℕ, refl}
+use Rattle.std.specs.Prelude.{Some}
 use Rattle.rw_blocks.specs.declared.Place.{Place}
 use Rattle.rw_blocks.specs.State.{QueueState, row_at, row_or}
 use Rattle.rw_blocks.specs.Loose.{IsLoose}

@@ -1,13 +1,11 @@
-use Rattle.std.proofs.Common.{arith, sym, ap, subst, ◌≡◌, ◌∙◌, ◌<◌, ◌≤◌, ◌+◌, ◌-◌, ◌^◌, ℕ, List, Bool, length, get_or, set, drop}
+use Rattle.std.proofs.Common.{arith, sym, ap, subst, ◌≡◌, ◌∙◌, ◌<◌, ◌≤◌, ◌+◌, ◌-◌, ℕ, List, Bool, length, get_or, drop}
 use Rattle.std.specs.Prelude.{insert}
 use Rattle.std.specs.List.{list_any}
-use Rattle.std.specs.Map.{values_of}
 use Rattle.std.proofs.lemmas.List.{get_or_default}
-use Rattle.std.proofs.lemmas.List.Edits.{length-insert, get_or-insert_below}
-use Rattle.std.proofs.lemmas.Grind.{common_steps}
+use Rattle.std.proofs.lemmas.List.Edits.{get_or-insert_below}
 use Rattle.rw_blocks.specs.declared.Place.{Place}
 use Rattle.rw_blocks.specs.State.{QueueState, SectionState}
-use Rattle.rw_blocks.specs.Sums.{has_block, has_serial, size_of}
+use Rattle.rw_blocks.specs.Sums.{has_serial}
 use Rattle.rw_blocks.specs.Loose.{IsLoose}
 use Rattle.rw_blocks.specs.Primitives.{section_joining}
 use Rattle.rw_blocks.specs.Undo.{upper_of, lower_of}

@@ -1,12 +1,10 @@
-use Rattle.std.proofs.Common.{arith, sym, ap, subst, ◌∙◌, ◌≡◌, ◌<◌, ◌+◌, ℕ, List, length, get_or, false, nat_eq}
+use Rattle.std.proofs.Common.{arith, sym, ap, subst, ◌∙◌, ◌≡◌, ◌<◌, ℕ, length, get_or, false, nat_eq}
 use Rattle.std.specs.Prelude.{insert, ◌||◌, All}
 use Rattle.std.specs.Map.{values_of}
-use Rattle.rw_blocks.specs.declared.Kind.TheVariants.{Device, Virtual}
 use Rattle.rw_blocks.specs.declared.Mark.TheVariants.{TakeOut}
 use Rattle.rw_blocks.specs.State.{QueueState, SectionState}
 use Rattle.rw_blocks.specs.Sums.{has_block}
-use Rattle.rw_blocks.specs.Loose.{IsLoose, count}
-use Rattle.rw_blocks.specs.Undo.{undo_of, IsUndoable}
+use Rattle.rw_blocks.specs.Undo.{IsUndoable}
 use Rattle.rw_blocks.specs.Tags.{section_in}
 use Rattle.rw_blocks.proofs.Present.{absent-none}
 use Rattle.rw_blocks.proofs.Holding.{has_block-insert}

@@ -1,8 +1,7 @@
-use Rattle.std.proofs.Common.{arith, sym, ap, subst, ◌∙◌, ◌≡◌, ◌<◌, ◌≤◌, ◌+◌, ◌^◌, ℕ, List}
-use Rattle.std.specs.Prelude.{Some, None, Option, IsSome, IsNone}
+use Rattle.std.proofs.Common.{arith, subst}
+use Rattle.std.specs.Prelude.{IsNone}
 use Rattle.rw_vt.proofs.Entries.{lookup-insert_entry}
-use Rattle.rw_blocks.specs.State.{QueueState, row_at}
-use Rattle.rw_blocks.specs.Sums.{total}
+use Rattle.rw_blocks.specs.State.{QueueState}
 use Rattle.rw_blocks.specs.Primitives.{with_row}
 use Rattle.rw_blocks.specs.Tags.{IsAbsent}
 use Rattle.rw_blocks.proofs.Kept.{total-with_row}

@@ -1,8 +1,8 @@
-use Rattle.std.proofs.Common.{arith, sym, ap, subst, ◌≡◌, ◌∙◌, ◌<◌, ◌+◌, ℕ, refl}
+use Rattle.std.proofs.Common.{arith, sym, ap, ◌≡◌, ◌∙◌, ℕ, refl}
 use Rattle.std.specs.Prelude.{Some}
 use Rattle.rw_blocks.specs.declared.Place.{Place}
 use Rattle.rw_blocks.specs.State.{QueueState, row_at, section_at}
-use Rattle.rw_blocks.specs.Primitives.{with_row, after_remove, after_rehome}
+use Rattle.rw_blocks.specs.Primitives.{with_row, after_rehome}
 use Rattle.rw_blocks.specs.Sums.{total}
 use Rattle.rw_blocks.proofs.Laws.{Undoes-after_rehome}
 use Rattle.rw_blocks.proofs.Kept.{IsLoose-after_rehome}

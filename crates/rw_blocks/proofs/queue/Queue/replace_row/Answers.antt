@@ -1,8 +1,8 @@
-use Rattle.std.proofs.Common.{arith, sym, ap, subst, ◌≡◌, ◌∙◌, ◌<◌, ◌≤◌, ◌+◌, ◌-◌, ◌^◌, ℕ, List, refl, length, get_or, set, true, length-set}
-use Rattle.std.specs.Prelude.{Some, None, Option, IfSome, IsNone, IsSome}
+use Rattle.std.proofs.Common.{arith, sym, ap, subst, ◌≡◌, ◌∙◌, ◌<◌, ◌≤◌, ◌+◌, ◌-◌, ℕ, List, refl, length, get_or, set, true, length-set}
+use Rattle.std.specs.Prelude.{Some, Option, IfSome}
 use Rattle.std.specs.Ordering.{nat_cmp}
-use Rattle.std.specs.Map.{lookup, values_of, remove_entry}
-use Rattle.std.specs.BTreeMap.{is_at, insert_entry}
+use Rattle.std.specs.Map.{values_of, remove_entry}
+use Rattle.std.specs.BTreeMap.{is_at}
 use Rattle.std.proofs.lemmas.List.{get_or_default}
 use Rattle.rw_vt.proofs.Entries.{insert_entry-same, lookup-remove_entry, sorted-remove_entry}
 use Rattle.rw_blocks.specs.declared.Place.{Place}
@@ -12,7 +12,7 @@ use Rattle.rw_blocks.specs.Loose.{IsLoose}
 use Rattle.rw_blocks.specs.Undo.{Undoes}
 use Rattle.rw_blocks.specs.declared.Mark.TheVariants.{Replace}
 use Rattle.rw_blocks.specs.Primitives.{with_row, after_replace}
-use Rattle.rw_blocks.specs.Tags.{section_in, IsOnlyIn, IsAbsent}
+use Rattle.rw_blocks.specs.Tags.{section_in, IsOnlyIn}
 use Rattle.rw_blocks.specs.Weights.{weight_in, IsWeighed}
 use Rattle.rw_blocks.proofs.Laws.{Undoes-after_replace}
 use Rattle.rw_blocks.proofs.Kept.{IsLoose-after_replace}

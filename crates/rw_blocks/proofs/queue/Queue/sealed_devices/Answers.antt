@@ -1,4 +1,4 @@
-use Rattle.std.proofs.Common.{arith, ap, sym, ◌≡◌, ◌<◌, ◌^◌}
+use Rattle.std.proofs.Common.{arith, ap, sym, ◌≡◌}
 use Rattle.rw_blocks.specs.State.{QueueState}
 use Rattle.rw_blocks.specs.Loose.{sealed_devices}
 use Rattle.rw_blocks.proofs.Serials.{sealed_devices-le-next}

@@ -1,6 +1,6 @@
-use Rattle.std.proofs.Common.{arith, ap, sym, ◌≡◌, ◌∙◌, ◌+◌, ℕ}
+use Rattle.std.proofs.Common.{arith, ap, ◌≡◌, ◌+◌}
 use Rattle.std.proofs.lemmas.Grind.{common_steps}
-use Rattle.rw_blocks.specs.State.{QueueState, section_at}
+use Rattle.rw_blocks.specs.State.{QueueState}
 use Rattle.rw_blocks.proofs.Laws.{Undoes-after_split}
 use Rattle.rw_blocks.proofs.Moved.{IsLoose-after_split}
 use Rattle.rw_blocks.proofs.queue.Queue.split.Goals as goal

@@ -1,13 +1,9 @@
-use Rattle.std.proofs.Common.{arith, sym, ap, subst, ◌≡◌, ◌∙◌, ◌<◌, ◌+◌, ◌-◌, ◌≤◌, ℕ, List, length, get_or, true, All}
-use Rattle.std.specs.Prelude.{Some, None, Option, IsSome, IsNone, IfSome}
-use Rattle.std.specs.Ordering.{nat_cmp}
-use Rattle.std.specs.Map.{lookup, values_of, remove_entry}
-use Rattle.std.specs.BTreeMap.{is_at}
+use Rattle.std.proofs.Common.{arith, sym, ap, subst, ◌≡◌, ◌∙◌, ◌<◌, ◌-◌, ◌≤◌, ℕ, List, length, get_or, true}
+use Rattle.std.specs.Prelude.{Some, Option, IsNone, IfSome}
 use Rattle.std.proofs.lemmas.List.{get_or_default}
 use Rattle.rw_blocks.specs.declared.Place.{Place}
 use Rattle.rw_blocks.specs.State.{QueueState, SectionState, row_at}
 use Rattle.rw_blocks.specs.Sums.{has_block}
-use Rattle.rw_blocks.specs.Loose.{IsLoose}
 use Rattle.rw_blocks.specs.Tags.{section_in, IsOnlyIn, IsAbsent}
 use Rattle.rw_blocks.specs.Weights.{weight_in, IsWeighed}
 use Rattle.rw_blocks.proofs.Weighed.{IsWeighed-remove, row-le-weight}

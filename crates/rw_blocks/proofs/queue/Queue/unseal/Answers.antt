@@ -2,11 +2,9 @@ use Rattle.std.proofs.Common.{arith, sym, ap, subst, ◌∙◌, ◌≡◌, ◌<�
 use Rattle.std.specs.Prelude.{◌||◌, All, IsSomeAnd, slice_get}
 use Rattle.std.specs.Map.{values_of}
 use Rattle.rw_blocks.specs.declared.Kind.{Kind}
-use Rattle.rw_blocks.specs.declared.Kind.TheVariants.{Device, Virtual}
 use Rattle.rw_blocks.specs.declared.Mark.TheVariants.{Seal}
 use Rattle.rw_blocks.specs.State.{QueueState, SectionState, no_section, active_of}
 use Rattle.rw_blocks.specs.Sums.{has_block}
-use Rattle.rw_blocks.specs.Loose.{IsLoose, count}
 use Rattle.rw_blocks.specs.Undo.{undo_of, IsUndoable, section_unsealing}
 use Rattle.rw_blocks.specs.Tags.{section_in, IsAbsent}
 use Rattle.rw_blocks.proofs.Present.{absent-none}

@@ -1,11 +1,10 @@
-use Rattle.std.proofs.Common.{arith, refl, sym, ap, subst, ◌≡◌, ◌∙◌, ◌<◌, ◌≤◌, ◌+◌, ◌^◌, ℕ, List, length, get_or, drop, false}
-use Rattle.std.specs.Prelude.{sum_by, Some, slice_get}
+use Rattle.std.proofs.Common.{arith, sym, ap, subst, ◌≡◌, ◌∙◌, ◌<◌, ◌≤◌, ◌+◌, ◌^◌, ℕ, List, length, drop}
+use Rattle.std.specs.Prelude.{sum_by}
 use Rattle.std.specs.List.{list_any}
 use Rattle.std.specs.Map.{values_of}
-use Rattle.std.proofs.lemmas.Grind.{common_steps}
 use Rattle.rw_blocks.specs.declared.Kind.{Kind}
 use Rattle.rw_blocks.specs.declared.Place.{Place}
-use Rattle.rw_blocks.specs.State.{QueueState, SectionState, section_at}
+use Rattle.rw_blocks.specs.State.{QueueState}
 use Rattle.rw_blocks.specs.Sums.{has_serial, size_of}
 use Rattle.rw_blocks.specs.Loose.{IsLoose}
 use Rattle.rw_blocks.specs.Index.{bytes_of, place_of}

@@ -1,4 +1,4 @@
-use Rattle.std.proofs.Common.{◌≡◌, ℕ, ◌+◌, drop}
+use Rattle.std.proofs.Common.{◌≡◌, ◌+◌, drop}
 use Rattle.std.specs.Prelude.{sum_by}
 use Rattle.rw_blocks.specs.Index.{bytes_of, place_of}
 use Rattle.rw_blocks.specs.Tags.{section_in}

@@ -1,15 +1,14 @@
-use Rattle.std.proofs.Common.{arith, sym, ap, subst, ◌∙◌, ◌≡◌, ◌≤◌, ◌+◌, ℕ, List}
-use Rattle.std.specs.Prelude.{Some, None}
+use Rattle.std.proofs.Common.{arith, ◌≡◌, ℕ, List}
+use Rattle.std.specs.Prelude.{None}
 use Rattle.std.specs.Ordering.{nat_cmp}
 use Rattle.std.specs.Cmp.{nat_cmp_total}
-use Rattle.std.specs.Map.{lookup, values_of, remove_entry, keys_of}
-use Rattle.std.specs.BTreeMap.{is_at, insert_entry}
+use Rattle.std.specs.Map.{lookup}
+use Rattle.std.specs.BTreeMap.{is_at}
 use Rattle.std.proofs.lemmas.Map.Entries.{sum_by-insert_entry}
 use Rattle.rw_vt.proofs.Entries.{sorted-insert_entry}
 use Rattle.rw_blocks.specs.declared.Place.{Place}
-use Rattle.rw_blocks.specs.Sums.{size_of}
-use Rattle.rw_blocks.specs.Index.{home_of, place_of, bytes_of, IsIndexed, Files}
-use Rattle.rw_blocks.proofs.Filed.{bytes_of-le, Files-insert, Files-back, Files-same}
+use Rattle.rw_blocks.specs.Index.{home_of, place_of}
+use Rattle.rw_blocks.proofs.Filed.{Files-insert, Files-back, Files-same}
 use Rattle.rw_blocks.proofs.rows.Rows.add.Goals as goal
 
 pub invariant_of-self-in-Err : goal.invariant_of-self-in-Err

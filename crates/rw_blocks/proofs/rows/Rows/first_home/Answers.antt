@@ -1,5 +1,5 @@
-use Rattle.std.proofs.Common.{sym, ap, ◌∙◌, ◌≡◌, ℕ, List, nat_eq}
-use Rattle.std.specs.Prelude.{find, Option}
+use Rattle.std.proofs.Common.{ap, ◌∙◌, ℕ, List, nat_eq}
+use Rattle.std.specs.Prelude.{find}
 use Rattle.std.specs.Option.{option_map}
 use Rattle.rw_blocks.specs.declared.Place.{Place}
 use Rattle.rw_blocks.specs.Index.{home_of}

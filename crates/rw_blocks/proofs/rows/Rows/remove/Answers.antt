@@ -1,13 +1,12 @@
-use Rattle.std.proofs.Common.{arith, sym, ap, subst, ◌∙◌, ◌≡◌, ◌≤◌, ◌-◌, ℕ, List}
+use Rattle.std.proofs.Common.{arith, ◌≡◌, ℕ, List}
 use Rattle.std.specs.Prelude.{Some}
 use Rattle.std.specs.Ordering.{nat_cmp}
-use Rattle.std.specs.Map.{lookup, values_of, remove_entry, keys_of}
+use Rattle.std.specs.Map.{lookup}
 use Rattle.std.specs.BTreeMap.{is_at}
 use Rattle.std.proofs.lemmas.Map.Entries.{sum_by-remove_entry}
 use Rattle.rw_vt.proofs.Entries.{sorted-remove_entry}
 use Rattle.rw_blocks.specs.declared.Place.{Place}
-use Rattle.rw_blocks.specs.Sums.{size_of}
-use Rattle.rw_blocks.specs.Index.{home_of, place_of, bytes_of, IsIndexed}
+use Rattle.rw_blocks.specs.Index.{home_of, place_of}
 use Rattle.rw_blocks.proofs.Filed.{row-le-bytes_of, row-le-total, Files-remove}
 use Rattle.rw_blocks.proofs.rows.Rows.remove.Goals as goal
 

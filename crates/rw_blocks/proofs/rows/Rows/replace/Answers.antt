@@ -1,8 +1,8 @@
-use Rattle.std.proofs.Common.{arith, sym, ap, subst, ◌∙◌, ◌≡◌, ◌≤◌, ◌<◌, ◌+◌, ◌^◌, ℕ, List, refl, false, nat_eq, cond}
-use Rattle.std.specs.Prelude.{Some, None}
+use Rattle.std.proofs.Common.{arith, sym, ap, ◌∙◌, ◌≡◌, ◌≤◌, ◌+◌, ℕ, List, refl}
+use Rattle.std.specs.Prelude.{Some}
 use Rattle.std.specs.Ordering.{nat_cmp}
 use Rattle.std.specs.Cmp.{nat_cmp_total}
-use Rattle.std.specs.Map.{lookup, values_of, remove_entry, keys_of}
+use Rattle.std.specs.Map.{lookup, values_of}
 use Rattle.std.specs.BTreeMap.{is_at, insert_entry}
 use Rattle.std.proofs.lemmas.Map.Entries.{sum_by-insert_entry}
 use Rattle.std.specs.Option.{option_copied_mut}
@@ -10,7 +10,7 @@ use Rattle.rw_vt.proofs.Entries.{sorted-insert_entry}
 use Rattle.rw_blocks.proofs.Writing.{set_value-insert_entry}
 use Rattle.rw_blocks.specs.declared.Place.{Place}
 use Rattle.rw_blocks.specs.Sums.{size_of}
-use Rattle.rw_blocks.specs.Index.{home_of, place_of, bytes_of, IsIndexed}
+use Rattle.rw_blocks.specs.Index.{home_of, place_of, bytes_of}
 use Rattle.rw_blocks.proofs.Filed.{Files-kept, Files-moved, others-room, row-le-bytes_of}
 use Rattle.rw_blocks.proofs.rows.Rows.replace.Goals as goal
 

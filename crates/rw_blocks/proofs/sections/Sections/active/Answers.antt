@@ -1,4 +1,4 @@
-use Rattle.std.proofs.Common.{arith, sym, ap, subst, ◌∙◌, ◌≡◌, ◌<◌, ℕ, List, length, true}
+use Rattle.std.proofs.Common.{arith, ap, subst, ◌∙◌, ◌≡◌, ◌<◌, List, length, true}
 use Rattle.std.proofs.lemmas.Grind.{common_steps}
 use Rattle.rw_blocks.specs.State.{SectionState}
 use Rattle.rw_blocks.specs.Sums.{has_block}

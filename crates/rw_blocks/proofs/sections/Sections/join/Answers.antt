@@ -1,20 +1,14 @@
-use Rattle.std.proofs.Common.{arith, sym, ap, subst, ◌∙◌, ◌≡◌, ◌<◌, ◌≤◌, ◌+◌, ℕ, List, Bool, false, true, cond, length, get_or, set, nat_eq}
-use Rattle.std.specs.Prelude.{Some, None, Option, ◌||◌, slice_get, insert, remove}
-use Rattle.std.specs.List.{list_any}
+use Rattle.std.proofs.Common.{arith, sym, ap, subst, ◌∙◌, ◌≡◌, ◌<◌, ◌+◌, ℕ, List, Bool, cond, length, get_or, nat_eq}
+use Rattle.std.specs.Prelude.{Some, None, remove}
 use Rattle.std.specs.HashMap.{get}
 use Rattle.std.proofs.lemmas.Grind.{common_steps}
 use Rattle.std.proofs.lemmas.List.{get_or_default}
 use Rattle.std.proofs.lemmas.List.Edits.{get_or-remove_below}
-use Rattle.rw_blocks.specs.declared.Kind.{Kind}
-use Rattle.rw_blocks.specs.declared.Kind.TheVariants.{Device}
-use Rattle.rw_blocks.specs.State.{SectionState, active_of, no_section}
+use Rattle.rw_blocks.specs.State.{SectionState, no_section}
 use Rattle.rw_blocks.specs.Sums.{has_block}
-use Rattle.rw_blocks.specs.Primitives.{section_sealing, section_joining}
-use Rattle.rw_blocks.specs.Undo.{section_unsealing, upper_of, lower_of}
-use Rattle.rw_blocks.specs.Tags.{section_in, tag_in, IsTagged, IsAbsent, Parts, ComesFrom, Joins, vanishes}
-use Rattle.rw_blocks.proofs.Laws.{got}
-use Rattle.rw_blocks.proofs.Holding.{has_block-unsealing, has_block-insert, has_block-remove}
-use Rattle.rw_blocks.proofs.Tagged.{IsTagged-claim, IsTagged-release, IsTagged-part, IsTagged-join}
+use Rattle.rw_blocks.specs.Primitives.{section_joining}
+use Rattle.rw_blocks.specs.Tags.{section_in, tag_in, IsTagged, Joins, vanishes}
+use Rattle.rw_blocks.proofs.Tagged.{IsTagged-join}
 use Rattle.rw_blocks.proofs.sections.Sections.join.Goals as goal
 
 pub invariant_of-self-2 : goal.invariant_of-self-2
