@@ -128,8 +128,8 @@ fn told<R: Threads + Wait + Sync>(
     let mut held = [0; 800];
     let mut left = held.as_mut_slice();
     let (status, _written) = ripqwarp(rt, alloc, words, TRACE, &mut left)?;
-    let length = 800 - left.len();
-    let line = &held[..length];
+    let length = 800_usize.saturating_sub(left.len());
+    let line = held.get(..length).unwrap_or(&[]);
     let is_its_line = if status == 5 {
         line == b"memory\n".as_slice()
     } else {
