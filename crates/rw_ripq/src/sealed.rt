@@ -26,7 +26,47 @@ fn is_last(queue: &Queue, section: usize, block: u64) -> bool
     serial == block
 }
 
-/// Where the block stands in the section's sealed list. An eviction asks for the last one, which is tried first.
+/// How far around a guessed position a block is looked for.
+const REACH: usize = 16;
+
+/// About where the block stands in the section's sealed list, if it does: what was sealed later stands nearer the front,
+/// and mostly has a greater serial.
+fn guess(queue: &Queue, section: usize, block: u64) -> usize
+    requires { section < length queue.now.sections }
+    ensures { result ≤ length (section_at queue.now section).sealed }
+{
+    let mut from = 0;
+    let mut to = queue.sealed(section);
+    while from < to {
+        let middle = from + (to - from) / 2;
+        let (serial, _) = queue.sealed_at(section, middle);
+        if serial > block {
+            from = middle + 1;
+        } else {
+            to = middle;
+        }
+    }
+    from
+}
+
+/// Where the block stands, if it is one of the few around this position in the section's sealed list.
+fn position_near(queue: &Queue, section: usize, block: u64, near: usize) -> Option<usize>
+    requires { section < length queue.now.sections }
+    ensures within { IfSome result (λ p. p < length (section_at queue.now section).sealed) }
+    ensures here { IfSome result (λ p. (slice_index_or (section_at queue.now section).sealed p (0, Kind.Device)).0 ≡ block) }
+{
+    let end = queue.sealed(section).min(near.saturating_add(REACH));
+    for position in near.saturating_sub(REACH)..end {
+        let (serial, _) = queue.sealed_at(section, position);
+        if serial == block {
+            return Some(position);
+        }
+    }
+    None
+}
+
+/// Where the block stands in the section's sealed list. An eviction asks for the last one, which is tried first; a
+/// promotion for one that is mostly near where its serial leads. Only a block that is neither is searched for.
 fn position_in(queue: &Queue, section: usize, block: u64) -> Option<usize>
     requires loose { IsLoose queue.now }
     requires there { section < length queue.now.sections }
@@ -34,6 +74,10 @@ fn position_in(queue: &Queue, section: usize, block: u64) -> Option<usize>
 {
     if is_last(queue, section, block) {
         return Some(queue.sealed(section) - 1);
+    }
+    let near = guess(queue, section, block);
+    if let Some(position) = position_near(queue, section, block, near) {
+        return Some(position);
     }
     for position in 0..queue.sealed(section) {
         let (serial, _) = queue.sealed_at(section, position);

@@ -28,3 +28,9 @@ returns-then-is_last c =
     let once = sealed-once c.args.queue.now c.args.section c.args.block c.requires.loose c.requires.there in
     ap (λ (n : ℕ). Some (n - 1)) c.sealed.ensures
     ∙ sym (only_place (has_serial c.args.block) es (length es - 1) (0, Device) once (omega (arith, some)) (eq-eqb _ _ last))
+
+pub returns-in-Some : goal.returns-in-Some
+returns-in-Some c =
+    let es : List (ℕ × Kind) = (section_at c.args.queue.now c.args.section).sealed in
+    let once = sealed-once c.args.queue.now c.args.section c.args.block c.requires.loose c.requires.there in
+    sym (only_place (has_serial c.args.block) es c.in-Some.position (0, Device) once c.in-Some.ensures.within (eq-eqb _ _ c.in-Some.ensures.here))
