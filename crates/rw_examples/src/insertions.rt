@@ -6,7 +6,7 @@ ghost use Rattle.rw_ripq.specs.declared.Policy.TheVariants.{Off};
 
 use crate::queue_text::text_of;
 use rw_ripq::{
-    Kind, Policy, Queue, Refusal, Shape, Tally, Trail, insert, level_of, promote, resident, rewind,
+    Policy, Queue, Refusal, Shape, Tally, Trail, insert, level_of, promote, resident, rewind,
     target,
 };
 use std::alloc::Global;
@@ -168,22 +168,6 @@ const WRITES_AGAIN: [Example; 4] = [
     },
 ];
 
-/// From a queue with a sealed virtual block: it goes, and then the device block before it.
-const EVICTS_BOTH: [Example; 2] = [
-    Example {
-        call: Call::Insert(3, 6),
-        after: "S0 {3, 2, [0d, 1v]}, 1 (6, 0, 1), 2 (4, 0, 0), 3 (6, 3, 3), next 4",
-        answer: Answer::Counts([0, 0, 0, 0, 0]),
-        marks: 1,
-    },
-    Example {
-        call: Call::Insert(4, 6),
-        after: "S0 {4, 2, [3d]}, 3 (6, 3, 3), 4 (6, 4, 4), next 5",
-        answer: Answer::Counts([2, 0, 1, 0, 0]),
-        marks: 6,
-    },
-];
-
 /// Promotions: of an object in the active block, of another, and one that empties a sealed virtual block.
 const PROMOTES: [Example; 7] = [
     Example {
@@ -305,31 +289,6 @@ fn one_section(rt: HostRuntime) -> Result<(), Fail> {
     let shape = Shape::new(1, 10, 4).ok_or("shape")?;
     let mut queue = Queue::new(rt.alloc(), shape)?;
     replay(&rt, rt.alloc(), &mut queue, Policy::Lru, &PROMOTES)?;
-    Ok(())
-}
-
-/// A queue with a sealed virtual block, made by primitives.
-fn with_sealed_virtual(alloc: Global) -> Result<Queue, Refusal>
-    ensures { IfOk result (λ q. IsWellFormed q) }
-{
-    let shape = Shape::new(1, 10, 1).unwrap();
-    let mut queue = Queue::new(alloc, shape)?;
-    queue.add(1, 6, 0)?;
-    queue.replace(1, 0)?;
-    queue.seal(0, Kind::Virtual)?;
-    queue.add(2, 4, 0)?;
-    queue.seal(0, Kind::Device)?;
-    Ok(queue)
-}
-
-#[test]
-fn a_virtual_victim(rt: HostRuntime) -> Result<(), Fail> {
-    let mut queue = with_sealed_virtual(rt.alloc())?;
-    assert_eq!(rt;
-        text_of(rt.alloc(), &queue)?.as_str(),
-        "S0 {3, 2, [0d, 1v]}, 1 (6, 0, 1), 2 (4, 0, 0), next 4"
-    );
-    replay(&rt, rt.alloc(), &mut queue, Policy::Lru, &EVICTS_BOTH)?;
     Ok(())
 }
 
