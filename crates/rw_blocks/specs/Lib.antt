@@ -6,5 +6,6 @@ pub mod Undo
 pub mod Questions
 pub mod Members
 pub mod Index
+pub mod RowMap
 pub mod Tags
 pub mod Weights

@@ -8,6 +8,7 @@
 
 mod members;
 mod queue;
+mod row_map;
 mod rows;
 mod section;
 mod sections;

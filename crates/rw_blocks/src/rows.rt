@@ -10,16 +10,16 @@ ghost use Rattle.rw_blocks.specs.Index.{bytes_of, home_of, place_of};
 
 use crate::Place;
 use crate::members::Members;
+use crate::row_map::RowMap;
 use rw_vt::NoMemory;
 use std::alloc::Global;
-use std::collections::BTreeMap;
 use std::marker::Model;
 
 /// The rows, one for each object that is stored. Contracts see them as the list of objects with their rows, in the
 /// order of the objects. Beside them stand the objects of each home and of each place, and the bytes of all rows.
 #[derive(Drop)]
 pub struct Rows {
-    rows: BTreeMap<u64, Place>,
+    rows: RowMap,
     homes: Members,
     places: Members,
     total: u64,
@@ -33,9 +33,9 @@ impl Model for Rows {
 
     ghost use Rattle.rw_blocks.specs.Index.{IsIndexed};
 
-    ghost view = { λ r. r.rows.entries };
+    ghost view = { λ r. r.rows };
 
-    ghost invariant = { λ r. IsIndexed r.rows.entries r.homes r.places r.total };
+    ghost invariant = { λ r. IsIndexed r.rows r.homes r.places r.total };
 }
 
 #[tactic(auto, using(crate::proofs::Filed::filed_laws))]
@@ -44,7 +44,7 @@ impl Rows {
         ensures { result ≡ [] }
     {
         Rows {
-            rows: BTreeMap::new(alloc),
+            rows: RowMap::new(alloc),
             homes: Members::new(alloc),
             places: Members::new(alloc),
             total: 0,
@@ -54,7 +54,7 @@ impl Rows {
     pub fn get(&self, object: u64) -> Option<Place>
         ensures { result ≡ lookup (is_at (nat_cmp object)) self.now }
     {
-        self.rows.get(&object).copied()
+        self.rows.get(object)
     }
 
     /// The bytes of all rows.
@@ -109,7 +109,7 @@ impl Rows {
         if let Err(refused) = self.rows.insert(object, row) {
             self.homes.take(home, object, size);
             self.places.take(place, object, size);
-            return Err(refused.into());
+            return Err(refused);
         }
         self.total += size;
         Ok(())
@@ -121,7 +121,7 @@ impl Rows {
         ensures row { lookup (is_at (nat_cmp object)) self.old ≡ Some result }
         ensures rest { self.new ≡ remove_entry (is_at (nat_cmp object)) self.old }
     {
-        let row = self.rows.remove(&object).unwrap();
+        let row = self.rows.remove(object).unwrap();
         let Place { size, home, place } = row;
         self.homes.take(home, object, size);
         self.places.take(place, object, size);
@@ -138,7 +138,7 @@ impl Rows {
     {
         self.places.add(place, object, row.size)?;
         self.places.take(row.place, object, row.size);
-        self.rows.get_mut(&object).unwrap().place = place;
+        self.rows.set_place(object, row, place);
         Ok(())
     }
 }

@@ -13,7 +13,7 @@ use Rattle.rw_blocks.proofs.rows.Rows.add.Goals as goal
 
 pub invariant_of-self-in-Err : goal.invariant_of-self-in-Err
 invariant_of-self-in-Err c =
-    let rows : List (ℕ × Place) = c.self.inside.rows.entries in
+    let rows : List (ℕ × Place) = c.self.inside.rows in
     let row : Place = c.args.row in
     let none : lookup (is_at (nat_cmp c.args.object)) rows ≡ None = cc in
     let homed = Files-insert home_of rows c.self.inside.homes c.add.new.self c.args.object row c.self.invariant.ordered none c.self.invariant.homed c.in_ok-add.ensures.bytes c.in_ok-add.ensures.objects in
@@ -26,12 +26,12 @@ invariant_of-self-in-Err c =
 
 pub invariant_of-self-in-Err-insert : goal.invariant_of-self-in-Err-insert
 invariant_of-self-in-Err-insert c =
-    let rows : List (ℕ × Place) = c.self.inside.rows.entries in
+    let rows : List (ℕ × Place) = c.self.inside.rows in
     let row : Place = c.args.row in
     let none : lookup (is_at (nat_cmp c.args.object)) rows ≡ None = cc in
     let homed = Files-insert home_of rows c.self.inside.homes c.add.new.self c.args.object row c.self.invariant.ordered none c.self.invariant.homed c.in_ok-add.ensures.bytes c.in_ok-add.ensures.objects in
     let placed = Files-insert place_of rows c.self.inside.places c.add-2.new.self c.args.object row c.self.invariant.ordered none c.self.invariant.placed c.in_default.ensures.bytes c.in_default.ensures.objects in
-    rw c.in-Err-insert.ensures.err
+    rw c.in-Err-insert.ensures.same
     (record {
       homed = Files-back home_of rows c.add.new.self c.take-in-Err-insert.new.self c.args.object row none homed c.take-in-Err-insert.ensures.bytes c.take-in-Err-insert.ensures.objects;
       placed = Files-back place_of rows c.add-2.new.self c.take-in-Err-insert-2.new.self c.args.object row none placed c.take-in-Err-insert-2.ensures.bytes c.take-in-Err-insert-2.ensures.objects;
@@ -41,11 +41,11 @@ invariant_of-self-in-Err-insert c =
 
 pub invariant_of-self-2 : goal.invariant_of-self-2
 invariant_of-self-2 c =
-    let rows : List (ℕ × Place) = c.self.inside.rows.entries in
+    let rows : List (ℕ × Place) = c.self.inside.rows in
     let row : Place = c.args.row in
     let none : lookup (is_at (nat_cmp c.args.object)) rows ≡ None = cc in
     let sum = rw none at (sum_by-insert_entry (λ (r : Place). r.size) nat_cmp_total rows c.args.object row c.self.invariant.ordered) in
-    rw c.in_default-insert.ensures.entries
+    rw c.in_default-insert.ensures.put
     (record {
       homed = Files-insert home_of rows c.self.inside.homes c.add.new.self c.args.object row c.self.invariant.ordered none c.self.invariant.homed c.in_ok-add.ensures.bytes c.in_ok-add.ensures.objects;
       placed = Files-insert place_of rows c.self.inside.places c.add-2.new.self c.args.object row c.self.invariant.ordered none c.self.invariant.placed c.in_default.ensures.bytes c.in_default.ensures.objects;

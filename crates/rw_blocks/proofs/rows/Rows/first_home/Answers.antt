@@ -9,5 +9,5 @@ use Rattle.rw_blocks.proofs.rows.Rows.first_home.Goals as goal
 pub returns : goal.returns
 returns c =
     c.first.ensures
-    ∙ (first_object home_of c.args.serial c.self.inside.rows.entries c.self.inside.homes c.self.invariant.homed
+    ∙ (first_object home_of c.args.serial c.self.inside.rows c.self.inside.homes c.self.invariant.homed
     ∙ ap (λ (es : List (ℕ × Place)). option_map (λ (e : ℕ × Place). e.0) (find (λ (e : ℕ × Place). nat_eq e.1.home c.args.serial) es)) c.self.view_is)

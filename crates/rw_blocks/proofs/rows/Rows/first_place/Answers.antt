@@ -9,5 +9,5 @@ use Rattle.rw_blocks.proofs.rows.Rows.first_place.Goals as goal
 pub returns : goal.returns
 returns c =
     c.first.ensures
-    ∙ (first_object place_of c.args.serial c.self.inside.rows.entries c.self.inside.places c.self.invariant.placed
+    ∙ (first_object place_of c.args.serial c.self.inside.rows c.self.inside.places c.self.invariant.placed
     ∙ ap (λ (es : List (ℕ × Place)). option_map (λ (e : ℕ × Place). e.0) (find (λ (e : ℕ × Place). nat_eq e.1.place c.args.serial) es)) c.self.view_is)

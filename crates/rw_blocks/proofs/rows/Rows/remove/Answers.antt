@@ -12,26 +12,26 @@ use Rattle.rw_blocks.proofs.rows.Rows.remove.Goals as goal
 
 pub take-requires : goal.take-requires
 take-requires c =
-    let is : lookup (is_at (nat_cmp c.args.object)) c.self.inside.rows.entries ≡ Some c.unwrap-row.result = cc in
-    omega (arith, c.self.invariant.homed.bytes c.unwrap-row.result.home, row-le-bytes_of home_of c.self.inside.rows.entries c.args.object c.unwrap-row.result is)
+    let is : lookup (is_at (nat_cmp c.args.object)) c.self.inside.rows ≡ Some c.unwrap-row.result = cc in
+    omega (arith, c.self.invariant.homed.bytes c.unwrap-row.result.home, row-le-bytes_of home_of c.self.inside.rows c.args.object c.unwrap-row.result is)
 
 pub take-requires-2 : goal.take-requires-2
 take-requires-2 c =
-    let is : lookup (is_at (nat_cmp c.args.object)) c.self.inside.rows.entries ≡ Some c.unwrap-row.result = cc in
-    omega (arith, c.self.invariant.placed.bytes c.unwrap-row.result.place, row-le-bytes_of place_of c.self.inside.rows.entries c.args.object c.unwrap-row.result is)
+    let is : lookup (is_at (nat_cmp c.args.object)) c.self.inside.rows ≡ Some c.unwrap-row.result = cc in
+    omega (arith, c.self.invariant.placed.bytes c.unwrap-row.result.place, row-le-bytes_of place_of c.self.inside.rows c.args.object c.unwrap-row.result is)
 
 pub overflow_sub-self : goal.overflow_sub-self
 overflow_sub-self c =
-    let is : lookup (is_at (nat_cmp c.args.object)) c.self.inside.rows.entries ≡ Some c.unwrap-row.result = cc in
-    omega (arith, c.self.invariant.whole, row-le-total c.self.inside.rows.entries c.args.object c.unwrap-row.result is)
+    let is : lookup (is_at (nat_cmp c.args.object)) c.self.inside.rows ≡ Some c.unwrap-row.result = cc in
+    omega (arith, c.self.invariant.whole, row-le-total c.self.inside.rows c.args.object c.unwrap-row.result is)
 
 pub invariant_of-self : goal.invariant_of-self
 invariant_of-self c =
-    let rows : List (ℕ × Place) = c.self.inside.rows.entries in
+    let rows : List (ℕ × Place) = c.self.inside.rows in
     let row : Place = c.unwrap-row.result in
     let is : lookup (is_at (nat_cmp c.args.object)) rows ≡ Some row = cc in
     let sum = rw is at (sum_by-remove_entry (λ (r : Place). r.size) (is_at (nat_cmp c.args.object)) rows) in
-    rw c.remove.ensures.entries
+    rw c.remove.ensures.rest
     (record {
       homed = Files-remove home_of rows c.self.inside.homes c.take.new.self c.args.object row is c.self.invariant.homed c.take.ensures.bytes c.take.ensures.objects;
       placed = Files-remove place_of rows c.self.inside.places c.take-2.new.self c.args.object row is c.self.invariant.placed c.take-2.ensures.bytes c.take-2.ensures.objects;
