@@ -17,4 +17,4 @@ pub mod Moved
 pub mod Starts
 pub mod Tails
 pub mod Firsts
-pub mod Ordered
+pub mod ByObject

@@ -20,11 +20,11 @@ pub struct RowMap {
 impl Model for RowMap {
     ghost use Rattle.std.specs.Prelude.{List, ℕ};
     ghost use Rattle.rw_blocks.specs.declared.Place.{Place};
-    ghost use Rattle.rw_blocks.specs.RowMap.{in_order};
+    ghost use Rattle.rw_blocks.specs.RowMap.{by_object};
 
     ghost Value = { List (ℕ × Place) };
 
-    ghost view = { λ m. in_order m.rows.entries };
+    ghost view = { λ m. by_object m.rows.entries };
 }
 
 impl RowMap {

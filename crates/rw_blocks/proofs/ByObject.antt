@@ -13,7 +13,7 @@ use Rattle.std.proofs.lemmas.Map.Entries.{lookup_head, lookup_tail, none_past_he
 use Rattle.std.proofs.lemmas.Map.Lookups.{exact_unsigned}
 use Rattle.std.proofs.lemmas.Bool.{eq-eqb, ne_eqb, eqb-true}
 use Rattle.rw_vt.proofs.Entries.{by_cases, nat_cmp-self, sorted-insert_entry, sorted-remove_entry}
-use Rattle.rw_blocks.specs.RowMap.{in_order}
+use Rattle.rw_blocks.specs.RowMap.{by_object}
 use Rattle.rw_blocks.proofs.Filed.{by_test}
 
 less_tied : Less ≡ Equal → ⊥
@@ -72,10 +72,10 @@ module _ {X : Type 0} where
       same_some : {v w : X} → Some v ≡ Some w → v ≡ w
       same_some e = cc
 
-  pub sorted-in_order : (es : List (ℕ × X)) → IsStrictlySortedBy nat_cmp (keys_of (in_order es))
-  unfolding in_order IsStrictlySortedBy
-  sorted-in_order [] = tt
-  sorted-in_order (e ∷ es) = sorted-insert_entry (in_order es) e.0 e.1 (sorted-in_order es)
+  pub sorted-by_object : (es : List (ℕ × X)) → IsStrictlySortedBy nat_cmp (keys_of (by_object es))
+  unfolding by_object IsStrictlySortedBy
+  sorted-by_object [] = tt
+  sorted-by_object (e ∷ es) = sorted-insert_entry (by_object es) e.0 e.1 (sorted-by_object es)
 
   -- one entry more is found at its key alone
   find-insert : (es : List (ℕ × X)) (k : ℕ) (v : X) (q : ℕ) → lookup (is_at (nat_cmp q)) (insert_entry nat_cmp es k v) ≡ cond (nat_eq q k) (Some v) (lookup (is_at (nat_cmp q)) es)
@@ -97,10 +97,10 @@ module _ {X : Type 0} where
       swapped false b apart = refl
 
   -- what is found is what the map has
-  pub find-in_order : (es : List (ℕ × X)) (q : ℕ) → lookup (is_at (nat_cmp q)) (in_order es) ≡ lookup (nat_eq q) es
-  unfolding in_order
-  find-in_order [] q = refl
-  find-in_order (e ∷ es) q = find-insert (in_order es) e.0 e.1 q ∙ ap (λ o. cond (nat_eq q e.0) (Some e.1) o) (find-in_order es q)
+  pub find-by_object : (es : List (ℕ × X)) (q : ℕ) → lookup (is_at (nat_cmp q)) (by_object es) ≡ lookup (nat_eq q) es
+  unfolding by_object
+  find-by_object [] q = refl
+  find-by_object (e ∷ es) q = find-insert (by_object es) e.0 e.1 q ∙ ap (λ o. cond (nat_eq q e.0) (Some e.1) o) (find-by_object es q)
 
   find-remove : (es : List (ℕ × X)) (k q : ℕ) → IsStrictlySortedBy nat_cmp (keys_of es) → lookup (is_at (nat_cmp q)) (remove_entry (is_at (nat_cmp k)) es) ≡ cond (is_at (nat_cmp k) q) None (lookup (is_at (nat_cmp q)) es)
   find-remove es k q s =
@@ -110,12 +110,12 @@ module _ {X : Type 0} where
       one x y h = ap (λ z. is_at (nat_cmp z) y) (eqb-true k x (sym (at-eq k x) ∙ h))
 
   -- a map that has an entry more, or another one at a key, is the list with that entry put in
-  pub in_order-insert : (es fs : List (ℕ × X)) (k : ℕ) (v : X) → ((q : ℕ) → lookup (nat_eq q) fs ≡ cond (nat_eq k q) (Some v) (lookup (nat_eq q) es)) → in_order fs ≡ insert_entry nat_cmp (in_order es) k v
-  in_order-insert es fs k v updates =
-      same_list (in_order fs) (insert_entry nat_cmp (in_order es) k v) (sorted-in_order fs) (sorted-insert_entry (in_order es) k v (sorted-in_order es))
-      (λ q. find-in_order fs q ∙ (updates q ∙ (ap (λ b. cond b (Some v) (lookup (nat_eq q) es)) (eq-sym k q) ∙ (ap (λ o. cond (nat_eq q k) (Some v) o) (sym (find-in_order es q)) ∙ sym (find-insert (in_order es) k v q)))))
+  pub by_object-insert : (es fs : List (ℕ × X)) (k : ℕ) (v : X) → ((q : ℕ) → lookup (nat_eq q) fs ≡ cond (nat_eq k q) (Some v) (lookup (nat_eq q) es)) → by_object fs ≡ insert_entry nat_cmp (by_object es) k v
+  by_object-insert es fs k v updates =
+      same_list (by_object fs) (insert_entry nat_cmp (by_object es) k v) (sorted-by_object fs) (sorted-insert_entry (by_object es) k v (sorted-by_object es))
+      (λ q. find-by_object fs q ∙ (updates q ∙ (ap (λ b. cond b (Some v) (lookup (nat_eq q) es)) (eq-sym k q) ∙ (ap (λ o. cond (nat_eq q k) (Some v) o) (sym (find-by_object es q)) ∙ sym (find-insert (by_object es) k v q)))))
 
-  pub in_order-remove : (es fs : List (ℕ × X)) (k : ℕ) → ((q : ℕ) → lookup (nat_eq q) fs ≡ cond (nat_eq k q) None (lookup (nat_eq q) es)) → in_order fs ≡ remove_entry (is_at (nat_cmp k)) (in_order es)
-  in_order-remove es fs k updates =
-      same_list (in_order fs) (remove_entry (is_at (nat_cmp k)) (in_order es)) (sorted-in_order fs) (sorted-remove_entry (in_order es) k (sorted-in_order es))
-      (λ q. find-in_order fs q ∙ (updates q ∙ (ap (λ b. cond b None (lookup (nat_eq q) es)) (sym (at-eq k q)) ∙ (ap (λ o. cond (is_at (nat_cmp k) q) None o) (sym (find-in_order es q)) ∙ sym (find-remove (in_order es) k q (sorted-in_order es))))))
+  pub by_object-remove : (es fs : List (ℕ × X)) (k : ℕ) → ((q : ℕ) → lookup (nat_eq q) fs ≡ cond (nat_eq k q) None (lookup (nat_eq q) es)) → by_object fs ≡ remove_entry (is_at (nat_cmp k)) (by_object es)
+  by_object-remove es fs k updates =
+      same_list (by_object fs) (remove_entry (is_at (nat_cmp k)) (by_object es)) (sorted-by_object fs) (sorted-remove_entry (by_object es) k (sorted-by_object es))
+      (λ q. find-by_object fs q ∙ (updates q ∙ (ap (λ b. cond b None (lookup (nat_eq q) es)) (sym (at-eq k q)) ∙ (ap (λ o. cond (is_at (nat_cmp k) q) None o) (sym (find-by_object es q)) ∙ sym (find-remove (by_object es) k q (sorted-by_object es))))))
