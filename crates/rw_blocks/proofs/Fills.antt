@@ -3,7 +3,7 @@ use Rattle.std.proofs.Common.{◌≡◌, ℕ, ◌≤◌, ◌<◌, List, [], ◌�
 use Rattle.std.specs.Prelude.{sum_by, ◌||◌, ◌&&◌}
 use Rattle.std.specs.List.{list_any}
 use Rattle.std.proofs.lemmas.List.Sums.{sum_by-cons}
-use Rattle.std.proofs.lemmas.Bool.{cases_lt, and_right}
+use Rattle.std.proofs.lemmas.Bool.{cases_lt}
 use Rattle.rw_blocks.specs.declared.Kind.{Kind}
 use Rattle.rw_blocks.specs.declared.Kind.TheVariants.{Device, Virtual}
 use Rattle.rw_blocks.specs.State.{QueueState, SectionState, blocks_of, active_of, section_at}
@@ -14,10 +14,6 @@ use Rattle.rw_blocks.specs.Loose.{IsLoose, count, count_in}
 or_true : (b : Bool) → (b || true) ≡ true
 or_true true = refl
 or_true false = refl
-
-and_true : (b : Bool) → (b && true) ≡ b
-and_true true = refl
-and_true false = refl
 
 -- a test that passes where a number is not 0, over a list
 some_passes : {X : Type 0} (n : X → ℕ) (p : X → Bool) → ((x : X) → 1 ≤ n x → p x ≡ true) → (xs : List X) → 1 ≤ sum_by n xs → list_any p xs ≡ true
@@ -60,10 +56,5 @@ fill-of q Virtual b loose once =
 
 pub fill-active : (q : QueueState) (kind : Kind) (i b : ℕ) → IsLoose q → i < length q.sections → b ≡ active_of kind (section_at q i) → fill q b ≡ bytes_held kind q b
 fill-active q kind i b loose within is = fill-of q kind b loose (ap (count kind q) is ∙ active-once kind q i loose within)
-
--- an active block of the kind, or a sealed one
-pub any_block : (kind : Kind) (b : ℕ) (s : SectionState) → list_any (is_block kind b) (blocks_of s) ≡ (nat_eq (active_of kind s) b || list_any (is_block kind b) s.sealed)
-any_block Device b s = rw (and_true (nat_eq s.active_device b), and_right (nat_eq s.active_virtual b) false refl) refl
-any_block Virtual b s = rw (and_true (nat_eq s.active_virtual b), and_right (nat_eq s.active_device b) false refl) refl
 
 pub ruleset fill_laws = (fill-of)

@@ -1,8 +1,10 @@
 -- The queue after each primitive.
-use Rattle.std.specs.Prelude.{ℕ, ◌+◌, Bool, true, false, List, [], ◌∷◌, ◌++◌, take, drop, slice_set, insert, remove, nat_eq}
+use Rattle.std.specs.Prelude.{◌+◌, Bool, true, false, List, [], ◌∷◌, ◌++◌, take, drop, slice_set, insert, remove, nat_eq}
 use Rattle.std.specs.Ordering.{nat_cmp}
 use Rattle.std.specs.Map.{remove_entry}
 use Rattle.std.specs.BTreeMap.{insert_entry, is_at}
+use Rattle.rw_vt.specs.Words.{Count}
+use Rattle.rw_blocks.specs.Words.{Object, Position, Section, Serial, Size}
 use Rattle.rw_blocks.specs.declared.Kind.{Kind}
 use Rattle.rw_blocks.specs.declared.Kind.TheVariants.{Device, Virtual}
 use Rattle.rw_blocks.specs.declared.Place.{Place}
@@ -10,50 +12,50 @@ use Rattle.rw_blocks.specs.State.{QueueState, SectionState, section_at, active_o
 use Rattle.rw_blocks.specs.Sums.{bytes_held}
 
 -- the queue with another row at the object, or another section at the number
-abbrev pub with_row : QueueState → ℕ → Place → QueueState
+abbrev pub with_row : QueueState → Object → Place → QueueState
 with_row q o r = record q { rows = insert_entry nat_cmp q.rows o r }
 
-abbrev pub with_section : QueueState → ℕ → SectionState → QueueState
+abbrev pub with_section : QueueState → Section → SectionState → QueueState
 with_section q i s = record q { sections = slice_set q.sections i s }
 
 -- ---- rows
-abbrev pub after_add : QueueState → ℕ → ℕ → ℕ → QueueState
+abbrev pub after_add : QueueState → Object → Size → Section → QueueState
 after_add q o size i =
     let d = active_of Device (section_at q i) in with_row q o (record { size = size; home = d; place = d })
 
-abbrev pub after_remove : QueueState → ℕ → QueueState
+abbrev pub after_remove : QueueState → Object → QueueState
 after_remove q o = record q { rows = remove_entry (is_at (nat_cmp o)) q.rows }
 
-abbrev pub after_rehome : QueueState → ℕ → ℕ → QueueState
+abbrev pub after_rehome : QueueState → Object → Section → QueueState
 after_rehome q o i =
     let d = active_of Device (section_at q i) in with_row q o (record { size = (row_or q o).size; home = d; place = d })
 
-abbrev pub after_replace : QueueState → ℕ → ℕ → QueueState
+abbrev pub after_replace : QueueState → Object → Section → QueueState
 after_replace q o i = with_row q o (record (row_or q o) { place = active_of Virtual (section_at q i) })
 
 -- ---- blocks
-abbrev pub with_active : Kind → ℕ → SectionState → SectionState
+abbrev pub with_active : Kind → Serial → SectionState → SectionState
 with_active Device b s = record s { active_device = b }
 with_active Virtual b s = record s { active_virtual = b }
 
 -- the active block of the kind goes to the front of the sealed list, and a fresh one takes its place
-abbrev pub section_sealing : Kind → ℕ → SectionState → SectionState
+abbrev pub section_sealing : Kind → Serial → SectionState → SectionState
 section_sealing kind fresh s = record (with_active kind fresh s) { sealed = (active_of kind s, kind) ∷ s.sealed }
 
-abbrev pub after_seal : QueueState → ℕ → Kind → QueueState
+abbrev pub after_seal : QueueState → Section → Kind → QueueState
 after_seal q i kind =
     record q {
       sections = slice_set q.sections i (section_sealing kind q.next (section_at q i));
       next = q.next + 1;
     }
 
-abbrev pub after_take_out : QueueState → ℕ → ℕ → QueueState
+abbrev pub after_take_out : QueueState → Section → Position → QueueState
 after_take_out q i p =
     let s = section_at q i in with_section q i (record s { sealed = remove s.sealed p })
 
 -- ---- sections
 -- the lower section follows with the sealed blocks that the upper does not keep, and with fresh active blocks
-abbrev pub after_split : QueueState → ℕ → ℕ → QueueState
+abbrev pub after_split : QueueState → Section → Count → QueueState
 after_split q i keep =
     let s = section_at q i in
     record q {
@@ -64,7 +66,7 @@ after_split q i keep =
       next = q.next + 2;
     }
 
-abbrev pub block_unless : Bool → ℕ × Kind → List (ℕ × Kind)
+abbrev pub block_unless : Bool → Serial × Kind → List (Serial × Kind)
 block_unless true e = []
 block_unless false e = e ∷ []
 
@@ -79,7 +81,7 @@ section_joining device_vanishes virtual_vanishes upper lower =
     }
 
 -- an active block of the lower section vanishes where it holds nothing
-abbrev pub after_merge : QueueState → ℕ → QueueState
+abbrev pub after_merge : QueueState → Section → QueueState
 after_merge q i =
     let upper = section_at q i in
     let lower = section_at q (i + 1) in

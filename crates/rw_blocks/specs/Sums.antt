@@ -1,28 +1,29 @@
 -- The sums of a queue: sizes of rows.
-use Rattle.std.specs.Prelude.{ℕ, ◌+◌, Bool, true, false, if◌then◌else◌, ◌&&◌, not, List, drop, nat_eq, filter, sum_by}
+use Rattle.std.specs.Prelude.{◌+◌, Bool, true, false, if◌then◌else◌, ◌&&◌, not, List, drop, nat_eq, filter, sum_by}
 use Rattle.std.specs.List.{list_any}
 use Rattle.std.specs.Map.{values_of}
+use Rattle.rw_blocks.specs.Words.{Section, Serial, Size}
 use Rattle.rw_blocks.specs.declared.Kind.{Kind}
 use Rattle.rw_blocks.specs.declared.Kind.TheVariants.{Device, Virtual}
 use Rattle.rw_blocks.specs.declared.Place.{Place}
 use Rattle.rw_blocks.specs.State.{QueueState, SectionState, section_at, blocks_of}
 
-abbrev pub size_of : List Place → ℕ
+abbrev pub size_of : List Place → Size
 size_of rows = sum_by (λ r. r.size) rows
 
 -- all rows
-abbrev pub total : QueueState → ℕ
+abbrev pub total : QueueState → Size
 total q = size_of (values_of q.rows)
 
 -- the rows whose home, or whose place, the block is
-abbrev pub rows_homed : QueueState → ℕ → List Place
+abbrev pub rows_homed : QueueState → Serial → List Place
 rows_homed q b = filter (λ r. nat_eq r.home b) (values_of q.rows)
 
-abbrev pub rows_placed : QueueState → ℕ → List Place
+abbrev pub rows_placed : QueueState → Serial → List Place
 rows_placed q b = filter (λ r. nat_eq r.place b) (values_of q.rows)
 
 -- what a block holds as one of the kind: a device block the rows whose home it is, a virtual block those whose place it is
-abbrev pub bytes_held : Kind → QueueState → ℕ → ℕ
+abbrev pub bytes_held : Kind → QueueState → Serial → Size
 bytes_held Device q b = size_of (rows_homed q b)
 bytes_held Virtual q b = size_of (rows_placed q b)
 
@@ -35,34 +36,34 @@ abbrev pub is_kind : Kind → Kind → Bool
 is_kind Device k = not (is_virtual k)
 is_kind Virtual k = is_virtual k
 
-abbrev pub has_serial : ℕ → ℕ × Kind → Bool
+abbrev pub has_serial : Serial → Serial × Kind → Bool
 has_serial b e = nat_eq e.0 b
 
 -- whether it is the block of the kind with the serial
-abbrev pub is_block : Kind → ℕ → ℕ × Kind → Bool
+abbrev pub is_block : Kind → Serial → Serial × Kind → Bool
 is_block kind b e = nat_eq e.0 b && is_kind kind e.1
 
 -- whether a section has the block, active or sealed
-abbrev pub has_block : ℕ → SectionState → Bool
+abbrev pub has_block : Serial → SectionState → Bool
 has_block b s = list_any (has_serial b) (blocks_of s)
 
 -- whether a queue has the block, as one of the kind
-abbrev pub has_kind : Kind → QueueState → ℕ → Bool
+abbrev pub has_kind : Kind → QueueState → Serial → Bool
 has_kind kind q b = list_any (λ s. list_any (is_block kind b) (blocks_of s)) q.sections
 
 -- the fill of a block, 0 where there is no such block
-abbrev pub fill : QueueState → ℕ → ℕ
+abbrev pub fill : QueueState → Serial → Size
 fill q b =
     if has_kind Device q b then bytes_held Device q b else (if has_kind Virtual q b then bytes_held Virtual q b else 0)
 
 -- ---- sections
 -- the rows whose place is one of the section's blocks
-abbrev pub bytes_in : QueueState → SectionState → ℕ
+abbrev pub bytes_in : QueueState → SectionState → Size
 bytes_in q s = size_of (filter (λ r. has_block r.place s) (values_of q.rows))
 
-abbrev pub bytes : QueueState → ℕ → ℕ
+abbrev pub bytes : QueueState → Section → Size
 bytes q i = bytes_in q (section_at q i)
 
 -- the bytes of the sections nearer the tail
-abbrev pub below : QueueState → ℕ → ℕ
+abbrev pub below : QueueState → Section → Size
 below q i = sum_by (bytes_in q) (drop (i + 1) q.sections)

@@ -1,5 +1,7 @@
 -- Undoing a primitive by its mark.
-use Rattle.std.specs.Prelude.{◌≡◌, ℕ, ◌+◌, ◌-◌, ◌≤◌, ◌<◌, Bool, true, false, List, [], ◌∷◌, ◌++◌, length, take, drop, slice_get, slice_set, insert, remove, None, IsSome, IsSomeAnd}
+use Rattle.std.specs.Prelude.{◌≡◌, ◌+◌, ◌-◌, ◌≤◌, ◌<◌, Bool, true, false, List, [], ◌∷◌, ◌++◌, length, take, drop, slice_get, slice_set, insert, remove, None, IsSome, IsSomeAnd}
+use Rattle.rw_vt.specs.Words.{Count}
+use Rattle.rw_blocks.specs.Words.{Serial}
 use Rattle.rw_blocks.specs.declared.Kind.{Kind}
 use Rattle.rw_blocks.specs.declared.Mark.{Mark}
 use Rattle.rw_blocks.specs.declared.Mark.TheVariants.{Add, Remove, Rehome, Replace, Seal, TakeOut, Split, Merge}
@@ -8,7 +10,7 @@ use Rattle.rw_blocks.specs.Primitives.{with_row, with_section, with_active, afte
 use Rattle.rw_blocks.specs.Loose.{IsLoose}
 
 -- ---- sections
-abbrev pub front_of : List (ℕ × Kind) → ℕ
+abbrev pub front_of : List (Serial × Kind) → Serial
 front_of [] = 0
 front_of (e ∷ es) = e.0
 
@@ -16,15 +18,15 @@ front_of (e ∷ es) = e.0
 abbrev pub section_unsealing : Kind → SectionState → SectionState
 section_unsealing kind s = record (with_active kind (front_of s.sealed) s) { sealed = drop 1 s.sealed }
 
-abbrev pub drop_unless : Bool → List (ℕ × Kind) → List (ℕ × Kind)
+abbrev pub drop_unless : Bool → List (Serial × Kind) → List (Serial × Kind)
 drop_unless true es = es
 drop_unless false es = drop 1 es
 
 -- the sections that were merged: the upper one with its first `count` sealed blocks, and the lower one
-abbrev pub upper_of : ℕ → SectionState → SectionState
+abbrev pub upper_of : Count → SectionState → SectionState
 upper_of count s = record s { sealed = take count s.sealed }
 
-abbrev pub lower_of : ℕ → ℕ → ℕ → Bool → Bool → SectionState → SectionState
+abbrev pub lower_of : Count → Serial → Serial → Bool → Bool → SectionState → SectionState
 lower_of count device virtual_block device_vanished virtual_vanished s =
     record {
       active_device = device;

@@ -1,9 +1,11 @@
 -- What a cache keeps.
-use Rattle.std.specs.Prelude.{◌≡◌, ℕ, List, [], Bool, Option, Some, None, ◌<◌, ◌^◌, nat_lt, nat_le, ◌||◌, All, is_some, cond}
+use Rattle.std.specs.Prelude.{◌≡◌, List, [], Bool, Option, Some, None, ◌<◌, ◌^◌, nat_lt, nat_le, ◌||◌, All, is_some, cond}
 use Rattle.std.specs.List.Sorted.{IsStrictlySortedBy}
 use Rattle.std.specs.Map.{lookup, remove_entry, keys_of, values_of}
 use Rattle.std.specs.BTreeMap.{insert_entry, is_at}
 use Rattle.std.specs.Ordering.{nat_cmp}
+use Rattle.rw_vt.specs.Words.{Count, Process}
+use Rattle.rw_blocks.specs.Words.{Object}
 use Rattle.rw_blocks.specs.State.{QueueState, Limits, row_at, start_of}
 use Rattle.rw_blocks.specs.Loose.{IsWellFormed as IsWellFormedQueue}
 use Rattle.rw_ripq.specs.declared.Policy.TheVariants.{Off}
@@ -15,35 +17,35 @@ use Rattle.rw_photo.specs.Counts.{AreCounts, no_counts}
 -- it has sent; what it has counted
 pub record Cache : Type 0 where
   pub queue : QueueState
-  pub awaited : List (ℕ × ℕ)
-  pub sends : ℕ
+  pub awaited : List (Object × Count)
+  pub sends : Count
   pub counters : Counters
 
 -- edges come first, then origins
-abbrev pub is_edge : Config → ℕ → Bool
+abbrev pub is_edge : Config → Process → Bool
 is_edge c p = nat_lt p c.edges
 
 -- the shape of the queue at process p
-abbrev pub shape_at : Config → ℕ → Limits
+abbrev pub shape_at : Config → Process → Limits
 shape_at c p = cond (is_edge c p) c.edge_shape c.origin_shape
 
 -- a cache to which nothing has happened, with a queue of this shape; so process p starts
 abbrev pub start_in : Limits → Cache
 start_in shape = record { queue = start_of shape; awaited = []; sends = 0; counters = no_counts }
 
-abbrev pub start : Config → ℕ → Cache
+abbrev pub start : Config → Process → Cache
 start c p = start_in (shape_at c p)
 
 -- whether an object is stored
-abbrev pub is_stored : Cache → ℕ → Bool
+abbrev pub is_stored : Cache → Object → Bool
 is_stored s o = is_some (row_at s.queue o)
 
 -- how many requests wait for an object, where it is awaited
-abbrev pub waiting : Cache → ℕ → Option ℕ
+abbrev pub waiting : Cache → Object → Option Count
 waiting s o = lookup (is_at (nat_cmp o)) s.awaited
 
 -- so many requests wait for the object, or it is not awaited
-abbrev pub with_waiting : List (ℕ × ℕ) → ℕ → Option ℕ → List (ℕ × ℕ)
+abbrev pub with_waiting : List (Object × Count) → Object → Option Count → List (Object × Count)
 with_waiting m o (Some n) = insert_entry nat_cmp m o n
 with_waiting m o None = remove_entry (is_at (nat_cmp o)) m
 
@@ -53,7 +55,7 @@ is_exhausted s = nat_le (2 ^ 62) s.sends || nat_le (2 ^ 62) s.queue.next
 
 -- the queue is well formed, in the shape of its kind, and empty where nothing is stored; awaited objects ascend, and all
 -- counts fit their types: nothing else is asked
-pub record IsWellFormed (c : Config) (p : ℕ) (s : Cache) : Type 0 where
+pub record IsWellFormed (c : Config) (p : Process) (s : Cache) : Type 0 where
   pub queue : IsWellFormedQueue s.queue
   pub shape : s.queue.shape ≡ shape_at c p
   pub empty : c.policy ≡ Off → s.queue.rows ≡ []

@@ -1,14 +1,15 @@
 -- What caches count, modulo 2 ^ 64.
-use Rattle.std.specs.Prelude.{ℕ, ◌+◌, ◌-◌, ◌%◌, ◌^◌, ◌<◌, Bool, true, false}
+use Rattle.std.specs.Prelude.{◌+◌, ◌-◌, ◌%◌, ◌^◌, ◌<◌, Bool, true, false}
+use Rattle.rw_vt.specs.Words.{Count}
 use Rattle.rw_ripq.specs.declared.Tally.{Tally}
 use Rattle.rw_photo.specs.declared.counters.Counters.{Counters}
 
 -- a count grows by k
-abbrev pub plus : ℕ → ℕ → ℕ
+abbrev pub plus : Count → Count → Count
 plus n k = (n + k) % 2 ^ 64
 
 -- a count falls by k
-abbrev pub minus : ℕ → ℕ → ℕ
+abbrev pub minus : Count → Count → Count
 minus n k = (n + (2 ^ 64 - k)) % 2 ^ 64
 
 -- all counts are 0
@@ -71,7 +72,7 @@ pub record AreCounts (k : Counters) : Type 0 where
 
 -- What one event counts
 
-abbrev pub one_if : Bool → ℕ
+abbrev pub one_if : Bool → Count
 one_if true = 1
 one_if false = 0
 
@@ -88,7 +89,7 @@ abbrev pub one_coalesced : Counters
 one_coalesced = record (one_miss no_counts) { coalesced = 1 }
 
 -- a fill that answers n requests, beside what storing its object counts
-abbrev pub answers : ℕ → Counters → Counters
+abbrev pub answers : Count → Counters → Counters
 answers n k = record k { late = n }
 
 -- an object that is too large for a block

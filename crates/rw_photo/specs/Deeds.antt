@@ -1,5 +1,6 @@
 -- What the code of an event does to a cache before it counts.
-use Rattle.std.specs.Prelude.{◌≡◌, ℕ, List, [], ◌∷◌, Option, Some, None}
+use Rattle.std.specs.Prelude.{◌≡◌, List, [], ◌∷◌, Option, Some, None}
+use Rattle.rw_blocks.specs.Words.{Object}
 use Rattle.rw_ripq.specs.Trail.{Leads}
 use Rattle.rw_ripq.specs.Weight.{IsShort}
 use Rattle.rw_photo.specs.declared.photo.Deed.{Deed}
@@ -11,7 +12,7 @@ list_of (Some x) = x ∷ []
 list_of None = []
 
 -- of what happens to object o the queue and the waiting requests are changed, and the deed has the rest
-pub record HasDone (h : Happening) (old : Cache) (o : ℕ) (deed : Deed) (now : Cache) : Type 0 where
+pub record HasDone (h : Happening) (old : Cache) (o : Object) (deed : Deed) (now : Cache) : Type 0 where
   pub changed : now ≡ record old { queue = h.queue; awaited = with_waiting old.awaited o h.waiting }
   pub counted : deed.counted ≡ h.counts
   pub sent : list_of deed.send ≡ h.sent

@@ -1,5 +1,7 @@
 -- The events of caches: which are valid, and what each does.
-use Rattle.std.specs.Prelude.{ℕ, ◌+◌, ◌%◌, ◌^◌, Bool, true, false, nat_lt, nat_le, ◌&&◌, List, [], ◌∷◌, length, Option, Some, None, unwrap_or}
+use Rattle.std.specs.Prelude.{◌+◌, ◌%◌, ◌^◌, Bool, true, false, nat_lt, nat_le, ◌&&◌, List, [], ◌∷◌, length, Option, Some, None, unwrap_or}
+use Rattle.rw_vt.specs.Words.{Count, Process, Time}
+use Rattle.rw_blocks.specs.Words.{Object, Size}
 use Rattle.rw_vt.specs.declared.event.Event.{Event}
 use Rattle.rw_blocks.specs.State.{QueueState}
 use Rattle.rw_trace.specs.declared.Row.{Row}
@@ -13,15 +15,15 @@ use Rattle.rw_photo.specs.Storing.{hit, stored}
 
 -- Valid events
 
-abbrev pub is_origin : Config → ℕ → Bool
+abbrev pub is_origin : Config → Process → Bool
 is_origin c p = nat_le c.edges p && nat_lt p (c.edges + c.origins)
 
 -- an object's number, and its size in bytes
-abbrev pub is_object : ℕ → ℕ → Bool
+abbrev pub is_object : Object → Size → Bool
 is_object o z = nat_lt o (2 ^ 64) && nat_le 1 z && nat_lt z (2 ^ 32)
 
 -- what may happen at process p at time t: requests up to time 2 ^ 39, and what may follow from them
-abbrev pub may_happen : Config → ℕ → ℕ → Body → Bool
+abbrev pub may_happen : Config → Time → Process → Body → Bool
 may_happen c t p (Request o z) = is_edge c p && nat_le t (2 ^ 39) && is_object o z
 may_happen c t p (Miss o z g) = is_origin c p && is_edge c g && nat_le t (2 ^ 39 + c.up) && is_object o z
 may_happen c t p (Fill o z) = is_edge c p && nat_le t (2 ^ 39 + c.up + c.down + c.back) && is_object o z
@@ -31,7 +33,7 @@ is_valid c e = nat_lt e.source (2 ^ 32) && nat_lt e.number (2 ^ 64) && may_happe
 
 -- What each does
 
-abbrev pub object_of : Body → ℕ
+abbrev pub object_of : Body → Object
 object_of (Request o z) = o
 object_of (Miss o z g) = o
 object_of (Fill o z) = o
@@ -40,32 +42,32 @@ object_of (Fill o z) = o
 -- sends
 pub record Happening : Type 0 where
   pub queue : QueueState
-  pub waiting : Option ℕ
+  pub waiting : Option Count
   pub counts : Counters
   pub sent : List (Event Body)
 
 -- process p sends an event
-abbrev pub sending : ℕ → Cache → ℕ → ℕ → Body → Event Body
+abbrev pub sending : Process → Cache → Time → Process → Body → Event Body
 sending p s time to body = record { time = time; source = p + 1; number = s.sends; to = to; body = body }
 
 -- the origin that is asked for an object
-abbrev pub origin_of : Config → ℕ → ℕ
+abbrev pub origin_of : Config → Object → Process
 origin_of c o = c.edges + o % c.origins
 
 -- a request that misses waits for its object, with those that wait for it already; the first asks the origin
-abbrev pub missed : Config → ℕ → Cache → ℕ → ℕ → ℕ → Option ℕ → Happening
+abbrev pub missed : Config → Process → Cache → Time → Object → Size → Option Count → Happening
 missed c p s t o z (Some n) = record { queue = s.queue; waiting = Some (plus n 1); counts = one_coalesced; sent = [] }
 missed c p s t o z None =
     record { queue = s.queue; waiting = Some 1; counts = one_miss no_counts; sent = sending p s (t + c.up) (origin_of c o) (Miss o z p) ∷ [] }
 
 -- a request at an edge
-abbrev pub requested : Config → ℕ → Cache → ℕ → ℕ → ℕ → Bool → Happening
+abbrev pub requested : Config → Process → Cache → Time → Object → Size → Bool → Happening
 requested c p s t o z true =
     let h = hit c.policy s.queue o in record { queue = h.queue; waiting = waiting s o; counts = h.counts; sent = [] }
 requested c p s t o z false = missed c p s t o z (waiting s o)
 
 -- a miss at an origin, which fetches what it lacks from the backend and stores it; the edge is sent a fill
-abbrev pub asked : Config → ℕ → Cache → ℕ → ℕ → ℕ → ℕ → Bool → Happening
+abbrev pub asked : Config → Process → Cache → Time → Object → Size → Process → Bool → Happening
 asked c p s t o z g true =
     let h = hit c.policy s.queue o in
     record { queue = h.queue; waiting = waiting s o; counts = h.counts; sent = sending p s (t + c.down) g (Fill o z) ∷ [] }
@@ -74,20 +76,20 @@ asked c p s t o z g false =
     record { queue = k.queue; waiting = waiting s o; counts = one_miss k.counts; sent = sending p s (t + c.down + c.back) g (Fill o z) ∷ [] }
 
 -- a fill at an edge, which answers the requests that wait for it, if any, and stores what the edge lacks
-abbrev pub filled : Config → Cache → ℕ → ℕ → Bool → Happening
+abbrev pub filled : Config → Cache → Object → Size → Bool → Happening
 filled c s o z true = record { queue = s.queue; waiting = None; counts = answers (unwrap_or (waiting s o) 0) no_counts; sent = [] }
 filled c s o z false =
     let k = stored c.policy s.queue o z in
     record { queue = k.queue; waiting = None; counts = answers (unwrap_or (waiting s o) 0) k.counts; sent = [] }
 
 -- what happens at process p at time t
-abbrev pub happening : Config → ℕ → Cache → ℕ → Body → Happening
+abbrev pub happening : Config → Process → Cache → Time → Body → Happening
 happening c p s t (Request o z) = requested c p s t o z (is_stored s o)
 happening c p s t (Miss o z g) = asked c p s t o z g (is_stored s o)
 happening c p s t (Fill o z) = filled c s o z (is_stored s o)
 
 -- the cache after it, which concerned object o
-abbrev pub after : Cache → ℕ → Happening → Cache
+abbrev pub after : Cache → Object → Happening → Cache
 after s o h =
     record {
       queue = h.queue;
@@ -96,11 +98,11 @@ after s o h =
       counters = added s.counters h.counts;
     }
 
-abbrev pub step : Config → ℕ → Cache → Event Body → Cache × List (Event Body)
+abbrev pub step : Config → Process → Cache → Event Body → Cache × List (Event Body)
 step c p s e = let h = happening c p s e.time e.body in (after s (object_of e.body) h, h.sent)
 
 -- From a trace
 
 -- row n of a trace, as an event
-abbrev pub request_of : ℕ → Row → Event Body
+abbrev pub request_of : Count → Row → Event Body
 request_of n r = record { time = r.time; source = 0; number = n; to = r.edge; body = Request r.object r.size }

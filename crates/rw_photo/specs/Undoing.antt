@@ -1,5 +1,7 @@
 -- What takes an event back.
-use Rattle.std.specs.Prelude.{◌≡◌, ℕ, Bool, true, false, Option, Some, None}
+use Rattle.std.specs.Prelude.{◌≡◌, Bool, true, false, Option, Some, None}
+use Rattle.rw_vt.specs.Words.{Count}
+use Rattle.rw_blocks.specs.Words.{Object}
 use Rattle.rw_vt.specs.declared.event.Event.{Event}
 use Rattle.rw_ripq.specs.Trail.{Leads, rewind_of}
 use Rattle.rw_ripq.specs.Weight.{IsShort}
@@ -10,15 +12,15 @@ use Rattle.rw_photo.specs.Cache.{Cache, with_waiting}
 use Rattle.rw_photo.specs.Events.{object_of}
 
 -- how many requests waited for the object before the event, where it was awaited
-abbrev pub some_if : Bool → ℕ → Option ℕ
+abbrev pub some_if : Bool → Count → Option Count
 some_if true n = Some n
 some_if false n = None
 
-abbrev pub waiting_before : Undo → Option ℕ
+abbrev pub waiting_before : Undo → Option Count
 waiting_before u = some_if u.awaited u.waiting
 
 -- the cache before what happened to object o, by its undo record
-abbrev pub before : ℕ → Undo → Cache → Cache
+abbrev pub before : Object → Undo → Cache → Cache
 before o u s =
     record {
       queue = rewind_of u.trail s.queue;

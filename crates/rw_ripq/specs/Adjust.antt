@@ -1,6 +1,7 @@
 -- Adjust: evict, at most one merge of sections with few bytes, evict, and at most one split of a section with many.
-use Rattle.std.specs.Prelude.{ℕ, ◌+◌, ◌-◌, ◌*◌, ◌/◌, Bool, true, false, ◌&&◌, not, length, Option, Some, None, nat_eq, nat_lt, nat_le, find}
+use Rattle.std.specs.Prelude.{◌+◌, ◌-◌, ◌*◌, ◌/◌, Bool, true, false, ◌&&◌, not, length, Option, Some, None, nat_eq, nat_lt, nat_le, find}
 use Rattle.std.specs.List.{range_with_len}
+use Rattle.rw_blocks.specs.Words.{Section}
 use Rattle.rw_blocks.specs.declared.Kind.TheVariants.{Device}
 use Rattle.rw_blocks.specs.State.{QueueState, section_at}
 use Rattle.rw_blocks.specs.Sums.{bytes_held, total, bytes}
@@ -10,25 +11,25 @@ use Rattle.rw_ripq.specs.Evict.{evict}
 
 -- ---- merge
 -- whether the section and the next one towards the tail hold few bytes
-abbrev pub is_light : QueueState → ℕ → Bool
+abbrev pub is_light : QueueState → Section → Bool
 is_light q i = nat_lt ((bytes q i + bytes q (i + 1)) * q.shape.sections) (total q)
 
 -- the first such pair from the head
-abbrev pub light_pair : QueueState → Option ℕ
+abbrev pub light_pair : QueueState → Option Section
 light_pair q = find (is_light q) (range_with_len 0 (length q.sections - 1))
 
 -- whether the lower section's active device block holds something, so that a merge writes it
-abbrev pub is_written : QueueState → ℕ → Bool
+abbrev pub is_written : QueueState → Section → Bool
 is_written q i = not (nat_eq (bytes_held Device q (section_at q (i + 1)).active_device) 0)
 
-abbrev pub merge : Work → ℕ → Work
+abbrev pub merge : Work → Section → Work
 merge w i =
     record {
       queue = after_merge w.queue i;
       tally = record w.tally { merges = w.tally.merges + 1; writes = w.tally.writes + one_if (is_written w.queue i) };
     }
 
-abbrev pub merge_at : Option ℕ → Work → Work
+abbrev pub merge_at : Option Section → Work → Work
 merge_at None w = w
 merge_at (Some i) w = evict (merge w i)
 
@@ -37,22 +38,22 @@ merge_once w = merge_at (light_pair w.queue) w
 
 -- ---- split
 -- whether the section holds many bytes, and at least two sealed blocks
-abbrev pub is_heavy : QueueState → ℕ → Bool
+abbrev pub is_heavy : QueueState → Section → Bool
 is_heavy q i = nat_lt (2 * total q) (bytes q i * q.shape.sections) && nat_le 2 (length (section_at q i).sealed)
 
 -- the first such section from the head
-abbrev pub heavy_section : QueueState → Option ℕ
+abbrev pub heavy_section : QueueState → Option Section
 heavy_section q = find (is_heavy q) (range_with_len 0 (length q.sections))
 
 -- the upper section keeps half of its sealed blocks, rounded up
-abbrev pub split : Work → ℕ → Work
+abbrev pub split : Work → Section → Work
 split w i =
     record {
       queue = after_split w.queue i ((length (section_at w.queue i).sealed + 1) / 2);
       tally = record w.tally { splits = w.tally.splits + 1 };
     }
 
-abbrev pub split_at : Option ℕ → Work → Work
+abbrev pub split_at : Option Section → Work → Work
 split_at None w = w
 split_at (Some i) w = split w i
 

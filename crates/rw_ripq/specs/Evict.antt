@@ -1,6 +1,8 @@
 -- Evict: while too many device blocks are sealed, the last sealed block goes.
-use Rattle.std.specs.Prelude.{ℕ, zero, suc, ◌+◌, Bool, true, false, not, List, length, Option, Some, None, nat_eq, nat_lt, filter, fold, unwrap_or, count_by}
+use Rattle.std.specs.Prelude.{zero, suc, ◌+◌, Bool, true, false, not, List, length, Option, Some, None, nat_eq, nat_lt, filter, fold, unwrap_or, count_by}
 use Rattle.std.specs.Map.{values_of, keys_of}
+use Rattle.rw_vt.specs.Words.{Count}
+use Rattle.rw_blocks.specs.Words.{Object, Section, Serial}
 use Rattle.rw_blocks.specs.declared.Kind.{Kind}
 use Rattle.rw_blocks.specs.declared.Kind.TheVariants.{Device, Virtual}
 use Rattle.rw_blocks.specs.State.{QueueState, row_or}
@@ -13,31 +15,31 @@ use Rattle.rw_ripq.specs.Sealed.{without_block, cleared, sealed_blocks}
 
 -- ---- rows that leave
 -- the objects whose place, or whose home, the block is, in rising order
-abbrev pub objects_placed : QueueState → ℕ → List ℕ
+abbrev pub objects_placed : QueueState → Serial → List Object
 objects_placed q b = keys_of (filter (λ e. nat_eq e.1.place b) q.rows)
 
-abbrev pub objects_homed : QueueState → ℕ → List ℕ
+abbrev pub objects_homed : QueueState → Serial → List Object
 objects_homed q b = keys_of (filter (λ e. nat_eq e.1.home b) q.rows)
 
-abbrev pub without_rows : QueueState → List ℕ → QueueState
+abbrev pub without_rows : QueueState → List Object → QueueState
 without_rows q os = fold after_remove q os
 
-abbrev pub leave : Work → List ℕ → Work
+abbrev pub leave : Work → List Object → Work
 leave w os = record { queue = without_rows w.queue os; tally = record w.tally { evicted = w.tally.evicted + length os } }
 
 -- ---- rows that are put again
 -- the section that has the block, the head where there is none
-abbrev pub section_with : QueueState → ℕ → ℕ
+abbrev pub section_with : QueueState → Serial → Section
 section_with q b = unwrap_or (section_of q b) 0
 
 -- an object is put again into the section that holds its place, which is taken out where it is emptied
-abbrev pub reinserted_from : QueueState → ℕ → ℕ → QueueState
+abbrev pub reinserted_from : QueueState → Object → Serial → QueueState
 reinserted_from q o place = cleared (put_again q o (section_with q place)) place
 
-abbrev pub reinserted : QueueState → ℕ → QueueState
+abbrev pub reinserted : QueueState → Object → QueueState
 reinserted q o = reinserted_from q o (row_or q o).place
 
-abbrev pub reinsert : Work → ℕ → Work
+abbrev pub reinsert : Work → Object → Work
 reinsert w o =
     let q = w.queue in
     let row = row_or q o in
@@ -48,17 +50,17 @@ reinsert w o =
     }
 
 -- ---- the victim
-abbrev pub take_out : Work → ℕ → Work
+abbrev pub take_out : Work → Serial → Work
 take_out w b = record w { queue = without_block w.queue b }
 
 -- the rows whose place is the victim leave; the other rows whose home it is are put again
-abbrev pub evict_block : Kind → ℕ → Work → Work
+abbrev pub evict_block : Kind → Serial → Work → Work
 evict_block Virtual b w = take_out (leave w (objects_placed w.queue b)) b
 evict_block Device b w =
     let left = leave w (objects_placed w.queue b) in
     take_out (fold reinsert left (objects_homed left.queue b)) b
 
-abbrev pub evict_if_some : Option (ℕ × Kind) → Work → Work
+abbrev pub evict_if_some : Option (Serial × Kind) → Work → Work
 evict_if_some None w = w
 evict_if_some (Some e) w = evict_block e.1 e.0 w
 
@@ -70,7 +72,7 @@ evict_last w = evict_if_some (last_block w.queue) w
 abbrev pub is_over : QueueState → Bool
 is_over q = nat_lt q.shape.blocks (sealed_devices q)
 
-abbrev pub evict_within : ℕ → Work → Work
+abbrev pub evict_within : Count → Work → Work
 evict_within zero w = w
 evict_within (suc n) w = elim (is_over w.queue) [
   | true ↦ evict_within n (evict_last w)
@@ -78,7 +80,7 @@ evict_within (suc n) w = elim (is_over w.queue) [
 ]
 
 -- how many rows have a place unlike their home
-abbrev pub displaced : QueueState → ℕ
+abbrev pub displaced : QueueState → Count
 displaced q = count_by (λ r. not (nat_eq r.place r.home)) (values_of q.rows)
 
 -- each turn lowers the number of displaced rows and sealed blocks together, so that many turns are enough

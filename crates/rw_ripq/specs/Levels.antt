@@ -1,7 +1,9 @@
 -- The level of a row, and the section that is the target of a level.
-use Rattle.std.specs.Prelude.{ℕ, ◌+◌, ◌*◌, ◌/◌, Bool, if◌then◌else◌, List, length, Option, nat_le, min, find, reverse, unwrap_or}
+use Rattle.std.specs.Prelude.{◌+◌, ◌*◌, ◌/◌, Bool, if◌then◌else◌, List, length, Option, nat_le, min, find, reverse, unwrap_or}
 use Rattle.std.specs.List.{range_with_len}
 use Rattle.std.specs.Option.{option_map}
+use Rattle.rw_blocks.specs.Words.{Object, Section}
+use Rattle.rw_ripq.specs.Words.{Level}
 use Rattle.rw_blocks.specs.State.{QueueState, row_at, row_or}
 use Rattle.rw_blocks.specs.Sums.{total, bytes, below}
 use Rattle.rw_ripq.specs.declared.Policy.{Policy}
@@ -9,38 +11,38 @@ use Rattle.rw_ripq.specs.declared.Policy.TheVariants.{Off, Lru, Slru3}
 use Rattle.rw_ripq.specs.Evict.{section_with}
 
 -- 1 to 3: in which third of all bytes, counted from the tail, the section begins
-abbrev pub level_of_section : QueueState → ℕ → ℕ
+abbrev pub level_of_section : QueueState → Section → Level
 level_of_section q i = 1 + min 2 (3 * below q i / total q)
 
 -- the level of the section that holds the row's place
-abbrev pub level : QueueState → ℕ → ℕ
+abbrev pub level : QueueState → Object → Level
 level q o = level_of_section q (section_with q (row_or q o).place)
 
 -- none where the object is not stored
-abbrev pub level_of : QueueState → ℕ → Option ℕ
+abbrev pub level_of : QueueState → Object → Option Level
 level_of q o = option_map (λ r. level_of_section q (section_with q r.place)) (row_at q o)
 
 -- whether the section and those nearer the tail hold l thirds of all bytes
-abbrev pub reaches : QueueState → ℕ → ℕ → Bool
+abbrev pub reaches : QueueState → Level → Section → Bool
 reaches q l i = nat_le (l * total q) (3 * (bytes q i + below q i))
 
 -- the sections from tail to head
-abbrev pub from_tail : QueueState → List ℕ
+abbrev pub from_tail : QueueState → List Section
 from_tail q = reverse (range_with_len 0 (length q.sections))
 
 -- of segmented LRU with three segments: the head for level 3, or the section nearest the tail that reaches the level
-abbrev pub slru_target : QueueState → ℕ → ℕ
+abbrev pub slru_target : QueueState → Level → Section
 slru_target q l = if nat_le 3 l then 0 else unwrap_or (find (reaches q l) (from_tail q)) 0
 
-abbrev pub target : Policy → QueueState → ℕ → ℕ
+abbrev pub target : Policy → QueueState → Level → Section
 target Off q l = 0
 target Lru q l = 0
 target Slru3 q l = slru_target q l
 
 -- a hit raises the level by one
-abbrev pub hit_level : Policy → QueueState → ℕ → ℕ
+abbrev pub hit_level : Policy → QueueState → Object → Level
 hit_level Slru3 q o = min 3 (level q o + 1)
 hit_level _ q o = 1
 
-abbrev pub hit_target : Policy → QueueState → ℕ → ℕ
+abbrev pub hit_target : Policy → QueueState → Object → Section
 hit_target p q o = target p q (hit_level p q o)

@@ -1,3 +1,4 @@
+pub mod Words
 pub mod Work
 pub mod Put
 pub mod Sealed

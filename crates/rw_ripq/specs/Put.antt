@@ -1,5 +1,6 @@
 -- Put: an object comes into a section's active device block, which is sealed first where the size does not fit.
-use Rattle.std.specs.Prelude.{ℕ, ◌+◌, Bool, true, false, nat_le}
+use Rattle.std.specs.Prelude.{◌+◌, Bool, true, false, nat_le}
+use Rattle.rw_blocks.specs.Words.{Object, Section, Size}
 use Rattle.rw_blocks.specs.declared.Kind.{Kind}
 use Rattle.rw_blocks.specs.declared.Kind.TheVariants.{Device}
 use Rattle.rw_blocks.specs.State.{QueueState, section_at, active_of, row_or}
@@ -7,21 +8,21 @@ use Rattle.rw_blocks.specs.Sums.{bytes_held}
 use Rattle.rw_blocks.specs.Primitives.{after_add, after_rehome, after_seal}
 
 -- whether the size fits the section's active block of the kind
-abbrev pub is_room : QueueState → Kind → ℕ → ℕ → Bool
+abbrev pub is_room : QueueState → Kind → Section → Size → Bool
 is_room q kind i z = nat_le (bytes_held kind q (active_of kind (section_at q i)) + z) q.shape.block
 
-abbrev pub seal_unless : Bool → QueueState → ℕ → Kind → QueueState
+abbrev pub seal_unless : Bool → QueueState → Section → Kind → QueueState
 seal_unless true q i kind = q
 seal_unless false q i kind = after_seal q i kind
 
 -- an active block in which the size fits
-abbrev pub with_room : QueueState → Kind → ℕ → ℕ → QueueState
+abbrev pub with_room : QueueState → Kind → Section → Size → QueueState
 with_room q kind i z = seal_unless (is_room q kind i z) q i kind
 
 -- an object that is not stored
-abbrev pub put_new : QueueState → ℕ → ℕ → ℕ → QueueState
+abbrev pub put_new : QueueState → Object → Size → Section → QueueState
 put_new q o z i = after_add (with_room q Device i z) o z i
 
 -- an object that is stored
-abbrev pub put_again : QueueState → ℕ → ℕ → QueueState
+abbrev pub put_again : QueueState → Object → Section → QueueState
 put_again q o i = after_rehome (with_room q Device i (row_or q o).size) o i

@@ -1,5 +1,6 @@
 -- A trail that grows with the work, and the room that the work's numbers need.
-use Rattle.std.specs.Prelude.{◌≡◌, None, ℕ, ◌+◌, ◌≤◌, ◌^◌, List, length}
+use Rattle.std.specs.Prelude.{◌≡◌, None, ◌+◌, ◌≤◌, ◌^◌, List, length}
+use Rattle.rw_blocks.specs.Words.{Object, Size}
 use Rattle.rw_blocks.specs.declared.Mark.{Mark}
 use Rattle.rw_blocks.specs.State.{QueueState, row_at}
 use Rattle.rw_blocks.specs.Loose.{IsLoose}
@@ -23,7 +24,7 @@ pub record HasHeadroom (w : Work) : Type 0 where
   pub merges : w.tally.merges ≤ 1
 
 -- what an insertion of the object asks of a queue
-pub record IsInsertable (q : QueueState) (object size : ℕ) : Type 0 where
+pub record IsInsertable (q : QueueState) (object : Object) (size : Size) : Type 0 where
   pub loose : IsLoose q
   pub new : row_at q object ≡ None
   pub some : 1 ≤ size

@@ -1,40 +1,42 @@
 -- Where a sealed block stands, and the queue without it.
-use Rattle.std.specs.Prelude.{ℕ, Bool, true, false, ◌&&◌, length, nat_eq, sum_by}
+use Rattle.std.specs.Prelude.{Bool, true, false, ◌&&◌, length, nat_eq, sum_by}
 use Rattle.std.specs.List.{list_any, position_or_len}
+use Rattle.rw_vt.specs.Words.{Count}
+use Rattle.rw_blocks.specs.Words.{Position, Section, Serial}
 use Rattle.rw_blocks.specs.State.{QueueState, SectionState, section_at}
 use Rattle.rw_blocks.specs.Sums.{has_serial, rows_placed}
 use Rattle.rw_blocks.specs.Loose.{is_sealed_virtual}
 use Rattle.rw_blocks.specs.Primitives.{after_take_out}
 
-abbrev pub has_sealed : ℕ → SectionState → Bool
+abbrev pub has_sealed : Serial → SectionState → Bool
 has_sealed b s = list_any (has_serial b) s.sealed
 
-abbrev pub is_sealed : QueueState → ℕ → Bool
+abbrev pub is_sealed : QueueState → Serial → Bool
 is_sealed q b = list_any (has_sealed b) q.sections
 
 -- how many blocks are sealed
-abbrev pub sealed_blocks : QueueState → ℕ
+abbrev pub sealed_blocks : QueueState → Count
 sealed_blocks q = sum_by (λ s. length s.sealed) q.sections
 
 -- the section in whose sealed list the block stands, and its position there
-abbrev pub sealed_section : QueueState → ℕ → ℕ
+abbrev pub sealed_section : QueueState → Serial → Section
 sealed_section q b = position_or_len (has_sealed b) q.sections
 
-abbrev pub sealed_position : QueueState → ℕ → ℕ
+abbrev pub sealed_position : QueueState → Serial → Position
 sealed_position q b = position_or_len (has_serial b) (section_at q (sealed_section q b)).sealed
 
 -- the queue without a sealed block
-abbrev pub without_block : QueueState → ℕ → QueueState
+abbrev pub without_block : QueueState → Serial → QueueState
 without_block q b = after_take_out q (sealed_section q b) (sealed_position q b)
 
-abbrev pub without_block_if : Bool → QueueState → ℕ → QueueState
+abbrev pub without_block_if : Bool → QueueState → Serial → QueueState
 without_block_if true q b = without_block q b
 without_block_if false q b = q
 
 -- whether it is a sealed virtual block that no row has as its place
-abbrev pub is_emptied : QueueState → ℕ → Bool
+abbrev pub is_emptied : QueueState → Serial → Bool
 is_emptied q b = is_sealed_virtual q b && nat_eq (length (rows_placed q b)) 0
 
 -- a sealed virtual block without rows is taken out
-abbrev pub cleared : QueueState → ℕ → QueueState
+abbrev pub cleared : QueueState → Serial → QueueState
 cleared q b = without_block_if (is_emptied q b) q b

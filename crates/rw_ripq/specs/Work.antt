@@ -1,5 +1,6 @@
 -- A queue with the counts of an operation so far.
-use Rattle.std.specs.Prelude.{ℕ, Bool, true, false}
+use Rattle.std.specs.Prelude.{Bool, true, false}
+use Rattle.rw_vt.specs.Words.{Count}
 use Rattle.rw_blocks.specs.State.{QueueState}
 use Rattle.rw_ripq.specs.declared.Tally.{Tally}
 
@@ -13,7 +14,7 @@ no_tally = record { evicted = 0; reinserted = 0; writes = 0; splits = 0; merges 
 abbrev pub untouched : QueueState → Work
 untouched q = record { queue = q; tally = no_tally }
 
-abbrev pub one_if : Bool → ℕ
+abbrev pub one_if : Bool → Count
 one_if true = 1
 one_if false = 0
 
