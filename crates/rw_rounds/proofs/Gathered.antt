@@ -17,7 +17,7 @@ use Rattle.rw_board.specs.Seats.{SeatState, BoardState, new_seat}
 use Rattle.rw_rounds.specs.declared.plan.Plan.{Plan}
 use Rattle.rw_rounds.specs.Plans.{IsInRanges}
 use Rattle.rw_rounds.specs.Bags.{weigh, Every, total}
-use Rattle.rw_rounds.specs.Turns.{WorkerState, StandsSound, TookTurns}
+use Rattle.rw_rounds.specs.Turns.{WorkerState, IsInPlace, TookTurns}
 use Rattle.rw_rounds.specs.Rounds.{role, Begins, Closes, TookRound}
 use Rattle.rw_rounds.specs.Seated.{IsSeated}
 use Rattle.rw_rounds.proofs.Governing.{Laws}
@@ -204,7 +204,7 @@ module _ {M S B U : Type 0} {model : Ghosts M S B U} {order : B → B → Orderi
           go (Some l) at =
               let r = role_after (q % plan.workers) d below in
               let fit = (took.went (q % plan.workers) d d (subst (λ n. q % plan.workers < n) (sym up.many) below)).fit in
-              let stands : StandsSound model order x.model fit.starts (role plan x.collected (q % plan.workers)) (q / plan.workers) l = subst (λ k. StandsSound model order x.model fit.starts k (q / plan.workers) l) r (fit.sound (q / plan.workers) l at) in
+              let stands : IsInPlace order x.model fit.starts (role plan x.collected (q % plan.workers)) (q / plan.workers) l = subst (λ k. IsInPlace order x.model fit.starts k (q / plan.workers) l) r (fit.in_place (q / plan.workers) l at) in
               let inside = get_within fit.starts l.number l.process.start stands.start in
               let whole_q : q % plan.workers + (q / plan.workers) * plan.workers ≡ q = omega arith in
               let n = as_many x whole in

@@ -1,10 +1,11 @@
-use Rattle.std.proofs.Common.{◌≡◌, ◌+◌, ◌<◌, ◌≤◌, [], sym, ap, subst, arith}
+use Rattle.std.proofs.Common.{◌≡◌, ◌+◌, ◌<◌, ◌≤◌, [], sym, ap, ◌∙◌, subst, arith}
+use Rattle.std.specs.Prelude.{slice_get}
 use Rattle.rw_lp.specs.Calls.{rules}
 use Rattle.rw_rounds.specs.Turns.{IsFit, TookTurn}
 use Rattle.rw_rounds.specs.Working.{role_of, desk_of, Works, HeldBack}
 use Rattle.rw_rounds.proofs.Governing.{Laws}
 use Rattle.rw_rounds.proofs.Adding.{works_then}
-use Rattle.rw_rounds.proofs.Fits.{fit_without_inbox}
+use Rattle.rw_rounds.proofs.Fits.{fit_without_inbox, fit_and_sound}
 use Rattle.rw_rounds.proofs.Taking.{turn_taken}
 use Rattle.rw_rounds.proofs.worker.Worker.turn.Goals as goal
 
@@ -12,7 +13,14 @@ pub deal-requires-clause-fit : goal.deal-requires-clause-fit
 deal-requires-clause-fit g c =
     let laws : Laws g.M.Model g.M.Body.Ord.cmp = record { total = g.met.M.Body.Ord.total; same = g.met.M.Model.same; keeps = g.met.M.Model.keeps; future = g.met.M.Model.future; ranges = g.met.M.Model.ranges } in
     let x = c.self.inside in
-    fit_without_inbox laws c.args.model.now (record (desk_of x.desk) { inbox = x.inbox.items }) (subst (IsFit g.M.Model g.M.Body.Ord.cmp c.args.model.now) (sym c.self.view_is) c.requires.fit)
+    let own = subst (IsFit g.M.Model g.M.Body.Ord.cmp c.args.model.now) (sym c.self.view_is) c.requires.fit in
+    fit_and_sound g.M.Model g.M.Body.Ord.cmp c.args.model.now (desk_of x.desk)
+    (fit_without_inbox laws c.args.model.now (record (desk_of x.desk) { inbox = x.inbox.items }) own)
+    (λ place l there. c.soundness.ensures place l (ap (λ ls. slice_get ls place) c.deref.ensures.value ∙ there))
+
+pub returns-clause-fit : goal.returns-clause-fit
+returns-clause-fit g c =
+    subst (λ ls. IsFit g.M.Model g.M.Body.Ord.cmp c.args.model.now (record (desk_of c.execute_some.new.self) { inbox = ls })) (sym c.new.ensures.items) c.in_ok-executed.ensures.fit.fit
 
 pub returns-clause-turn : goal.returns-clause-turn
 returns-clause-turn g c =
