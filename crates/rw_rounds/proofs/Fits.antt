@@ -10,6 +10,7 @@ use Rattle.rw_lp.specs.Process.{Process}
 use Rattle.rw_lp.specs.Calls.{LogicalProcess, rules}
 use Rattle.rw_lp.specs.Sound.{SoundAt, HasCollected, IsSoundOnceCollected}
 use Rattle.rw_exchange.specs.Ports.{IsWide}
+use Rattle.rw_board.specs.Seats.{SeatState}
 use Rattle.rw_rounds.specs.Bags.{weigh, only, Every}
 use Rattle.rw_rounds.specs.Deeds.{IsFair, arrivals}
 use Rattle.rw_rounds.specs.Turns.{Role, WorkerState, owner, is_own, process_at, IsInPlace, IsFit}
@@ -147,6 +148,13 @@ module _ {M S B U : Type 0} {model : Ghosts M S B U} {order : B → B → Orderi
   pub fit_without_kept : (a : WorkerState M S B) → IsFitAndSound model order m a → IsFitAndSound model order m (record a { kept = [] })
   fit_without_kept a up = record {
     fit = record { starts = up.fit.starts; ready = up.fit.ready; number = up.fit.number; window = up.fit.window; in_place = up.fit.in_place; complete = up.fit.complete; inbox_fair = up.fit.inbox_fair; inbox_own = up.fit.inbox_own; kept = tt; port = up.fit.port; wide = up.fit.wide };
+    sound = up.sound;
+  }
+
+  -- what its seat read or noted does not matter
+  pub fit_with_seat : (a : WorkerState M S B) (seat : SeatState) → IsFitAndSound model order m a → IsFitAndSound model order m (record a { seat = seat })
+  fit_with_seat a seat up = record {
+    fit = record { starts = up.fit.starts; ready = up.fit.ready; number = up.fit.number; window = up.fit.window; in_place = up.fit.in_place; complete = up.fit.complete; inbox_fair = up.fit.inbox_fair; inbox_own = up.fit.inbox_own; kept = up.fit.kept; port = up.fit.port; wide = up.fit.wide };
     sound = up.sound;
   }
 

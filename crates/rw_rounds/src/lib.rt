@@ -25,6 +25,7 @@ mod sim;
 mod stop;
 mod threads;
 mod traffic;
+mod turning;
 mod worker;
 mod worker_round;
 

@@ -86,10 +86,7 @@ impl<M: VtModel> Worker<M> {
     {
         let Worker { mut desk, inbox } = self;
         soundness(&desk.processes);
-        desk.deal(alloc, model, board, inbox)?;
-        desk.offer_kept(alloc, model, board)?;
-        desk.receive_all(alloc, model, board)?;
-        let executed = desk.execute_some(alloc, model, board)?;
+        let executed = desk.turn(alloc, model, board, inbox)?;
         let worker = Worker {
             desk,
             inbox: Vec::new(alloc),
