@@ -10,3 +10,4 @@ mod board;
 mod rule;
 
 pub use board::{Board, Seat, close, open};
+pub use rw_vt::NoMemory;

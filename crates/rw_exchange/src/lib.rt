@@ -15,4 +15,5 @@ mod settling;
 pub use left::Left;
 pub use opening::open;
 pub use port::Port;
+pub use rw_vt::{Letter, NoMemory};
 pub use settling::settle;

@@ -22,7 +22,7 @@ mod undo_record;
 
 pub use held::Held;
 pub use lp::Lp;
-use rw_vt::Model;
+pub use rw_vt::{Event, Letter, Model, Refusal};
 pub use step::{Answer, StepFault};
 
 /// Each step of a sound process keeps it sound. It changes what is done and pending, less what is owed, by exactly

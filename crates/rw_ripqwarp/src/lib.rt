@@ -15,7 +15,11 @@ mod text;
 
 pub use mode::Mode;
 pub use output::Out;
+pub use rw_photo::{Body, CacheState, Config, Photo, Policy, Shape};
 pub use rw_rounds::{Plan, Traffic};
+pub use rw_trace::TraceFault;
+pub use rw_vt::{Event, NoMemory, Outcome};
+pub use rw_world::Step;
 pub use schedule_text::{ScheduleFault, schedule};
 pub use sim_fault::SimFault;
 pub use simulation::{beginning, simulate};

@@ -17,12 +17,12 @@ use Rattle.rw_rounds.specs.declared.plan.Plan.{Plan}
 use Rattle.rw_rounds.specs.Plans.{IsInRanges}
 use Rattle.rw_rounds.specs.Bags.{Every}
 use Rattle.rw_rounds.specs.Deeds.{IsFair}
-use Rattle.rw_rounds.specs.Turns.{WorkerState, owner, is_own, process_at, StandsSound, IsFit}
+use Rattle.rw_rounds.specs.Turns.{WorkerState, owner, is_own, process_at, IsInPlace, IsFit}
 use Rattle.rw_rounds.specs.Rounds.{role, Begins}
 use Rattle.rw_rounds.proofs.ByPlace.{get_within, place_of}
 use Rattle.rw_rounds.proofs.Governing.{Laws, Governs, governs}
 use Rattle.rw_rounds.proofs.Going.{Well, fair_letters}
-use Rattle.rw_rounds.proofs.Fits.{there_is}
+use Rattle.rw_rounds.proofs.Fits.{there_is, collected_of}
 use Rattle.rw_rounds.proofs.Stepping.{number_of}
 use Rattle.rw_rounds.proofs.Systems.{sound_among, letters_among}
 use Rattle.rw_rounds.proofs.Totals.{every_filter, every_passes}
@@ -57,7 +57,7 @@ module _ {M S B U : Type 0} {model : Ghosts M S B U} {order : B → B → Orderi
     there : (place : ℕ) (l : LogicalProcess M S B) → slice_get a.processes place ≡ Some l → slice_get x.processes.items (i + place * plan.workers) ≡ Some l
     there place l at = sym (begins.processes_are place) ∙ at
 
-    stands : (place : ℕ) (l : LogicalProcess M S B) → slice_get a.processes place ≡ Some l → StandsSound model order x.model x.starts.value.items (role plan x.collected i) place l
+    stands : (place : ℕ) (l : LogicalProcess M S B) → slice_get a.processes place ≡ Some l → IsInPlace order x.model x.starts.value.items (role plan x.collected i) place l
     stands place l at =
         let q : ℕ = i + place * plan.workers in
         let here : slice_get (world_of x).processes q ≡ Some l.process = in_world q ∙ ap (option_map (λ l. l.process)) (there place l at) in
@@ -66,7 +66,7 @@ module _ {M S B U : Type 0} {model : Ghosts M S B U} {order : B → B → Orderi
           model_is = known.0;
           number = known.1;
           start = ap (slice_get x.starts.value.items) known.1 ∙ started_there q l.process here;
-          sound = subst (λ p. SoundAt (rules model order x.model) x.collected p l.process) (sym known.1) (sound_there q l.process here);
+          collected = collected_of model order x.model x.collected q l.process (sound_there q l.process here);
         }
 
     -- seen by numbers, the worker has its processes of the world
@@ -103,7 +103,7 @@ module _ {M S B U : Type 0} {model : Ghosts M S B U} {order : B → B → Orderi
           ready = ready_without;
           number = below;
           window = ranges.window.1;
-          sound = stands;
+          in_place = stands;
           complete = begun_complete;
           inbox_fair = subst (Every (IsFair (rules model order x.model) x.collected)) (sym begins.inbox) (every_filter (IsFair (rules model order x.model) x.collected) (is_own (role plan x.collected i)) x.letters.items (begun_fair laws));
           inbox_own = subst (Every (λ l. is_own (role plan x.collected i) l ≡ true)) (sym begins.inbox) (every_passes (is_own (role plan x.collected i)) x.letters.items);

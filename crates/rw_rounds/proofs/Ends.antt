@@ -26,7 +26,7 @@ module _ {M S B U : Type 0} (model : Ghosts M S B U) (order : B → B → Orderi
     ready = f.ready;
     number = f.number;
     window = f.window;
-    sound = f.sound;
+    in_place = f.in_place;
     complete = f.complete;
     inbox_fair = f.inbox_fair;
     inbox_own = f.inbox_own;

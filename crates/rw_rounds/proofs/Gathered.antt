@@ -17,9 +17,10 @@ use Rattle.rw_board.specs.Seats.{SeatState, BoardState, new_seat}
 use Rattle.rw_rounds.specs.declared.plan.Plan.{Plan}
 use Rattle.rw_rounds.specs.Plans.{IsInRanges}
 use Rattle.rw_rounds.specs.Bags.{weigh, Every, total}
-use Rattle.rw_rounds.specs.Turns.{WorkerState, StandsSound, TookTurns}
+use Rattle.rw_rounds.specs.Turns.{WorkerState, IsInPlace, TookTurns}
 use Rattle.rw_rounds.specs.Rounds.{role, Begins, Closes, TookRound}
 use Rattle.rw_rounds.specs.Seated.{IsSeated}
+use Rattle.rw_rounds.specs.Setting.{AreDealtOut}
 use Rattle.rw_rounds.proofs.Governing.{Laws}
 use Rattle.rw_rounds.proofs.Sums.{total_add, weigh-append}
 use Rattle.rw_rounds.proofs.ByPlace.{get_within}
@@ -110,6 +111,23 @@ pub record AreSetUp {M S B U : Type 0} (plan : Plan) (x : Parts M S B U) (ws : L
   pub opening : IsOpening ports
   pub new_ports : All IsNew ports
   pub new_seats : All (λ s. s ≡ new_seat its.board) seats
+
+pub set_up_from : {M S B U : Type 0} (plan : Plan) (x : Parts M S B U) (its : BoardState) (ws : List (WorkerState M S B)) → AreDealtOut plan x.collected x.processes.items x.letters.items its ws
+    → AreSetUp plan x ws (map (λ w. w.processes) ws) (map (λ w. w.inbox) ws) (map (λ w. w.port) ws) (map (λ w. w.seat) ws) its
+set_up_from plan x its ws out = record {
+  many = out.many;
+  roles = out.roles;
+  processes = refl;
+  inboxes = refl;
+  ports_are = refl;
+  seats_are = refl;
+  none = out.none;
+  dealt = out.dealt;
+  sorted_out = out.sorted_out;
+  opening = out.opening;
+  new_ports = out.new_ports;
+  new_seats = out.new_seats;
+}
 
 -- each of these workers has made its round
 pub record AllTook {M S B U : Type 0} (model : Ghosts M S B U) (order : B → B → Ordering) (m : M) (turns : ℕ) (ws ws' : List (WorkerState M S B)) : Type 0 where
@@ -204,7 +222,7 @@ module _ {M S B U : Type 0} {model : Ghosts M S B U} {order : B → B → Orderi
           go (Some l) at =
               let r = role_after (q % plan.workers) d below in
               let fit = (took.went (q % plan.workers) d d (subst (λ n. q % plan.workers < n) (sym up.many) below)).fit in
-              let stands : StandsSound model order x.model fit.starts (role plan x.collected (q % plan.workers)) (q / plan.workers) l = subst (λ k. StandsSound model order x.model fit.starts k (q / plan.workers) l) r (fit.sound (q / plan.workers) l at) in
+              let stands : IsInPlace order x.model fit.starts (role plan x.collected (q % plan.workers)) (q / plan.workers) l = subst (λ k. IsInPlace order x.model fit.starts k (q / plan.workers) l) r (fit.in_place (q / plan.workers) l at) in
               let inside = get_within fit.starts l.number l.process.start stands.start in
               let whole_q : q % plan.workers + (q / plan.workers) * plan.workers ≡ q = omega arith in
               let n = as_many x whole in

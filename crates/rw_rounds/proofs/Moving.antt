@@ -1,4 +1,4 @@
--- What execute and undo answer of a sound process with an event pending.
+-- What execute and undo answer of a process with an event pending, once it has collected.
 use Rattle.std.proofs.Common.{◌≡◌, ℕ, ◌<◌, ◌≤◌, Bool, true, false, cond, List, [], ◌∷◌, ◌++◌, refl, sym, ap, ◌∙◌, subst, arith, append-nil, Option, Some, None}
 use Rattle.std.specs.declared.cmp.Ordering.{Ordering}
 use Rattle.rw_vt.specs.declared.event.Event.{Event}
@@ -14,7 +14,7 @@ use Rattle.rw_lp.specs.declared.step.StepFault.TheVariants.{Straggler}
 use Rattle.rw_lp.specs.HeldMessages.{unheld}
 use Rattle.rw_lp.specs.Process.{Process, Turn, Turned, Stays, done, split_last, is_less_than_last, execute_event, execute_least, execute_next, undo_last, undo_one}
 use Rattle.rw_lp.specs.Calls.{LogicalProcess, rules, Took}
-use Rattle.rw_lp.specs.Sound.{SoundAt}
+use Rattle.rw_lp.specs.Sound.{HasCollected}
 use Rattle.rw_lp.proofs.Splits.{IsSplit, split_is}
 use Rattle.rw_rounds.specs.Working.{Moved}
 
@@ -38,15 +38,15 @@ module _ {S B : Type 0} (y : System S B) (p : ℕ) where
 
   module _ (o : IsExactOrder y.order) (by_time : (e f : Event B) → AtMost y.order e f → e.time ≤ f.time) where
     -- what is next is a straggler only where something is processed
-    never_stuck : (g : ℕ) (x : Process S B) → SoundAt y g p x → execute_next y p x ≡ Stays Straggler → x.processed ≡ [] → ⊥
-    never_stuck g x sound refused none = execute x.pending refl refused
+    never_stuck : (g : ℕ) (x : Process S B) → HasCollected y.order g x → execute_next y p x ≡ Stays Straggler → x.processed ≡ [] → ⊥
+    never_stuck g x collected refused none = execute x.pending refl refused
       where
         least : (e : Event B) (rest : List (Event B)) → x.pending ≡ e ∷ rest → (r : Option (List (Event B) × Event B)) → IsSplit x.committed r → is_less_than_last y.order e r ≡ true → ⊥
         least e rest q None s h = cc
         least e rest q (Some r) s h =
             let order : e.time ≤ r.1.time = by_time e r.1 (at_most_other o r.1 e h) in
-            let a : r.1.time < g = sound.committed_below r.1 (subst (λ l. Has y.order l r.1) (sym s) (Has-right o r.1 r.0 (r.1 ∷ []) (Has-head o r.1 []))) in
-            let b : g ≤ e.time = sound.pending_from e (subst (λ l. Has y.order l e) (sym q) (Has-head o e rest)) in
+            let a : r.1.time < g = collected.committed r.1 (subst (λ l. Has y.order l r.1) (sym s) (Has-right o r.1 r.0 (r.1 ∷ []) (Has-head o r.1 []))) in
+            let b : g ≤ e.time = collected.pending e (subst (λ l. Has y.order l e) (sym q) (Has-head o e rest)) in
             absurd (omega arith)
 
         execute : (es : List (Event B)) → x.pending ≡ es → execute_least y p x es ≡ Stays Straggler → ⊥
@@ -60,25 +60,25 @@ module _ {S B : Type 0} (y : System S B) (p : ℕ) where
             go true k h = least e rest q (split_last x.committed) (split_is x.committed) (ap (λ l. is_less_than_last y.order e (split_last l)) (sym all) ∙ k)
             go false k h = cc
 
-    pub undone : (g : ℕ) (x z : Process S B) (a : Answer) (given : List (Letter B)) → SoundAt y g p x → execute_next y p x ≡ Stays Straggler → Took x z a given (undo_one y p x) → undo_one y p x ≡ Turned z given
-    undone g x z a given sound refused took = go (split_last x.processed) (split_is x.processed) took
+    pub undone : (g : ℕ) (x z : Process S B) (a : Answer) (given : List (Letter B)) → HasCollected y.order g x → execute_next y p x ≡ Stays Straggler → Took x z a given (undo_one y p x) → undo_one y p x ≡ Turned z given
+    undone g x z a given collected refused took = go (split_last x.processed) (split_is x.processed) took
       where
         go : (r : Option (List (Event B) × Event B)) → IsSplit x.processed r → Took x z a given (undo_last y p x r) → undo_last y p x r ≡ Turned z given
-        go None q k = absurd (never_stuck g x sound refused q)
+        go None q k = absurd (never_stuck g x collected refused q)
         go (Some r) q k = taken x z a given (undo_last y p x (Some r)) k.1 k
 
 -- the same from what the code knows: an execution that was refused, and then an undoing
 module _ {M S B U : Type 0} (model : Ghosts M S B U) (order : B → B → Ordering) (o : IsExactOrder (event_cmp order)) (x z u : LogicalProcess M S B) (a b : Answer) (given more old mid new : List (Letter B)) where
-  pub moved_undone : (x.process.pending ≡ [] → ⊥) → (g : ℕ) → SoundAt (rules model order x.model) g x.number x.process → (a ≡ Done → ⊥) → (z.model ≡ x.model) × (z.number ≡ x.number) →
+  pub moved_undone : (x.process.pending ≡ [] → ⊥) → (g : ℕ) → HasCollected (event_cmp order) g x.process → (a ≡ Done → ⊥) → (z.model ≡ x.model) × (z.number ≡ x.number) →
       mid ≡ old ++ given → Took x.process z.process a given (execute_next (rules model order x.model) x.number x.process) →
       new ≡ mid ++ more → Took z.process u.process b more (undo_one (rules model order z.model) z.number z.process) →
       (gone : List (Letter B)) × (new ≡ old ++ gone) × Moved (rules model order x.model) x.number x.process u.process false gone
-  moved_undone some g sound refused same first took second then_ =
+  moved_undone some g collected refused same first took second then_ =
       let l = late (rules model order x.model) x.number x.process z.process a given some refused took in
       let by_model = subst (λ k. Took z.process u.process b more (undo_one (rules model order k) z.number z.process)) same.0 then_ in
       let by_number = subst (λ k. Took z.process u.process b more (undo_one (rules model order x.model) k z.process)) same.1 by_model in
       let here = subst (λ k. Took k u.process b more (undo_one (rules model order x.model) x.number k)) l.1 by_number in (
         more,
         second ∙ ap (λ k. k ++ more) (first ∙ ap (λ k. old ++ k) l.2 ∙ append-nil old),
-        (undone (rules model order x.model) x.number o (time_at_most order) g x.process u.process b more sound l.0 here, l.0),
+        (undone (rules model order x.model) x.number o (time_at_most order) g x.process u.process b more collected l.0 here, l.0),
       )

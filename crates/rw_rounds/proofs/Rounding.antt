@@ -25,7 +25,7 @@ use Rattle.rw_world.specs.Rounds.{Exchanged}
 use Rattle.rw_world.specs.Calls.{Simulation, system_of, simulation_of, with_world, world_of, AreNumbered, IsWhole}
 use Rattle.rw_rounds.specs.declared.plan.Plan.{Plan}
 use Rattle.rw_rounds.specs.Plans.{IsInRanges}
-use Rattle.rw_rounds.specs.Turns.{StandsSound}
+use Rattle.rw_rounds.specs.Turns.{IsInPlace}
 use Rattle.rw_rounds.specs.Rounds.{role, Round, SimState, Rounded}
 use Rattle.rw_rounds.proofs.Governing.{Laws}
 use Rattle.rw_rounds.proofs.Stepping.{number_of}
@@ -64,7 +64,7 @@ module _ {M S B U : Type 0} {model : Ghosts M S B U} {order : B → B → Orderi
       let fit = (round.works (q % plan.workers) inside).fit in
       let same : (round.last (q % plan.workers)).role ≡ role plan x.collected (q % plan.workers) = (closed laws plan x z least ranges whole round (q % plan.workers) inside).0.role in
       let there : slice_get (round.last (q % plan.workers)).processes (q / plan.workers) ≡ Some l = sym (round.processes_are q) ∙ at in
-      let stands : StandsSound model order x.model fit.starts (role plan x.collected (q % plan.workers)) (q / plan.workers) l = subst (λ k. StandsSound model order x.model fit.starts k (q / plan.workers) l) same (fit.sound (q / plan.workers) l there) in
+      let stands : IsInPlace order x.model fit.starts (role plan x.collected (q % plan.workers)) (q / plan.workers) l = subst (λ k. IsInPlace order x.model fit.starts k (q / plan.workers) l) same (fit.in_place (q / plan.workers) l there) in
       (stands.model_is ∙ sym round.model_is, stands.number ∙ number_of (role plan x.collected (q % plan.workers)) q inside refl)
 
   pub whole_after : IsWhole model order z

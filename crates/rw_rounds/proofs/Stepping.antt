@@ -5,15 +5,15 @@ use Rattle.std.specs.declared.cmp.Ordering.{Ordering}
 use Rattle.std.proofs.lemmas.Bool.{cases_eq, eqb-true}
 use Rattle.rw_vt.specs.declared.event.Letter.{Letter}
 use Rattle.rw_vt.specs.declared.model.Model.{Ghosts}
-use Rattle.rw_vt.specs.Order.{Each, AtMost}
+use Rattle.rw_vt.specs.Order.{event_cmp, Each, AtMost}
 use Rattle.rw_lp.specs.Process.{Process, Turned, Stays, execute_next, undo_one}
 use Rattle.rw_lp.specs.Calls.{LogicalProcess, rules}
 use Rattle.rw_lp.specs.Arrival.{Arrived}
-use Rattle.rw_lp.specs.Sound.{SoundAt, Kept}
+use Rattle.rw_lp.specs.Sound.{SoundAt, HasCollected, Kept}
 use Rattle.rw_rounds.specs.Bags.{Every}
 use Rattle.rw_rounds.specs.Deeds.{Arrival, Undoing, Execution, Stepped, IsFair, IsLeast}
-use Rattle.rw_rounds.specs.Turns.{Role, WorkerState, is_own, process_at, StandsSound, IsFit}
-use Rattle.rw_rounds.specs.Working.{Works, Moved, IsNext, size, sizes, dones}
+use Rattle.rw_rounds.specs.Turns.{Role, WorkerState, is_own, process_at, IsInPlace, IsFit}
+use Rattle.rw_rounds.specs.Working.{IsFitAndSound, Works, Moved, IsNext, size, sizes, dones}
 use Rattle.rw_rounds.proofs.ByPlace.{get_set-same, get_set-other, length_set, at_place, place_of, set_here, set_elsewhere, number_place}
 use Rattle.rw_rounds.proofs.Governing.{Laws, Governs, governs}
 use Rattle.rw_rounds.proofs.Keeping.{kept_of, arrival_keeps}
@@ -57,14 +57,17 @@ module _ {M S B : Type 0} (r : Role) (h : r.number < r.plan.workers) (xs zs : Li
           let a1 : w ≡ u = cc in
           (ap (λ v. v.model) a1, ap (λ v. v.number) a1)
 
-module _ {M S B U : Type 0} {model : Ghosts M S B U} {order : B → B → Ordering} (laws : Laws model order) (m : M) (a b : WorkerState M S B) (fit : IsFit model order m a)
+module _ {M S B U : Type 0} {model : Ghosts M S B U} {order : B → B → Ordering} (laws : Laws model order) (m : M) (a b : WorkerState M S B) (up : IsFitAndSound model order m a)
     (same_role : b.role ≡ a.role) (inbox : b.inbox ≡ a.inbox) (kept : b.kept ≡ a.kept) (aside : b.aside ≡ a.aside) (port : b.port ≡ a.port) (seat : b.seat ≡ a.seat)
     (place : ℕ) (l z : LogicalProcess M S B) (there : slice_get a.processes place ≡ Some l) (set : b.processes ≡ slice_set a.processes place z) (same : (z.model ≡ l.model) × (z.number ≡ l.number)) where
-  stands : StandsSound model order m fit.starts a.role place l
-  stands = fit.sound place l there
+  stands : IsInPlace order m up.fit.starts a.role place l
+  stands = up.fit.in_place place l there
 
-  rule_here : Governs (rules model order m) (λ p s. slice_get fit.starts p ≡ Some s) a.role.collected (model.process_count m)
-  rule_here = governs model order m fit.starts laws fit.ready a.role.collected
+  sound_here : SoundAt (rules model order m) a.role.collected l.number l.process
+  sound_here = up.sound place l there
+
+  rule_here : Governs (rules model order m) (λ p s. slice_get up.fit.starts p ≡ Some s) a.role.collected (model.process_count m)
+  rule_here = governs model order m up.fit.starts laws up.fit.ready a.role.collected
 
   as_many : length b.processes ≡ length a.processes
   as_many = ap length set ∙ length_set a.processes place z
@@ -74,7 +77,7 @@ module _ {M S B U : Type 0} {model : Ghosts M S B U} {order : B → B → Orderi
     owned = eqb-true (letter.event.to % a.role.plan.workers) a.role.number own
 
     to_is : letter.event.to ≡ a.role.number + place * a.role.plan.workers
-    to_is = sym (number_of a.role letter.event.to fit.number owned) ∙ ap (λ i. a.role.number + i * a.role.plan.workers) (sym at)
+    to_is = sym (number_of a.role letter.event.to up.fit.number owned) ∙ ap (λ i. a.role.number + i * a.role.plan.workers) (sym at)
 
     number_is : l.number ≡ letter.event.to
     number_is = stands.number ∙ sym to_is
@@ -86,12 +89,12 @@ module _ {M S B U : Type 0} {model : Ghosts M S B U} {order : B → B → Orderi
     works_arrival old new is =
         subst (λ ls. Works (rules model order m) a.role a b (old ++ letter ∷ []) ls 0) (sym is)
         (works_deed (rules model order m) a.role a b refl same_role inbox (Arrival letter) given old as_many
-        (l.process, z.process, stepped a.role fit.number a.processes b.processes place l z there set letter.event.to _ given to_is (subst (λ p. Arrived (rules model order m) p letter l.process z.process given) number_is by_model), fair)
-        (own, tt) kept aside port seat (named_set a.role fit.number a.processes b.processes place l z there set same))
+        (l.process, z.process, stepped a.role up.fit.number a.processes b.processes place l z there set letter.event.to _ given to_is (subst (λ p. Arrived (rules model order m) p letter l.process z.process given) number_is by_model), fair)
+        (own, tt) kept aside port seat (named_set a.role up.fit.number a.processes b.processes place l z there set same))
 
     pub arrival_fair : Every (IsFair (rules model order m) a.role.collected) given
     arrival_fair =
-        let kept_here = arrival_keeps (rules model order m) a.role.collected l.number rule_here l.process z.process letter given stands.start stands.sound (record { valid = fair.valid; here = sym number_is }) fair.from by_model in
+        let kept_here = arrival_keeps (rules model order m) a.role.collected l.number rule_here l.process z.process letter given stands.start sound_here (record { valid = fair.valid; here = sym number_is }) fair.from by_model in
         fair_letters (rules model order m) a.role.collected (model.process_count m) rule_here given kept_here.letters
 
     pub arrival_sizes : sizes (rules model order m) b.processes + length given ≤ sizes (rules model order m) a.processes
@@ -127,19 +130,19 @@ module _ {M S B U : Type 0} {model : Ghosts M S B U} {order : B → B → Orderi
     pub works_moved : (executed : Bool) → Moved (rules model order l.model) l.number l.process z.process executed given → Works (rules model order m) a.role a b [] given (cond executed 1 0)
     works_moved true moved =
         works_deed (rules model order m) a.role a b refl same_role inbox (Execution l.number) given [] as_many
-        (l.process, z.process, stepped a.role fit.number a.processes b.processes place l z there set l.number _ given stands.number (executed_by moved), next_is_least bound next)
-        tt kept aside port seat (named_set a.role fit.number a.processes b.processes place l z there set same)
+        (l.process, z.process, stepped a.role up.fit.number a.processes b.processes place l z there set l.number _ given stands.number (executed_by moved), next_is_least bound next)
+        tt kept aside port seat (named_set a.role up.fit.number a.processes b.processes place l z there set same)
     works_moved false moved =
         works_deed (rules model order m) a.role a b refl same_role inbox (Undoing l.number) given [] as_many
-        (l.process, z.process, stepped a.role fit.number a.processes b.processes place l z there set l.number _ given stands.number (undone_by moved).0, (undone_by moved).1)
-        tt kept aside port seat (named_set a.role fit.number a.processes b.processes place l z there set same)
+        (l.process, z.process, stepped a.role up.fit.number a.processes b.processes place l z there set l.number _ given stands.number (undone_by moved).0, (undone_by moved).1)
+        tt kept aside port seat (named_set a.role up.fit.number a.processes b.processes place l z there set same)
 
     pub moved_fair : (executed : Bool) → Moved (rules model order l.model) l.number l.process z.process executed given → Every (IsFair (rules model order m) a.role.collected) given
     moved_fair true moved =
-        let k : Kept (rules model order m) a.role.collected l.number l.process z.process [] given = kept_of (rules model order m) a.role.collected l.number l.process z.process [] given (execute_next (rules model order m) l.number l.process) (executed_by moved) (rule_here.executes l.number l.process stands.start stands.sound) in
+        let k : Kept (rules model order m) a.role.collected l.number l.process z.process [] given = kept_of (rules model order m) a.role.collected l.number l.process z.process [] given (execute_next (rules model order m) l.number l.process) (executed_by moved) (rule_here.executes l.number l.process stands.start sound_here) in
         fair_letters (rules model order m) a.role.collected (model.process_count m) rule_here given k.letters
     moved_fair false moved =
-        let k : Kept (rules model order m) a.role.collected l.number l.process z.process [] given = kept_of (rules model order m) a.role.collected l.number l.process z.process [] given (undo_one (rules model order m) l.number l.process) (undone_by moved).0 (rule_here.undoes l.number l.process stands.start stands.sound) in
+        let k : Kept (rules model order m) a.role.collected l.number l.process z.process [] given = kept_of (rules model order m) a.role.collected l.number l.process z.process [] given (undo_one (rules model order m) l.number l.process) (undone_by moved).0 (rule_here.undoes l.number l.process stands.start sound_here) in
         fair_letters (rules model order m) a.role.collected (model.process_count m) rule_here given k.letters
 
     pub executed_dones : Moved (rules model order l.model) l.number l.process z.process true given → dones b.processes ≡ dones a.processes + 1
@@ -155,16 +158,16 @@ module _ {M S B U : Type 0} {model : Ghosts M S B U} {order : B → B → Orderi
 
   pub its_process : (l : LogicalProcess M S B) → slice_get a.processes (letter.event.to / a.role.plan.workers) ≡ Some l → (l.model ≡ m) × (letter.event.to ≡ l.number)
   its_process l there =
-      let s = fit.sound (letter.event.to / a.role.plan.workers) l there in
+      let s = fit.in_place (letter.event.to / a.role.plan.workers) l there in
       (s.model_is, sym (number_of a.role letter.event.to fit.number (eqb-true (letter.event.to % a.role.plan.workers) a.role.number own)) ∙ sym s.number)
 
 -- the process of what is next
 module _ {M S B U : Type 0} {model : Ghosts M S B U} {order : B → B → Ordering} (m : M) (a : WorkerState M S B) (fit : IsFit model order m a) (place : ℕ) (l : LogicalProcess M S B) (there : slice_get a.processes place ≡ Some l) where
   pub there_model : l.model ≡ m
-  there_model = (fit.sound place l there).model_is
+  there_model = (fit.in_place place l there).model_is
 
-  pub there_sound : (g : ℕ) × SoundAt (rules model order l.model) g l.number l.process
-  there_sound = (a.role.collected, subst (λ k. SoundAt (rules model order k) a.role.collected l.number l.process) (sym there_model) (fit.sound place l there).sound)
+  pub there_collected : (g : ℕ) × HasCollected (event_cmp order) g l.process
+  there_collected = (a.role.collected, (fit.in_place place l there).collected)
 
   pub next_pending : (bound : ℕ) → IsNext (rules model order m) bound a.processes place → l.process.pending ≡ [] → ⊥
   next_pending bound next none =

@@ -5,4 +5,5 @@ pub mod Turns
 pub mod Rounds
 pub mod Stops
 pub mod Seated
+pub mod Setting
 pub mod Working

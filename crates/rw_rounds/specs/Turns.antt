@@ -4,11 +4,11 @@ use Rattle.std.specs.Option.{option_map}
 use Rattle.std.specs.declared.cmp.Ordering.{Ordering}
 use Rattle.rw_vt.specs.declared.event.Letter.{Letter}
 use Rattle.rw_vt.specs.declared.model.Model.{Ghosts}
-use Rattle.rw_vt.specs.Order.{Each}
+use Rattle.rw_vt.specs.Order.{event_cmp, Each}
 use Rattle.rw_vt.specs.System.{System, IsReady}
 use Rattle.rw_lp.specs.Process.{Process}
 use Rattle.rw_lp.specs.Calls.{LogicalProcess, rules}
-use Rattle.rw_lp.specs.Sound.{SoundAt}
+use Rattle.rw_lp.specs.Sound.{HasCollected}
 use Rattle.rw_exchange.specs.Ports.{PortState, SamePort, IsWide, sent_to, received_from}
 use Rattle.rw_board.specs.Seats.{SeatState}
 use Rattle.rw_rounds.specs.declared.plan.Plan.{Plan}
@@ -54,20 +54,20 @@ passes y r l = y.valid l.event && (is_own r l && nat_le r.collected l.event.time
 
 -- The conditions of a turn
 
--- the process stands at this place of the worker, runs the model m, and is sound
-pub record StandsSound {M S B U : Type 0} (model : Ghosts M S B U) (order : B → B → Ordering) (m : M) (starts : List S) (r : Role) (place : ℕ) (l : LogicalProcess M S B) : Type 0 where
+-- the process runs the model m, has the number and the start that this place of the worker is for, and has collected up to the worker's time
+pub record IsInPlace {M S B : Type 0} (order : B → B → Ordering) (m : M) (starts : List S) (r : Role) (place : ℕ) (l : LogicalProcess M S B) : Type 0 where
   pub model_is : l.model ≡ m
   pub number : l.number ≡ r.number + place * r.plan.workers
   pub start : slice_get starts l.number ≡ Some l.process.start
-  pub sound : SoundAt (rules model order m) r.collected l.number l.process
+  pub collected : HasCollected (event_cmp order) r.collected l.process
 
--- the worker can take a turn with the model m: its processes are those of its number, each sound as in a world of the model, letters that are to arrive are fair and to them, and the port is its own
+-- the worker can take a turn with the model m: its processes are those of its number, each in its place, letters that are to arrive are fair and to them, and the port is its own
 pub record IsFit {M S B U : Type 0} (model : Ghosts M S B U) (order : B → B → Ordering) (m : M) (w : WorkerState M S B) : Type 0 where
   pub starts : List S
   pub ready : IsReady model m starts []
   pub number : w.role.number < w.role.plan.workers
   pub window : w.role.plan.window ≤ 2 ^ 40
-  pub sound : (place : ℕ) (l : LogicalProcess M S B) → slice_get w.processes place ≡ Some l → StandsSound model order m starts w.role place l
+  pub in_place : (place : ℕ) (l : LogicalProcess M S B) → slice_get w.processes place ≡ Some l → IsInPlace order m starts w.role place l
   pub complete : (q : ℕ) → q < model.process_count m → q % w.role.plan.workers ≡ w.role.number → q / w.role.plan.workers < length w.processes
   pub inbox_fair : Every (IsFair (rules model order m) w.role.collected) w.inbox
   pub inbox_own : Every (λ l. is_own w.role l ≡ true) w.inbox

@@ -4,16 +4,18 @@ use Rattle.std.specs.declared.cmp.Ordering.{Ordering}
 use Rattle.std.specs.Ordering.{is_gt}
 use Rattle.rw_vt.specs.declared.event.Event.{Event}
 use Rattle.rw_vt.specs.declared.event.Letter.{Letter}
+use Rattle.rw_vt.specs.declared.model.Model.{Ghosts}
 use Rattle.rw_vt.specs.Order.{Each, AtMost}
 use Rattle.rw_vt.specs.System.{System, outs}
 use Rattle.rw_lp.specs.Process.{Process, done, Turned, Stays, execute_next, undo_one}
-use Rattle.rw_lp.specs.Calls.{LogicalProcess}
+use Rattle.rw_lp.specs.Calls.{LogicalProcess, rules}
+use Rattle.rw_lp.specs.Sound.{SoundAt}
 use Rattle.rw_lp.specs.declared.step.StepFault.TheVariants.{Straggler}
 use Rattle.rw_exchange.specs.Ports.{SamePort, sent_to, received_from}
 use Rattle.rw_rounds.specs.declared.desk.Desk.{Desk}
 use Rattle.rw_rounds.specs.Bags.{weigh, only, Every, total}
 use Rattle.rw_rounds.specs.Deeds.{Deed, Goes, arrivals, executions}
-use Rattle.rw_rounds.specs.Turns.{Role, WorkerState, owner, is_own, passes, process_at}
+use Rattle.rw_rounds.specs.Turns.{Role, WorkerState, owner, is_own, passes, process_at, IsFit}
 
 -- who the worker is
 abbrev pub role_of : {M S B U : Type 0} → Desk M S B U → Role
@@ -22,6 +24,11 @@ role_of d = record { number = d.number; plan = d.plan; collected = d.collected }
 -- a worker without the letters that are still to arrive
 abbrev pub desk_of : {M S B U : Type 0} → Desk M S B U → WorkerState M S B
 desk_of d = record { role = role_of d; processes = d.processes.items; inbox = []; kept = d.kept.items; aside = d.aside.items; port = d.port; seat = d.seat }
+
+-- the worker is fit for a turn, and each of its processes is sound, as every process is that has collected so far
+pub record IsFitAndSound {M S B U : Type 0} (model : Ghosts M S B U) (order : B → B → Ordering) (m : M) (w : WorkerState M S B) : Type 0 where
+  pub fit : IsFit model order m w
+  pub sound : (place : ℕ) (l : LogicalProcess M S B) → slice_get w.processes place ≡ Some l → SoundAt (rules model order m) w.role.collected l.number l.process
 
 -- From a to b the worker r dealt with letters: of those that were at hand and those that were given out or received since,
 -- own ones arrived, others were sent or are kept, and the rest is at hand; with n executions

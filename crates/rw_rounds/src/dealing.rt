@@ -2,8 +2,8 @@ ghost use Rattle.std.specs.Prelude.{◌≡◌, ◌<◌, ◌≤◌, ◌+◌, ◌�
 ghost use Rattle.rw_lp.specs.Calls.{rules};
 ghost use Rattle.rw_rounds.specs.Bags.{Every};
 ghost use Rattle.rw_rounds.specs.Deeds.{IsFair};
-ghost use Rattle.rw_rounds.specs.Turns.{is_own, IsFit};
-ghost use Rattle.rw_rounds.specs.Working.{role_of, desk_of, Works, sizes, dones};
+ghost use Rattle.rw_rounds.specs.Turns.{is_own};
+ghost use Rattle.rw_rounds.specs.Working.{role_of, desk_of, IsFitAndSound, Works, sizes, dones};
 
 use crate::desk::Desk;
 use crate::places::put_back;
@@ -21,11 +21,11 @@ impl<M: VtModel> Desk<M> {
         board: &Board,
         letters: Vec<Letter<M::Body>>,
     ) -> Result<(), Refusal>
-        requires fit { IsFit M.Model M.Body.cmp model.now (desk_of self.old) }
+        requires fit { IsFitAndSound M.Model M.Body.cmp model.now (desk_of self.old) }
         requires board { self.old.seat.board ≡ board.now.board }
         requires fair { Every (IsFair (rules M.Model M.Body.cmp model.now) self.old.collected) letters.items }
         ensures works { OnOk result (Works (rules M.Model M.Body.cmp model.now) (role_of self.old) (desk_of self.old) (desk_of self.new) letters.items [] 0) }
-        ensures fit { OnOk result (IsFit M.Model M.Body.cmp model.now (desk_of self.new)) }
+        ensures fit { OnOk result (IsFitAndSound M.Model M.Body.cmp model.now (desk_of self.new)) }
         ensures fewer { OnOk result (dones self.new.processes.items ≤ dones self.old.processes.items) }
     {
         // What is next stands last, so that it can be popped.
@@ -57,11 +57,11 @@ impl<M: VtModel> Desk<M> {
         letter: Letter<M::Body>,
         out: &mut Vec<Letter<M::Body>>,
     ) -> Result<(), Refusal>
-        requires fit { IsFit M.Model M.Body.cmp model.now (desk_of self.old) }
+        requires fit { IsFitAndSound M.Model M.Body.cmp model.now (desk_of self.old) }
         requires fair { IsFair (rules M.Model M.Body.cmp model.now) self.old.collected letter }
         requires own { is_own (role_of self.old) letter ≡ true }
         ensures works { OnOk result (Works (rules M.Model M.Body.cmp model.now) (role_of self.old) (desk_of self.old) (desk_of self.new) (out.old.items ++ letter ∷ []) out.new.items 0) }
-        ensures fit { OnOk result (IsFit M.Model M.Body.cmp model.now (desk_of self.new)) }
+        ensures fit { OnOk result (IsFitAndSound M.Model M.Body.cmp model.now (desk_of self.new)) }
         ensures fair { OnOk result (Every (IsFair (rules M.Model M.Body.cmp model.now) self.old.collected) out.old.items → Every (IsFair (rules M.Model M.Body.cmp model.now) self.old.collected) out.new.items) }
         ensures falls { OnOk result (sizes (rules M.Model M.Body.cmp model.now) self.new.processes.items + length out.new.items ≤ sizes (rules M.Model M.Body.cmp model.now) self.old.processes.items + length out.old.items) }
         ensures fewer { OnOk result (dones self.new.processes.items ≤ dones self.old.processes.items) }

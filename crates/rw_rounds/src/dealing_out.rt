@@ -1,16 +1,37 @@
 ghost use Rattle.std.specs.Prelude.{◌≡◌, ◌+◌, ◌*◌, ◌%◌, ◌<◌, ◌≤◌, ◌==◌, ℕ, [], IfOk, All, filter, length, map, replicate, slice_get, slice_index_or};
+ghost use Rattle.rw_rounds.specs.Plans.{IsInRanges};
 ghost use Rattle.rw_rounds.specs.Rounds.{role};
+ghost use Rattle.rw_rounds.specs.Setting.{AreDealtOut};
 
 use crate::plan::Plan;
 use crate::worker::Worker;
-use rw_board::Seat;
+use rw_board::{Board, Seat};
 use rw_exchange::Port;
 use rw_lp::Lp;
 use rw_vt::{Letter, Model as VtModel, NoMemory};
 use std::alloc::Global;
 
+/// Opens the board and the rings of a round, and deals processes and letters out to its workers.
+pub(crate) fn deal_out<M: VtModel>(
+    alloc: Global,
+    plan: &Plan,
+    collected: u64,
+    processes: Vec<Lp<M>>,
+    letters: Vec<Letter<M::Body>>,
+) -> Result<(Board, Vec<Worker<M>>), NoMemory>
+    requires { IsInRanges plan.now }
+    ensures { IfOk result (λ r. AreDealtOut plan.now collected processes.items letters.items r.0 r.1.items) }
+{
+    let ports = rw_exchange::open(alloc, plan.workers as usize, plan.ring as usize)?;
+    let (board, seats) = rw_board::open(alloc, plan.workers as usize)?;
+    let hands = deal_processes(alloc, plan.workers, processes)?;
+    let inboxes = deal_letters(alloc, plan.workers, &letters)?;
+    let workers = set_up(alloc, plan, collected, hands, inboxes, ports, seats)?;
+    Ok((board, workers))
+}
+
 /// The processes of each of so many workers: process q goes to worker q modulo their number.
-pub(crate) fn deal_processes<M: VtModel>(
+fn deal_processes<M: VtModel>(
     alloc: Global,
     workers: u32,
     processes: Vec<Lp<M>>,
@@ -29,7 +50,7 @@ pub(crate) fn deal_processes<M: VtModel>(
 }
 
 /// The letters on their way to each of so many workers, in order: a letter goes to the worker of its process.
-pub(crate) fn deal_letters<B: Copy>(
+fn deal_letters<B: Copy>(
     alloc: Global,
     workers: u32,
     letters: &[Letter<B>],
@@ -57,7 +78,7 @@ fn empty_lists<T: Drop>(alloc: Global, count: usize) -> Result<Vec<Vec<T>>, NoMe
 }
 
 /// The workers of a round, numbered from 0, each with its processes, its inbox, its port and its seat.
-pub(crate) fn set_up<M: VtModel>(
+fn set_up<M: VtModel>(
     alloc: Global,
     plan: &Plan,
     collected: u64,

@@ -2,9 +2,8 @@ ghost use Rattle.std.specs.Prelude.{◌≡◌, ◌≢◌, ◌<◌, ◌≤◌, �
 ghost use Rattle.rw_vt.specs.Order.{event_cmp};
 ghost use Rattle.rw_vt.specs.declared.event.Letter.{Letter};
 ghost use Rattle.rw_lp.specs.Calls.{rules};
-ghost use Rattle.rw_lp.specs.Sound.{SoundAt};
-ghost use Rattle.rw_rounds.specs.Turns.{IsFit};
-ghost use Rattle.rw_rounds.specs.Working.{role_of, desk_of, Works, Moved, HeldBack, IsNext, comes_before, dones};
+ghost use Rattle.rw_lp.specs.Sound.{HasCollected};
+ghost use Rattle.rw_rounds.specs.Working.{role_of, desk_of, IsFitAndSound, Works, Moved, HeldBack, IsNext, comes_before, dones};
 
 use crate::desk::Desk;
 use crate::places::put_back;
@@ -24,10 +23,10 @@ impl<M: VtModel> Desk<M> {
         model: &M,
         board: &Board,
     ) -> Result<u64, Refusal>
-        requires fit { IsFit M.Model M.Body.cmp model.now (desk_of self.old) }
+        requires fit { IsFitAndSound M.Model M.Body.cmp model.now (desk_of self.old) }
         requires board { self.old.seat.board ≡ board.now.board }
         ensures works { IfOk result (λ n. Works (rules M.Model M.Body.cmp model.now) (role_of self.old) (desk_of self.old) (desk_of self.new) [] [] n) }
-        ensures fit { OnOk result (IsFit M.Model M.Body.cmp model.now (desk_of self.new)) }
+        ensures fit { OnOk result (IsFitAndSound M.Model M.Body.cmp model.now (desk_of self.new)) }
         ensures within { IfOk result (λ n. n ≤ self.old.plan.batch) }
         ensures held_back { IfOk result (λ n. n < self.old.plan.batch → HeldBack (rules M.Model M.Body.cmp model.now) (self.new.seat.read + self.old.plan.window) self.new.processes.items) }
     {
@@ -55,11 +54,11 @@ impl<M: VtModel> Desk<M> {
         board: &Board,
         place: usize,
     ) -> Result<bool, Refusal>
-        requires fit { IsFit M.Model M.Body.cmp model.now (desk_of self.old) }
+        requires fit { IsFitAndSound M.Model M.Body.cmp model.now (desk_of self.old) }
         requires board { self.old.seat.board ≡ board.now.board }
         requires next { (bound : ℕ) × IsNext (rules M.Model M.Body.cmp model.now) bound self.old.processes.items place }
         ensures works { IfOk result (λ executed. Works (rules M.Model M.Body.cmp model.now) (role_of self.old) (desk_of self.old) (desk_of self.new) [] [] (cond executed 1 0)) }
-        ensures fit { OnOk result (IsFit M.Model M.Body.cmp model.now (desk_of self.new)) }
+        ensures fit { OnOk result (IsFitAndSound M.Model M.Body.cmp model.now (desk_of self.new)) }
         ensures executed { IfOk result (λ executed. executed ≡ true → dones self.new.processes.items ≤ dones self.old.processes.items + 1) }
         ensures undone { IfOk result (λ executed. executed ≡ false → dones self.new.processes.items < dones self.old.processes.items) }
     {
@@ -115,7 +114,7 @@ fn execute_or_undo<M: VtModel>(
 ) -> Result<(Lp<M>, bool), Refusal>
     requires model { model.now ≡ process.model }
     requires pending { process.process.pending ≢ [] }
-    requires undoable { (g : ℕ) × SoundAt (rules M.Model M.Body.cmp process.model) g process.number process.process }
+    requires undoable { (g : ℕ) × HasCollected (event_cmp M.Body.cmp) g process.process }
     ensures same { IfOk result (λ r. (r.0.model ≡ process.model) × (r.0.number ≡ process.number)) }
     ensures moved { IfOk result (λ r. (given : List (Letter M.Body)) × (out.new.items ≡ out.old.items ++ given) × Moved (rules M.Model M.Body.cmp process.model) process.number process.process r.0.process r.1 given) }
 {

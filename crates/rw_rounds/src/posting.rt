@@ -1,8 +1,8 @@
 ghost use Rattle.std.specs.Prelude.{◌≡◌, ◌<◌, ◌∷◌, [], OnOk};
 ghost use Rattle.rw_lp.specs.Calls.{rules};
 ghost use Rattle.rw_exchange.specs.Ports.{IsWide};
-ghost use Rattle.rw_rounds.specs.Turns.{owner, IsFit};
-ghost use Rattle.rw_rounds.specs.Working.{role_of, desk_of, Works};
+ghost use Rattle.rw_rounds.specs.Turns.{owner};
+ghost use Rattle.rw_rounds.specs.Working.{role_of, desk_of, IsFitAndSound, Works};
 
 use crate::desk::Desk;
 use rw_board::Board;
@@ -35,10 +35,10 @@ impl<M: VtModel> Desk<M> {
         model: &M,
         board: &Board,
     ) -> Result<(), Refusal>
-        requires fit { IsFit M.Model M.Body.cmp model.now (desk_of self.old) }
+        requires fit { IsFitAndSound M.Model M.Body.cmp model.now (desk_of self.old) }
         requires board { self.old.seat.board ≡ board.now.board }
         ensures works { OnOk result (Works (rules M.Model M.Body.cmp model.now) (role_of self.old) (desk_of self.old) (desk_of self.new) [] [] 0) }
-        ensures fit { OnOk result (IsFit M.Model M.Body.cmp model.now (desk_of self.new)) }
+        ensures fit { OnOk result (IsFitAndSound M.Model M.Body.cmp model.now (desk_of self.new)) }
     {
         let kept = mem::replace(&mut self.kept, Vec::new(alloc));
         for letter in kept {

@@ -1,7 +1,7 @@
 ghost use Rattle.std.specs.Prelude.{◌≡◌, ◌≢◌, ◌<◌, [], OnOk};
 ghost use Rattle.rw_lp.specs.Calls.{rules};
-ghost use Rattle.rw_rounds.specs.Turns.{passes, IsFit};
-ghost use Rattle.rw_rounds.specs.Working.{role_of, desk_of, Works};
+ghost use Rattle.rw_rounds.specs.Turns.{passes};
+ghost use Rattle.rw_rounds.specs.Working.{role_of, desk_of, IsFitAndSound, Works};
 
 use crate::desk::Desk;
 use rw_board::Board;
@@ -16,10 +16,10 @@ impl<M: VtModel> Desk<M> {
         model: &M,
         board: &Board,
     ) -> Result<(), Refusal>
-        requires fit { IsFit M.Model M.Body.cmp model.now (desk_of self.old) }
+        requires fit { IsFitAndSound M.Model M.Body.cmp model.now (desk_of self.old) }
         requires board { self.old.seat.board ≡ board.now.board }
         ensures works { OnOk result (Works (rules M.Model M.Body.cmp model.now) (role_of self.old) (desk_of self.old) (desk_of self.new) [] [] 0) }
-        ensures fit { OnOk result (IsFit M.Model M.Body.cmp model.now (desk_of self.new)) }
+        ensures fit { OnOk result (IsFitAndSound M.Model M.Body.cmp model.now (desk_of self.new)) }
     {
         for from in 0..self.plan.workers {
             if from == self.number {
@@ -38,11 +38,11 @@ impl<M: VtModel> Desk<M> {
         board: &Board,
         from: u32,
     ) -> Result<(), Refusal>
-        requires fit { IsFit M.Model M.Body.cmp model.now (desk_of self.old) }
+        requires fit { IsFitAndSound M.Model M.Body.cmp model.now (desk_of self.old) }
         requires board { self.old.seat.board ≡ board.now.board }
         requires other { (from < self.old.plan.workers) × (from ≢ self.old.number) }
         ensures works { OnOk result (Works (rules M.Model M.Body.cmp model.now) (role_of self.old) (desk_of self.old) (desk_of self.new) [] [] 0) }
-        ensures fit { OnOk result (IsFit M.Model M.Body.cmp model.now (desk_of self.new)) }
+        ensures fit { OnOk result (IsFitAndSound M.Model M.Body.cmp model.now (desk_of self.new)) }
     {
         for _ in 0..self.plan.ring {
             let found = self.receive_one(alloc, model, board, from)?;
@@ -62,11 +62,11 @@ impl<M: VtModel> Desk<M> {
         board: &Board,
         from: u32,
     ) -> Result<bool, Refusal>
-        requires fit { IsFit M.Model M.Body.cmp model.now (desk_of self.old) }
+        requires fit { IsFitAndSound M.Model M.Body.cmp model.now (desk_of self.old) }
         requires board { self.old.seat.board ≡ board.now.board }
         requires other { (from < self.old.plan.workers) × (from ≢ self.old.number) }
         ensures works { OnOk result (Works (rules M.Model M.Body.cmp model.now) (role_of self.old) (desk_of self.old) (desk_of self.new) [] [] 0) }
-        ensures fit { OnOk result (IsFit M.Model M.Body.cmp model.now (desk_of self.new)) }
+        ensures fit { OnOk result (IsFitAndSound M.Model M.Body.cmp model.now (desk_of self.new)) }
     {
         let Some(letter) = self.port.receive(from as usize) else {
             return Ok(false);

@@ -4,7 +4,7 @@ ghost use Rattle.rw_rounds.specs.Plans.{IsInRanges};
 ghost use Rattle.rw_rounds.specs.Rounds.{Round, Rounded};
 ghost use Rattle.rw_rounds.specs.Stops.{EndsRound};
 
-use crate::dealing_out::{deal_letters, deal_processes, set_up};
+use crate::dealing_out::deal_out;
 use crate::gate::Gate;
 use crate::gathering::{all_done, gather};
 use crate::plan::Plan;
@@ -88,11 +88,7 @@ where
         initial,
     } = parts;
     let count = processes.len();
-    let ports = rw_exchange::open(alloc, plan.workers as usize, plan.ring as usize)?;
-    let (board, seats) = rw_board::open(alloc, plan.workers as usize)?;
-    let hands = deal_processes(alloc, plan.workers, processes)?;
-    let inboxes = deal_letters(alloc, plan.workers, &letters)?;
-    let workers = set_up(alloc, plan, collected, hands, inboxes, ports, seats)?;
+    let (board, workers) = deal_out(alloc, plan, collected, processes, letters)?;
     let work = WorkerRound {
         alloc,
         model: &model,

@@ -1,5 +1,6 @@
-ghost use Rattle.std.specs.Prelude.{◌≡◌, [], IfOk};
-ghost use Rattle.rw_lp.specs.Calls.{rules};
+ghost use Rattle.std.specs.Prelude.{◌≡◌, ℕ, [], IfOk, slice_get, Some};
+ghost use Rattle.rw_lp.specs.Calls.{LogicalProcess, rules};
+ghost use Rattle.rw_lp.specs.Sound.{IsSoundOnceCollected};
 ghost use Rattle.rw_rounds.specs.Rounds.{Closes};
 ghost use Rattle.rw_rounds.specs.Turns.{IsFit, TookTurn};
 
@@ -69,8 +70,9 @@ impl<M: VtModel> Worker<M> {
     /// dealt with right after: a letter to an own process arrives at once, another one is pushed into a ring, or kept where
     /// the ring has no room. The time of each letter that is pushed is noted on the board. It takes no lock and never waits.
     ///
-    /// The model is the one that the processes run; they are all of the worker's, in order, each sound where `collected` is the
-    /// greatest time collected. The port has the worker's number, and the seat belongs to the board. All this holds again after.
+    /// The model is the one that the processes run; they are all of the worker's, in order, and each has collected up to
+    /// `collected`. The letters that are to arrive are valid, to them, and not before that time. The port has the worker's number,
+    /// and the seat belongs to the board. All this holds again after.
     ///
     /// # Errors
     ///
@@ -83,10 +85,8 @@ impl<M: VtModel> Worker<M> {
         ensures fit { IfOk result (λ r. IsFit M.Model M.Body.cmp model.now r.0) }
     {
         let Worker { mut desk, inbox } = self;
-        desk.deal(alloc, model, board, inbox)?;
-        desk.offer_kept(alloc, model, board)?;
-        desk.receive_all(alloc, model, board)?;
-        let executed = desk.execute_some(alloc, model, board)?;
+        soundness(&desk.processes);
+        let executed = desk.turn(alloc, model, board, inbox)?;
         let worker = Worker {
             desk,
             inbox: Vec::new(alloc),
@@ -130,5 +130,14 @@ impl<M: VtModel> Worker<M> {
         let mut traffic = self.desk.traffic;
         traffic.kept = (self.desk.kept.len() as u64).wrapping_add(self.desk.aside.len() as u64);
         traffic
+    }
+}
+
+/// Each process is sound wherever it has collected, as [`Lp::soundness`] says. Does nothing.
+fn soundness<M: VtModel>(processes: &[Lp<M>])
+    ensures { (place : ℕ) (l : LogicalProcess M M.State M.Body) → slice_get processes.now place ≡ Some l → IsSoundOnceCollected M.Model M.Body.cmp l }
+{
+    for process in processes {
+        process.soundness();
     }
 }

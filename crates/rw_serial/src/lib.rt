@@ -14,7 +14,8 @@ ghost use Rattle.rw_vt.specs.declared.event.Event.{Event};
 
 use ledger::{Ledger, NoJournals};
 use pending::Pending;
-use rw_vt::{END, Event, Model, Outcome, Refusal};
+use rw_vt::END;
+pub use rw_vt::{Event, Model, Outcome, Refusal};
 use std::alloc::{AllocError, Global};
 
 /// Executes all events in order, the initial ones and those that are sent, and gives what each process has then executed

@@ -28,8 +28,8 @@ mod world;
 
 pub use drawing::draw;
 pub use parts::Parts;
-pub use rw_lp::{Answer, StepFault};
-use rw_vt::Model;
+pub use rw_lp::{Answer, Lp, StepFault};
+pub use rw_vt::{Event, Letter, Model, NoMemory, Refusal};
 pub use step::Step;
 pub use world::World;
 

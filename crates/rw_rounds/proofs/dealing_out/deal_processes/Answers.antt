@@ -1,6 +1,6 @@
 use Rattle.std.proofs.Common.{◌≡◌, ◌+◌, ◌*◌, ◌<◌, [], ◌∷◌, ◌++◌, length, map, get_or, sym, ap, ◌∙◌, arith, append_assoc, length-append}
 use Rattle.std.specs.Prelude.{◌%◌, slice_get, slice_set}
-use Rattle.std.proofs.lemmas.List.{length-set, length-map}
+use Rattle.std.proofs.lemmas.List.{length-set, length-map, length-replicate, get_or-replicate}
 use Rattle.rw_rounds.proofs.Hands.{pushed_at, dealt_more, next_turn, all_walked}
 use Rattle.rw_rounds.proofs.dealing_out.deal_processes.Goals as goal
 
@@ -31,3 +31,24 @@ returns-clause-each g c i place inside =
     let known = c.loop-process.invariant in
     let zero : length c.loop-process.process-iterator.rest.items ≡ 0 = sym c.loop-process.process-iterator.rest.ok.0 ∙ c.in-None.ensures.steps.0 in
     known.dealt i place inside ∙ ap (λ xs. slice_get xs (i + place * c.args.workers)) (all_walked c.loop-process.yielded c.loop-process.process-iterator.rest.items c.args.processes.items known.walked zero)
+
+pub loop-process-init : goal.loop-process-init
+loop-process-init g c =
+    let hands = c.in_ok-hands.hands.items in
+    let n = c.args.workers in
+    let some : 0 < n = omega (arith, c.requires.workers) in
+    record {
+      long = sym (length-map hands (λ h. h.items)) ∙ ap length c.in_ok-hands.ensures ∙ length-replicate n [];
+      next = omega arith;
+      walked = c.into_iter-process-iterator.ensures.into_iter_gives.0;
+      dealt = λ i place below. ap (λ hs. slice_get (get_or hs i []) place) c.in_ok-hands.ensures ∙ ap (λ h. slice_get h place) (get_or-replicate n i [] [] below);
+    }
+
+pub index_mut-requires : goal.index_mut-requires
+index_mut-requires g c = omega (arith, c.loop-process.invariant.long, c.loop-process.invariant.next, c.requires.workers)
+
+pub overflow_add-next : goal.overflow_add-next
+overflow_add-next g c = omega (arith, c.loop-process.invariant.next, c.requires.workers)
+
+pub returns-clause-count : goal.returns-clause-count
+returns-clause-count g c = c.loop-process.invariant.long

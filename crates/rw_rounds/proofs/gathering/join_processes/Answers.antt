@@ -45,3 +45,6 @@ loop-process-preserved g c =
           (round_more n F k boxes rest c.in-Some.hand.items c.pop_front-in-loop-process.new.self.items c.in-Some-pop_front.process long top next known.round);
       joined = λ q below. ap (λ xs. slice_get xs q) c.in_ok-push.ensures.items ∙ joined_more F k c.loop-process.processes.items c.in-Some-pop_front.process known.many gave known.joined q below;
     }
+
+pub returns-clause-each : goal.returns-clause-each
+returns-clause-each g c q below = c.loop-process.invariant.joined q (omega (arith, c.loop-process-test.false, below))

@@ -1,15 +1,14 @@
 use Rattle.std.proofs.Common.{◌≡◌, ℕ, ◌+◌, ◌<◌, length, map, refl, sym, ap, ◌∙◌, subst, arith, add_assoc, get_or}
 use denote.Param.Send.{param_send}
-use Rattle.std.specs.Prelude.{filter, ◌%◌, ◌==◌}
 use Rattle.rw_vt.specs.System.{flatten}
 use Rattle.rw_rounds.specs.Bags.{weigh, total}
 use Rattle.rw_rounds.specs.Rounds.{TookRound}
 use Rattle.rw_rounds.proofs.Governing.{Laws}
-use Rattle.rw_rounds.proofs.Gathered.{AreSetUp, AllTook, some_of, pairs, all_seated, opening_after, seats_after, there_after, from_hands_after, begins_at, joined, settled, noted_after, kept_after}
+use Rattle.rw_rounds.proofs.Gathered.{AllTook, set_up_from, some_of, pairs, all_seated, opening_after, seats_after, there_after, from_hands_after, begins_at, joined, settled, noted_after, kept_after}
 use Rattle.rw_rounds.proofs.Sending.{worker_may_move}
 use Rattle.rw_rounds.proofs.round.go_round.Given as given
 use Rattle.rw_rounds.proofs.round.go_round.Goals as goal
-use Rattle.rw_rounds.proofs.round.go_round.Goals.{After-board-2-1, In_ok-workers-2}
+use Rattle.rw_rounds.proofs.round.go_round.Goals.{In_ok-workers}
 
 laws : (g : given.Over) → Laws g.M.Model g.M.Body.Ord.cmp
 laws g =
@@ -17,29 +16,10 @@ laws g =
     let met = g.met.M.Model g.world.𝓛 g.world.𝓜 g.world.𝓡 ((λ s x. x), (λ x. x), (λ x. x), λ x. x) in
     record { total = order.total; same = met.same; keeps = met.keeps; future = met.future; ranges = met.ranges }
 
--- the workers stand as the parts were dealt out
-set_out : (g : given.Over) (c : After-board-2-1 g) → AreSetUp c.args.plan.now c.args.parts c.in_ok-workers.workers.items (map (λ h. h.items) c.in_ok-hands.hands.items) (map (λ b. b.items) c.in_ok-inboxes.inboxes.items) c.in_ok-ports.ports.items c.in_ok-board.seats.items c.in_ok-board.board
-set_out g c =
-    let plan = c.args.plan.now in
-    record {
-      many = c.in_ok-workers.ensures.count ∙ c.in_ok-hands.ensures.count;
-      roles = λ i below. c.in_ok-workers.ensures.roles i (subst (λ n. i < n) (sym c.in_ok-hands.ensures.count) below);
-      processes = c.in_ok-workers.ensures.processes;
-      inboxes = c.in_ok-workers.ensures.inboxes;
-      ports_are = c.in_ok-workers.ensures.ports;
-      seats_are = c.in_ok-workers.ensures.seats;
-      none = c.in_ok-workers.ensures.none;
-      dealt = c.in_ok-hands.ensures.each;
-      sorted_out = λ i below. c.in_ok-inboxes.ensures.each i below ∙ ap (filter (λ l. l.event.to % plan.workers == i)) c.deref.ensures.value;
-      opening = c.in_ok-ports.ensures.opening;
-      new_ports = c.in_ok-ports.ensures.new;
-      new_seats = c.in_ok-board.ensures.new;
-    }
-
 -- each of them has made its round
-went : (g : given.Over) (c : In_ok-workers-2 g) → AllTook g.M.Model g.M.Body.Ord.cmp c.args.parts.model c.args.plan.now.turns c.in_ok-workers.workers.items c.in_ok-workers-2.workers.items
+went : (g : given.Over) (c : In_ok-workers g) → AllTook g.M.Model g.M.Body.Ord.cmp c.args.parts.model c.args.plan.now.turns c.in_ok-board.workers.items c.in_ok-workers.workers.items
 went g c =
-    let p = pairs (λ a b. TookRound g.M.Model g.M.Body.Ord.cmp c.args.parts.model c.args.plan.now.turns a b) c.in_ok-workers.workers.items c.in_ok-workers-2.workers.items c.in_ok-results.results.items c.in_ok-workers-2.ensures c.in_ok-results.ensures.each c.in_ok-results.ensures.count in
+    let p = pairs (λ a b. TookRound g.M.Model g.M.Body.Ord.cmp c.args.parts.model c.args.plan.now.turns a b) c.in_ok-board.workers.items c.in_ok-workers.workers.items c.in_ok-results.results.items c.in_ok-workers.ensures c.in_ok-results.ensures.each c.in_ok-results.ensures.count in
     record { long = p.0; went = p.1 }
 
 -- a worker may move to a thread of its own
@@ -51,37 +31,37 @@ run_each-requires-send-T g c κs within =
     record { owned = worker.owned; leaving = λ k. (param_send 1 _ worker).leaving k }
 
 pub run_each-requires-clause-takes : goal.run_each-requires-clause-takes
-run_each-requires-clause-takes g c κs within = all_seated (laws g) c.requires.plan c.requires.whole (set_out g (goal.at.run_each-requires-clause-takes g c).After-board-2-1)
+run_each-requires-clause-takes g c κs within = all_seated (laws g) c.requires.plan c.requires.whole (set_up_from _ c.args.parts _ _ c.in_ok-board.ensures)
 
 pub gather-requires-clause-opening : goal.gather-requires-clause-opening
 gather-requires-clause-opening g c =
     let at = goal.at.gather-requires-clause-opening g c in
-    opening_after (laws g) c.requires.plan c.requires.whole (set_out g at.After-board-2-1) (went g at.In_ok-workers-2) _ c.in_ok-ports.ensures.stays refl
+    opening_after (laws g) c.requires.plan c.requires.whole (set_up_from _ c.args.parts _ _ c.in_ok-board.ensures) (went g at.In_ok-workers) _ c.in_ok-board.ensures.stays refl
 
 pub gather-requires-clause-seats : goal.gather-requires-clause-seats
 gather-requires-clause-seats g c =
     let at = goal.at.gather-requires-clause-seats g c in
-    (went g at.In_ok-workers-2).long ∙ (set_out g at.After-board-2-1).many ∙ sym c.in_ok-board.ensures.board
+    (went g at.In_ok-workers).long ∙ c.in_ok-board.ensures.many ∙ sym c.in_ok-board.ensures.seats
 
 pub gather-requires-clause-board : goal.gather-requires-clause-board
 gather-requires-clause-board g c =
     let at = goal.at.gather-requires-clause-board g c in
-    seats_after (laws g) c.requires.plan c.requires.whole (set_out g at.After-board-2-1) (went g at.In_ok-workers-2) _ refl
+    seats_after (laws g) c.requires.plan c.requires.whole (set_up_from _ c.args.parts _ _ c.in_ok-board.ensures) (went g at.In_ok-workers) _ refl
 
 pub gather-requires-clause-some : goal.gather-requires-clause-some
 gather-requires-clause-some g c =
     let at = goal.at.gather-requires-clause-some g c in
-    omega (arith, (went g at.In_ok-workers-2).long, (set_out g at.After-board-2-1).many, c.requires.plan.workers.0)
+    omega (arith, (went g at.In_ok-workers).long, c.in_ok-board.ensures.many, c.requires.plan.workers.0)
 
 pub gather-requires-clause-complete : goal.gather-requires-clause-complete
 gather-requires-clause-complete g c q within none =
     let at = goal.at.gather-requires-clause-complete g c in
     let x = c.args.parts in
     let plan = c.args.plan.now in
-    let ws = c.in_ok-workers.workers.items in
-    let ws' = c.in_ok-workers-2.workers.items in
-    let up = set_out g at.After-board-2-1 in
-    let took = went g at.In_ok-workers-2 in
+    let ws = c.in_ok-board.workers.items in
+    let ws' = c.in_ok-workers.workers.items in
+    let up = set_up_from _ c.args.parts _ _ c.in_ok-board.ensures in
+    let took = went g at.In_ok-workers in
     let many : length ws' ≡ plan.workers = took.long ∙ up.many in
     let some : 0 < length ws = omega (arith, up.many, c.requires.plan.workers.0) in
     let d = some_of ws some in
@@ -94,10 +74,10 @@ returns-clause-round g c =
     let at = goal.at.returns-clause-round g c in
     let x = c.args.parts in
     let plan = c.args.plan.now in
-    let ws = c.in_ok-workers.workers.items in
-    let ws' = c.in_ok-workers-2.workers.items in
-    let up = set_out g at.After-board-2-1 in
-    let took = went g at.In_ok-workers-2 in
+    let ws = c.in_ok-board.workers.items in
+    let ws' = c.in_ok-workers.workers.items in
+    let up = set_up_from _ c.args.parts _ _ c.in_ok-board.ensures in
+    let took = went g at.In_ok-workers in
     let many : length ws' ≡ plan.workers = took.long ∙ up.many in
     let some : 0 < length ws = omega (arith, up.many, c.requires.plan.workers.0) in
     let d = some_of ws some in

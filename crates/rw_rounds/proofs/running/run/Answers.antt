@@ -1,5 +1,18 @@
+use Rattle.std.proofs.Common.{ap, arith}
+use Rattle.rw_world.specs.WorldState.{floor}
 use Rattle.rw_rounds.proofs.running.run.Goals as goal
 
 -- a run that was opened has a plan in its ranges
 pub returns-then-floor-eq-END-clause-plan : goal.returns-then-floor-eq-END-clause-plan
 returns-then-floor-eq-END-clause-plan g c = ((λ is. cc), λ out. (let refused = c.in_ok-sim.ensures.plan.1 out in cc))
+
+-- what the round gave as its floor is a lower bound of what is outstanding, and all before it is committed
+pub outcome-requires-clause-floor : goal.outcome-requires-clause-floor
+outcome-requires-clause-floor g c =
+    let same = ap (λ s. floor s.world) c.into_world.ensures.world in
+    omega (arith, same, c.in_ok-sim-2.ensures.round.below_floor, c.floor.ensures.floor)
+
+pub outcome-requires-clause-collected : goal.outcome-requires-clause-collected
+outcome-requires-clause-collected g c =
+    let same = ap (λ s. s.world.collected) c.into_world.ensures.world in
+    omega (arith, same, c.in_ok-sim-2.ensures.round.collected, c.floor.ensures.floor)

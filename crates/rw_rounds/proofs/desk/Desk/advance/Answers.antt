@@ -7,7 +7,7 @@ use Rattle.rw_rounds.specs.Working.{role_of, desk_of, Works, Moved}
 use Rattle.rw_rounds.proofs.Governing.{Laws}
 use Rattle.rw_rounds.proofs.Adding.{works_then}
 use Rattle.rw_rounds.proofs.Fits.{fit_after}
-use Rattle.rw_rounds.proofs.Stepping.{there_model, there_sound, next_pending, works_moved, moved_fair, executed_dones, undone_dones}
+use Rattle.rw_rounds.proofs.Stepping.{there_model, there_collected, next_pending, works_moved, moved_fair, executed_dones, undone_dones}
 use Rattle.rw_rounds.proofs.desk.Desk.advance.Goals as goal
 
 pub execute_or_undo-requires-clause-model : goal.execute_or_undo-requires-clause-model
@@ -15,21 +15,21 @@ execute_or_undo-requires-clause-model g c =
     let x = c.args.self.now in
     let next = c.requires.next in
     let there = slice_get_read x.processes.items (length x.processes.items) c.args.place c.swap_remove-process.result refl next.1.within c.swap_remove-process.ensures.value in
-    sym (there_model c.args.model.now (desk_of x) c.requires.fit c.args.place c.swap_remove-process.result there)
+    sym (there_model c.args.model.now (desk_of x) c.requires.fit.fit c.args.place c.swap_remove-process.result there)
 
 pub execute_or_undo-requires-clause-pending : goal.execute_or_undo-requires-clause-pending
 execute_or_undo-requires-clause-pending g c =
     let x = c.args.self.now in
     let next = c.requires.next in
     let there = slice_get_read x.processes.items (length x.processes.items) c.args.place c.swap_remove-process.result refl next.1.within c.swap_remove-process.ensures.value in
-    next_pending c.args.model.now (desk_of x) c.requires.fit c.args.place c.swap_remove-process.result there next.0 next.1
+    next_pending c.args.model.now (desk_of x) c.requires.fit.fit c.args.place c.swap_remove-process.result there next.0 next.1
 
 pub execute_or_undo-requires-clause-undoable : goal.execute_or_undo-requires-clause-undoable
 execute_or_undo-requires-clause-undoable g c =
     let x = c.args.self.now in
     let next = c.requires.next in
     let there = slice_get_read x.processes.items (length x.processes.items) c.args.place c.swap_remove-process.result refl next.1.within c.swap_remove-process.ensures.value in
-    there_sound c.args.model.now (desk_of x) c.requires.fit c.args.place c.swap_remove-process.result there
+    there_collected c.args.model.now (desk_of x) c.requires.fit.fit c.args.place c.swap_remove-process.result there
 
 pub deal-requires-clause-fit : goal.deal-requires-clause-fit
 deal-requires-clause-fit g c =

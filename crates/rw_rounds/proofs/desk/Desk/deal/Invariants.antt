@@ -2,14 +2,13 @@ use Rattle.std.proofs.Common.{◌≡◌, ◌+◌, ◌≤◌, length}
 use Rattle.rw_lp.specs.Calls.{rules}
 use Rattle.rw_rounds.specs.Bags.{Every}
 use Rattle.rw_rounds.specs.Deeds.{IsFair}
-use Rattle.rw_rounds.specs.Turns.{IsFit}
-use Rattle.rw_rounds.specs.Working.{role_of, desk_of, Works, sizes, dones}
+use Rattle.rw_rounds.specs.Working.{role_of, desk_of, IsFitAndSound, Works, sizes, dones}
 use Rattle.rw_rounds.proofs.desk.Desk.deal.Given as goal
 
 abbrev pub invariant-loop-letter : goal.invariant-loop-letter
 invariant-loop-letter g l = record {
   works : Works (rules g.M.Model g.M.Body.Ord.cmp l.model) (role_of l.fn.self) (desk_of l.fn.self) (desk_of l.self) l.fn.letters.items l.at_hand.items 0;
-  fit : IsFit g.M.Model g.M.Body.Ord.cmp l.model (desk_of l.self);
+  fit : IsFitAndSound g.M.Model g.M.Body.Ord.cmp l.model (desk_of l.self);
   fair : Every (IsFair (rules g.M.Model g.M.Body.Ord.cmp l.model) l.fn.self.collected) l.at_hand.items;
   board : l.self.seat.board ≡ l.board.board;
   fewer : dones l.self.processes.items ≤ dones l.fn.self.processes.items;

@@ -1,13 +1,12 @@
 use Rattle.std.proofs.Common.{◌≡◌, ◌+◌, ◌-◌, ◌≤◌, []}
 use Rattle.rw_lp.specs.Calls.{rules}
-use Rattle.rw_rounds.specs.Turns.{IsFit}
-use Rattle.rw_rounds.specs.Working.{role_of, desk_of, Works, dones}
+use Rattle.rw_rounds.specs.Working.{role_of, desk_of, IsFitAndSound, Works, dones}
 use Rattle.rw_rounds.proofs.desk.Desk.execute_some.Given as goal
 
 abbrev pub invariant-loop-executed : goal.invariant-loop-executed
 invariant-loop-executed g l = record {
   works : Works (rules g.M.Model g.M.Body.Ord.cmp l.model) (role_of l.fn.self) (desk_of l.fn.self) (desk_of l.self) [] [] l.executed;
-  fit : IsFit g.M.Model g.M.Body.Ord.cmp l.model (desk_of l.self);
+  fit : IsFitAndSound g.M.Model g.M.Body.Ord.cmp l.model (desk_of l.self);
   board : l.self.seat.board ≡ l.board.board;
   plan : l.self.plan ≡ l.fn.self.plan;
   within : l.executed ≤ l.fn.self.plan.batch;

@@ -2,7 +2,7 @@ use Rattle.std.proofs.Common.{◌≡◌, List, ◌∷◌, [], length, refl, sym,
 use Rattle.rw_lp.specs.Calls as calls
 use Rattle.rw_rounds.specs.Bags.{Every}
 use Rattle.rw_rounds.specs.Turns.{owner}
-use Rattle.rw_rounds.specs.Working.{role_of, desk_of, Works}
+use Rattle.rw_rounds.specs.Working.{role_of, desk_of, IsFitAndSound, Works}
 use Rattle.rw_rounds.proofs.Governing.{Laws}
 use Rattle.rw_rounds.proofs.Adding.{works_none, works_then, works_beside, works_offered}
 use Rattle.rw_rounds.proofs.Fits.{fit_after, fit_without_kept}
@@ -23,8 +23,8 @@ loop-letter-init g c =
           subst (λ ls. Works (calls.rules g.M.Model g.M.Body.Ord.cmp c.args.model.now) (role_of x) (record (desk_of x) { kept = [] }) (record (desk_of x) { kept = c.replace-kept.new.dest.items }) x.kept.items ls 0) (sym all)
           (subst (λ ls. Works (calls.rules g.M.Model g.M.Body.Ord.cmp c.args.model.now) (role_of x) (record (desk_of x) { kept = [] }) (record (desk_of x) { kept = ls }) x.kept.items x.kept.items 0) (sym none)
           (works_none (calls.rules g.M.Model g.M.Body.Ord.cmp c.args.model.now) (role_of x) (record (desk_of x) { kept = [] }) x.kept.items refl));
-      fit = subst (λ ls. Rattle.rw_rounds.specs.Turns.IsFit g.M.Model g.M.Body.Ord.cmp c.args.model.now (record (desk_of x) { kept = ls })) (sym none) (fit_without_kept laws c.args.model.now (desk_of x) c.requires.fit);
-      others = subst (Every (λ l. owner (role_of x) l ≡ x.number → ⊥)) (sym all) c.requires.fit.kept;
+      fit = subst (λ ls. IsFitAndSound g.M.Model g.M.Body.Ord.cmp c.args.model.now (record (desk_of x) { kept = ls })) (sym none) (fit_without_kept laws c.args.model.now (desk_of x) c.requires.fit);
+      others = subst (Every (λ l. owner (role_of x) l ≡ x.number → ⊥)) (sym all) c.requires.fit.fit.kept;
       board = c.requires.board;
     }
 
@@ -53,4 +53,4 @@ returns-clause-works g c =
     let x = c.args.self.now in
     let known = c.loop-letter.invariant in
     let empty : c.loop-letter.letter-iterator.rest.items ≡ [] = none_left c.loop-letter.letter-iterator.rest.items (omega (arith, c.in-None.ensures.steps.0)) in
-    works_offered (calls.rules g.M.Model g.M.Body.Ord.cmp c.args.model.now) (role_of x) (desk_of x) (desk_of c.loop-letter.self) c.requires.fit.kept (subst (λ ls. Works (calls.rules g.M.Model g.M.Body.Ord.cmp c.args.model.now) (role_of x) (record (desk_of x) { kept = [] }) (desk_of c.loop-letter.self) x.kept.items ls 0) empty known.works)
+    works_offered (calls.rules g.M.Model g.M.Body.Ord.cmp c.args.model.now) (role_of x) (desk_of x) (desk_of c.loop-letter.self) c.requires.fit.fit.kept (subst (λ ls. Works (calls.rules g.M.Model g.M.Body.Ord.cmp c.args.model.now) (role_of x) (record (desk_of x) { kept = [] }) (desk_of c.loop-letter.self) x.kept.items ls 0) empty known.works)
