@@ -1,33 +1,60 @@
 // Lines on standard error.
-use std::fmt::Display;
-use std::io;
-use std::io::{ErrorKind, Write};
+ghost use Rattle.std.specs.Prelude.{◌≡◌, ◌≤◌};
+ghost use Rattle.rw_command.specs.declared.lines.TheConstants.{ROOM};
+
+use rw_ripqwarp::Out;
+use std::fmt;
+use std::fmt::{Display, Write as _};
+use std::io::Write;
+
+/// How many bytes of a line go out in one write.
+const ROOM: usize = 512;
 
 /// Writes a line and flushes the writer, up to the first failure; a writer that fails is let be.
 ///
-/// A failure is what it is for [`Out`](rw_ripqwarp::Out): an error, of an interrupted write too, or a write that takes
-/// nothing. So it ends at every writer. Takes no memory.
+/// The line goes out in one write where the writer takes it whole and it has at most 512 bytes, so that lines of several
+/// programs are not mixed; else in pieces. A failure is what it is for [`Out`]: an error, of an interrupted write too, or a
+/// write that takes nothing. So it ends at every writer. Takes no memory.
 pub(crate) fn write_line<E: Write, D: Display + Drop>(err: &mut E, line: D) {
-    let mut err = Unretried { writer: err };
-    if writeln!(err, "{line}").is_ok() {
-        let _ = err.flush();
+    let mut held = Held {
+        out: Out::new(err),
+        bytes: [0; ROOM],
+        used: 0,
+    };
+    if writeln!(held, "{line}").is_ok() {
+        let _ = held.send();
     }
 }
 
-/// A writer that is not asked again where it was interrupted.
+/// What is still to go out.
 #[derive(Drop)]
-struct Unretried<W> {
-    writer: W,
+struct Held<W> {
+    out: Out<W>,
+    bytes: [u8; ROOM],
+    used: usize,
+    ghost fits: { used ≤ ROOM },
 }
 
-impl<W: Write> Write for Unretried<W> {
-    fn write(&mut self, buf: &[u8]) -> io::Result<usize> {
-        self.writer
-            .write(buf)
-            .map_err(|_| io::Error::from(ErrorKind::Other))
+impl<W: Write> Held<W> {
+    /// Writes what is held; whether the writer took it.
+    fn send(&mut self) -> bool
+        ensures { self.new.used ≡ 0 }
+    {
+        let went = self.out.write_text(&self.bytes[..self.used]);
+        self.used = 0;
+        went
     }
+}
 
-    fn flush(&mut self) -> io::Result<()> {
-        self.writer.flush()
+impl<W: Write> fmt::Write for Held<W> {
+    fn write_str(&mut self, text: &str) -> fmt::Result {
+        for byte in text.bytes() {
+            if self.used == ROOM && !self.send() {
+                return Err(fmt::Error);
+            }
+            self.bytes[self.used] = byte;
+            self.used += 1;
+        }
+        Ok(())
     }
 }

@@ -1,6 +1,5 @@
-// The command line as `clap` reads it. An option is added by a call that takes the command and gives it back.
-ghost use Rattle.std.specs.Prelude.{◌<◌, ◌^◌};
-
+// The command line as `clap` reads it. Options that take a number stand in tables, in the order of the help; each is added
+// by a call that takes the command and gives it back.
 use clap::{Arg, Command, value_parser};
 use rw_photo::{Config, Shape};
 use rw_vt::END;
@@ -8,15 +7,21 @@ use std::alloc::{AllocError, Global};
 
 /// The program with its commands.
 pub(crate) fn program<'a>(alloc: Global) -> Result<Command<'a>, AllocError> {
-    Ok(
-        Command::new(alloc, "ripqwarp")
-            .about("Simulates edge and origin photo caches from a trace")
-            .subcommand_required(true)
-            .arg_required_else_help(true)
-            .subcommand(serial(alloc)?)?
-            .subcommand(warp(alloc)?)?
-            .subcommand(journal(alloc)?)?,
-    )
+    let program = Command::new(alloc, "ripqwarp")
+        .about("Simulates edge and origin photo caches from a trace")
+        .subcommand_required(true)
+        .arg_required_else_help(true);
+    let program = with_command(program, serial(alloc))?;
+    let program = with_command(program, warp(alloc))?;
+    with_command(program, journal(alloc))
+}
+
+/// The program with one command more, if that could be made.
+fn with_command<'a>(
+    program: Command<'a>,
+    command: Result<Command<'a>, AllocError>,
+) -> Result<Command<'a>, AllocError> {
+    program.subcommand(command?)
 }
 
 /// The command that runs a trace on one thread.
@@ -32,7 +37,7 @@ fn warp<'a>(alloc: Global) -> Result<Command<'a>, AllocError> {
     let about =
         "Runs a trace on several threads, ahead of time, and prints the report that serial prints";
     let command = Command::new(alloc, "warp").about(about).arg(trace(alloc))?;
-    let command = with_rounds(alloc, command)?;
+    let command = with_numbers(alloc, command, &ROUNDS)?;
     with_caches(alloc, command)
 }
 
@@ -62,46 +67,11 @@ fn schedule<'a>(alloc: Global) -> Arg<'a> {
         .help("The steps, one space between: E and U and a process, D and a letter, C and a time")
 }
 
-/// The command with the options that say how rounds are run.
-fn with_rounds<'a>(alloc: Global, command: Command<'a>) -> Result<Command<'a>, AllocError> {
-    let command = with_shares(alloc, command)?;
-    with_limits(alloc, command)
-}
-
-/// The command with the options that say how the work of a round is shared out.
-fn with_shares<'a>(alloc: Global, command: Command<'a>) -> Result<Command<'a>, AllocError> {
-    let help = "Workers, each a thread with caches of its own, 1 to 16";
-    let command = with_count(alloc, command, "workers", 16, "2", help)?;
-    let help = "Turns that a worker takes in a round, 1 to 4096";
-    let command = with_count(alloc, command, "turns", 4096, "16", help)?;
-    let help = "Events that a worker may execute in a turn, 1 to 4096";
-    with_count(alloc, command, "batch", 4096, "64", help)
-}
-
-/// The command with the options that say how far rounds go.
-fn with_limits<'a>(alloc: Global, command: Command<'a>) -> Result<Command<'a>, AllocError> {
-    let help = "Ticks that a worker may run ahead of the others, 1 to 1099511627776";
-    let command = with_ticks(alloc, command, "window", END, "1099511627776", help)?;
-    let help = "Letters on their way from a worker to another, 1 to 4096";
-    let command = with_count(alloc, command, "ring", 4096, "64", help)?;
-    let help = "Rounds after which the run is given up, 1 to 1048576";
-    with_count(alloc, command, "rounds", 1_048_576, "65536", help)
-}
-
 /// The command with the options that say which caches there are.
 fn with_caches<'a>(alloc: Global, command: Command<'a>) -> Result<Command<'a>, AllocError> {
-    let command = with_places(alloc, command)?;
-    let command = with_shapes(alloc, command)?;
-    with_delays(alloc, command)
-}
-
-/// The command with the options that say how many caches there are, and what they keep.
-fn with_places<'a>(alloc: Global, command: Command<'a>) -> Result<Command<'a>, AllocError> {
-    let help = "Edge caches, 1 to 256";
-    let command = with_count(alloc, command, "edges", Config::MAX_EDGES, "1", help)?;
-    let help = "Origin caches, 1 to 64";
-    let command = with_count(alloc, command, "origins", Config::MAX_ORIGINS, "1", help)?;
-    command.arg(policy(alloc))
+    let command = with_numbers(alloc, command, &PLACES)?;
+    let command = command.arg(policy(alloc))?;
+    with_numbers(alloc, command, &SHAPES)
 }
 
 /// How caches choose what they keep.
@@ -114,92 +84,170 @@ fn policy<'a>(alloc: Global) -> Arg<'a> {
         .help("How caches choose what they keep; off keeps nothing")
 }
 
-/// The command with the options that say how large caches are.
-fn with_shapes<'a>(alloc: Global, command: Command<'a>) -> Result<Command<'a>, AllocError> {
-    let help = "Insertion points of each cache, 1 to 16";
-    let command = with_size(alloc, command, "sections", Shape::MAX_SECTIONS, "8", help)?;
-    let help = "Bytes of a block, 1 to 268435456";
-    let command = with_size(alloc, command, "block", Shape::MAX_BLOCK, "1048576", help)?;
-    let help = "Full blocks on each edge's flash, 1 to 65536";
-    let command = with_size(alloc, command, "edge-blocks", Shape::MAX_BLOCKS, "64", help)?;
-    let help = "Full blocks on each origin's flash, 1 to 65536";
-    with_size(
-        alloc,
-        command,
-        "origin-blocks",
-        Shape::MAX_BLOCKS,
-        "64",
-        help,
-    )
-}
-
-/// The command with the options that say how long what is sent is on its way.
-fn with_delays<'a>(alloc: Global, command: Command<'a>) -> Result<Command<'a>, AllocError> {
-    let help = "Ticks from an edge to an origin, 1 to 1048576";
-    let command = with_ticks(alloc, command, "up", Config::MAX_DELAY, "3", help)?;
-    let help = "Ticks from an origin to an edge, 1 to 1048576";
-    let command = with_ticks(alloc, command, "down", Config::MAX_DELAY, "3", help)?;
-    let help = "Ticks from an origin to the backend and back, 1 to 1048576";
-    with_ticks(alloc, command, "back", Config::MAX_DELAY, "10", help)
-}
-
-/// The command with an option that counts, from 1.
-fn with_count<'a>(
-    alloc: Global,
-    command: Command<'a>,
+/// An option that takes a number, from 1 on.
+struct Number {
     name: &'static str,
-    most: u32,
+    kind: Kind,
+    /// The greatest number that is taken.
+    most: i64,
     default: &'static str,
     help: &'static str,
+}
+
+/// What a number says.
+#[derive(Clone, Copy)]
+enum Kind {
+    /// How many there are.
+    Count,
+    /// How large something is.
+    Size,
+    /// How long something takes.
+    Ticks,
+}
+
+/// How the work of a round is shared out, and how far rounds go.
+const ROUNDS: [Number; 6] = [
+    Number {
+        name: "workers",
+        kind: Kind::Count,
+        most: 16,
+        default: "2",
+        help: "Workers, each a thread with caches of its own, 1 to 16",
+    },
+    Number {
+        name: "turns",
+        kind: Kind::Count,
+        most: 4096,
+        default: "16",
+        help: "Turns that a worker takes in a round, 1 to 4096",
+    },
+    Number {
+        name: "batch",
+        kind: Kind::Count,
+        most: 4096,
+        default: "64",
+        help: "Events that a worker may execute in a turn, 1 to 4096",
+    },
+    Number {
+        name: "window",
+        kind: Kind::Ticks,
+        most: END as i64,
+        default: "1099511627776",
+        help: "Ticks that a worker may run ahead of the others, 1 to 1099511627776",
+    },
+    Number {
+        name: "ring",
+        kind: Kind::Count,
+        most: 4096,
+        default: "64",
+        help: "Letters on their way from a worker to another, 1 to 4096",
+    },
+    Number {
+        name: "rounds",
+        kind: Kind::Count,
+        most: 1_048_576,
+        default: "65536",
+        help: "Rounds after which the run is given up, 1 to 1048576",
+    },
+];
+
+/// How many caches there are.
+const PLACES: [Number; 2] = [
+    Number {
+        name: "edges",
+        kind: Kind::Count,
+        most: Config::MAX_EDGES as i64,
+        default: "1",
+        help: "Edge caches, 1 to 256",
+    },
+    Number {
+        name: "origins",
+        kind: Kind::Count,
+        most: Config::MAX_ORIGINS as i64,
+        default: "1",
+        help: "Origin caches, 1 to 64",
+    },
+];
+
+/// How large caches are, and how long what is sent is on its way.
+const SHAPES: [Number; 7] = [
+    Number {
+        name: "sections",
+        kind: Kind::Size,
+        most: Shape::MAX_SECTIONS as i64,
+        default: "8",
+        help: "Insertion points of each cache, 1 to 16",
+    },
+    Number {
+        name: "block",
+        kind: Kind::Size,
+        most: Shape::MAX_BLOCK as i64,
+        default: "1048576",
+        help: "Bytes of a block, 1 to 268435456",
+    },
+    Number {
+        name: "edge-blocks",
+        kind: Kind::Size,
+        most: Shape::MAX_BLOCKS as i64,
+        default: "64",
+        help: "Full blocks on each edge's flash, 1 to 65536",
+    },
+    Number {
+        name: "origin-blocks",
+        kind: Kind::Size,
+        most: Shape::MAX_BLOCKS as i64,
+        default: "64",
+        help: "Full blocks on each origin's flash, 1 to 65536",
+    },
+    Number {
+        name: "up",
+        kind: Kind::Ticks,
+        most: Config::MAX_DELAY as i64,
+        default: "3",
+        help: "Ticks from an edge to an origin, 1 to 1048576",
+    },
+    Number {
+        name: "down",
+        kind: Kind::Ticks,
+        most: Config::MAX_DELAY as i64,
+        default: "3",
+        help: "Ticks from an origin to an edge, 1 to 1048576",
+    },
+    Number {
+        name: "back",
+        kind: Kind::Ticks,
+        most: Config::MAX_DELAY as i64,
+        default: "10",
+        help: "Ticks from an origin to the backend and back, 1 to 1048576",
+    },
+];
+
+/// The command with these options.
+fn with_numbers<'a>(
+    alloc: Global,
+    command: Command<'a>,
+    numbers: &[Number],
 ) -> Result<Command<'a>, AllocError> {
-    command.arg(count(alloc, name, most, default).help(help))
+    let mut command = command;
+    for number in numbers {
+        command = command.arg(number.arg(alloc))?;
+    }
+    Ok(command)
 }
 
-/// The command with an option that says how large something is, from 1.
-fn with_size<'a>(
-    alloc: Global,
-    command: Command<'a>,
-    name: &'static str,
-    most: u64,
-    default: &'static str,
-    help: &'static str,
-) -> Result<Command<'a>, AllocError>
-    requires { most < 2 ^ 63 }
-{
-    command.arg(size(alloc, name, most, default).help(help))
-}
-
-/// The command with an option in ticks, from 1.
-fn with_ticks<'a>(
-    alloc: Global,
-    command: Command<'a>,
-    name: &'static str,
-    most: u64,
-    default: &'static str,
-    help: &'static str,
-) -> Result<Command<'a>, AllocError>
-    requires { most < 2 ^ 63 }
-{
-    let ticks = size(alloc, name, most, default).value_name("TICKS");
-    command.arg(ticks.help(help))
-}
-
-/// An option that counts, from 1.
-fn count<'a>(alloc: Global, name: &'static str, most: u32, default: &'static str) -> Arg<'a> {
-    Arg::new(alloc, name)
-        .long(name)
-        .value_name("N")
-        .value_parser(value_parser!(u32).range(1..=i64::from(most)))
-        .default_value(default)
-}
-
-/// An option that says how large something is, from 1.
-fn size<'a>(alloc: Global, name: &'static str, most: u64, default: &'static str) -> Arg<'a>
-    requires { most < 2 ^ 63 }
-{
-    Arg::new(alloc, name)
-        .long(name)
-        .value_name("N")
-        .value_parser(value_parser!(u64).range(1..=most as i64))
-        .default_value(default)
+impl Number {
+    /// The option as `clap` reads it.
+    fn arg<'a>(&self, alloc: Global) -> Arg<'a> {
+        let (unit, parser) = match self.kind {
+            Kind::Count => ("N", value_parser!(u32)),
+            Kind::Size => ("N", value_parser!(u64)),
+            Kind::Ticks => ("TICKS", value_parser!(u64)),
+        };
+        Arg::new(alloc, self.name)
+            .long(self.name)
+            .value_name(unit)
+            .value_parser(parser.range(1..=self.most))
+            .default_value(self.default)
+            .help(self.help)
+    }
 }

@@ -106,6 +106,9 @@ returns-in_ok-report-in-Warp-clause-text g c =
     } in
     subst (λ (mode : Mode). IsTextOf mode config bytes text) (sym c.in-Warp.is) is
 
+pub returns-in_ok-report-in-Warp-clause-in_range : goal.returns-in_ok-report-in-Warp-clause-in_range
+returns-in_ok-report-in-Warp-clause-in_range g c = λ bad. let stopped = c.run.ensures.plan.1 (subst HasBadPlan c.in-Warp.is bad) in cc stopped
+
 pub returns-in_err-outcome-in-Warp-clause-plan : goal.returns-in_err-outcome-in-Warp-clause-plan
 returns-in_err-outcome-in-Warp-clause-plan g c =
     err-plan c.from_residual-in_err-outcome-in-Warp.result c.in_err-outcome-in-Warp.field-0.0 (HasBadPlan c.args.mode) c.from_residual-in_err-outcome-in-Warp.ensures.1
