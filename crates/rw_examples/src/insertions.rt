@@ -88,7 +88,10 @@ fn follow<R: Abort>(
         rt,
         "the condition holds",
     );
-    assert_eq!(rt; (answer, trail.marks().len()), (example.answer, example.marks));
+    assert_eq!(rt;
+        (answer, trail.marks().len()),
+        (example.answer, example.marks)
+    );
     must_read(rt, alloc, queue, example.after)?;
     Ok(trail)
 }
@@ -301,7 +304,8 @@ const SEGMENTS_HIT: [Example; 1] = [Example {
 const NOTHING: &str = "S0 {0, 1, []}, next 2";
 
 /// The queue of three sections to which the splits lead.
-const SPLIT: &str = "S0 {6, 1, [3d]}, S1 {7, 8, [2d]}, S2 {4, 5, [0d]}, 1 (6, 0, 0), 2 (6, 2, 2), 3 (6, 3, 3), 4 (6, 6, 6), next 9";
+const SPLIT: &str =
+    "S0 {6, 1, [3d]}, S1 {7, 8, [2d]}, S2 {4, 5, [0d]}, 1 (6, 0, 0), 2 (6, 2, 2), 3 (6, 3, 3), 4 (6, 6, 6), next 9";
 
 fn opened(alloc: Global, sections: u64, blocks: u64) -> Result<Queue, Fail>
     ensures { IfOk result (λ q. IsWellFormed q) }
@@ -381,7 +385,13 @@ fn segments_take_a_miss_and_a_hit(rt: HostRuntime) -> Result<(), Fail> {
 #[test]
 fn levels_of_objects(rt: HostRuntime) -> Result<(), Fail> {
     let queue = split(&rt, rt.alloc())?;
-    for (object, want) in [(1, Some(1)), (2, Some(1)), (3, Some(2)), (4, Some(2)), (5, None)] {
+    for (object, want) in [
+        (1, Some(1)),
+        (2, Some(1)),
+        (3, Some(2)),
+        (4, Some(2)),
+        (5, None),
+    ] {
         assert!(rt; level_of(&queue, object) == want, "of object {object}");
     }
     Ok(())

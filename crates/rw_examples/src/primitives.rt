@@ -398,7 +398,8 @@ fn three_sections_and_back(rt: HostRuntime) -> Result<(), Fail> {
 #[test]
 fn four_sections_and_back(rt: HostRuntime) -> Result<(), Fail> {
     let mut queue = three_sections(&rt, rt.alloc())?;
-    let before = "S0 {10, 9, [6d, 1v]}, S1 {11, 12, [3d]}, S2 {7, 8, [2d, 0d]}, 1 (6, 0, 1), 2 (6, 2, 9), 3 (6, 3, 3), 4 (6, 6, 6), 5 (6, 10, 10), next 13";
+    let before =
+        "S0 {10, 9, [6d, 1v]}, S1 {11, 12, [3d]}, S2 {7, 8, [2d, 0d]}, 1 (6, 0, 1), 2 (6, 2, 9), 3 (6, 3, 3), 4 (6, 6, 6), 5 (6, 10, 10), next 13";
     replay(&rt, rt.alloc(), &mut queue, before, &FOUR_SECTIONS)?;
     Ok(())
 }
@@ -448,7 +449,8 @@ fn has_bytes(queue: &Queue, want: &[(u64, u64)]) -> bool
     requires { IsLoose queue.now }
 {
     queue.sections() == want.len()
-        && (0..queue.sections()).all(|section| want[section] == (queue.bytes(section), queue.below(section)))
+        && (0..queue.sections()).all(|section| want[section]
+            == (queue.bytes(section), queue.below(section)))
 }
 
 #[test]

@@ -3,32 +3,35 @@ use rw_trace::{Row, TraceFault, read, read_up_to};
 use std::alloc::Global;
 use std::test::Fail;
 
-// The text of the answer to a body behind the header, with one edge: what each row holds, or the fault's line.
-fn answer(alloc: Global, body: &[u8], most: u64) -> Result<String, Fail> {
+/// Whether a body behind the header, with one edge, is read as this text.
+fn is_read(alloc: Global, body: &[u8], most: u64, want: &str) -> Result<bool, Fail> {
     let mut bytes = Vec::from_slice(alloc, b"time,edge,object,size\n")?;
     bytes.extend_from_slice(body)?;
-    told(
-        alloc,
-        &read_up_to(alloc, bytes.as_slice(), 1, most.min(16_777_216)),
-    )
+    let answer = read_up_to(alloc, bytes.as_slice(), 1, most.min(16_777_216));
+    is_told(alloc, &answer, want)
 }
 
+fn is_told(alloc: Global, answer: &Result<Vec<Row>, TraceFault>, want: &str) -> Result<bool, Fail> {
+    let text = told(alloc, answer)?;
+    Ok(text.as_str() == want)
+}
+
+/// The text of an answer: what each row holds, or the fault's line.
 fn told(alloc: Global, answer: &Result<Vec<Row>, TraceFault>) -> Result<String, Fail> {
     let mut text = String::new(alloc);
     match answer {
         Ok(rows) => {
             for row in rows {
-                let line = format!(in alloc;
-                    "{} {} {} {};",
-                    row.time, row.edge, row.object, row.size
-                )?;
-                text.push_str(line.as_str())?;
+                let Row {
+                    time,
+                    edge,
+                    object,
+                    size,
+                } = *row;
+                write!(text, "{time} {edge} {object} {size};")?;
             }
         }
-        Err(fault) => {
-            let line = format!(in alloc; "{fault}")?;
-            text.push_str(line.as_str())?;
-        }
+        Err(fault) => write!(text, "{fault}")?,
     }
     Ok(text)
 }
@@ -77,8 +80,7 @@ fn bodies(rt: HostRuntime) -> Result<(), Fail> {
         (b"5,0,7,4\n\"\"\n", "trace: row 1: length"),
     ];
     for (body, want) in cases {
-        let got = answer(rt.alloc(), body, 16_777_216)?;
-        assert!(rt; got.as_str() == want);
+        assert!(rt; is_read(rt.alloc(), body, 16_777_216, want)?, "for {want}");
     }
     Ok(())
 }
@@ -94,8 +96,10 @@ fn headers(rt: HostRuntime) -> Result<(), Fail> {
         (b"\n\n\"time\",edge,object,size\n1,0,2,3", "1 0 2 3;"),
     ];
     for (bytes, want) in cases {
-        let got = told(rt.alloc(), &read(rt.alloc(), bytes, 1))?;
-        assert!(rt; got.as_str() == want);
+        assert!(rt;
+            is_told(rt.alloc(), &read(rt.alloc(), bytes, 1), want)?,
+            "for {want}"
+        );
     }
     Ok(())
 }
@@ -112,15 +116,13 @@ fn limits(rt: HostRuntime) -> Result<(), Fail> {
         (b"5,0,7,4", 1, "5 0 7 4;"),
     ];
     for (body, most, want) in cases {
-        let got = answer(rt.alloc(), body, most)?;
-        assert!(rt; got.as_str() == want);
+        assert!(rt; is_read(rt.alloc(), body, most, want)?, "for {want}");
     }
     Ok(())
 }
 
 #[test]
 fn memory_is_told(rt: HostRuntime) -> Result<(), Fail> {
-    let got = told(rt.alloc(), &Err(TraceFault::Memory))?;
-    assert!(rt; got.as_str() == "memory");
+    assert!(rt; is_told(rt.alloc(), &Err(TraceFault::Memory), "memory")?);
     Ok(())
 }
