@@ -1,13 +1,14 @@
 // Insertions and promotions, as calls whose states, answers and marks are compared, and whose trails are rewound.
 ghost use Rattle.std.specs.Prelude.{◌≡◌, ◌≢◌, OnOk, IfOk, IfSome};
 ghost use Rattle.rw_blocks.specs.Loose.{IsWellFormed};
+ghost use Rattle.rw_blocks.specs.State.{start_of};
 ghost use Rattle.rw_ripq.specs.Trail.{Leads};
 ghost use Rattle.rw_ripq.specs.declared.Policy.TheVariants.{Off};
 
 use crate::queue_text::must_read;
 use rw_ripq::{
-    Policy, Queue, Refusal, Shape, Tally, Trail, insert, level_of, promote, resident, rewind,
-    target,
+    Kind, NoMemory, Policy, Queue, Refusal, Shape, Tally, Trail, insert, level_of, promote,
+    resident, rewind, target,
 };
 use std::alloc::Global;
 use std::process::Abort;
@@ -188,6 +189,22 @@ const WRITES_AGAIN: [Example; 4] = [
     },
 ];
 
+/// From a queue with a sealed virtual block: it goes, and then the device block before it.
+const EVICTS_BOTH: [Example; 2] = [
+    Example {
+        call: Call::Insert(3, 6),
+        after: "S0 {3, 2, [0d, 1v]}, 1 (6, 0, 1), 2 (4, 0, 0), 3 (6, 3, 3), next 4",
+        answer: Answer::Counts([0, 0, 0, 0, 0]),
+        marks: 1,
+    },
+    Example {
+        call: Call::Insert(4, 6),
+        after: "S0 {4, 2, [3d]}, 3 (6, 3, 3), 4 (6, 4, 4), next 5",
+        answer: Answer::Counts([2, 0, 1, 0, 0]),
+        marks: 6,
+    },
+];
+
 /// Promotions: of an object in the active block, of another, and one that empties a sealed virtual block.
 const PROMOTES: [Example; 7] = [
     Example {
@@ -339,6 +356,37 @@ fn a_promoted_object_is_written_again(rt: HostRuntime) -> Result<(), Fail> {
 #[test]
 fn promotions_move_places(rt: HostRuntime) -> Result<(), Fail> {
     to_and_fro(&rt, rt.alloc(), 4, &PROMOTES)
+}
+
+/// Makes a sealed virtual block behind a sealed device block, by primitives.
+fn seal_both(queue: &mut Queue) -> Result<(), NoMemory>
+    requires well_formed { IsWellFormed queue.old }
+    requires start { queue.old ≡ start_of (record { sections = 1; block = 10; blocks = 1 }) }
+    ensures { OnOk result (IsWellFormed queue.new) }
+{
+    queue.add(1, 6, 0)?;
+    queue.replace(1, 0)?;
+    queue.seal(0, Kind::Virtual)?;
+    queue.add(2, 4, 0)?;
+    queue.seal(0, Kind::Device)?;
+    Ok(())
+}
+
+#[test]
+fn a_virtual_victim(rt: HostRuntime) -> Result<(), Fail> {
+    let shape = Shape::new(1, 10, 1).ok_or("shape")?;
+    let mut queue = Queue::new(rt.alloc(), shape)?;
+    seal_both(&mut queue)?;
+    let before = "S0 {3, 2, [0d, 1v]}, 1 (6, 0, 1), 2 (4, 0, 0), next 4";
+    replay(
+        &rt,
+        rt.alloc(),
+        &mut queue,
+        Policy::Lru,
+        before,
+        &EVICTS_BOTH,
+    )?;
+    Ok(())
 }
 
 /// The queue after the splits.

@@ -36,66 +36,70 @@ fn told(alloc: Global, answer: &Result<Vec<Row>, TraceFault>) -> Result<String, 
     Ok(text)
 }
 
+/// Bodies behind the header, each with what is read.
+const BODIES: [(&[u8], &str); 24] = [
+    (b"", ""),
+    (b"5,0,7,4\n", "5 0 7 4;"),
+    (b"5,0,7\n", "trace: row 0: length"),
+    (b"549755813888,0,7,4\n", "549755813888 0 7 4;"),
+    (b"549755813889,0,7,4\n", "trace: row 0: time"),
+    (b"5,0,7,0\n", "trace: row 0: size"),
+    (b"5,1,7,4\n", "trace: row 0: edge"),
+    (b"5,x,7,0\n", "trace: row 0 column 1: number"),
+    (
+        b"\"5\",0,7,4\n00005,0,18446744073709551615,4294967295\n",
+        "5 0 7 4;5 0 18446744073709551615 4294967295;",
+    ),
+    (
+        b"\"5\",0,7,4\n00005,0,18446744073709551615,4294967295",
+        "5 0 7 4;5 0 18446744073709551615 4294967295;",
+    ),
+    (
+        b"5,0,18446744073709551616,4\n",
+        "trace: row 0 column 2: number",
+    ),
+    (
+        b"000000000000000000005,0,7,4\n",
+        "trace: row 0 column 0: number",
+    ),
+    (b"00000000000000000005,0,7,4\n", "5 0 7 4;"),
+    (b" 5,0,7,4\n", "trace: row 0 column 0: number"),
+    (b"+5,0,7,4\n", "trace: row 0 column 0: number"),
+    (b"5,,7,4\n", "trace: row 0 column 1: number"),
+    (b"5,0,7,\xff\n", "trace: row 0 column 3: number"),
+    (b"549755813889,9,x,0\n", "trace: row 0: time"),
+    (b"5,0,7,4,9\n", "trace: row 0: length"),
+    (b"5,0,7,4\n5,9,7,4\nx\n", "trace: row 1: edge"),
+    (b"5,0,7,4294967296\n", "trace: row 0: size"),
+    (b"5,0,7,4\r\n\r\n\n6,0,8,1\r", "5 0 7 4;6 0 8 1;"),
+    (
+        b"5,0,99999999999999999999,4\n",
+        "trace: row 0 column 2: number",
+    ),
+    (b"5,0,7,4\n\"\"\n", "trace: row 1: length"),
+];
+
 #[test]
 fn bodies(rt: HostRuntime) -> Result<(), Fail> {
-    let cases: [(&[u8], &str); 24] = [
-        (b"", ""),
-        (b"5,0,7,4\n", "5 0 7 4;"),
-        (b"5,0,7\n", "trace: row 0: length"),
-        (b"549755813888,0,7,4\n", "549755813888 0 7 4;"),
-        (b"549755813889,0,7,4\n", "trace: row 0: time"),
-        (b"5,0,7,0\n", "trace: row 0: size"),
-        (b"5,1,7,4\n", "trace: row 0: edge"),
-        (b"5,x,7,0\n", "trace: row 0 column 1: number"),
-        (
-            b"\"5\",0,7,4\n00005,0,18446744073709551615,4294967295\n",
-            "5 0 7 4;5 0 18446744073709551615 4294967295;",
-        ),
-        (
-            b"\"5\",0,7,4\n00005,0,18446744073709551615,4294967295",
-            "5 0 7 4;5 0 18446744073709551615 4294967295;",
-        ),
-        (
-            b"5,0,18446744073709551616,4\n",
-            "trace: row 0 column 2: number",
-        ),
-        (
-            b"000000000000000000005,0,7,4\n",
-            "trace: row 0 column 0: number",
-        ),
-        (b"00000000000000000005,0,7,4\n", "5 0 7 4;"),
-        (b" 5,0,7,4\n", "trace: row 0 column 0: number"),
-        (b"+5,0,7,4\n", "trace: row 0 column 0: number"),
-        (b"5,,7,4\n", "trace: row 0 column 1: number"),
-        (b"5,0,7,\xff\n", "trace: row 0 column 3: number"),
-        (b"549755813889,9,x,0\n", "trace: row 0: time"),
-        (b"5,0,7,4,9\n", "trace: row 0: length"),
-        (b"5,0,7,4\n5,9,7,4\nx\n", "trace: row 1: edge"),
-        (b"5,0,7,4294967296\n", "trace: row 0: size"),
-        (b"5,0,7,4\r\n\r\n\n6,0,8,1\r", "5 0 7 4;6 0 8 1;"),
-        (
-            b"5,0,99999999999999999999,4\n",
-            "trace: row 0 column 2: number",
-        ),
-        (b"5,0,7,4\n\"\"\n", "trace: row 1: length"),
-    ];
-    for (body, want) in cases {
+    for (body, want) in &BODIES {
         assert!(rt; is_read(rt.alloc(), body, 16_777_216, want)?, "for {want}");
     }
     Ok(())
 }
 
+/// Whole traces, whose headers are looked at.
+const HEADERS: [(&[u8], &str); 6] = [
+    (b"", "trace: header"),
+    (b"Time,edge,object,size\n", "trace: header"),
+    (b"time,edge,object\n", "trace: header"),
+    (b"time,edge,object,size,kind\n", "trace: header"),
+    (b"\xef\xbb\xbftime,edge,object,size", ""),
+    (b"\n\n\"time\",edge,object,size\n1,0,2,3", "1 0 2 3;"),
+];
+
 #[test]
 fn headers(rt: HostRuntime) -> Result<(), Fail> {
-    let cases: [(&[u8], &str); 6] = [
-        (b"", "trace: header"),
-        (b"Time,edge,object,size\n", "trace: header"),
-        (b"time,edge,object\n", "trace: header"),
-        (b"time,edge,object,size,kind\n", "trace: header"),
-        (b"\xef\xbb\xbftime,edge,object,size", ""),
-        (b"\n\n\"time\",edge,object,size\n1,0,2,3", "1 0 2 3;"),
-    ];
-    for (bytes, want) in cases {
+    for (bytes, want) in &HEADERS {
         assert!(rt;
             is_told(rt.alloc(), &read(rt.alloc(), bytes, 1), want)?,
             "for {want}"
@@ -104,19 +108,21 @@ fn headers(rt: HostRuntime) -> Result<(), Fail> {
     Ok(())
 }
 
+/// Bodies of which only so many rows are taken.
+const LIMITS: [(&[u8], u64, &str); 7] = [
+    (b"5,0,7,4\n6,0,7,4\n", 2, "5 0 7 4;6 0 7 4;"),
+    (b"5,0,7,4\n6,0,7,4\n7,0,7,4\n", 2, "trace: too many rows"),
+    (b"5,0,7,4\n6,0,7,4\nx\n", 2, "trace: too many rows"),
+    (b"5,0,7,4\n6,9,7,4\n7,0,7,4\n", 2, "trace: row 1: edge"),
+    (b"", 0, ""),
+    (b"x", 0, "trace: too many rows"),
+    (b"5,0,7,4", 1, "5 0 7 4;"),
+];
+
 #[test]
 fn limits(rt: HostRuntime) -> Result<(), Fail> {
-    let cases: [(&[u8], u64, &str); 7] = [
-        (b"5,0,7,4\n6,0,7,4\n", 2, "5 0 7 4;6 0 7 4;"),
-        (b"5,0,7,4\n6,0,7,4\n7,0,7,4\n", 2, "trace: too many rows"),
-        (b"5,0,7,4\n6,0,7,4\nx\n", 2, "trace: too many rows"),
-        (b"5,0,7,4\n6,9,7,4\n7,0,7,4\n", 2, "trace: row 1: edge"),
-        (b"", 0, ""),
-        (b"x", 0, "trace: too many rows"),
-        (b"5,0,7,4", 1, "5 0 7 4;"),
-    ];
-    for (body, most, want) in cases {
-        assert!(rt; is_read(rt.alloc(), body, most, want)?, "for {want}");
+    for (body, most, want) in &LIMITS {
+        assert!(rt; is_read(rt.alloc(), body, *most, want)?, "for {want}");
     }
     Ok(())
 }
