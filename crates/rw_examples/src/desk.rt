@@ -1,18 +1,18 @@
-// A logical process with its model and the letters that it gave out.
-ghost use Rattle.std.specs.Prelude.{◌≡◌, ◌<◌};
+// A logical process with its model, led through a table of calls.
+ghost use Rattle.std.specs.Prelude.{◌≡◌, ◌<◌, true, IfOk};
+ghost use Rattle.rw_lp.specs.Sound.{IsSoundOnceCollected};
 
 use rw_lp::{Answer, Lp, StepFault};
 use rw_vt::{END, Event, Letter, Model, Refusal};
 use std::alloc::Global;
 use std::test::Fail;
 
-/// A process with its model, its number, and the letters that it gave out and nobody has looked at.
+/// A process with its model and its number.
 #[derive(Drop)]
-pub struct Desk<M: Model + Drop> {
+pub struct Desk<M: Model + Copy> {
     model: M,
     number: u32,
     lp: Lp<M>,
-    out: Vec<Letter<M::Body>>,
     ghost model_is: { lp.model ≡ model },
     ghost number_is: { lp.number ≡ number },
 }
@@ -28,25 +28,22 @@ pub enum Call<B> {
 }
 
 /// What is done with a process, and what is then expected.
-#[derive(Clone, Copy)]
+#[derive(Drop)]
 pub enum Line<'a, B> {
-    /// The call is accepted and gives out nothing.
-    Does(Call<B>),
     /// The call is accepted and gives out these letters.
     Gives(Call<B>, &'a [Letter<B>]),
     /// The call is refused like this and gives out nothing.
     Refuses(Call<B>, StepFault),
-    /// Nothing is committed or processed, this one is the next, and nothing outstanding is earlier than this time.
-    Waits(Option<Event<B>>, u64),
-    /// Nothing is committed, these events are processed, and so on.
+    /// Nothing is committed, these events are processed, this one is the next, and nothing outstanding is earlier than this
+    /// time.
     Ahead(&'a [Event<B>], Option<Event<B>>, u64),
-    /// The first events are committed, the second processed, and so on.
-    Shows(&'a [Event<B>], &'a [Event<B>], Option<Event<B>>, u64),
     /// These events are committed, and nothing is left to do.
     Settled(&'a [Event<B>]),
+    /// The first events are committed, the second processed, and so on.
+    Shows(&'a [Event<B>], &'a [Event<B>], Option<Event<B>>, u64),
 }
 
-impl<M: Model + Drop> Desk<M> {
+impl<M: Model + Copy> Desk<M> {
     /// Process `number` in its start state with these events pending.
     pub fn open(
         alloc: Global,
@@ -63,137 +60,26 @@ impl<M: Model + Drop> Desk<M> {
             return Err(Fail::from("an event that is not valid here"));
         }
         let lp = Lp::new(alloc, &model, number, start, initial)?;
-        Ok(Desk {
-            model,
-            number,
-            lp,
-            out: Vec::new(alloc),
-        })
-    }
-
-    fn execute_next(self, alloc: Global) -> Result<(Desk<M>, Answer), Refusal> {
-        let Desk {
-            model,
-            number,
-            lp,
-            mut out,
-        } = self;
-        let (lp, answer) = lp.execute_next(alloc, &model, &mut out)?;
-        let desk = Desk {
-            model,
-            number,
-            lp,
-            out,
-        };
-        Ok((desk, answer))
-    }
-
-    fn undo_one(self, alloc: Global) -> Result<(Desk<M>, Answer), Refusal> {
-        let Desk {
-            model,
-            number,
-            lp,
-            mut out,
-        } = self;
-        let (lp, answer) = lp.undo_one(alloc, &model, &mut out)?;
-        let desk = Desk {
-            model,
-            number,
-            lp,
-            out,
-        };
-        Ok((desk, answer))
-    }
-
-    fn deliver(self, letter: Letter<M::Body>) -> Result<(Desk<M>, Answer), Refusal> {
-        if !self.model.valid(&letter.event) || letter.event.to != self.number {
-            return Ok((self, Answer::Refused(StepFault::NoSuchProcess)));
-        }
-        let Desk {
-            model,
-            number,
-            lp,
-            out,
-        } = self;
-        let (lp, answer) = lp.deliver(letter)?;
-        let desk = Desk {
-            model,
-            number,
-            lp,
-            out,
-        };
-        Ok((desk, answer))
-    }
-
-    fn arrive(self, alloc: Global, letter: Letter<M::Body>) -> Result<(Desk<M>, Answer), Refusal> {
-        if !self.model.valid(&letter.event) || letter.event.to != self.number {
-            return Ok((self, Answer::Refused(StepFault::NoSuchProcess)));
-        }
-        let Desk {
-            model,
-            number,
-            lp,
-            mut out,
-        } = self;
-        let lp = lp.arrive(alloc, &model, letter, &mut out)?;
-        let desk = Desk {
-            model,
-            number,
-            lp,
-            out,
-        };
-        Ok((desk, Answer::Done))
-    }
-
-    fn collect(self, time: u64) -> Result<(Desk<M>, Answer), Refusal> {
-        if self.lp.least() < time {
-            return Ok((self, Answer::Refused(StepFault::AboveFloor)));
-        }
-        let Desk {
-            model,
-            number,
-            lp,
-            out,
-        } = self;
-        let lp = lp.collect(time)?;
-        let desk = Desk {
-            model,
-            number,
-            lp,
-            out,
-        };
-        Ok((desk, Answer::Done))
-    }
-
-    /// Makes a call; a letter that is not valid here, and a collection above what is outstanding, are answered as of no
-    /// process.
-    fn call(self, alloc: Global, call: Call<M::Body>) -> Result<(Desk<M>, Answer), Refusal> {
-        match call {
-            Call::ExecuteNext => self.execute_next(alloc),
-            Call::UndoOne => self.undo_one(alloc),
-            Call::Deliver(letter) => self.deliver(letter),
-            Call::Arrive(letter) => self.arrive(alloc, letter),
-            Call::Collect(time) => self.collect(time),
-        }
+        Ok(Desk { model, number, lp })
     }
 
     /// Goes through these lines, up to the first that does not hold.
     pub fn does(self, alloc: Global, lines: &[Line<'_, M::Body>]) -> Result<Desk<M>, Fail> {
         let mut desk = self;
         for line in lines {
-            desk = desk.goes_through(alloc, line)?;
+            desk = desk.follows(alloc, line)?;
         }
         Ok(desk)
     }
 
-    fn goes_through(self, alloc: Global, line: &Line<'_, M::Body>) -> Result<Desk<M>, Fail> {
+    fn follows(self, alloc: Global, line: &Line<'_, M::Body>) -> Result<Desk<M>, Fail> {
         let no_letters = [];
         let no_events = [];
         match *line {
-            Line::Does(call) => self.gives(alloc, call, &no_letters),
-            Line::Gives(call, given) => self.gives(alloc, call, given),
-            Line::Refuses(call, fault) => self.refuses(alloc, call, fault),
-            Line::Waits(next, least) => self.shows(&no_events, &no_events, next, least),
+            Line::Gives(call, given) => self.answers(alloc, call, Answer::Done, given),
+            Line::Refuses(call, fault) => {
+                self.answers(alloc, call, Answer::Refused(fault), &no_letters)
+            }
             Line::Ahead(processed, next, least) => {
                 self.shows(&no_events, processed, next, least)
             }
@@ -204,31 +90,31 @@ impl<M: Model + Drop> Desk<M> {
         }
     }
 
-    fn gives(
+    fn answers(
         self,
         alloc: Global,
         call: Call<M::Body>,
+        want: Answer,
         given: &[Letter<M::Body>],
     ) -> Result<Desk<M>, Fail> {
-        let (mut desk, answer) = self.call(alloc, call)?;
-        if answer != Answer::Done || desk.out.as_slice() != given {
-            return Err(Fail::from("another answer, or other letters"));
+        let mut out = Vec::new(alloc);
+        let (desk, answer) = self.called(alloc, call, &mut out)?;
+        if answer == want && out.as_slice() == given {
+            Ok(desk)
+        } else {
+            Err(Fail::from("another answer, or other letters"))
         }
-        desk.out.clear();
-        Ok(desk)
     }
 
-    fn refuses(
+    fn called(
         self,
         alloc: Global,
         call: Call<M::Body>,
-        fault: StepFault,
-    ) -> Result<Desk<M>, Fail> {
-        let (desk, answer) = self.call(alloc, call)?;
-        if answer != Answer::Refused(fault) || !desk.out.is_empty() {
-            return Err(Fail::from("another answer, or letters"));
-        }
-        Ok(desk)
+        out: &mut Vec<Letter<M::Body>>,
+    ) -> Result<(Desk<M>, Answer), Refusal> {
+        let Desk { model, number, lp } = self;
+        let (lp, answer) = make(alloc, &model, number, lp, call, out)?;
+        Ok((Desk { model, number, lp }, answer))
     }
 
     fn shows(
@@ -238,15 +124,23 @@ impl<M: Model + Drop> Desk<M> {
         next: Option<Event<M::Body>>,
         least: u64,
     ) -> Result<Desk<M>, Fail> {
-        let holds = self.lp.journal() == committed
-            && self.lp.processed() == processed
-            && self.lp.next().copied() == next
-            && self.lp.least() == least;
+        let lp = &self.lp;
+        let holds = lp.journal() == committed
+            && lp.processed() == processed
+            && lp.next().copied() == next
+            && lp.least() == least;
         if holds {
             Ok(self)
         } else {
             Err(Fail::from("other events"))
         }
+    }
+
+    /// The law of a process that has collected.
+    pub fn soundness(&self)
+        ensures { IsSoundOnceCollected M.Model M.Body.cmp self.now.lp }
+    {
+        self.lp.soundness();
     }
 
     /// The state.
@@ -258,4 +152,43 @@ impl<M: Model + Drop> Desk<M> {
     pub fn into_outcome(self) -> (Vec<Event<M::Body>>, M::State) {
         self.lp.into_outcome()
     }
+}
+
+/// Makes a call. A letter that is not valid here is answered as of no process, and a collection above what is outstanding as
+/// above the floor.
+fn make<M: Model + Copy>(
+    alloc: Global,
+    model: &M,
+    number: u32,
+    lp: Lp<M>,
+    call: Call<M::Body>,
+    out: &mut Vec<Letter<M::Body>>,
+) -> Result<(Lp<M>, Answer), Refusal>
+    requires model { model.now ≡ lp.model }
+    requires number { number ≡ lp.number }
+    ensures same { IfOk result (λ r. (r.0.model ≡ lp.model) × (r.0.number ≡ lp.number)) }
+{
+    match call {
+        Call::ExecuteNext => lp.execute_next(alloc, model, out),
+        Call::UndoOne => lp.undo_one(alloc, model, out),
+        Call::Deliver(letter) if is_here(model, number, &letter) => lp.deliver(letter),
+        Call::Arrive(letter) if is_here(model, number, &letter) => {
+            let lp = lp.arrive(alloc, model, letter, out)?;
+            Ok((lp, Answer::Done))
+        }
+        Call::Deliver(_) | Call::Arrive(_) => Ok((lp, Answer::Refused(StepFault::NoSuchProcess))),
+        Call::Collect(time) if time <= lp.least() => {
+            let lp = lp.collect(time)?;
+            Ok((lp, Answer::Done))
+        }
+        Call::Collect(_) => Ok((lp, Answer::Refused(StepFault::AboveFloor))),
+    }
+}
+
+/// Whether a letter may be handed to the process.
+fn is_here<M: Model>(model: &M, number: u32, letter: &Letter<M::Body>) -> bool
+    ensures valid { result ≡ true → M.is_valid model.now letter.now.event ≡ true }
+    ensures here { result ≡ true → letter.now.event.to ≡ number }
+{
+    model.valid(&letter.event) && letter.event.to == number
 }

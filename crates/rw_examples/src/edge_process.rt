@@ -1,9 +1,10 @@
-// One edge process of the photo caches, with nothing stored: it executes two requests ahead, a fill comes late and is
-// cancelled again, an anti-message comes before its message, and the past is committed.
-use crate::desk::Call::{Arrive, Collect, Deliver, ExecuteNext};
-use crate::desk::Desk;
-use crate::desk::Line::{Ahead, Does, Gives, Settled};
-use rw_photo::{Body, Config, Photo, Policy, Shape};
+// One edge process of the photo caches. With nothing stored it executes two requests ahead, a fill comes late and is
+// cancelled again, an anti-message comes before its message, and the past is committed. Where it stores, a fill that nobody
+// awaits is stored and taken back.
+use crate::desk::Call::{Arrive, Collect, Deliver, ExecuteNext, UndoOne};
+use crate::desk::Line::{Ahead, Gives, Settled};
+use crate::desk::{Desk, Line};
+use rw_photo::{Body, Config, Counters, Photo, Policy, Shape};
 use rw_vt::{END, Event, Letter};
 use std::alloc::Global;
 use std::test::Fail;
@@ -56,31 +57,23 @@ fn anti(event: Event<Body>) -> Letter<Body> {
     Letter { event, anti: true }
 }
 
-/// The edge, to which two requests are to come.
-fn opened(alloc: Global) -> Result<Desk<Photo>, Fail> {
+/// An edge under a policy, with these events pending.
+fn edge(alloc: Global, policy: Policy, initial: Vec<Event<Body>>) -> Result<Desk<Photo>, Fail> {
     let shape = Shape::new(1, 10, 1).ok_or("shape")?;
-    let config = Config::new(1, 1, Policy::Off, shape, shape, 3, 3, 10).ok_or("config")?;
+    let config = Config::new(1, 1, policy, shape, shape, 3, 3, 10).ok_or("config")?;
     let photo = Photo::new(config);
     let start = photo.start(alloc, 0)?;
-    let mut initial = Vec::new(alloc);
-    initial.push(request(5, 0))?;
-    initial.push(request(22, 1))?;
     Desk::open(alloc, photo, 0, start, initial)
 }
 
-/// How many requests the edge has counted as coalesced, and how many as late.
-fn counted(desk: &Desk<Photo>) -> (u64, u64) {
-    let counters = desk.state().counters();
-    (counters.coalesced, counters.late)
-}
-
-/// The same, which has executed both requests: the second one has joined the first.
+/// An edge that stores nothing and has executed two requests: the second one has joined the first.
 fn joined(alloc: Global) -> Result<Desk<Photo>, Fail> {
-    opened(alloc)?.does(
+    let initial = Vec::from_array(alloc, [request(5, 0), request(22, 1)])?;
+    edge(alloc, Policy::Off, initial)?.does(
         alloc,
         &[
             Gives(ExecuteNext, &[message(miss(8, 0))]),
-            Does(ExecuteNext),
+            Gives(ExecuteNext, &[]),
             Ahead(&[request(5, 0), request(22, 1)], None, END),
         ],
     )
@@ -91,9 +84,9 @@ fn filled(alloc: Global) -> Result<Desk<Photo>, Fail> {
     joined(alloc)?.does(
         alloc,
         &[
-            Does(Arrive(message(fill(21, 0)))),
+            Gives(Arrive(message(fill(21, 0))), &[]),
             Ahead(&[request(5, 0)], Some(fill(21, 0)), 21),
-            Does(ExecuteNext),
+            Gives(ExecuteNext, &[]),
             Gives(ExecuteNext, &[message(miss(25, 1))]),
         ],
     )
@@ -110,37 +103,91 @@ fn cancelled(alloc: Global) -> Result<Desk<Photo>, Fail> {
     )
 }
 
+/// Goes through the lines, after which the edge has counted this.
+fn ends(
+    alloc: Global,
+    lines: &[Line<'_, Body>],
+    counted: Counters,
+    desk: Desk<Photo>,
+) -> Result<(), Fail> {
+    if desk.does(alloc, lines)?.state().counters() == counted {
+        Ok(())
+    } else {
+        Err(Fail::from("other counters"))
+    }
+}
+
+/// The counters of an edge that has missed so many requests, of which some were coalesced, and some are late.
+fn missed(requests: u64, coalesced: u64, late: u64) -> Counters {
+    Counters {
+        requests,
+        misses: requests,
+        coalesced,
+        late,
+        ..Counters::default()
+    }
+}
+
+#[test]
+fn a_request_joins_the_one_before(rt: HostRuntime) -> Result<(), Fail> {
+    ends(rt.alloc(), &[], missed(2, 1, 0), joined(rt.alloc())?)
+}
+
 #[test]
 fn a_fill_makes_a_request_late(rt: HostRuntime) -> Result<(), Fail> {
-    let alloc = rt.alloc();
-    assert_eq!(rt; counted(&joined(alloc)?), (1, 0));
-    assert_eq!(rt; counted(&filled(alloc)?), (0, 1));
-    Ok(())
+    ends(rt.alloc(), &[], missed(2, 0, 1), filled(rt.alloc())?)
 }
 
 #[test]
 fn a_cancelled_fill_is_undone(rt: HostRuntime) -> Result<(), Fail> {
-    let desk = cancelled(rt.alloc())?;
-    assert_eq!(rt; counted(&desk), (0, 0));
-    Ok(())
+    ends(rt.alloc(), &[], missed(1, 0, 0), cancelled(rt.alloc())?)
 }
 
 #[test]
 fn an_anti_message_comes_before_its_message(rt: HostRuntime) -> Result<(), Fail> {
-    let alloc = rt.alloc();
     let (first, second) = (request(5, 0), request(22, 1));
-    let desk = cancelled(alloc)?.does(
-        alloc,
+    ends(
+        rt.alloc(),
         &[
-            Does(ExecuteNext),
-            Does(Deliver(anti(fill(30, 1)))),
+            Gives(ExecuteNext, &[]),
+            Gives(Deliver(anti(fill(30, 1))), &[]),
             Ahead(&[first, second], None, 30),
-            Does(Deliver(message(fill(30, 1)))),
+            Gives(Deliver(message(fill(30, 1))), &[]),
             Ahead(&[first, second], None, END),
-            Does(Collect(END)),
+            Gives(Collect(END), &[]),
             Settled(&[first, second]),
         ],
-    )?;
-    assert_eq!(rt; counted(&desk), (1, 0));
-    Ok(())
+        missed(2, 1, 0),
+        cancelled(rt.alloc())?,
+    )
+}
+
+/// An edge that stores what it is given, and has executed a fill that nobody awaits.
+fn stored(alloc: Global) -> Result<Desk<Photo>, Fail> {
+    edge(alloc, Policy::Lru, Vec::new(alloc))?.does(
+        alloc,
+        &[
+            Gives(Arrive(message(fill(21, 0))), &[]),
+            Gives(ExecuteNext, &[]),
+        ],
+    )
+}
+
+#[test]
+fn a_fill_that_nobody_awaits_is_stored(rt: HostRuntime) -> Result<(), Fail> {
+    let counted = Counters {
+        inserted: 1,
+        ..Counters::default()
+    };
+    ends(rt.alloc(), &[], counted, stored(rt.alloc())?)
+}
+
+#[test]
+fn a_fill_that_nobody_awaits_is_taken_back(rt: HostRuntime) -> Result<(), Fail> {
+    ends(
+        rt.alloc(),
+        &[Gives(UndoOne, &[])],
+        Counters::default(),
+        stored(rt.alloc())?,
+    )
 }

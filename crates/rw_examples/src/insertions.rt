@@ -1,13 +1,14 @@
 // Insertions and promotions, as calls whose states, answers and marks are compared, and whose trails are rewound.
 ghost use Rattle.std.specs.Prelude.{◌≡◌, ◌≢◌, OnOk, IfOk, IfSome};
 ghost use Rattle.rw_blocks.specs.Loose.{IsWellFormed};
+ghost use Rattle.rw_blocks.specs.State.{start_of};
 ghost use Rattle.rw_ripq.specs.Trail.{Leads};
 ghost use Rattle.rw_ripq.specs.declared.Policy.TheVariants.{Off};
 
-use crate::queue_text::text_of;
+use crate::queue_text::must_read;
 use rw_ripq::{
-    Policy, Queue, Refusal, Shape, Tally, Trail, insert, level_of, promote, resident, rewind,
-    target,
+    Kind, NoMemory, Policy, Queue, Refusal, Shape, Tally, Trail, insert, level_of, promote,
+    resident, rewind, target,
 };
 use std::alloc::Global;
 use std::process::Abort;
@@ -71,12 +72,39 @@ fn make(
     }
 }
 
-/// Makes the calls, each of which is as its example says, and rewinds them, the last one first.
+/// Makes a call, which is as its example says.
+fn follow<R: Abort>(
+    rt: &R,
+    alloc: Global,
+    queue: &mut Queue,
+    policy: Policy,
+    example: &Example,
+) -> Result<Trail, Refusal>
+    requires well_formed { IsWellFormed queue.old }
+    requires stores { policy ≢ Off }
+    ensures leads { IfOk result (λ trail. Leads trail queue.old queue.new) }
+    ensures kept { OnOk result (IsWellFormed queue.new) }
+{
+    let (trail, answer) = make(alloc, queue, policy, example.call)?.expect(
+        rt,
+        "the condition holds",
+    );
+    assert_eq!(rt;
+        (answer, trail.marks().len()),
+        (example.answer, example.marks)
+    );
+    must_read(rt, alloc, queue, example.after)?;
+    Ok(trail)
+}
+
+/// Makes the calls, each of which is as its example says, and rewinds them, the last one first, back to the state before
+/// them.
 fn replay<R: Abort>(
     rt: &R,
     alloc: Global,
     queue: &mut Queue,
     policy: Policy,
+    before: &str,
     examples: &[Example],
 ) -> Result<(), Refusal>
     requires well_formed { IsWellFormed queue.old }
@@ -86,17 +114,10 @@ fn replay<R: Abort>(
     let [example, rest @ ..] = examples else {
         return Ok(());
     };
-    let before = text_of(alloc, queue)?;
-    let (trail, answer) = make(alloc, queue, policy, example.call)?.expect(
-        rt,
-        "the condition holds",
-    );
-    assert_eq!(rt; text_of(alloc, queue)?.as_str(), example.after);
-    assert_eq!(rt; answer, example.answer);
-    assert_eq!(rt; trail.marks().len(), example.marks);
-    replay(rt, alloc, queue, policy, rest)?;
+    let trail = follow(rt, alloc, queue, policy, example)?;
+    replay(rt, alloc, queue, policy, example.after, rest)?;
     rewind(queue, trail)?;
-    assert_eq!(rt; text_of(alloc, queue)?, before);
+    must_read(rt, alloc, queue, before)?;
     Ok(())
 }
 
@@ -165,6 +186,22 @@ const WRITES_AGAIN: [Example; 4] = [
         after: "S0 {4, 1, [3d]}, 1 (6, 4, 4), 3 (6, 3, 3), next 5",
         answer: Answer::Counts([1, 1, 2, 0, 0]),
         marks: 7,
+    },
+];
+
+/// From a queue with a sealed virtual block: it goes, and then the device block before it.
+const EVICTS_BOTH: [Example; 2] = [
+    Example {
+        call: Call::Insert(3, 6),
+        after: "S0 {3, 2, [0d, 1v]}, 1 (6, 0, 1), 2 (4, 0, 0), 3 (6, 3, 3), next 4",
+        answer: Answer::Counts([0, 0, 0, 0, 0]),
+        marks: 1,
+    },
+    Example {
+        call: Call::Insert(4, 6),
+        after: "S0 {4, 2, [3d]}, 3 (6, 3, 3), 4 (6, 4, 4), next 5",
+        answer: Answer::Counts([2, 0, 1, 0, 0]),
+        marks: 6,
     },
 ];
 
@@ -280,53 +317,140 @@ const SEGMENTS_HIT: [Example; 1] = [Example {
     marks: 1,
 }];
 
+/// A queue that holds nothing.
+const NOTHING: &str = "S0 {0, 1, []}, next 2";
+
+/// The queue of three sections to which the splits lead.
+const SPLIT: &str =
+    "S0 {6, 1, [3d]}, S1 {7, 8, [2d]}, S2 {4, 5, [0d]}, 1 (6, 0, 0), 2 (6, 2, 2), 3 (6, 3, 3), 4 (6, 6, 6), next 9";
+
+fn opened(alloc: Global, sections: u64, blocks: u64) -> Result<Queue, Fail>
+    ensures { IfOk result (λ q. IsWellFormed q) }
+{
+    let shape = Shape::new(sections, 10, blocks).ok_or("shape")?;
+    Ok(Queue::new(alloc, shape)?)
+}
+
+/// Goes to and fro through examples of one section.
+fn to_and_fro<R: Abort>(
+    rt: &R,
+    alloc: Global,
+    blocks: u64,
+    examples: &[Example],
+) -> Result<(), Fail> {
+    let mut queue = opened(alloc, 1, blocks)?;
+    replay(rt, alloc, &mut queue, Policy::Lru, NOTHING, examples)?;
+    Ok(())
+}
+
 #[test]
-fn one_section(rt: HostRuntime) -> Result<(), Fail> {
+fn a_third_insertion_evicts(rt: HostRuntime) -> Result<(), Fail> {
+    to_and_fro(&rt, rt.alloc(), 1, &EVICTS)
+}
+
+#[test]
+fn a_promoted_object_is_written_again(rt: HostRuntime) -> Result<(), Fail> {
+    to_and_fro(&rt, rt.alloc(), 1, &WRITES_AGAIN)
+}
+
+#[test]
+fn promotions_move_places(rt: HostRuntime) -> Result<(), Fail> {
+    to_and_fro(&rt, rt.alloc(), 4, &PROMOTES)
+}
+
+/// Makes a sealed virtual block behind a sealed device block, by primitives.
+fn seal_both(queue: &mut Queue) -> Result<(), NoMemory>
+    requires well_formed { IsWellFormed queue.old }
+    requires start { queue.old ≡ start_of (record { sections = 1; block = 10; blocks = 1 }) }
+    ensures { OnOk result (IsWellFormed queue.new) }
+{
+    queue.add(1, 6, 0)?;
+    queue.replace(1, 0)?;
+    queue.seal(0, Kind::Virtual)?;
+    queue.add(2, 4, 0)?;
+    queue.seal(0, Kind::Device)?;
+    Ok(())
+}
+
+#[test]
+fn a_virtual_victim(rt: HostRuntime) -> Result<(), Fail> {
     let shape = Shape::new(1, 10, 1).ok_or("shape")?;
     let mut queue = Queue::new(rt.alloc(), shape)?;
-    replay(&rt, rt.alloc(), &mut queue, Policy::Lru, &EVICTS)?;
-    replay(&rt, rt.alloc(), &mut queue, Policy::Lru, &WRITES_AGAIN)?;
-    let shape = Shape::new(1, 10, 4).ok_or("shape")?;
-    let mut queue = Queue::new(rt.alloc(), shape)?;
-    replay(&rt, rt.alloc(), &mut queue, Policy::Lru, &PROMOTES)?;
+    seal_both(&mut queue)?;
+    let before = "S0 {3, 2, [0d, 1v]}, 1 (6, 0, 1), 2 (4, 0, 0), next 4";
+    replay(
+        &rt,
+        rt.alloc(),
+        &mut queue,
+        Policy::Lru,
+        before,
+        &EVICTS_BOTH,
+    )?;
+    Ok(())
+}
+
+/// The queue after the splits.
+fn split<R: Abort>(rt: &R, alloc: Global) -> Result<Queue, Fail>
+    ensures { IfOk result (λ q. IsWellFormed q) }
+{
+    let mut queue = opened(alloc, 4, 8)?;
+    forward(rt, alloc, &mut queue, Policy::Lru, &SPLITS)?;
+    Ok(queue)
+}
+
+/// Goes to and fro through examples from there.
+fn on_from_the_splits<R: Abort>(
+    rt: &R,
+    alloc: Global,
+    policy: Policy,
+    examples: &[Example],
+) -> Result<(), Fail>
+    requires { policy ≢ Off }
+{
+    let mut queue = split(rt, alloc)?;
+    replay(rt, alloc, &mut queue, policy, SPLIT, examples)?;
     Ok(())
 }
 
 #[test]
-fn many_sections(rt: HostRuntime) -> Result<(), Fail> {
-    let shape = Shape::new(4, 10, 8).ok_or("shape")?;
-    let mut queue = Queue::new(rt.alloc(), shape)?;
-    replay(&rt, rt.alloc(), &mut queue, Policy::Lru, &SPLITS)?;
-    forward(&rt, rt.alloc(), &mut queue, Policy::Lru, &SPLITS)?;
-    replay(&rt, rt.alloc(), &mut queue, Policy::Lru, &MERGES)?;
-    replay(&rt, rt.alloc(), &mut queue, Policy::Slru3, &SEGMENTS_MISS)?;
-    replay(&rt, rt.alloc(), &mut queue, Policy::Slru3, &SEGMENTS_HIT)?;
+fn insertions_split(rt: HostRuntime) -> Result<(), Fail> {
+    let mut queue = opened(rt.alloc(), 4, 8)?;
+    replay(&rt, rt.alloc(), &mut queue, Policy::Lru, NOTHING, &SPLITS)?;
     Ok(())
 }
 
 #[test]
-fn levels_and_targets(rt: HostRuntime) -> Result<(), Fail> {
-    let shape = Shape::new(4, 10, 8).ok_or("shape")?;
-    let mut queue = Queue::new(rt.alloc(), shape)?;
-    forward(&rt, rt.alloc(), &mut queue, Policy::Lru, &SPLITS)?;
-    assert_eq!(rt;
-        (
-            level_of(&queue, 1),
-            level_of(&queue, 2),
-            level_of(&queue, 3),
-            level_of(&queue, 4),
-            level_of(&queue, 5)
-        ),
-        (Some(1), Some(1), Some(2), Some(2), None)
-    );
-    assert_eq!(rt;
-        (
-            target(&queue, Policy::Slru3, 1),
-            target(&queue, Policy::Slru3, 2),
-            target(&queue, Policy::Slru3, 3)
-        ),
-        (1, 0, 0)
-    );
-    assert_eq!(rt; target(&queue, Policy::Lru, 1), 0);
+fn an_insertion_merges_and_splits(rt: HostRuntime) -> Result<(), Fail> {
+    on_from_the_splits(&rt, rt.alloc(), Policy::Lru, &MERGES)
+}
+
+#[test]
+fn segments_take_a_miss_and_a_hit(rt: HostRuntime) -> Result<(), Fail> {
+    on_from_the_splits(&rt, rt.alloc(), Policy::Slru3, &SEGMENTS_MISS)?;
+    on_from_the_splits(&rt, rt.alloc(), Policy::Slru3, &SEGMENTS_HIT)
+}
+
+#[test]
+fn levels_of_objects(rt: HostRuntime) -> Result<(), Fail> {
+    let queue = split(&rt, rt.alloc())?;
+    for (object, want) in [
+        (1, Some(1)),
+        (2, Some(1)),
+        (3, Some(2)),
+        (4, Some(2)),
+        (5, None),
+    ] {
+        assert!(rt; level_of(&queue, object) == want, "of object {object}");
+    }
+    Ok(())
+}
+
+#[test]
+fn targets_of_levels(rt: HostRuntime) -> Result<(), Fail> {
+    let queue = split(&rt, rt.alloc())?;
+    assert!(rt; target(&queue, Policy::Slru3, 1) == 1);
+    assert!(rt; target(&queue, Policy::Slru3, 2) == 0);
+    assert!(rt; target(&queue, Policy::Slru3, 3) == 0);
+    assert!(rt; target(&queue, Policy::Lru, 1) == 0);
     Ok(())
 }

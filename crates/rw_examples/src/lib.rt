@@ -12,8 +12,6 @@ mod desk;
 #[cfg(test)]
 mod edge_process;
 #[cfg(test)]
-mod fill_at_start;
-#[cfg(test)]
 mod insertions;
 #[cfg(test)]
 mod parcels;

@@ -5,7 +5,7 @@ ghost use Rattle.rw_blocks.specs.Sums.{bytes_held};
 ghost use Rattle.rw_blocks.specs.Loose.{IsLoose, IsFree};
 ghost use Rattle.rw_blocks.specs.Undo.{Undoes};
 
-use crate::queue_text::text_of;
+use crate::queue_text::must_read;
 use rw_blocks::{Kind, Mark, NoMemory, Queue, Shape};
 use std::alloc::Global;
 use std::process::Abort;
@@ -140,11 +140,13 @@ fn make(queue: &mut Queue, step: Step) -> Result<Option<Mark>, NoMemory>
     }
 }
 
-/// Makes the steps, each of which leads to the state beside it, and undoes them, the last one first.
+/// Makes the steps, each of which leads to the state beside it, and undoes them, the last one first, back to the state
+/// before them.
 fn replay<R: Abort>(
     rt: &R,
     alloc: Global,
     queue: &mut Queue,
+    before: &str,
     steps: &[(Step, &str)],
 ) -> Result<(), NoMemory>
     requires { IsLoose queue.old }
@@ -153,13 +155,11 @@ fn replay<R: Abort>(
     let [(step, after), rest @ ..] = steps else {
         return Ok(());
     };
-    let before = text_of(alloc, queue)?;
     let mark = make(queue, *step)?.expect(rt, "the step's condition holds");
-    assert_eq!(rt; text_of(alloc, queue)?.as_str(), *after);
-    replay(rt, alloc, queue, rest)?;
+    must_read(rt, alloc, queue, after)?;
+    replay(rt, alloc, queue, after, rest)?;
     queue.undo(mark)?;
-    assert_eq!(rt; text_of(alloc, queue)?, before);
-    Ok(())
+    must_read(rt, alloc, queue, before)
 }
 
 /// Makes the steps.
@@ -361,69 +361,116 @@ const FOUR_SECTIONS: [(Step, &str); 7] = [
     ),
 ];
 
+/// A queue that holds nothing.
+const NOTHING: &str = "S0 {0, 1, []}, next 2";
+
+fn opened(alloc: Global, sections: u64, blocks: u64) -> Result<Queue, Fail>
+    ensures { IfOk result (λ q. IsLoose q) }
+{
+    let shape = Shape::new(sections, 10, blocks).ok_or("shape")?;
+    Ok(Queue::new(alloc, shape)?)
+}
+
+/// The queue of up to four sections to which the steps lead.
+fn three_sections<R: Abort>(rt: &R, alloc: Global) -> Result<Queue, Fail>
+    ensures { IfOk result (λ q. IsLoose q) }
+{
+    let mut queue = opened(alloc, 4, 8)?;
+    forward(rt, &mut queue, &THREE_SECTIONS)?;
+    Ok(queue)
+}
+
 #[test]
 fn one_section(rt: HostRuntime) -> Result<(), Fail> {
-    let shape = Shape::new(1, 10, 1).ok_or("shape")?;
-    let mut queue = Queue::new(rt.alloc(), shape)?;
-    replay(&rt, rt.alloc(), &mut queue, &ONE_SECTION)?;
-    replay(&rt, rt.alloc(), &mut queue, &WRITTEN_AGAIN)?;
-    assert_eq!(rt;
-        text_of(rt.alloc(), &queue)?.as_str(),
-        "S0 {0, 1, []}, next 2"
-    );
+    let mut queue = opened(rt.alloc(), 1, 1)?;
+    replay(&rt, rt.alloc(), &mut queue, NOTHING, &ONE_SECTION)?;
+    replay(&rt, rt.alloc(), &mut queue, NOTHING, &WRITTEN_AGAIN)?;
     Ok(())
 }
 
 #[test]
-fn four_sections(rt: HostRuntime) -> Result<(), Fail> {
-    let shape = Shape::new(4, 10, 8).ok_or("shape")?;
-    let mut queue = Queue::new(rt.alloc(), shape)?;
-    replay(&rt, rt.alloc(), &mut queue, &THREE_SECTIONS)?;
-    forward(&rt, &mut queue, &THREE_SECTIONS)?;
-    replay(&rt, rt.alloc(), &mut queue, &FOUR_SECTIONS)?;
+fn three_sections_and_back(rt: HostRuntime) -> Result<(), Fail> {
+    let mut queue = opened(rt.alloc(), 4, 8)?;
+    replay(&rt, rt.alloc(), &mut queue, NOTHING, &THREE_SECTIONS)?;
     Ok(())
 }
 
 #[test]
-fn questions(rt: HostRuntime) -> Result<(), Fail> {
-    let shape = Shape::new(4, 10, 8).ok_or("shape")?;
-    let mut queue = Queue::new(rt.alloc(), shape)?;
-    forward(&rt, &mut queue, &THREE_SECTIONS)?;
-    assert_eq!(rt; queue.sections(), 3);
-    assert_eq!(rt; queue.shape(), (4, 10, 8));
-    assert_eq!(rt;
-        (
-            queue.first_home(0),
-            queue.first_home(2),
-            queue.first_home(10)
-        ),
-        (Some(1), Some(2), Some(5))
-    );
-    assert_eq!(rt;
-        (queue.first_place(1), queue.first_place(9)),
-        (Some(1), Some(2))
-    );
-    assert_eq!(rt; (queue.first_place(0), queue.first_place(2)), (None, None));
-    assert_eq!(rt; queue.total(), 30);
-    assert_eq!(rt;
-        (queue.bytes(0), queue.bytes(1), queue.bytes(2)),
-        (24, 6, 0)
-    );
-    assert_eq!(rt; (queue.below(0), queue.below(1), queue.below(2)), (6, 0, 0));
-    assert_eq!(rt;
-        (queue.fill(0), queue.fill(1), queue.fill(7), queue.fill(4)),
-        (6, 6, 0, 0)
-    );
-    assert_eq!(rt;
-        (
-            queue.section_of(10),
-            queue.section_of(3),
-            queue.section_of(0)
-        ),
-        (Some(0), Some(1), Some(2))
-    );
-    assert_eq!(rt; queue.section_of(4), None);
-    assert_eq!(rt; queue.last_sealed(), Some((2, 1)));
-    assert_eq!(rt; queue.sealed_devices(), 4);
+fn four_sections_and_back(rt: HostRuntime) -> Result<(), Fail> {
+    let mut queue = three_sections(&rt, rt.alloc())?;
+    let before =
+        "S0 {10, 9, [6d, 1v]}, S1 {11, 12, [3d]}, S2 {7, 8, [2d, 0d]}, 1 (6, 0, 1), 2 (6, 2, 9), 3 (6, 3, 3), 4 (6, 6, 6), 5 (6, 10, 10), next 13";
+    replay(&rt, rt.alloc(), &mut queue, before, &FOUR_SECTIONS)?;
+    Ok(())
+}
+
+/// What a queue answers of a block: the first object whose home it is, the first whose place it is, its bytes, its section.
+type Block = (Option<u64>, Option<u64>, u64, Option<usize>);
+
+/// The blocks of the three sections by their serials; there are no blocks 4 and 5 any more.
+const BLOCKS: [Block; 13] = [
+    (Some(1), None, 6, Some(2)),
+    (None, Some(1), 6, Some(0)),
+    (Some(2), None, 6, Some(2)),
+    (Some(3), Some(3), 6, Some(1)),
+    (None, None, 0, None),
+    (None, None, 0, None),
+    (Some(4), Some(4), 6, Some(0)),
+    (None, None, 0, Some(2)),
+    (None, None, 0, Some(2)),
+    (None, Some(2), 6, Some(0)),
+    (Some(5), Some(5), 6, Some(0)),
+    (None, None, 0, Some(1)),
+    (None, None, 0, Some(1)),
+];
+
+fn block(queue: &Queue, serial: u64) -> Block
+    requires { IsLoose queue.now }
+{
+    (
+        queue.first_home(serial),
+        queue.first_place(serial),
+        queue.fill(serial),
+        queue.section_of(serial),
+    )
+}
+
+#[test]
+fn questions_of_blocks(rt: HostRuntime) -> Result<(), Fail> {
+    let queue = three_sections(&rt, rt.alloc())?;
+    for (serial, want) in (0..).zip(&BLOCKS) {
+        assert!(rt; block(&queue, serial) == *want, "of block {serial}");
+    }
+    Ok(())
+}
+
+/// Whether a queue has these bytes in its sections, and below each of them.
+fn has_bytes(queue: &Queue, want: &[(u64, u64)]) -> bool
+    requires { IsLoose queue.now }
+{
+    queue.sections() == want.len()
+        && (0..queue.sections()).all(|section| want[section]
+            == (queue.bytes(section), queue.below(section)))
+}
+
+#[test]
+fn questions_of_sections(rt: HostRuntime) -> Result<(), Fail> {
+    let queue = three_sections(&rt, rt.alloc())?;
+    assert!(rt; has_bytes(&queue, &[(24, 6), (6, 0), (0, 0)]));
+    Ok(())
+}
+
+/// What a queue answers of itself: its bytes, its last sealed block, and how many device blocks are sealed.
+fn whole(queue: &Queue) -> (u64, Option<(usize, usize)>, usize)
+    requires { IsLoose queue.now }
+{
+    (queue.total(), queue.last_sealed(), queue.sealed_devices())
+}
+
+#[test]
+fn questions_of_the_whole(rt: HostRuntime) -> Result<(), Fail> {
+    let queue = three_sections(&rt, rt.alloc())?;
+    assert!(rt; queue.shape() == (4, 10, 8));
+    assert!(rt; whole(&queue) == (30, Some((2, 1)), 4));
     Ok(())
 }

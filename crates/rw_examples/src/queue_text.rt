@@ -3,6 +3,7 @@ ghost use Rattle.std.specs.Prelude.{◌<◌, length};
 
 use rw_blocks::{Kind, NoMemory, Queue};
 use std::alloc::Global;
+use std::process::Abort;
 
 /// A section's sealed list.
 fn write_sealed(text: &mut String, queue: &Queue, section: usize) -> Result<(), NoMemory>
@@ -21,7 +22,7 @@ fn write_sealed(text: &mut String, queue: &Queue, section: usize) -> Result<(), 
 }
 
 /// The queue: its sections, the rows of objects 1 to 9, and the next serial.
-pub fn text_of(alloc: Global, queue: &Queue) -> Result<String, NoMemory> {
+fn text_of(alloc: Global, queue: &Queue) -> Result<String, NoMemory> {
     let mut text = String::new(alloc);
     for section in 0..queue.sections() {
         let device = queue.active(section, Kind::Device);
@@ -41,4 +42,16 @@ pub fn text_of(alloc: Global, queue: &Queue) -> Result<String, NoMemory> {
     }
     write!(text, "next {}", queue.next_serial())?;
     Ok(text)
+}
+
+/// Asserts that this is the queue.
+pub fn must_read<R: Abort>(
+    rt: &R,
+    alloc: Global,
+    queue: &Queue,
+    want: &str,
+) -> Result<(), NoMemory> {
+    let text = text_of(alloc, queue)?;
+    assert_eq!(rt; text.as_str(), want);
+    Ok(())
 }

@@ -59,6 +59,13 @@ fn opened(alloc: Global, most: u64) -> Result<World<Relay>, Fail> {
     Ok(World::open(alloc, relay, starts, initial)?)
 }
 
+/// The world to which the steps that this seed draws lead.
+fn drawn(alloc: Global, seed: u64) -> Result<World<Relay>, Fail> {
+    let steps = draw(alloc, seed, 60, 2)?;
+    let (world, _answers) = opened(alloc, u64::MAX)?.run_steps(alloc, &steps)?;
+    Ok(world)
+}
+
 /// Two parcels to one station, which can take no further one after the first.
 fn soon_exhausted(alloc: Global) -> Result<World<Relay>, Fail> {
     let relay = Relay::new(3, 1).ok_or("relay")?;
@@ -91,41 +98,58 @@ fn rounds_lead_to_the_outcome_in_order(rt: HostRuntime) -> Result<(), Fail> {
     let alloc = rt.alloc();
     let want = in_order(alloc)?;
     for (seed, of) in (0..).zip(PLANS) {
-        let steps = draw(alloc, seed, 60, 2)?;
-        let (world, _answers) = opened(alloc, u64::MAX)?.run_steps(alloc, &steps)?;
-        assert!(rt; lead(&rt, alloc, world, plan(of, 1_048_576), &want));
-        let fresh = opened(alloc, u64::MAX)?;
-        assert!(rt; lead(&rt, alloc, fresh, plan(of, 1_048_576), &want));
+        let plan = plan(of, 1_048_576);
+        assert!(rt; lead(&rt, alloc, drawn(alloc, seed)?, plan, &want));
+        assert!(rt; lead(&rt, alloc, opened(alloc, u64::MAX)?, plan, &want));
     }
+    Ok(())
+}
+
+/// One round of one worker.
+fn one_round<R: Threads + Wait + Sync>(rt: &R, alloc: Global) -> Result<Sim<Relay>, Fail> {
+    let plan = plan((1, 1, 2, END, 1), 1);
+    let Ok(sim) = Sim::open(opened(alloc, u64::MAX)?, plan) else {
+        return Err(Fail::from("plan"));
+    };
+    match run_round(rt, alloc, sim, &Open) {
+        Ok(sim) => Ok(sim),
+        Err(_) => Err(Fail::from("round")),
+    }
+}
+
+#[test]
+fn a_round_tells_its_floor(rt: HostRuntime) -> Result<(), Fail> {
+    let sim = one_round(&rt, rt.alloc())?;
+    assert!(rt; (sim.floor(), sim.traffic().executed) == (8, 2));
     Ok(())
 }
 
 #[test]
 fn a_round_commits_what_is_before_its_floor(rt: HostRuntime) -> Result<(), Fail> {
-    let alloc = rt.alloc();
-    let sim = Sim::open(opened(alloc, u64::MAX)?, plan((1, 1, 2, END, 1), 1))
-        .ok()
-        .ok_or("plan")?;
-    assert_eq!(rt; sim.floor(), 0);
-    let sim = run_round(&rt, alloc, sim, &Open).ok().ok_or("round")?;
-    assert_eq!(rt; sim.floor(), 8);
-    assert_eq!(rt; sim.traffic().executed, 2);
-    let world = sim.into_world();
-    assert_eq!(rt; world.journal(0), [first()].as_slice());
+    let world = one_round(&rt, rt.alloc())?.into_world();
+    assert!(rt; world.journal(0) == [first()].as_slice());
     assert!(rt; world.journal(1).is_empty());
     Ok(())
+}
+
+/// Why rounds do not lead to an end.
+fn stop<R: Threads + Wait + Sync>(
+    rt: &R,
+    alloc: Global,
+    world: World<Relay>,
+    plan: Plan,
+) -> Option<Stop> {
+    run(rt, alloc, world, plan, &Open).err()
 }
 
 #[test]
 fn a_run_stops_with_its_reason(rt: HostRuntime) -> Result<(), Fail> {
     let alloc = rt.alloc();
     let few = plan((2, 1, 1, END, 1), 3);
-    let stop = run(&rt, alloc, opened(alloc, u64::MAX)?, few, &Open).err();
-    assert!(rt; stop == Some(Stop::RoundsUsed));
-    let stop = run(&rt, alloc, soon_exhausted(alloc)?, plan(PLANS[0], 9), &Open).err();
-    assert!(rt; stop == Some(Stop::Exhausted));
+    assert!(rt; stop(&rt, alloc, opened(alloc, u64::MAX)?, few) == Some(Stop::RoundsUsed));
+    let one = plan(PLANS[0], 9);
+    assert!(rt; stop(&rt, alloc, soon_exhausted(alloc)?, one) == Some(Stop::Exhausted));
     let no_worker = plan((0, 1, 1, 1, 1), 1);
-    let stop = run(&rt, alloc, opened(alloc, 1)?, no_worker, &Open).err();
-    assert!(rt; stop == Some(Stop::BadPlan));
+    assert!(rt; stop(&rt, alloc, opened(alloc, 1)?, no_worker) == Some(Stop::BadPlan));
     Ok(())
 }

@@ -4,6 +4,7 @@ ghost use Rattle.std.specs.Prelude.{◌≡◌};
 use crate::parcels::{beginning, parcel, station};
 use rw_relay::{Parcel, Relay};
 use rw_vt::{END, Event};
+use rw_world::Answer::{Done, Refused};
 use rw_world::{
     Answer, Step, StepFault, World, draw, every_exchange, every_floor, every_sound_world,
     every_step, every_way,
@@ -37,90 +38,128 @@ fn opened(alloc: Global) -> Result<World<Relay>, Fail> {
     Ok(World::open(alloc, relay, starts, initial)?)
 }
 
-// An anti-message that overtakes its message, a straggler, and an anti-message that waits for an undoing.
-const STEPS: [Step; 20] = [
-    Step::Collect(6),
-    Step::Execute(1),
-    Step::Execute(0),
-    Step::Undo(0),
-    Step::Deliver(1),
-    Step::Deliver(0),
-    Step::Execute(0),
-    Step::Deliver(0),
-    Step::Execute(1),
-    Step::Undo(1),
-    Step::Execute(1),
-    Step::Undo(0),
-    Step::Deliver(0),
-    Step::Undo(1),
-    Step::Deliver(0),
-    Step::Execute(0),
-    Step::Deliver(0),
-    Step::Execute(1),
-    Step::Execute(1),
-    Step::Execute(1),
+/// Steps with their answers: an anti-message that overtakes its message, a straggler, and an
+/// anti-message that waits for an undoing.
+const STEPS: [(Step, Answer); 20] = [
+    (Step::Collect(6), Refused(StepFault::AboveFloor)),
+    (Step::Execute(1), Done),
+    (Step::Execute(0), Done),
+    (Step::Undo(0), Done),
+    (Step::Deliver(1), Done),
+    (Step::Deliver(0), Done),
+    (Step::Execute(0), Done),
+    (Step::Deliver(0), Done),
+    (Step::Execute(1), Refused(StepFault::Straggler)),
+    (Step::Undo(1), Done),
+    (Step::Execute(1), Done),
+    (Step::Undo(0), Done),
+    (Step::Deliver(0), Refused(StepFault::StillDone)),
+    (Step::Undo(1), Done),
+    (Step::Deliver(0), Done),
+    (Step::Execute(0), Done),
+    (Step::Deliver(0), Done),
+    (Step::Execute(1), Done),
+    (Step::Execute(1), Done),
+    (Step::Execute(1), Refused(StepFault::NothingPending)),
 ];
 
-#[test]
-fn runs_ahead_and_back(rt: HostRuntime) -> Result<(), Fail> {
-    let alloc = rt.alloc();
-    let world = opened(alloc)?;
-    assert_eq!(rt; world.floor(), 5);
-    assert!(rt; !world.finished());
-    let (world, answers) = world.run_steps(alloc, &STEPS)?;
-    assert!(rt; world.finished());
-    assert!(rt; world.journal(1).is_empty());
-    let refused = [
-        (0, StepFault::AboveFloor),
-        (8, StepFault::Straggler),
-        (12, StepFault::StillDone),
-        (19, StepFault::NothingPending),
-    ];
-    for (place, answer) in answers.iter().enumerate() {
-        let fault = refused.iter().find(|pair| pair.0 == place);
-        let want = fault.map_or(Answer::Done, |pair| Answer::Refused(pair.1));
-        assert_eq!(rt; *answer, want, "at step {place}");
+/// After them nothing is left to do but to commit.
+const COMMITS: [(Step, Answer); 4] = [
+    (Step::Collect(END), Done),
+    (Step::Undo(0), Refused(StepFault::NothingToUndo)),
+    (Step::Execute(2), Refused(StepFault::NoSuchProcess)),
+    (Step::Deliver(0), Refused(StepFault::NoSuchLetter)),
+];
+
+/// Makes the steps, each of which is answered as it says.
+fn follow(
+    alloc: Global,
+    world: World<Relay>,
+    steps: &[(Step, Answer)],
+) -> Result<World<Relay>, Fail> {
+    let mut world = world;
+    for (step, want) in steps {
+        world = makes(alloc, world, *step, *want)?;
     }
-    assert_eq!(rt; answers.len(), 20);
+    Ok(world)
+}
+
+fn makes(
+    alloc: Global,
+    world: World<Relay>,
+    step: Step,
+    want: Answer,
+) -> Result<World<Relay>, Fail> {
+    let (world, answer) = world.apply(alloc, step)?;
+    if answer == want {
+        Ok(world)
+    } else {
+        Err(Fail::from("another answer"))
+    }
+}
+
+/// What a world shows of itself: the least time of what is outstanding, and whether nothing is left to do.
+fn outlook(world: &World<Relay>) -> (u64, bool) {
+    (world.floor(), world.finished())
+}
+
+#[test]
+fn begins_at_its_least_event(rt: HostRuntime) -> Result<(), Fail> {
+    let world = opened(rt.alloc())?;
+    assert!(rt; outlook(&world) == (5, false));
     Ok(())
 }
 
-// The world to which the steps lead.
+/// The world to which the steps lead.
 fn finished(alloc: Global) -> Result<World<Relay>, Fail> {
-    let (world, _answers) = opened(alloc)?.run_steps(alloc, &STEPS)?;
+    let world = follow(alloc, opened(alloc)?, &STEPS)?;
     Ok(World::put(world.take()))
 }
 
 #[test]
-fn a_finished_world_is_committed(rt: HostRuntime) -> Result<(), Fail> {
-    let alloc = rt.alloc();
-    let (world, answer) = finished(alloc)?.apply(alloc, Step::Collect(END))?;
-    assert_eq!(rt; answer, Answer::Done);
-    assert_eq!(rt; world.floor(), END);
-    assert_eq!(rt; world.journal(0), [coming()].as_slice());
-    assert_eq!(rt; world.journal(1), [sent(), later()].as_slice());
-    assert_eq!(rt; *world.state(0), station(1, 1, 1));
-    assert_eq!(rt; *world.state(1), station(0, 0, 0));
+fn runs_ahead_and_back(rt: HostRuntime) -> Result<(), Fail> {
+    let world = finished(rt.alloc())?;
+    assert!(rt; outlook(&world) == (END, true));
+    assert!(rt; world.journal(1).is_empty());
     Ok(())
 }
 
+/// Whether all is committed, at both stations, and what they have come to.
+fn is_committed(world: &World<Relay>) -> bool {
+    world.journal(0) == [coming()].as_slice()
+        && world.journal(1) == [sent(), later()].as_slice()
+        && *world.state(0) == station(1, 1, 1)
+        && *world.state(1) == station(0, 0, 0)
+}
+
 #[test]
-fn a_committed_world_refuses_the_rest(rt: HostRuntime) -> Result<(), Fail> {
-    let alloc = rt.alloc();
-    let steps = [
-        Step::Collect(END),
-        Step::Undo(0),
-        Step::Execute(2),
-        Step::Deliver(0),
-    ];
-    let (_world, answers) = finished(alloc)?.run_steps(alloc, &steps)?;
+fn a_finished_world_is_committed(rt: HostRuntime) -> Result<(), Fail> {
+    let world = follow(rt.alloc(), finished(rt.alloc())?, &COMMITS)?;
+    assert!(rt; outlook(&world) == (END, true));
+    assert!(rt; is_committed(&world));
+    Ok(())
+}
+
+/// Whether some steps made as one are answered as one by one.
+fn are_answered(
+    alloc: Global,
+    world: World<Relay>,
+    steps: &[Step],
+    want: &[Answer],
+) -> Result<bool, Fail> {
+    let (_world, answers) = world.run_steps(alloc, steps)?;
+    Ok(answers.as_slice() == want)
+}
+
+#[test]
+fn answers_the_steps_of_a_list(rt: HostRuntime) -> Result<(), Fail> {
+    let steps = [Step::Collect(6), Step::Execute(1), Step::Execute(2)];
     let want = [
-        Answer::Done,
-        Answer::Refused(StepFault::NothingToUndo),
-        Answer::Refused(StepFault::NoSuchProcess),
-        Answer::Refused(StepFault::NoSuchLetter),
+        Refused(StepFault::AboveFloor),
+        Done,
+        Refused(StepFault::NoSuchProcess),
     ];
-    assert_eq!(rt; answers.as_slice(), want.as_slice());
+    assert!(rt; are_answered(rt.alloc(), opened(rt.alloc())?, &steps, &want)?);
     Ok(())
 }
 

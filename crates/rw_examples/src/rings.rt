@@ -53,24 +53,35 @@ fn settle_two(alloc: Global, first: Port<u64>, second: Port<u64>) -> Result<Left
     Ok(settle(alloc, ports)?)
 }
 
+// Whether one letter is left, from worker 0 to worker 1.
+fn is_left(left: &Left<u64>, letter: Letter<u64>) -> bool {
+    left.workers() == 2
+        && left.between(0, 1).iter().eq([letter].iter())
+        && left.between(1, 0).is_empty()
+        && left.between(0, 0).is_empty()
+        && left.between(1, 1).is_empty()
+}
+
 #[test]
 fn a_ring_of_one_slot(rt: HostRuntime) -> Result<(), Fail> {
     let (mut first, mut second) = two_ports(rt.alloc())?;
     let (x, y) = (letter(0, 7), letter(0, 8));
-    assert_eq!(rt; (first.worker(), first.workers()), (0, 2));
-    assert_eq!(rt; (second.worker(), second.workers()), (1, 2));
-    assert_eq!(rt; first.send(1, x), Ok(()));
-    assert_eq!(rt; first.send(1, y), Err(y));
-    assert_eq!(rt; second.receive(0), Some(x));
-    assert_eq!(rt; second.receive(0), None);
-    assert_eq!(rt; first.send(1, y), Ok(()));
+    assert!(rt; first.send(1, x) == Ok(()));
+    assert!(rt; first.send(1, y) == Err(y));
+    assert!(rt; second.receive(0) == Some(x));
+    assert!(rt; second.receive(0).is_none());
+    assert!(rt; first.send(1, y) == Ok(()));
     let left = settle_two(rt.alloc(), first, second)?;
-    assert_eq!(rt; left.workers(), 2);
-    assert!(rt; left.between(0, 1).iter().eq([y].iter()));
-    assert!(rt; left.between(1, 0).is_empty());
-    assert!(rt; left.between(0, 0).is_empty() && left.between(1, 1).is_empty());
-    let lists = left.into_lists();
-    assert_eq!(rt; lists.len(), 2);
+    assert!(rt; is_left(&left, y));
+    assert!(rt; left.into_lists().len() == 2);
+    Ok(())
+}
+
+#[test]
+fn each_port_knows_its_worker(rt: HostRuntime) -> Result<(), Fail> {
+    let (first, second) = two_ports(rt.alloc())?;
+    assert!(rt; (first.worker(), first.workers()) == (0, 2));
+    assert!(rt; (second.worker(), second.workers()) == (1, 2));
     Ok(())
 }
 

@@ -1,7 +1,7 @@
 // A station of the relay, through every call of a logical process.
 use crate::desk::Call::{Arrive, Collect, Deliver, ExecuteNext, UndoOne};
-use crate::desk::Desk;
-use crate::desk::Line::{Ahead, Does, Gives, Refuses, Settled, Shows, Waits};
+use crate::desk::Line::{Ahead, Gives, Refuses, Settled, Shows};
+use crate::desk::{Desk, Line};
 use crate::parcels::{parcel, station};
 use rw_lp::StepFault;
 use rw_relay::{Parcel, Relay, Station};
@@ -31,9 +31,7 @@ fn passed_on() -> (Event<Parcel>, Event<Parcel>) {
 fn opened(alloc: Global) -> Result<Desk<Relay>, Fail> {
     let relay = Relay::new(10, u64::MAX).ok_or("relay")?;
     let (first, second) = coming();
-    let mut initial = Vec::new(alloc);
-    initial.push(second)?;
-    initial.push(first)?;
+    let initial = Vec::from_array(alloc, [second, first])?;
     Desk::open(alloc, relay, 0, Station::default(), initial)
 }
 
@@ -49,59 +47,81 @@ fn ahead(alloc: Global) -> Result<Desk<Relay>, Fail> {
     )
 }
 
+/// Goes through the lines, which leave this journal and this state.
+fn ends(
+    alloc: Global,
+    lines: &[Line<'_, Parcel>],
+    journal: &[Event<Parcel>],
+    state: Station,
+    desk: Desk<Relay>,
+) -> Result<(), Fail> {
+    let (left, at) = desk.does(alloc, lines)?.into_outcome();
+    if left.as_slice() == journal && at == state {
+        Ok(())
+    } else {
+        Err(Fail::from("another outcome"))
+    }
+}
+
 #[test]
 fn waits_for_its_parcels(rt: HostRuntime) -> Result<(), Fail> {
     let (first, _) = coming();
-    let _desk = opened(rt.alloc())?.does(
+    ends(
         rt.alloc(),
         &[
             Refuses(UndoOne, StepFault::NothingToUndo),
-            Waits(Some(first), 5),
+            Ahead(&[], Some(first), 5),
         ],
-    )?;
-    Ok(())
+        &[],
+        station(0, 0, 0),
+        opened(rt.alloc())?,
+    )
 }
 
 #[test]
 fn executes_its_parcels(rt: HostRuntime) -> Result<(), Fail> {
-    let alloc = rt.alloc();
     let (first, second) = coming();
     let (first_on, second_on) = passed_on();
-    let desk = opened(alloc)?.does(
-        alloc,
+    ends(
+        rt.alloc(),
         &[
             Gives(ExecuteNext, &[message(first_on)]),
             Ahead(&[first], Some(second), 8),
             Gives(ExecuteNext, &[message(second_on)]),
             Ahead(&[first, second], None, END),
         ],
-    )?;
-    assert_eq!(rt; *desk.state(), station(7, 4, 2));
-    Ok(())
+        &[],
+        station(7, 4, 2),
+        opened(rt.alloc())?,
+    )
 }
 
 #[test]
 fn has_nothing_left_to_execute(rt: HostRuntime) -> Result<(), Fail> {
-    let alloc = rt.alloc();
-    let steps = [Refuses(ExecuteNext, StepFault::NothingPending)];
-    let _desk = ahead(alloc)?.does(alloc, &steps)?;
-    Ok(())
+    let lines = [Refuses(ExecuteNext, StepFault::NothingPending)];
+    ends(
+        rt.alloc(),
+        &lines,
+        &[],
+        station(7, 4, 2),
+        ahead(rt.alloc())?,
+    )
 }
 
 #[test]
 fn an_undoing_gives_back_the_state(rt: HostRuntime) -> Result<(), Fail> {
-    let alloc = rt.alloc();
     let (first, second) = coming();
     let (_, second_on) = passed_on();
-    let desk = ahead(alloc)?.does(
-        alloc,
+    ends(
+        rt.alloc(),
         &[
             Gives(UndoOne, &[anti(second_on)]),
             Ahead(&[first], Some(second), 8),
         ],
-    )?;
-    assert_eq!(rt; *desk.state(), station(3, 3, 1));
-    Ok(())
+        &[],
+        station(3, 3, 1),
+        ahead(rt.alloc())?,
+    )
 }
 
 /// A parcel that comes between the two, and what station 0 then passes on for it and for the second one.
@@ -131,83 +151,94 @@ fn caught_up(alloc: Global) -> Result<Desk<Relay>, Fail> {
 
 #[test]
 fn a_late_parcel_is_executed_in_its_place(rt: HostRuntime) -> Result<(), Fail> {
-    let desk = caught_up(rt.alloc())?;
-    assert_eq!(rt; *desk.state(), station(9, 4, 3));
-    Ok(())
+    ends(
+        rt.alloc(),
+        &[],
+        &[],
+        station(9, 4, 3),
+        caught_up(rt.alloc())?,
+    )
 }
 
 #[test]
 fn a_late_parcel_is_a_straggler_until_it_is_cancelled(rt: HostRuntime) -> Result<(), Fail> {
-    let alloc = rt.alloc();
     let (first, second) = coming();
     let (late, _, _) = late();
-    let _desk = ahead(alloc)?.does(
-        alloc,
+    ends(
+        rt.alloc(),
         &[
-            Does(Deliver(message(late))),
+            Gives(Deliver(message(late)), &[]),
             Refuses(ExecuteNext, StepFault::Straggler),
             Ahead(&[first, second], Some(late), 6),
-            Does(Deliver(anti(late))),
+            Gives(Deliver(anti(late)), &[]),
             Ahead(&[first, second], None, END),
         ],
-    )?;
-    Ok(())
+        &[],
+        station(7, 4, 2),
+        ahead(rt.alloc())?,
+    )
 }
 
 #[test]
 fn what_a_late_parcel_changed_is_taken_back(rt: HostRuntime) -> Result<(), Fail> {
-    let alloc = rt.alloc();
     let (first, second) = coming();
     let (late, late_on, then_on) = late();
-    let desk = caught_up(alloc)?.does(
-        alloc,
+    ends(
+        rt.alloc(),
         &[
             Refuses(Deliver(anti(late)), StepFault::StillDone),
             Gives(Arrive(anti(late)), &[anti(then_on), anti(late_on)]),
             Ahead(&[first], Some(second), 8),
         ],
-    )?;
-    assert_eq!(rt; *desk.state(), station(3, 3, 1));
-    Ok(())
+        &[],
+        station(3, 3, 1),
+        caught_up(rt.alloc())?,
+    )
 }
 
 #[test]
 fn a_debt_is_paid(rt: HostRuntime) -> Result<(), Fail> {
-    let alloc = rt.alloc();
     let (first, second) = coming();
     let owed = parcel(9, 2, 1, 0, 1);
-    let _desk = ahead(alloc)?.does(
-        alloc,
+    ends(
+        rt.alloc(),
         &[
-            Does(Deliver(anti(owed))),
+            Gives(Deliver(anti(owed)), &[]),
             Ahead(&[first, second], None, 9),
             Refuses(Collect(10), StepFault::AboveFloor),
-            Does(Deliver(message(owed))),
+            Gives(Deliver(message(owed)), &[]),
             Ahead(&[first, second], None, END),
         ],
-    )?;
-    Ok(())
+        &[],
+        station(7, 4, 2),
+        ahead(rt.alloc())?,
+    )
 }
 
 #[test]
 fn the_past_is_committed(rt: HostRuntime) -> Result<(), Fail> {
-    let alloc = rt.alloc();
     let (first, second) = coming();
     let (_, second_on) = passed_on();
-    let desk = ahead(alloc)?.does(
-        alloc,
+    ends(
+        rt.alloc(),
         &[
-            Does(Collect(8)),
+            Gives(Collect(8), &[]),
             Shows(&[first], &[second], None, END),
             Gives(UndoOne, &[anti(second_on)]),
             Refuses(UndoOne, StepFault::NothingToUndo),
             Gives(ExecuteNext, &[message(second_on)]),
-            Does(Collect(END)),
+            Gives(Collect(END), &[]),
             Settled(&[first, second]),
         ],
-    )?;
-    let (journal, state) = desk.into_outcome();
-    assert!(rt; journal.as_slice() == [first, second].as_slice());
-    assert_eq!(rt; state, station(7, 4, 2));
+        &[first, second],
+        station(7, 4, 2),
+        ahead(rt.alloc())?,
+    )
+}
+
+#[test]
+fn what_has_collected_is_sound(rt: HostRuntime) -> Result<(), Fail> {
+    let desk = ahead(rt.alloc())?.does(rt.alloc(), &[Gives(Collect(8), &[])])?;
+    desk.soundness();
     Ok(())
 }

@@ -3,124 +3,132 @@ use rw_trace::{Row, TraceFault, read, read_up_to};
 use std::alloc::Global;
 use std::test::Fail;
 
-// The text of the answer to a body behind the header, with one edge: what each row holds, or the fault's line.
-fn answer(alloc: Global, body: &[u8], most: u64) -> Result<String, Fail> {
+/// Whether a body behind the header, with one edge, is read as this text.
+fn is_read(alloc: Global, body: &[u8], most: u64, want: &str) -> Result<bool, Fail> {
     let mut bytes = Vec::from_slice(alloc, b"time,edge,object,size\n")?;
     bytes.extend_from_slice(body)?;
-    told(
-        alloc,
-        &read_up_to(alloc, bytes.as_slice(), 1, most.min(16_777_216)),
-    )
+    let answer = read_up_to(alloc, bytes.as_slice(), 1, most.min(16_777_216));
+    is_told(alloc, &answer, want)
 }
 
+fn is_told(alloc: Global, answer: &Result<Vec<Row>, TraceFault>, want: &str) -> Result<bool, Fail> {
+    let text = told(alloc, answer)?;
+    Ok(text.as_str() == want)
+}
+
+/// The text of an answer: what each row holds, or the fault's line.
 fn told(alloc: Global, answer: &Result<Vec<Row>, TraceFault>) -> Result<String, Fail> {
     let mut text = String::new(alloc);
     match answer {
         Ok(rows) => {
             for row in rows {
-                let line = format!(in alloc;
-                    "{} {} {} {};",
-                    row.time, row.edge, row.object, row.size
-                )?;
-                text.push_str(line.as_str())?;
+                let Row {
+                    time,
+                    edge,
+                    object,
+                    size,
+                } = *row;
+                write!(text, "{time} {edge} {object} {size};")?;
             }
         }
-        Err(fault) => {
-            let line = format!(in alloc; "{fault}")?;
-            text.push_str(line.as_str())?;
-        }
+        Err(fault) => write!(text, "{fault}")?,
     }
     Ok(text)
 }
 
+/// Bodies behind the header, each with what is read.
+const BODIES: [(&[u8], &str); 24] = [
+    (b"", ""),
+    (b"5,0,7,4\n", "5 0 7 4;"),
+    (b"5,0,7\n", "trace: row 0: length"),
+    (b"549755813888,0,7,4\n", "549755813888 0 7 4;"),
+    (b"549755813889,0,7,4\n", "trace: row 0: time"),
+    (b"5,0,7,0\n", "trace: row 0: size"),
+    (b"5,1,7,4\n", "trace: row 0: edge"),
+    (b"5,x,7,0\n", "trace: row 0 column 1: number"),
+    (
+        b"\"5\",0,7,4\n00005,0,18446744073709551615,4294967295\n",
+        "5 0 7 4;5 0 18446744073709551615 4294967295;",
+    ),
+    (
+        b"\"5\",0,7,4\n00005,0,18446744073709551615,4294967295",
+        "5 0 7 4;5 0 18446744073709551615 4294967295;",
+    ),
+    (
+        b"5,0,18446744073709551616,4\n",
+        "trace: row 0 column 2: number",
+    ),
+    (
+        b"000000000000000000005,0,7,4\n",
+        "trace: row 0 column 0: number",
+    ),
+    (b"00000000000000000005,0,7,4\n", "5 0 7 4;"),
+    (b" 5,0,7,4\n", "trace: row 0 column 0: number"),
+    (b"+5,0,7,4\n", "trace: row 0 column 0: number"),
+    (b"5,,7,4\n", "trace: row 0 column 1: number"),
+    (b"5,0,7,\xff\n", "trace: row 0 column 3: number"),
+    (b"549755813889,9,x,0\n", "trace: row 0: time"),
+    (b"5,0,7,4,9\n", "trace: row 0: length"),
+    (b"5,0,7,4\n5,9,7,4\nx\n", "trace: row 1: edge"),
+    (b"5,0,7,4294967296\n", "trace: row 0: size"),
+    (b"5,0,7,4\r\n\r\n\n6,0,8,1\r", "5 0 7 4;6 0 8 1;"),
+    (
+        b"5,0,99999999999999999999,4\n",
+        "trace: row 0 column 2: number",
+    ),
+    (b"5,0,7,4\n\"\"\n", "trace: row 1: length"),
+];
+
 #[test]
 fn bodies(rt: HostRuntime) -> Result<(), Fail> {
-    let cases: [(&[u8], &str); 24] = [
-        (b"", ""),
-        (b"5,0,7,4\n", "5 0 7 4;"),
-        (b"5,0,7\n", "trace: row 0: length"),
-        (b"549755813888,0,7,4\n", "549755813888 0 7 4;"),
-        (b"549755813889,0,7,4\n", "trace: row 0: time"),
-        (b"5,0,7,0\n", "trace: row 0: size"),
-        (b"5,1,7,4\n", "trace: row 0: edge"),
-        (b"5,x,7,0\n", "trace: row 0 column 1: number"),
-        (
-            b"\"5\",0,7,4\n00005,0,18446744073709551615,4294967295\n",
-            "5 0 7 4;5 0 18446744073709551615 4294967295;",
-        ),
-        (
-            b"\"5\",0,7,4\n00005,0,18446744073709551615,4294967295",
-            "5 0 7 4;5 0 18446744073709551615 4294967295;",
-        ),
-        (
-            b"5,0,18446744073709551616,4\n",
-            "trace: row 0 column 2: number",
-        ),
-        (
-            b"000000000000000000005,0,7,4\n",
-            "trace: row 0 column 0: number",
-        ),
-        (b"00000000000000000005,0,7,4\n", "5 0 7 4;"),
-        (b" 5,0,7,4\n", "trace: row 0 column 0: number"),
-        (b"+5,0,7,4\n", "trace: row 0 column 0: number"),
-        (b"5,,7,4\n", "trace: row 0 column 1: number"),
-        (b"5,0,7,\xff\n", "trace: row 0 column 3: number"),
-        (b"549755813889,9,x,0\n", "trace: row 0: time"),
-        (b"5,0,7,4,9\n", "trace: row 0: length"),
-        (b"5,0,7,4\n5,9,7,4\nx\n", "trace: row 1: edge"),
-        (b"5,0,7,4294967296\n", "trace: row 0: size"),
-        (b"5,0,7,4\r\n\r\n\n6,0,8,1\r", "5 0 7 4;6 0 8 1;"),
-        (
-            b"5,0,99999999999999999999,4\n",
-            "trace: row 0 column 2: number",
-        ),
-        (b"5,0,7,4\n\"\"\n", "trace: row 1: length"),
-    ];
-    for (body, want) in cases {
-        let got = answer(rt.alloc(), body, 16_777_216)?;
-        assert!(rt; got.as_str() == want);
+    for (body, want) in &BODIES {
+        assert!(rt; is_read(rt.alloc(), body, 16_777_216, want)?, "for {want}");
     }
     Ok(())
 }
+
+/// Whole traces, whose headers are looked at.
+const HEADERS: [(&[u8], &str); 6] = [
+    (b"", "trace: header"),
+    (b"Time,edge,object,size\n", "trace: header"),
+    (b"time,edge,object\n", "trace: header"),
+    (b"time,edge,object,size,kind\n", "trace: header"),
+    (b"\xef\xbb\xbftime,edge,object,size", ""),
+    (b"\n\n\"time\",edge,object,size\n1,0,2,3", "1 0 2 3;"),
+];
 
 #[test]
 fn headers(rt: HostRuntime) -> Result<(), Fail> {
-    let cases: [(&[u8], &str); 6] = [
-        (b"", "trace: header"),
-        (b"Time,edge,object,size\n", "trace: header"),
-        (b"time,edge,object\n", "trace: header"),
-        (b"time,edge,object,size,kind\n", "trace: header"),
-        (b"\xef\xbb\xbftime,edge,object,size", ""),
-        (b"\n\n\"time\",edge,object,size\n1,0,2,3", "1 0 2 3;"),
-    ];
-    for (bytes, want) in cases {
-        let got = told(rt.alloc(), &read(rt.alloc(), bytes, 1))?;
-        assert!(rt; got.as_str() == want);
+    for (bytes, want) in &HEADERS {
+        assert!(rt;
+            is_told(rt.alloc(), &read(rt.alloc(), bytes, 1), want)?,
+            "for {want}"
+        );
     }
     Ok(())
 }
 
+/// Bodies of which only so many rows are taken.
+const LIMITS: [(&[u8], u64, &str); 7] = [
+    (b"5,0,7,4\n6,0,7,4\n", 2, "5 0 7 4;6 0 7 4;"),
+    (b"5,0,7,4\n6,0,7,4\n7,0,7,4\n", 2, "trace: too many rows"),
+    (b"5,0,7,4\n6,0,7,4\nx\n", 2, "trace: too many rows"),
+    (b"5,0,7,4\n6,9,7,4\n7,0,7,4\n", 2, "trace: row 1: edge"),
+    (b"", 0, ""),
+    (b"x", 0, "trace: too many rows"),
+    (b"5,0,7,4", 1, "5 0 7 4;"),
+];
+
 #[test]
 fn limits(rt: HostRuntime) -> Result<(), Fail> {
-    let cases: [(&[u8], u64, &str); 7] = [
-        (b"5,0,7,4\n6,0,7,4\n", 2, "5 0 7 4;6 0 7 4;"),
-        (b"5,0,7,4\n6,0,7,4\n7,0,7,4\n", 2, "trace: too many rows"),
-        (b"5,0,7,4\n6,0,7,4\nx\n", 2, "trace: too many rows"),
-        (b"5,0,7,4\n6,9,7,4\n7,0,7,4\n", 2, "trace: row 1: edge"),
-        (b"", 0, ""),
-        (b"x", 0, "trace: too many rows"),
-        (b"5,0,7,4", 1, "5 0 7 4;"),
-    ];
-    for (body, most, want) in cases {
-        let got = answer(rt.alloc(), body, most)?;
-        assert!(rt; got.as_str() == want);
+    for (body, most, want) in &LIMITS {
+        assert!(rt; is_read(rt.alloc(), body, *most, want)?, "for {want}");
     }
     Ok(())
 }
 
 #[test]
 fn memory_is_told(rt: HostRuntime) -> Result<(), Fail> {
-    let got = told(rt.alloc(), &Err(TraceFault::Memory))?;
-    assert!(rt; got.as_str() == "memory");
+    assert!(rt; is_told(rt.alloc(), &Err(TraceFault::Memory), "memory")?);
     Ok(())
 }
