@@ -13,7 +13,7 @@ use Rattle.rw_vt.proofs.Bags.{Each-nil, Each-cons}
 use Rattle.rw_lp.specs.declared.step.StepFault.TheVariants.{StillDone}
 use Rattle.rw_lp.specs.declared.step.Answer.{Answer}
 use Rattle.rw_lp.specs.HeldMessages.{held_with, held_without}
-use Rattle.rw_lp.specs.Process.{Process, Turn, Turned, Stays, split_last, is_less_than_last, undone, sends_of_last, undo_last, undo_one, with_bags, annihilate, deliver_anti, deliver_message, deliver}
+use Rattle.rw_lp.specs.Process.{ProcessState, Turn, Turned, Stays, split_last, is_less_than_last, undone, sends_of_last, undo_last, undo_one, with_bags, annihilate, deliver_anti, deliver_message, deliver}
 use Rattle.rw_lp.specs.Calls.{LogicalProcess, Took, IsTaken}
 use Rattle.rw_lp.specs.Arrival.{undo_times, and_undo, with_out, is_barred, Accepts, Arrived}
 use Rattle.rw_lp.proofs.Splits.{IsSplit, split_is}
@@ -41,7 +41,7 @@ module _ {E : Type 0} {cmp : E → E → Ordering} (o : IsExactOrder cmp) (e : E
           let there : Has cmp xs r.1 = subst (λ l. Has cmp l r.1) (sym q) (Has-right o r.1 r.0 (r.1 ∷ []) (Has-head o r.1 [])) in
           true≢false (sym k ∙ all r.1 there)
 
-module _ {S B : Type 0} {cmp : Event B → Event B → Ordering} (o : IsExactOrder cmp) (l : Letter B) (x : Process S B) where
+module _ {S B : Type 0} {cmp : Event B → Event B → Ordering} (o : IsExactOrder cmp) (l : Letter B) (x : ProcessState S B) where
   message_taken : (b : Bool) → IsTaken (cond b (Turned (with_bags x x.pending (without cmp l.event x.debts) x.held) []) (Turned (with_bags x (insert_in_order cmp l.event x.pending) x.debts x.held) []))
   message_taken true = tt
   message_taken false = tt
@@ -91,44 +91,44 @@ module _ {S B : Type 0} {cmp : Event B → Event B → Ordering} (o : IsExactOrd
 
 module _ {S B : Type 0} (y : System S B) (p : ℕ) where
   -- an undoing where something is processed
-  pub undo_taken : (x z : Process S B) (a : Answer) (given : List (Letter B)) → (x.processed ≡ [] → ⊥) → Took x z a given (undo_one y p x) → (undo_one y p x ≡ Turned z given) × (length z.processed < length x.processed)
+  pub undo_taken : (x z : ProcessState S B) (a : Answer) (given : List (Letter B)) → (x.processed ≡ [] → ⊥) → Took x z a given (undo_one y p x) → (undo_one y p x ≡ Turned z given) × (length z.processed < length x.processed)
   undo_taken x z a given some took = go (split_last x.processed) (split_is x.processed) took
     where
       go : (r : Option (List (Event B) × Event B)) → IsSplit x.processed r → Took x z a given (undo_last y p x r) → (undo_last y p x r ≡ Turned z given) × (length z.processed < length x.processed)
       go None q t = absurd (some q)
       go (Some r) q t =
           let is : z ≡ undone y p x r.0 r.1 x.held = t.0 in
-          let front : length z.processed ≡ length r.0 = ap (λ (w : Process S B). length w.processed) is in
+          let front : length z.processed ≡ length r.0 = ap (λ (w : ProcessState S B). length w.processed) is in
           let whole : length x.processed ≡ length (r.0 ++ r.1 ∷ []) = ap length q in
           (ap (λ w. Turned w (letters_of true (sends_of_last y p x r.0 r.1))) (sym is) ∙ ap (Turned z) (sym t.2), omega (arith, front, whole, length-append r.0 (r.1 ∷ [])))
 
   module _ (l : Letter B) where
     -- so many undoings led from x to w and gave these letters out, and no fewer would do
-    pub record IsGoing (x w : Process S B) (given : List (Letter B)) : Type 0 where
+    pub record IsGoing (x w : ProcessState S B) (given : List (Letter B)) : Type 0 where
       pub count : ℕ
       pub undone : undo_times y p count x ≡ Turned w given
-      pub sooner : (k : ℕ) (v : Process S B) (out : List (Letter B)) → k < count → undo_times y p k x ≡ Turned v out → Accepts y.order l v → ⊥
+      pub sooner : (k : ℕ) (v : ProcessState S B) (out : List (Letter B)) → k < count → undo_times y p k x ≡ Turned v out → Accepts y.order l v → ⊥
 
-    pub going_start : (x : Process S B) → IsGoing x x []
+    pub going_start : (x : ProcessState S B) → IsGoing x x []
     going_start x = record { count = 0; undone = refl; sooner = λ k v out h. absurd (omega arith) }
 
-    pub going_more : (x w z : Process S B) (given more : List (Letter B)) → IsGoing x w given → (Accepts y.order l w → ⊥) → undo_one y p w ≡ Turned z more → IsGoing x z (given ++ more)
+    pub going_more : (x w z : ProcessState S B) (given more : List (Letter B)) → IsGoing x w given → (Accepts y.order l w → ⊥) → undo_one y p w ≡ Turned z more → IsGoing x z (given ++ more)
     going_more x w z given more g refused one = record {
       count = suc g.count;
       undone = ap (and_undo y p) g.undone ∙ ap (with_out given) one;
       sooner = λ k v out h u a. go k v out u a (cases_lt k g.count) h;
     }
       where
-        same : (v : Process S B) (out : List (Letter B)) → undo_times y p g.count x ≡ Turned v out → v ≡ w
+        same : (v : ProcessState S B) (out : List (Letter B)) → undo_times y p g.count x ≡ Turned v out → v ≡ w
         same v out u = let both : Turned v out ≡ Turned w given = sym u ∙ g.undone in cc
 
-        go : (k : ℕ) (v : Process S B) (out : List (Letter B)) → undo_times y p k x ≡ Turned v out → Accepts y.order l v → (k < g.count) ⊎ (g.count ≤ k) → k < suc g.count → ⊥
+        go : (k : ℕ) (v : ProcessState S B) (out : List (Letter B)) → undo_times y p k x ≡ Turned v out → Accepts y.order l v → (k < g.count) ⊎ (g.count ≤ k) → k < suc g.count → ⊥
         go k v out u a (inl h) n = g.sooner k v out h u a
         go k v out u a (inr h) n =
             let last : k ≡ g.count = omega arith in
             refused (subst (Accepts y.order l) (same v out (subst (λ i. undo_times y p i x ≡ Turned v out) last u)) a)
 
-    pub arrived : (x w z : Process S B) (a : Answer) (given : List (Letter B)) → IsGoing x w given → Accepts y.order l w → Took w z a [] (deliver y.order l w) → Arrived y p l x z given
+    pub arrived : (x w z : ProcessState S B) (a : Answer) (given : List (Letter B)) → IsGoing x w given → Accepts y.order l w → Took w z a [] (deliver y.order l w) → Arrived y p l x z given
     arrived x w z a given g accepts took = record {
       count = g.count;
       between = w;

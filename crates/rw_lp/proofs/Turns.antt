@@ -14,7 +14,7 @@ use Rattle.rw_vt.proofs.Runs.{IsLawful, after-append, outs-append, well_formed_a
 use Rattle.rw_lp.specs.declared.held.Held.{Held}
 use Rattle.rw_lp.specs.declared.step.StepFault.TheVariants.{Straggler, StillDone}
 use Rattle.rw_lp.specs.HeldMessages.{held_messages, held_of, unheld, held_with, held_without}
-use Rattle.rw_lp.specs.Process.{Process, done, Turned, Stays, split_last, is_less_than_last, executed, execute_event, execute_least, execute_next, undone, sends_of_last, undo_last, undo_one, undo_last_lazily, undo_lazily, with_bags, deliver_message, annihilate, deliver_anti, deliver}
+use Rattle.rw_lp.specs.Process.{ProcessState, done, Turned, Stays, split_last, is_less_than_last, executed, execute_event, execute_least, execute_next, undone, sends_of_last, undo_last, undo_one, undo_last_lazily, undo_lazily, with_bags, deliver_message, annihilate, deliver_anti, deliver}
 use Rattle.rw_lp.specs.Sound.{Stands, SoundAt, SoundLetters, Change, Kept, Keeps}
 use Rattle.rw_lp.proofs.Splits.{IsSplit, split_is}
 use Rattle.rw_lp.proofs.Holding.{AllHeld, count-held_append, count-held_of, count-held_parts, count-unheld, count-unheld_le, held_more, held_rest, held_append, held_unheld, held_fresh, held_valid, held_from}
@@ -42,19 +42,19 @@ module _ {S B : Type 0} (y : System S B) {WellFormed : ℕ → S → Type 0} (la
           subst (λ l. IsAscending y.order (l ++ e ∷ [])) (sym q) (IsAscending-push law.exact r.0 r.1 e s' k)
 
   -- a process's done events are well formed, and so is its state after any of them
-  good_front : (g p : ℕ) (x : Process S B) (xs ys : List (Event B)) → WellFormed p x.start → SoundAt y g p x → done x ≡ xs ++ ys → WellFormed p (after (y.step p) x.start xs)
+  good_front : (g p : ℕ) (x : ProcessState S B) (xs ys : List (Event B)) → WellFormed p x.start → SoundAt y g p x → done x ≡ xs ++ ys → WellFormed p (after (y.step p) x.start xs)
   good_front g p x xs ys h at q =
       let all : Each y.order (Stands y p) (done x) = Each-append law.exact (Stands y p) x.committed x.processed at.committed_stand at.processed_stand in
       let front : Each y.order (Stands y p) xs = Each-front law.exact (Stands y p) xs ys (subst (Each y.order (Stands y p)) q all) in
       well_formed_after law p x.start xs h (λ a m. ((front a m).here, (front a m).valid))
 
-  module _ (g p : ℕ) (x : Process S B) (good_start : WellFormed p x.start) (at_p : SoundAt y g p x) where
+  module _ (g p : ℕ) (x : ProcessState S B) (good_start : WellFormed p x.start) (at_p : SoundAt y g p x) where
     -- Execute
 
     executed_kept : (e : Event B) (rest : List (Event B)) → x.pending ≡ e ∷ rest → is_less_than_last y.order e (split_last (done x)) ≡ false → Kept y g p x (executed y p x e rest (unheld y.order (y.step p x.state e).1 x.held).1) [] (letters_of false (unheld y.order (y.step p x.state e).1 x.held).0 ++ letters_of true (held_with y.order e (unheld y.order (y.step p x.state e).1 x.held).1))
     executed_kept e rest q late = record { sound = at_z; change = change; letters = letters }
       where
-        z : Process S B
+        z : ProcessState S B
         z = executed y p x e rest (unheld y.order (y.step p x.state e).1 x.held).1
 
         sends : List (Event B)
@@ -146,7 +146,7 @@ module _ {S B : Type 0} (y : System S B) {WellFormed : ℕ → S → Type 0} (la
       record { sound = at_z (x.held ++ held_of e sends) (held_append y (insert_in_order y.order e x.pending) x.held (held_of e sends) all_more fresh); change = change_lazily; letters = no_letters y g },
     )
       where
-        z : List (Held B) → Process S B
+        z : List (Held B) → ProcessState S B
         z held = undone y p x front e held
 
         sends : List (Event B)

@@ -1,6 +1,7 @@
 -- What contracts see of a logical process, and what a call on it answers against the turn that it is to take.
-use Rattle.std.specs.Prelude.{◌≡◌, ℕ, min, Bool, true, false, List, [], ◌∷◌}
+use Rattle.std.specs.Prelude.{◌≡◌, min, Bool, true, false, List, [], ◌∷◌}
 use Rattle.std.specs.declared.cmp.Ordering.{Ordering}
+use Rattle.rw_vt.specs.Words.{Process, Time}
 use Rattle.rw_vt.specs.declared.event.Event.{Event}
 use Rattle.rw_vt.specs.declared.event.Letter.{Letter}
 use Rattle.rw_vt.specs.declared.model.Model.{Ghosts}
@@ -9,13 +10,13 @@ use Rattle.rw_vt.specs.Order.{in_order}
 use Rattle.rw_lp.specs.declared.step.Answer.{Answer}
 use Rattle.rw_lp.specs.declared.step.Answer.TheVariants.{Done, Refused}
 use Rattle.rw_lp.specs.Past.{Past}
-use Rattle.rw_lp.specs.Process.{Process, done, Turn, Turned, Stays, is_less_than_last, split_last}
+use Rattle.rw_lp.specs.Process.{ProcessState, done, Turn, Turned, Stays, is_less_than_last, split_last}
 
 -- a process, with the model that it runs and its number there
 pub record LogicalProcess (M S B : Type 0) : Type 0 where
   pub model : M
-  pub number : ℕ
-  pub process : Process S B
+  pub number : Process
+  pub process : ProcessState S B
 
 -- what was done, with what is pending and owed
 abbrev pub process_of : {M S B : Type 0} → Past M S B → List (Event B) → List (Event B) → LogicalProcess M S B
@@ -31,16 +32,16 @@ abbrev pub rules : {M S B U : Type 0} → Ghosts M S B U → (B → B → Orderi
 rules model order m = system model order m [] []
 
 -- a process that has done nothing yet, and to which these events are to come
-abbrev pub unstarted : {S B : Type 0} → (Event B → Event B → Ordering) → S → List (Event B) → Process S B
+abbrev pub unstarted : {S B : Type 0} → (Event B → Event B → Ordering) → S → List (Event B) → ProcessState S B
 unstarted cmp start initial = record { start = start; committed = []; processed = []; pending = in_order cmp initial; debts = []; held = []; state = start }
 
 -- from x the call came to z with this answer and gave these letters out, as the turn says
-abbrev pub Took : {S B : Type 0} → Process S B → Process S B → Answer → List (Letter B) → Turn S B → Type 0
+abbrev pub Took : {S B : Type 0} → ProcessState S B → ProcessState S B → Answer → List (Letter B) → Turn S B → Type 0
 Took x z a given (Turned after out) = (z ≡ after) × (a ≡ Done) × (given ≡ out)
 Took x z a given (Stays fault) = (z ≡ x) × (a ≡ Refused fault) × (given ≡ [])
 
 -- next, x would execute its least pending event, which is no straggler, in a state that passes the test
-pub record MeetsNext {S B : Type 0} (cmp : Event B → Event B → Ordering) (x : Process S B) (test : S → Bool) : Type 0 where
+pub record MeetsNext {S B : Type 0} (cmp : Event B → Event B → Ordering) (x : ProcessState S B) (test : S → Bool) : Type 0 where
   pub next : Event B
   pub rest : List (Event B)
   pub pending : x.pending ≡ next ∷ rest
@@ -58,6 +59,6 @@ IsTaken (Turned after out) = Unit {0}
 IsTaken (Stays fault) = ⊥
 
 -- the least of m and the times of these events
-abbrev pub least : {B : Type 0} → ℕ → List (Event B) → ℕ
+abbrev pub least : {B : Type 0} → Time → List (Event B) → Time
 least m [] = m
 least m (e ∷ es) = min e.time (least m es)

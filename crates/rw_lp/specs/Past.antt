@@ -1,6 +1,7 @@
 -- What a process has done, and the records that take it back (reverse computation: Carothers, Perumalla and Fujimoto 1999).
-use Rattle.std.specs.Prelude.{◌≡◌, ◌<◌, ℕ, true, List, [], ◌∷◌, ◌++◌, Option, Some, None}
+use Rattle.std.specs.Prelude.{◌≡◌, ◌<◌, true, List, [], ◌∷◌, ◌++◌, Option, Some, None}
 use Rattle.std.specs.declared.cmp.Ordering.{Ordering}
+use Rattle.rw_vt.specs.Words.{Process}
 use Rattle.rw_vt.specs.declared.event.Event.{Event}
 use Rattle.rw_vt.specs.declared.event.Letter.{Letter}
 use Rattle.rw_vt.specs.declared.model.Model.{Ghosts}
@@ -12,25 +13,25 @@ use Rattle.rw_lp.specs.declared.undo_record.UndoRecord.{UndoRecord}
 -- a process of a model: its number, where it started, what it did, and where that led
 pub record Past (M S B : Type 0) : Type 0 where
   pub model : M
-  pub number : ℕ
+  pub number : Process
   pub start : S
   pub committed : List (Event B)
   pub processed : List (Event B)
   pub state : S
 
 -- e is valid in the model m, and goes to process p
-abbrev pub IsFor : {M S B U : Type 0} → Ghosts M S B U → M → ℕ → Event B → Type 0
+abbrev pub IsFor : {M S B U : Type 0} → Ghosts M S B U → M → Process → Event B → Type 0
 IsFor model m p e = (model.is_valid m e ≡ true) × (e.to ≡ p)
 
 -- the record takes back event e, which process p may execute in the state before
-pub record IsRecordOf {M S B U : Type 0} (model : Ghosts M S B U) (m : M) (p : ℕ) (before : S) (e : Event B) (r : UndoRecord B U) : Type 0 where
+pub record IsRecordOf {M S B U : Type 0} (model : Ghosts M S B U) (m : M) (p : Process) (before : S) (e : Event B) (r : UndoRecord B U) : Type 0 where
   pub valid : model.is_valid m e ≡ true
   pub here : e.to ≡ p
   pub sends : r.sends.items ≡ (model.step m p before e).1
   pub links : model.Links m p before e r.undo (model.step m p before e).0
 
 -- from the state s these events, each with its record, lead to the state t
-abbrev pub Leads : {M S B U : Type 0} → Ghosts M S B U → M → ℕ → S → List (Event B) → List (UndoRecord B U) → S → Type 0
+abbrev pub Leads : {M S B U : Type 0} → Ghosts M S B U → M → Process → S → List (Event B) → List (UndoRecord B U) → S → Type 0
 Leads model m p s [] [] t = t ≡ s
 Leads model m p s [] (r ∷ rs) t = ⊥
 Leads model m p s (e ∷ es) [] t = ⊥

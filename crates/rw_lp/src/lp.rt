@@ -5,7 +5,7 @@ ghost use Rattle.rw_vt.specs.declared.event.Event.{Event};
 ghost use Rattle.rw_vt.specs.declared.event.Letter.{Letter};
 ghost use Rattle.rw_vt.specs.declared.refusal.Refusal.TheVariants.{Memory};
 ghost use Rattle.rw_lp.specs.HeldMessages.{held_messages};
-ghost use Rattle.rw_lp.specs.Process.{Process, done, deliver, execute_next, undo_one, collect};
+ghost use Rattle.rw_lp.specs.Process.{ProcessState, done, deliver, execute_next, undo_one, collect};
 ghost use Rattle.rw_lp.specs.Calls.{LogicalProcess, process_of, rules, unstarted, MeetsNext, Took, came, least};
 ghost use Rattle.rw_lp.specs.Past.{AreFor, IsFor};
 ghost use Rattle.rw_lp.specs.Sound.{Change, IsSoundOnceCollected};

@@ -1,7 +1,7 @@
 -- A journal line by line.
 use Rattle.std.proofs.Common.{◌≡◌, ℕ, zero, suc, ◌+◌, ◌<◌, List, [], ◌∷◌, ◌++◌, sym, ◌∙◌, ap, arith, map, take, get_or, length, add-zero, append_assoc, append-nil}
 use Rattle.rw_vt.specs.System.{flatten, map_from}
-use Rattle.rw_lp.specs.Process.{Process}
+use Rattle.rw_lp.specs.Process.{ProcessState}
 use Rattle.rw_photo.specs.declared.body.Body.{Body}
 use Rattle.rw_photo.specs.Cache.{Cache}
 use Rattle.rw_world.specs.Sound.{committed_of}
@@ -26,11 +26,11 @@ module _ {A : Type 0} where
       ∙ sym (append_assoc (f k x) (flatten (map_from (k + 1) f (take n xs))) (f (k + suc n) (get_or xs n d)))
 
 -- what the processes have committed, the first having this number
-abbrev pub process_lines : ℕ → List (Process Cache Body) → List ℕ
+abbrev pub process_lines : ℕ → List (ProcessState Cache Body) → List ℕ
 process_lines k ps = flatten (map_from k (λ p x. event_lines p x.committed) ps)
 
 -- the lines of one process more
-pub processes-more : (k n : ℕ) (ps : List (Process Cache Body)) → n < length ps
+pub processes-more : (k n : ℕ) (ps : List (ProcessState Cache Body)) → n < length ps
     → process_lines k (take (suc n) ps) ≡ process_lines k (take n ps) ++ event_lines (k + n) (committed_of ps n)
 processes-more k n [] l = absurd (omega arith)
 processes-more k zero (x ∷ ps) l = rw add-zero (append-nil (event_lines k x.committed))

@@ -5,7 +5,7 @@ use Rattle.std.proofs.lemmas.Bool.{cases_eq, ne_eqb}
 use Rattle.std.proofs.lemmas.List.{get_or-set_same, get_or-set_other}
 use Rattle.rw_vt.specs.declared.event.Letter.{Letter}
 use Rattle.rw_vt.specs.System.{System}
-use Rattle.rw_lp.specs.Process.{Process}
+use Rattle.rw_lp.specs.Process.{ProcessState}
 use Rattle.rw_lp.specs.Calls.{LogicalProcess}
 use Rattle.rw_exchange.specs.Ports.{PortState, SamePort, sent_to, free_to, received_from, having_sent, having_received}
 use Rattle.rw_board.specs.Seats.{having_noted}
@@ -16,7 +16,7 @@ use Rattle.rw_rounds.specs.Working.{Works}
 use Rattle.rw_rounds.proofs.Sums.{total_same, total_add, total_zero, weigh-append, every_append, at_only, at_here, at_other, weigh_at}
 
 module _ {S B : Type 0} (y : System S B) (g : ℕ) where
-  pub goes_append : (ds es : List (Deed B)) (a b c : ℕ → Option (Process S B)) (given more : List (Letter B)) → Goes y g ds a b given → Goes y g es b c more → Goes y g (ds ++ es) a c (given ++ more)
+  pub goes_append : (ds es : List (Deed B)) (a b c : ℕ → Option (ProcessState S B)) (given more : List (Letter B)) → Goes y g ds a b given → Goes y g es b c more → Goes y g (ds ++ es) a c (given ++ more)
   goes_append [] es a b c given more x z = subst (λ u. Goes y g es u c (given ++ more)) x.0 (subst (λ ls. Goes y g es b c ls) (sym (ap (λ l. l ++ more) x.1)) z)
   goes_append (d ∷ ds) es a b c given more x z = (x.0, x.1, x.2 ++ more, x.3, goes_append ds es x.0 b c x.2 more x.4 z, ap (λ l. l ++ more) x.5 ∙ append_assoc x.1 x.2 more)
 

@@ -8,7 +8,7 @@ use Rattle.std.proofs.lemmas.List.Elements.{All-nil}
 use Rattle.std.proofs.lemmas.Option.{slice_get-map}
 use Rattle.rw_vt.specs.declared.model.Model.{Ghosts}
 use Rattle.rw_vt.specs.System.{IsReady}
-use Rattle.rw_lp.specs.Process.{Process}
+use Rattle.rw_lp.specs.Process.{ProcessState}
 use Rattle.rw_lp.specs.Calls.{LogicalProcess, rules}
 use Rattle.rw_lp.specs.Sound.{SoundAt}
 use Rattle.rw_world.specs.declared.parts.Parts.{Parts}
@@ -46,10 +46,10 @@ module _ {M S B U : Type 0} {model : Ghosts M S B U} {order : B → B → Orderi
       sym a ∙ sym b ∙ c ∙ whole.ready.enough
 
   -- each process of the world is sound, and started so
-  pub sound_there : (q : ℕ) (u : Process S B) → slice_get (world_of x).processes q ≡ Some u → SoundAt (rules model order x.model) x.collected q u
+  pub sound_there : (q : ℕ) (u : ProcessState S B) → slice_get (world_of x).processes q ≡ Some u → SoundAt (rules model order x.model) x.collected q u
   sound_there q u at = sound_among model order x.model x.starts.value.items [] x.initial.value.items [] x.collected q u (whole.sound.each q u at)
 
-  pub started_there : (q : ℕ) (u : Process S B) → slice_get (world_of x).processes q ≡ Some u → Started q u.start
+  pub started_there : (q : ℕ) (u : ProcessState S B) → slice_get (world_of x).processes q ≡ Some u → Started q u.start
   started_there q u at = ap (λ ss. slice_get ss q) (sym whole.sound.starts) ∙ slice_get-map (λ v. v.start) (world_of x).processes q ∙ ap (option_map (λ v. v.start)) at
 
   module _ (plan : Plan) (i : ℕ) (below : i < plan.workers) (a : WorkerState M S B) (begins : Begins x.processes.items x.letters.items (role plan x.collected i) a) where
@@ -70,7 +70,7 @@ module _ {M S B U : Type 0} {model : Ghosts M S B U} {order : B → B → Orderi
         }
 
     -- seen by numbers, the worker has its processes of the world
-    pub begun_there : (q : ℕ) (u : Process S B) → process_at (role plan x.collected i) a.processes q ≡ Some u → slice_get (world_of x).processes q ≡ Some u
+    pub begun_there : (q : ℕ) (u : ProcessState S B) → process_at (role plan x.collected i) a.processes q ≡ Some u → slice_get (world_of x).processes q ≡ Some u
     begun_there q u h =
         let f = place_of (role plan x.collected i) a.processes q u h in
         let number : i + (q / plan.workers) * plan.workers ≡ q = number_of (role plan x.collected i) q below f.3 in

@@ -4,7 +4,7 @@ use Rattle.std.specs.Prelude.{◌⊎◌, ◌/◌, ◌%◌, ◌==◌, slice_get, 
 use Rattle.std.specs.Option.{option_map}
 use Rattle.std.proofs.lemmas.Bool.{cases_eq, eq-eqb, ne_eqb}
 use Rattle.std.proofs.lemmas.Nat.{same_from_place}
-use Rattle.rw_lp.specs.Process.{Process}
+use Rattle.rw_lp.specs.Process.{ProcessState}
 use Rattle.rw_lp.specs.Calls.{LogicalProcess}
 use Rattle.rw_rounds.specs.Turns.{Role, process_at}
 
@@ -39,7 +39,7 @@ module _ {M S B : Type 0} (r : Role) (xs : List (LogicalProcess M S B)) where
       ∙ ap (option_map (λ l. l.process)) there
 
   -- and each process that the worker has stands there
-  pub place_of : (q : ℕ) (x : Process S B) → process_at r xs q ≡ Some x → (l : LogicalProcess M S B) × (slice_get xs (q / r.plan.workers) ≡ Some l) × (l.process ≡ x) × (q % r.plan.workers ≡ r.number)
+  pub place_of : (q : ℕ) (x : ProcessState S B) → process_at r xs q ≡ Some x → (l : LogicalProcess M S B) × (slice_get xs (q / r.plan.workers) ≡ Some l) × (l.process ≡ x) × (q % r.plan.workers ≡ r.number)
   place_of q x h = go (cases_eq (q % r.plan.workers) r.number)
     where
       some : (o : Option (LogicalProcess M S B)) → slice_get xs (q / r.plan.workers) ≡ o → option_map (λ l. l.process) o ≡ Some x → q % r.plan.workers ≡ r.number → (l : LogicalProcess M S B) × (slice_get xs (q / r.plan.workers) ≡ Some l) × (l.process ≡ x) × (q % r.plan.workers ≡ r.number)

@@ -10,7 +10,7 @@ use Rattle.rw_vt.specs.System.{System, after, below, map_from, IsOutcome, IsRead
 use Rattle.rw_vt.proofs.Bags.{Each-append, filter_all, filter_none}
 use Rattle.rw_vt.proofs.Runs.{IsLawful}
 use Rattle.rw_vt.proofs.Laws.{lawful}
-use Rattle.rw_lp.specs.Process.{Process, done}
+use Rattle.rw_lp.specs.Process.{ProcessState, done}
 use Rattle.rw_lp.specs.Sound.{Stands, SoundAt}
 use Rattle.rw_world.specs.WorldState.{WorldState, floor}
 use Rattle.rw_world.specs.Sound.{Sound, IsInOrder, part}
@@ -27,7 +27,7 @@ by_starts {X = X} start f g k (x ∷ xs) h =
 
 module _ {S B : Type 0} (y : System S B) {WellFormed : ℕ → S → Type 0} (law : IsLawful y WellFormed) (w : WorldState S B) (sound : Sound y w) (ordered : IsInOrder y w) (floored : 2 ^ 40 ≤ floor w) (collected : 2 ^ 40 ≤ w.collected) where
   -- no event is at the end or after, and none before it is left uncommitted
-  all_committed : (q : ℕ) (x : Process S B) → SoundAt y w.collected q x → x.committed ≡ done x
+  all_committed : (q : ℕ) (x : ProcessState S B) → SoundAt y w.collected q x → x.committed ≡ done x
   all_committed q x at =
       let p : Event B → Bool = λ e. nat_lt e.time (2 ^ 40) in
       let all : filter p x.processed ≡ x.processed = filter_all law.exact p x.processed (λ e k. lt-ltb e.time (2 ^ 40) (law.inside e (at.processed_stand e k).valid).time) in
@@ -35,7 +35,7 @@ module _ {S B : Type 0} (y : System S B) {WellFormed : ℕ → S → Type 0} (la
       sym (append-nil x.committed) ∙ ap (λ l. x.committed ++ l) (sym none ∙ all)
 
   -- what is done is done in order
-  done_in_order : (q : ℕ) (x : Process S B) → slice_get w.processes q ≡ Some x → done x ≡ below y (2 ^ 40) q
+  done_in_order : (q : ℕ) (x : ProcessState S B) → slice_get w.processes q ≡ Some x → done x ≡ below y (2 ^ 40) q
   done_in_order q x there =
       let at : SoundAt y w.collected q x = sound.each q x there in
       let p : Event B → Bool = λ e. nat_lt e.time (2 ^ 40) in
@@ -43,13 +43,13 @@ module _ {S B : Type 0} (y : System S B) {WellFormed : ℕ → S → Type 0} (la
       let all : filter p (done x) ≡ done x = filter_all law.exact p (done x) (λ e k. lt-ltb e.time (2 ^ 40) (law.inside e (stands e k).valid).time) in
       sym all ∙ ap (λ o. filter p (part done o)) (sym there) ∙ ordered.before_floor (2 ^ 40) q floored
 
-  committed_in_order : (q : ℕ) (x : Process S B) → slice_get w.processes q ≡ Some x → x.committed ≡ below y (2 ^ 40) q
+  committed_in_order : (q : ℕ) (x : ProcessState S B) → slice_get w.processes q ≡ Some x → x.committed ≡ below y (2 ^ 40) q
   committed_in_order q x there = all_committed q x (sound.each q x there) ∙ done_in_order q x there
 
-  state_in_order : (q : ℕ) (x : Process S B) → slice_get w.processes q ≡ Some x → x.state ≡ after (y.step q) x.start (below y (2 ^ 40) q)
+  state_in_order : (q : ℕ) (x : ProcessState S B) → slice_get w.processes q ≡ Some x → x.state ≡ after (y.step q) x.start (below y (2 ^ 40) q)
   state_in_order q x there = (sound.each q x there).state ∙ ap (λ es. after (y.step q) x.start es) (done_in_order q x there)
 
-  at_place : (i j : ℕ) (x : Process S B) → slice_get w.processes i ≡ Some x → j ≡ 0 + i → slice_get w.processes j ≡ Some x
+  at_place : (i j : ℕ) (x : ProcessState S B) → slice_get w.processes i ≡ Some x → j ≡ 0 + i → slice_get w.processes j ≡ Some x
   at_place i j x there q = let same : j ≡ i = omega arith in ap (slice_get w.processes) same ∙ there
 
   pub ended : IsOutcome y (2 ^ 40) (map (λ x. x.committed) w.processes) (map (λ x. x.state) w.processes)

@@ -13,7 +13,7 @@ use Rattle.rw_vt.proofs.Runs.{outs-append}
 use Rattle.rw_lp.specs.declared.held.Held.{Held}
 use Rattle.rw_lp.specs.declared.step.StepFault.TheVariants.{StillDone}
 use Rattle.rw_lp.specs.HeldMessages.{held_with, held_without}
-use Rattle.rw_lp.specs.Process.{Process, done, Turn, Turned, Stays, split_last, undo_last, undo_one, with_bags, annihilate, deliver_message, deliver_anti, deliver, execute_next, execute_least, execute_event, executed, is_less_than_last}
+use Rattle.rw_lp.specs.Process.{ProcessState, done, Turn, Turned, Stays, split_last, undo_last, undo_one, with_bags, annihilate, deliver_message, deliver_anti, deliver, execute_next, execute_least, execute_event, executed, is_less_than_last}
 use Rattle.rw_lp.specs.Calls.{LogicalProcess}
 use Rattle.rw_lp.specs.Arrival.{with_out, and_undo, undo_times, Arrived}
 use Rattle.rw_lp.proofs.Splits.{IsSplit, split_is}
@@ -33,15 +33,15 @@ held_parts cmp e (h ∷ hs) = go (is_eq (cmp h.undone e)) (held_parts cmp e hs)
 
 module _ {S B : Type 0} (y : System S B) (p : ℕ) where
   -- the done events of a process, what they sent, and what is held
-  abbrev pub work : Process S B → ℕ
+  abbrev pub work : ProcessState S B → ℕ
   work x = length (done x) + length (outs (y.step p) x.start (done x)) + length x.held
 
   -- a turn loses what it gives out, and no event is done by it
-  abbrev pub Falls : Process S B → Turn S B → Type 0
+  abbrev pub Falls : ProcessState S B → Turn S B → Type 0
   Falls x (Stays f) = Unit {0}
   Falls x (Turned z out) = (work z + length out ≤ work x) × (length (done z) ≤ length (done x))
 
-  pub undo_falls : (x : Process S B) → Falls x (undo_one y p x)
+  pub undo_falls : (x : ProcessState S B) → Falls x (undo_one y p x)
   undo_falls x = go (split_last x.processed) (split_is x.processed)
     where
       go : (o : Option (List (Event B) × Event B)) → IsSplit x.processed o → Falls x (undo_last y p x o)
@@ -56,7 +56,7 @@ module _ {S B : Type 0} (y : System S B) (p : ℕ) where
           let ls : length (letters_of true sends) ≡ length sends = length-letters true sends in
           ((omega arith), (omega arith))
 
-  pub deliver_falls : (l : Letter B) (x : Process S B) → Falls x (deliver y.order l x)
+  pub deliver_falls : (l : Letter B) (x : ProcessState S B) → Falls x (deliver y.order l x)
   deliver_falls l x = go l.anti
     where
       still : (ps ds : List (Event B)) → Falls x (Turned (with_bags x ps ds x.held) [])
@@ -82,26 +82,26 @@ module _ {S B : Type 0} (y : System S B) (p : ℕ) where
       go true = anti (has y.order l.event x.pending) (has y.order l.event x.processed)
       go false = message (has y.order l.event x.debts)
 
-  falls_out : (x z : Process S B) (out : List (Letter B)) → Falls x (Turned z out) → (t : Turn S B) → Falls z t → Falls x (with_out out t)
+  falls_out : (x z : ProcessState S B) (out : List (Letter B)) → Falls x (Turned z out) → (t : Turn S B) → Falls z t → Falls x (with_out out t)
   falls_out x z out a (Stays f) b = tt
   falls_out x z out a (Turned u more) b = ((omega (arith, a.0, b.0, length-append out more)), (omega (arith, a.1, b.1)))
 
-  falls_and : (x : Process S B) (t : Turn S B) → Falls x t → Falls x (and_undo y p t)
+  falls_and : (x : ProcessState S B) (t : Turn S B) → Falls x t → Falls x (and_undo y p t)
   falls_and x (Stays f) a = tt
   falls_and x (Turned z out) a = falls_out x z out a (undo_one y p z) (undo_falls z)
 
-  undoings_fall : (k : ℕ) (x : Process S B) → Falls x (undo_times y p k x)
+  undoings_fall : (k : ℕ) (x : ProcessState S B) → Falls x (undo_times y p k x)
   undoings_fall zero x = ((omega arith), (omega arith))
   undoings_fall (suc k) x = falls_and x (undo_times y p k x) (undoings_fall k x)
 
-  pub arrival_falls : (l : Letter B) (x z : Process S B) (given : List (Letter B)) → Arrived y p l x z given → (work z + length given ≤ work x) × (length (done z) ≤ length (done x))
+  pub arrival_falls : (l : Letter B) (x z : ProcessState S B) (given : List (Letter B)) → Arrived y p l x z given → (work z + length given ≤ work x) × (length (done z) ≤ length (done x))
   arrival_falls l x z given a =
       let first = subst (Falls x) a.undone (undoings_fall a.count x) in
       let then_ = subst (Falls a.between) a.delivered (deliver_falls l a.between) in
       let n : length given ≡ length a.unsent + length a.rest = ap length a.all ∙ length-append a.unsent a.rest in
       ((omega (arith, first.0, then_.0)), (omega (arith, first.1, then_.1)))
 
-  pub execute_counts : (x z : Process S B) (out : List (Letter B)) → execute_next y p x ≡ Turned z out → length (done z) ≡ length (done x) + 1
+  pub execute_counts : (x z : ProcessState S B) (out : List (Letter B)) → execute_next y p x ≡ Turned z out → length (done z) ≡ length (done x) + 1
   execute_counts x z out h = go x.pending h
     where
       more : (e : Event B) (rest : List (Event B)) (left : List (Held B)) → executed y p x e rest left ≡ z → length (done z) ≡ length (done x) + 1
@@ -115,7 +115,7 @@ module _ {S B : Type 0} (y : System S B) (p : ℕ) where
       go [] k = cc
       go (e ∷ rest) k = late (is_less_than_last y.order e (split_last (done x))) e rest (Rattle.rw_lp.specs.HeldMessages.unheld y.order (y.step p x.state e).1 x.held) k
 
-  pub undo_counts : (x z : Process S B) (out : List (Letter B)) → undo_one y p x ≡ Turned z out → length (done z) + 1 ≡ length (done x)
+  pub undo_counts : (x z : ProcessState S B) (out : List (Letter B)) → undo_one y p x ≡ Turned z out → length (done z) + 1 ≡ length (done x)
   undo_counts x z out h = go (split_last x.processed) (split_is x.processed) h
     where
       go : (o : Option (List (Event B) × Event B)) → IsSplit x.processed o → undo_last y p x o ≡ Turned z out → length (done z) + 1 ≡ length (done x)

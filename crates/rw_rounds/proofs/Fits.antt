@@ -6,7 +6,7 @@ use Rattle.std.proofs.lemmas.Bool.{eqb-true, eq-eqb}
 use Rattle.rw_vt.specs.declared.event.Letter.{Letter}
 use Rattle.rw_vt.specs.declared.model.Model.{Ghosts}
 use Rattle.rw_vt.specs.Order.{event_cmp}
-use Rattle.rw_lp.specs.Process.{Process}
+use Rattle.rw_lp.specs.Process.{ProcessState}
 use Rattle.rw_lp.specs.Calls.{LogicalProcess, rules}
 use Rattle.rw_lp.specs.Sound.{SoundAt, HasCollected, IsSoundOnceCollected}
 use Rattle.rw_exchange.specs.Ports.{IsWide}
@@ -49,7 +49,7 @@ module _ {B : Type 0} (r : Role) where
       go false k = omega arith
 
 -- what is sound has collected
-pub collected_of : {M S B U : Type 0} (model : Ghosts M S B U) (order : B → B → Ordering) (m : M) (g p : ℕ) (x : Process S B) → SoundAt (rules model order m) g p x → HasCollected (event_cmp order) g x
+pub collected_of : {M S B U : Type 0} (model : Ghosts M S B U) (order : B → B → Ordering) (m : M) (g p : ℕ) (x : ProcessState S B) → SoundAt (rules model order m) g p x → HasCollected (event_cmp order) g x
 collected_of model order m g p x s = record { committed = s.committed_below; processed = s.processed_from; pending = s.pending_from; debts = s.debts_from }
 
 -- as every process is sound once it has collected, so are those of a worker that is fit
@@ -64,7 +64,7 @@ module _ {M S B U : Type 0} {model : Ghosts M S B U} {order : B → B → Orderi
   pub well_of : (a : WorkerState M S B) (up : IsFitAndSound model order m a) → Well (rules model order m) (λ p s. slice_get up.fit.starts p ≡ Some s) a.role.collected (process_at a.role a.processes)
   well_of a up = record { sound = λ q x h. (go q x (place_of a.role a.processes q x h)).0; started = λ q x h. (go q x (place_of a.role a.processes q x h)).1 }
     where
-      go : (q : ℕ) (x : Process S B) → (l : LogicalProcess M S B) × (slice_get a.processes (q / a.role.plan.workers) ≡ Some l) × (l.process ≡ x) × (q % a.role.plan.workers ≡ a.role.number) → SoundAt (rules model order m) a.role.collected q x × (slice_get up.fit.starts q ≡ Some x.start)
+      go : (q : ℕ) (x : ProcessState S B) → (l : LogicalProcess M S B) × (slice_get a.processes (q / a.role.plan.workers) ≡ Some l) × (l.process ≡ x) × (q % a.role.plan.workers ≡ a.role.number) → SoundAt (rules model order m) a.role.collected q x × (slice_get up.fit.starts q ≡ Some x.start)
       go q x f =
           let s = up.fit.in_place (q / a.role.plan.workers) f.0 f.1 in
           let n : a.role.plan.workers * (q / a.role.plan.workers) + q % a.role.plan.workers ≡ q = (let z : a.role.number < a.role.plan.workers = up.fit.number in omega arith) in

@@ -5,7 +5,7 @@ use Rattle.rw_vt.specs.declared.event.Letter.{Letter}
 use Rattle.rw_vt.specs.System.{System}
 use Rattle.rw_vt.proofs.Letters.{count-letter}
 use Rattle.rw_vt.proofs.Bags.{one_if-itself}
-use Rattle.rw_lp.specs.Process.{Process, execute_next, undo_one}
+use Rattle.rw_lp.specs.Process.{ProcessState, execute_next, undo_one}
 use Rattle.rw_lp.specs.Sound.{SoundAt, SoundLetters, Kept}
 use Rattle.rw_rounds.specs.Bags.{weigh, Every, total}
 use Rattle.rw_rounds.specs.Deeds.{Deed, Arrival, Undoing, Execution, Stepped, IsFair, Did, Goes, arrivals}
@@ -14,19 +14,19 @@ use Rattle.rw_rounds.proofs.Keeping.{kept_more, kept_none, kept_of, arrival_keep
 use Rattle.rw_rounds.proofs.Sums.{total_same, total_add, total_zero, weigh-append, every_append, at_only, at_here, at_other, weigh_at}
 
 -- process q, if it is there, kept its balance of letters
-abbrev pub KeptAt : {S B : Type 0} → System S B → ℕ → ℕ → Option (Process S B) → Option (Process S B) → List (Letter B) → List (Letter B) → Type 0
+abbrev pub KeptAt : {S B : Type 0} → System S B → ℕ → ℕ → Option (ProcessState S B) → Option (ProcessState S B) → List (Letter B) → List (Letter B) → Type 0
 KeptAt y g q (Some x) (Some z) came out = Kept y g q x z came out
 KeptAt y g q None None came out = Unit {0}
 KeptAt y g q (Some x) None came out = ⊥
 KeptAt y g q None (Some z) came out = ⊥
 
 -- each process that is there is sound, and started so
-pub record Well {S B : Type 0} (y : System S B) (Started : ℕ → S → Type 0) (g : ℕ) (a : ℕ → Option (Process S B)) : Type 0 where
-  pub sound : (q : ℕ) (x : Process S B) → a q ≡ Some x → SoundAt y g q x
-  pub started : (q : ℕ) (x : Process S B) → a q ≡ Some x → Started q x.start
+pub record Well {S B : Type 0} (y : System S B) (Started : ℕ → S → Type 0) (g : ℕ) (a : ℕ → Option (ProcessState S B)) : Type 0 where
+  pub sound : (q : ℕ) (x : ProcessState S B) → a q ≡ Some x → SoundAt y g q x
+  pub started : (q : ℕ) (x : ProcessState S B) → a q ≡ Some x → Started q x.start
 
 -- from a to b these letters arrived and those were given out, each at its process
-pub record Gone {S B : Type 0} (y : System S B) (g n : ℕ) (a b : ℕ → Option (Process S B)) (arrived given : List (Letter B)) : Type 0 where
+pub record Gone {S B : Type 0} (y : System S B) (g n : ℕ) (a b : ℕ → Option (ProcessState S B)) (arrived given : List (Letter B)) : Type 0 where
   pub came : ℕ → List (Letter B)
   pub out : ℕ → List (Letter B)
   pub kept : (q : ℕ) → KeptAt y g q (a q) (b q) (came q) (out q)
@@ -47,7 +47,7 @@ module _ {S B : Type 0} (y : System S B) {Started : ℕ → S → Type 0} (g n :
         fair_letters ls (record { valid = λ e k. s.valid e (let c = count-letter y.order e l ls in omega arith); from = λ e k. s.from e (let c = count-letter y.order e l ls in omega arith) }),
       )
 
-  pub gone_none : (a : ℕ → Option (Process S B)) → Well y Started g a → Gone y g n a a [] []
+  pub gone_none : (a : ℕ → Option (ProcessState S B)) → Well y Started g a → Gone y g n a a [] []
   gone_none a well = record {
     came = λ q. [];
     out = λ q. [];
@@ -59,12 +59,12 @@ module _ {S B : Type 0} (y : System S B) {Started : ℕ → S → Type 0} (g n :
     fair = tt;
   }
     where
-      go : (q : ℕ) (o : Option (Process S B)) → a q ≡ o → KeptAt y g q o o [] []
+      go : (q : ℕ) (o : Option (ProcessState S B)) → a q ≡ o → KeptAt y g q o o [] []
       go q None h = tt
       go q (Some x) h = kept_none y g q x (well.sound q x h)
 
   -- one process steps
-  gone_one : (a b : ℕ → Option (Process S B)) (p : ℕ) (By : Process S B → Process S B → List (Letter B) → Type 0) (x z : Process S B) (came out : List (Letter B)) → Well y Started g a → Stepped p By a b x z out → Kept y g p x z came out → Every (λ l. l.event.to ≡ p) came → Gone y g n a b came out
+  gone_one : (a b : ℕ → Option (ProcessState S B)) (p : ℕ) (By : ProcessState S B → ProcessState S B → List (Letter B) → Type 0) (x z : ProcessState S B) (came out : List (Letter B)) → Well y Started g a → Stepped p By a b x z out → Kept y g p x z came out → Every (λ l. l.event.to ≡ p) came → Gone y g n a b came out
   gone_one a b p By x z came out well s kept here = record {
     came = at_only p came;
     out = at_only p out;
@@ -88,7 +88,7 @@ module _ {S B : Type 0} (y : System S B) {Started : ℕ → S → Type 0} (g n :
       kept_here : (q : ℕ) → q ≡ p → KeptAt y g q (a q) (b q) (at_only p came q) (at_only p out q)
       kept_here q k = subst (λ r. KeptAt y g r (a r) (b r) (at_only p came r) (at_only p out r)) (sym k) at_p
 
-      stays : (q : ℕ) (o : Option (Process S B)) → a q ≡ o → KeptAt y g q o o [] []
+      stays : (q : ℕ) (o : Option (ProcessState S B)) → a q ≡ o → KeptAt y g q o o [] []
       stays q None h = tt
       stays q (Some u) h = kept_none y g q u (well.sound q u h)
 
@@ -104,7 +104,7 @@ module _ {S B : Type 0} (y : System S B) {Started : ℕ → S → Type 0} (g n :
       none_here : (q : ℕ) → (q ≡ p → ⊥) → Every (λ l. l.event.to ≡ q) (at_only p came q)
       none_here q k = subst (λ ls. Every (λ l. l.event.to ≡ q) ls) (sym (at_other p q came k)) tt
 
-  kept_both : (q : ℕ) (o u v : Option (Process S B)) (came out came' out' : List (Letter B)) → KeptAt y g q o u came out → KeptAt y g q u v came' out' → KeptAt y g q o v (came ++ came') (out ++ out')
+  kept_both : (q : ℕ) (o u v : Option (ProcessState S B)) (came out came' out' : List (Letter B)) → KeptAt y g q o u came out → KeptAt y g q u v came' out' → KeptAt y g q o v (came ++ came') (out ++ out')
   kept_both q (Some x) (Some z) (Some w) came out came' out' a b = kept_more y g q x z w came out came' out' a b
   kept_both q None None None came out came' out' a b = tt
   kept_both q None (Some z) v came out came' out' a b = absurd a
@@ -112,12 +112,12 @@ module _ {S B : Type 0} (y : System S B) {Started : ℕ → S → Type 0} (g n :
   kept_both q (Some x) (Some z) None came out came' out' a b = absurd b
   kept_both q None None (Some w) came out came' out' a b = absurd b
 
-  none_after : (q : ℕ) (o u : Option (Process S B)) (came out : List (Letter B)) → KeptAt y g q o u came out → o ≡ None → u ≡ None
+  none_after : (q : ℕ) (o u : Option (ProcessState S B)) (came out : List (Letter B)) → KeptAt y g q o u came out → o ≡ None → u ≡ None
   none_after q None None came out k h = refl
   none_after q None (Some z) came out k h = absurd k
   none_after q (Some x) u came out k h = cc
 
-  pub gone_more : (a b c : ℕ → Option (Process S B)) (arrived given arrived' given' : List (Letter B)) → Gone y g n a b arrived given → Gone y g n b c arrived' given' → Gone y g n a c (arrived ++ arrived') (given ++ given')
+  pub gone_more : (a b c : ℕ → Option (ProcessState S B)) (arrived given arrived' given' : List (Letter B)) → Gone y g n a b arrived given → Gone y g n b c arrived' given' → Gone y g n a c (arrived ++ arrived') (given ++ given')
   gone_more a b c arrived given arrived' given' x z = record {
     came = λ q. x.came q ++ z.came q;
     out = λ q. x.out q ++ z.out q;
@@ -138,13 +138,13 @@ module _ {S B : Type 0} (y : System S B) {Started : ℕ → S → Type 0} (g n :
     fair = every_append (IsFair y g) given given' x.fair z.fair;
   }
 
-  pub well_after : (a b : ℕ → Option (Process S B)) (arrived given : List (Letter B)) → Well y Started g a → Gone y g n a b arrived given → Well y Started g b
+  pub well_after : (a b : ℕ → Option (ProcessState S B)) (arrived given : List (Letter B)) → Well y Started g a → Gone y g n a b arrived given → Well y Started g b
   well_after a b arrived given well x = record {
     sound = λ q z h. (go q z (a q) (b q) refl h (x.kept q)).0;
     started = λ q z h. (go q z (a q) (b q) refl h (x.kept q)).1;
   }
     where
-      go : (q : ℕ) (z : Process S B) (o u : Option (Process S B)) → a q ≡ o → u ≡ Some z → KeptAt y g q o u (x.came q) (x.out q) → SoundAt y g q z × Started q z.start
+      go : (q : ℕ) (z : ProcessState S B) (o u : Option (ProcessState S B)) → a q ≡ o → u ≡ Some z → KeptAt y g q o u (x.came q) (x.out q) → SoundAt y g q z × Started q z.start
       go q z (Some w) (Some v) h k t =
           let is : v ≡ z = cc in
           (subst (SoundAt y g q) is t.sound, subst (Started q) (sym t.change.start ∙ ap (λ r. r.start) is) (well.started q w h))
@@ -152,7 +152,7 @@ module _ {S B : Type 0} (y : System S B) {Started : ℕ → S → Type 0} (g n :
       go q z (Some w) None h k t = absurd t
       go q z None (Some v) h k t = absurd t
 
-  did_gone : (d : Deed B) (a b : ℕ → Option (Process S B)) (out : List (Letter B)) → Well y Started g a → Did y g d a b out → Gone y g n a b (arrivals (d ∷ [])) out
+  did_gone : (d : Deed B) (a b : ℕ → Option (ProcessState S B)) (out : List (Letter B)) → Well y Started g a → Did y g d a b out → Gone y g n a b (arrivals (d ∷ [])) out
   did_gone (Arrival l) a b out well d =
       let p : ℕ = l.event.to in
       let x = d.0 in let z = d.1 in let s = d.2 in
@@ -171,7 +171,7 @@ module _ {S B : Type 0} (y : System S B) {Started : ℕ → S → Type 0} (g n :
   arrivals_more (Undoing p) ds = refl
   arrivals_more (Execution p) ds = refl
 
-  pub goes_gone : (ds : List (Deed B)) (a b : ℕ → Option (Process S B)) (given : List (Letter B)) → Well y Started g a → Goes y g ds a b given → Gone y g n a b (arrivals ds) given
+  pub goes_gone : (ds : List (Deed B)) (a b : ℕ → Option (ProcessState S B)) (given : List (Letter B)) → Well y Started g a → Goes y g ds a b given → Gone y g n a b (arrivals ds) given
   goes_gone [] a b given well go = subst (λ c. Gone y g n a c [] given) (sym go.0) (subst (λ ls. Gone y g n a a [] ls) (sym go.1) (gone_none a well))
   goes_gone (d ∷ ds) a b given well go =
       let c = go.0 in

@@ -15,7 +15,7 @@ use Rattle.rw_vt.specs.System.{System, system, IsReady}
 use Rattle.rw_vt.proofs.Sorting.{IsExactOrder}
 use Rattle.rw_vt.proofs.Runs.{IsLawful}
 use Rattle.rw_vt.proofs.Laws.{lawful}
-use Rattle.rw_lp.specs.Process.{Process, Turn, Turned, Stays, execute_least, execute_next, split_last, undo_last, undo_one, deliver}
+use Rattle.rw_lp.specs.Process.{ProcessState, Turn, Turned, Stays, execute_least, execute_next, split_last, undo_last, undo_one, deliver}
 use Rattle.rw_lp.specs.Calls.{rules}
 use Rattle.rw_lp.specs.Sound.{Stands, IsHeldFor, SoundAt, Keeps}
 use Rattle.rw_lp.proofs.Turns.{execute_keeps, undo_keeps, deliver_keeps}
@@ -34,20 +34,20 @@ pub record Governs {S B : Type 0} (y : System S B) (Started : ℕ → S → Type
   pub exact : IsExactOrder y.order
   pub by_time : (e f : Event B) → AtMost y.order e f → e.time ≤ f.time
   pub in_range : (p : ℕ) (s : S) → Started p s → p < n
-  pub executes : (p : ℕ) (x : Process S B) → Started p x.start → SoundAt y g p x → Keeps y g p x [] (execute_next y p x)
-  pub undoes : (p : ℕ) (x : Process S B) → Started p x.start → SoundAt y g p x → Keeps y g p x [] (undo_one y p x)
-  pub delivers : (p : ℕ) (x : Process S B) (l : Letter B) → Started p x.start → SoundAt y g p x → Stands y p l.event → g ≤ l.event.time → Keeps y g p x (l ∷ []) (deliver y.order l x)
+  pub executes : (p : ℕ) (x : ProcessState S B) → Started p x.start → SoundAt y g p x → Keeps y g p x [] (execute_next y p x)
+  pub undoes : (p : ℕ) (x : ProcessState S B) → Started p x.start → SoundAt y g p x → Keeps y g p x [] (undo_one y p x)
+  pub delivers : (p : ℕ) (x : ProcessState S B) (l : Letter B) → Started p x.start → SoundAt y g p x → Stands y p l.event → g ≤ l.event.time → Keeps y g p x (l ∷ []) (deliver y.order l x)
 
 module _ {M S B U : Type 0} (model : Ghosts M S B U) (order : B → B → Ordering) (m : M) (starts : List S) where
   -- starts say nothing of a turn
-  execute_by_rules : (p : ℕ) (x : Process S B) → execute_next (system model order m starts []) p x ≡ execute_next (rules model order m) p x
+  execute_by_rules : (p : ℕ) (x : ProcessState S B) → execute_next (system model order m starts []) p x ≡ execute_next (rules model order m) p x
   execute_by_rules p x = go x.pending
     where
       go : (es : List (Event B)) → execute_least (system model order m starts []) p x es ≡ execute_least (rules model order m) p x es
       go [] = refl
       go (e ∷ es) = refl
 
-  undo_by_rules : (p : ℕ) (x : Process S B) → undo_one (system model order m starts []) p x ≡ undo_one (rules model order m) p x
+  undo_by_rules : (p : ℕ) (x : ProcessState S B) → undo_one (system model order m starts []) p x ≡ undo_one (rules model order m) p x
   undo_by_rules p x = go (split_last x.processed)
     where
       go : (o : Option (List (Event B) × Event B)) → undo_last (system model order m starts []) p x o ≡ undo_last (rules model order m) p x o
@@ -55,7 +55,7 @@ module _ {M S B U : Type 0} (model : Ghosts M S B U) (order : B → B → Orderi
       go (Some r) = refl
 
   -- nor of what is sound
-  sound_with : (g p : ℕ) (x : Process S B) → SoundAt (rules model order m) g p x → SoundAt (system model order m starts []) g p x
+  sound_with : (g p : ℕ) (x : ProcessState S B) → SoundAt (rules model order m) g p x → SoundAt (system model order m starts []) g p x
   sound_with g p x s = record {
     order = s.order;
     state = s.state;
@@ -72,7 +72,7 @@ module _ {M S B U : Type 0} (model : Ghosts M S B U) (order : B → B → Orderi
     held = All-weaker (λ h. IsHeldFor (rules model order m) x.pending h) (λ h. IsHeldFor (system model order m starts []) x.pending h) (λ h k. record { there = k.there; valid = k.valid; later = k.later }) x.held s.held;
   }
 
-  sound_without : (g p : ℕ) (x : Process S B) → SoundAt (system model order m starts []) g p x → SoundAt (rules model order m) g p x
+  sound_without : (g p : ℕ) (x : ProcessState S B) → SoundAt (system model order m starts []) g p x → SoundAt (rules model order m) g p x
   sound_without g p x s = record {
     order = s.order;
     state = s.state;
@@ -90,7 +90,7 @@ module _ {M S B U : Type 0} (model : Ghosts M S B U) (order : B → B → Orderi
   }
 
   -- nor of what a turn keeps
-  keeps_without : (g p : ℕ) (x : Process S B) (came : List (Letter B)) (t : Turn S B) → Keeps (system model order m starts []) g p x came t → Keeps (rules model order m) g p x came t
+  keeps_without : (g p : ℕ) (x : ProcessState S B) (came : List (Letter B)) (t : Turn S B) → Keeps (system model order m starts []) g p x came t → Keeps (rules model order m) g p x came t
   keeps_without g p x came (Stays fault) k = tt
   keeps_without g p x came (Turned z out) k = record {
     sound = sound_without g p z k.sound;

@@ -3,7 +3,7 @@ use Rattle.std.proofs.Common.{◌≡◌, ℕ, zero, suc, ◌≤◌, List, [], �
 use Rattle.rw_vt.specs.declared.event.Letter.{Letter}
 use Rattle.rw_vt.specs.System.{System}
 use Rattle.rw_vt.proofs.Letters.{messages-append, antis-append}
-use Rattle.rw_lp.specs.Process.{Process, Turn, Turned, Stays, undo_one, deliver}
+use Rattle.rw_lp.specs.Process.{ProcessState, Turn, Turned, Stays, undo_one, deliver}
 use Rattle.rw_lp.specs.Arrival.{with_out, and_undo, undo_times, Arrived}
 use Rattle.rw_lp.specs.Sound.{Stands, SoundAt, Kept, Keeps}
 use Rattle.rw_lp.proofs.GivenOut.{no_letters, letters_join}
@@ -11,7 +11,7 @@ use Rattle.rw_rounds.proofs.Governing.{Governs}
 
 module _ {S B : Type 0} (y : System S B) (g p : ℕ) where
   -- one turn after another
-  pub kept_more : (x z u : Process S B) (came out came' out' : List (Letter B)) → Kept y g p x z came out → Kept y g p z u came' out' → Kept y g p x u (came ++ came') (out ++ out')
+  pub kept_more : (x z u : ProcessState S B) (came out came' out' : List (Letter B)) → Kept y g p x z came out → Kept y g p z u came' out' → Kept y g p x u (came ++ came') (out ++ out')
   kept_more x z u came out came' out' a b = record {
     sound = b.sound;
     change = record {
@@ -22,26 +22,26 @@ module _ {S B : Type 0} (y : System S B) (g p : ℕ) where
     letters = letters_join y g out out' a.letters b.letters;
   }
 
-  pub kept_none : (x : Process S B) → SoundAt y g p x → Kept y g p x x [] []
+  pub kept_none : (x : ProcessState S B) → SoundAt y g p x → Kept y g p x x [] []
   kept_none x sound = record { sound = sound; change = record { start = refl; kept = λ e. refl; sent = λ e. refl }; letters = no_letters y g }
 
-  pub kept_of : (x z : Process S B) (came out : List (Letter B)) (t : Turn S B) → t ≡ Turned z out → Keeps y g p x came t → Kept y g p x z came out
+  pub kept_of : (x z : ProcessState S B) (came out : List (Letter B)) (t : Turn S B) → t ≡ Turned z out → Keeps y g p x came t → Kept y g p x z came out
   kept_of x z came out t q k = subst (Keeps y g p x came) q k
 
   module _ {Started : ℕ → S → Type 0} {n : ℕ} (rule : Governs y Started g n) where
-    then_keeps : (x z : Process S B) (out : List (Letter B)) → Kept y g p x z [] out → (t : Turn S B) → Keeps y g p z [] t → Keeps y g p x [] (with_out out t)
+    then_keeps : (x z : ProcessState S B) (out : List (Letter B)) → Kept y g p x z [] out → (t : Turn S B) → Keeps y g p z [] t → Keeps y g p x [] (with_out out t)
     then_keeps x z out a (Stays fault) k = tt
     then_keeps x z out a (Turned u more) k = kept_more x z u [] out [] more a k
 
-    and_keeps : (x : Process S B) → Started p x.start → (t : Turn S B) → Keeps y g p x [] t → Keeps y g p x [] (and_undo y p t)
+    and_keeps : (x : ProcessState S B) → Started p x.start → (t : Turn S B) → Keeps y g p x [] t → Keeps y g p x [] (and_undo y p t)
     and_keeps x started (Stays fault) k = tt
     and_keeps x started (Turned z out) k = then_keeps x z out k (undo_one y p z) (rule.undoes p z (subst (Started p) (sym k.change.start) started) k.sound)
 
-    undoings_keep : (k : ℕ) (x : Process S B) → Started p x.start → SoundAt y g p x → Keeps y g p x [] (undo_times y p k x)
+    undoings_keep : (k : ℕ) (x : ProcessState S B) → Started p x.start → SoundAt y g p x → Keeps y g p x [] (undo_times y p k x)
     undoings_keep zero x started sound = kept_none x sound
     undoings_keep (suc k) x started sound = and_keeps x started (undo_times y p k x) (undoings_keep k x started sound)
 
-    pub arrival_keeps : (x z : Process S B) (l : Letter B) (given : List (Letter B)) → Started p x.start → SoundAt y g p x → Stands y p l.event → g ≤ l.event.time → Arrived y p l x z given → Kept y g p x z (l ∷ []) given
+    pub arrival_keeps : (x z : ProcessState S B) (l : Letter B) (given : List (Letter B)) → Started p x.start → SoundAt y g p x → Stands y p l.event → g ≤ l.event.time → Arrived y p l x z given → Kept y g p x z (l ∷ []) given
     arrival_keeps x z l given started sound stands from a =
         let first : Kept y g p x a.between [] a.unsent = kept_of x a.between [] a.unsent (undo_times y p a.count x) a.undone (undoings_keep a.count x started sound) in
         let then_ : Kept y g p a.between z (l ∷ []) a.rest = kept_of a.between z (l ∷ []) a.rest (deliver y.order l a.between) a.delivered (rule.delivers p a.between l (subst (Started p) (sym first.change.start) started) first.sound stands from) in

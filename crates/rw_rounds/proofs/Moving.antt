@@ -12,7 +12,7 @@ use Rattle.rw_lp.specs.declared.step.Answer.{Answer}
 use Rattle.rw_lp.specs.declared.step.Answer.TheVariants.{Done, Refused}
 use Rattle.rw_lp.specs.declared.step.StepFault.TheVariants.{Straggler}
 use Rattle.rw_lp.specs.HeldMessages.{unheld}
-use Rattle.rw_lp.specs.Process.{Process, Turn, Turned, Stays, done, split_last, is_less_than_last, execute_event, execute_least, execute_next, undo_last, undo_one}
+use Rattle.rw_lp.specs.Process.{ProcessState, Turn, Turned, Stays, done, split_last, is_less_than_last, execute_event, execute_least, execute_next, undo_last, undo_one}
 use Rattle.rw_lp.specs.Calls.{LogicalProcess, rules, Took}
 use Rattle.rw_lp.specs.Sound.{HasCollected}
 use Rattle.rw_lp.proofs.Splits.{IsSplit, split_is}
@@ -20,12 +20,12 @@ use Rattle.rw_rounds.specs.Working.{Moved}
 
 module _ {S B : Type 0} (y : System S B) (p : ℕ) where
   -- where it was done, it was executed
-  pub taken : (x z : Process S B) (a : Answer) (given : List (Letter B)) (t : Turn S B) → a ≡ Done → Took x z a given t → t ≡ Turned z given
+  pub taken : (x z : ProcessState S B) (a : Answer) (given : List (Letter B)) (t : Turn S B) → a ≡ Done → Took x z a given t → t ≡ Turned z given
   taken x z a given (Turned after out) done k = ap (λ w. Turned w out) (sym k.0) ∙ ap (Turned z) (sym k.2)
   taken x z a given (Stays f) done k = let never : Done ≡ Refused f = sym done ∙ k.1 in cc
 
   -- where an event is pending it was refused as a straggler, and nothing changed
-  pub late : (x z : Process S B) (a : Answer) (given : List (Letter B)) → (x.pending ≡ [] → ⊥) → (a ≡ Done → ⊥) → Took x z a given (execute_next y p x) → (execute_next y p x ≡ Stays Straggler) × (z ≡ x) × (given ≡ [])
+  pub late : (x z : ProcessState S B) (a : Answer) (given : List (Letter B)) → (x.pending ≡ [] → ⊥) → (a ≡ Done → ⊥) → Took x z a given (execute_next y p x) → (execute_next y p x ≡ Stays Straggler) × (z ≡ x) × (given ≡ [])
   late x z a given some not_done took = go x.pending refl took
     where
       which : (b : Bool) (e : Event B) (rest : List (Event B)) → Took x z a given (cond b (Stays Straggler) (execute_event y p x e rest (unheld y.order (y.step p x.state e).1 x.held))) → (cond b (Stays Straggler) (execute_event y p x e rest (unheld y.order (y.step p x.state e).1 x.held)) ≡ Stays Straggler) × (z ≡ x) × (given ≡ [])
@@ -38,7 +38,7 @@ module _ {S B : Type 0} (y : System S B) (p : ℕ) where
 
   module _ (o : IsExactOrder y.order) (by_time : (e f : Event B) → AtMost y.order e f → e.time ≤ f.time) where
     -- what is next is a straggler only where something is processed
-    never_stuck : (g : ℕ) (x : Process S B) → HasCollected y.order g x → execute_next y p x ≡ Stays Straggler → x.processed ≡ [] → ⊥
+    never_stuck : (g : ℕ) (x : ProcessState S B) → HasCollected y.order g x → execute_next y p x ≡ Stays Straggler → x.processed ≡ [] → ⊥
     never_stuck g x collected refused none = execute x.pending refl refused
       where
         least : (e : Event B) (rest : List (Event B)) → x.pending ≡ e ∷ rest → (r : Option (List (Event B) × Event B)) → IsSplit x.committed r → is_less_than_last y.order e r ≡ true → ⊥
@@ -60,7 +60,7 @@ module _ {S B : Type 0} (y : System S B) (p : ℕ) where
             go true k h = least e rest q (split_last x.committed) (split_is x.committed) (ap (λ l. is_less_than_last y.order e (split_last l)) (sym all) ∙ k)
             go false k h = cc
 
-    pub undone : (g : ℕ) (x z : Process S B) (a : Answer) (given : List (Letter B)) → HasCollected y.order g x → execute_next y p x ≡ Stays Straggler → Took x z a given (undo_one y p x) → undo_one y p x ≡ Turned z given
+    pub undone : (g : ℕ) (x z : ProcessState S B) (a : Answer) (given : List (Letter B)) → HasCollected y.order g x → execute_next y p x ≡ Stays Straggler → Took x z a given (undo_one y p x) → undo_one y p x ≡ Turned z given
     undone g x z a given collected refused took = go (split_last x.processed) (split_is x.processed) took
       where
         go : (r : Option (List (Event B) × Event B)) → IsSplit x.processed r → Took x z a given (undo_last y p x r) → undo_last y p x r ≡ Turned z given

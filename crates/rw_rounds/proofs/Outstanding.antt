@@ -14,7 +14,7 @@ use Rattle.rw_vt.proofs.Sorting.{IsExactOrder}
 use Rattle.rw_vt.proofs.Bags.{Each-cons, Each-append}
 use Rattle.rw_lp.specs.declared.held.Held.{Held}
 use Rattle.rw_lp.specs.HeldMessages.{held_messages}
-use Rattle.rw_lp.specs.Process.{Process}
+use Rattle.rw_lp.specs.Process.{ProcessState}
 use Rattle.rw_lp.specs.Calls.{rules}
 use Rattle.rw_lp.specs.Sound.{IsHeldFor, SoundAt}
 use Rattle.rw_world.specs.declared.parts.Parts.{Parts}
@@ -44,7 +44,7 @@ module _ {S B : Type 0} (y : System S B) (o : IsExactOrder y.order) (t : ℕ) wh
       let later : h.undone.time < h.message.time = here.later in
       Each-cons o (λ e. t ≤ e.time) h.message (held_messages hs) (omega arith) (held_later pending hs late (All-tail (λ h. IsHeldFor y pending h) h hs all))
 
-  all_held_later : (ps : List (Process S B)) → ((q : ℕ) (u : Process S B) → slice_get ps q ≡ Some u → Each y.order (λ e. t ≤ e.time) u.pending × All (λ h. IsHeldFor y u.pending h) u.held) → Each y.order (λ e. t ≤ e.time) (held_in ps)
+  all_held_later : (ps : List (ProcessState S B)) → ((q : ℕ) (u : ProcessState S B) → slice_get ps q ≡ Some u → Each y.order (λ e. t ≤ e.time) u.pending × All (λ h. IsHeldFor y u.pending h) u.held) → Each y.order (λ e. t ≤ e.time) (held_in ps)
   all_held_later [] late = λ e k. absurd (omega arith)
   all_held_later (u ∷ ps) late =
       let here = late zero u refl in
@@ -88,7 +88,7 @@ module _ {M S B U : Type 0} {model : Ghosts M S B U} {order : B → B → Orderi
           omega arith
 
   -- nothing is pending or owed before it at any process, each of which is sound
-  process_from : (q : ℕ) (u : Process S B) → slice_get (world_of z).processes q ≡ Some u → Each (event_cmp order) (λ e. least ≤ e.time) u.pending × Each (event_cmp order) (λ e. least ≤ e.time) u.debts × All (λ h. IsHeldFor (rules model order x.model) u.pending h) u.held
+  process_from : (q : ℕ) (u : ProcessState S B) → slice_get (world_of z).processes q ≡ Some u → Each (event_cmp order) (λ e. least ≤ e.time) u.pending × Each (event_cmp order) (λ e. least ≤ e.time) u.debts × All (λ h. IsHeldFor (rules model order x.model) u.pending h) u.held
   process_from q u at =
       let i : ℕ = q % plan.workers in
       let inside : q % plan.workers < plan.workers = owned laws plan x z least ranges whole round q in
@@ -98,8 +98,8 @@ module _ {M S B U : Type 0} {model : Ghosts M S B U} {order : B → B → Orderi
       let f = place_of (role plan x.collected (q % plan.workers)) (round.last (q % plan.workers)).processes q u here in
       let there : slice_get w.between.processes (q / plan.workers) ≡ Some f.0 = ap (λ (v : WorkerState M S B). slice_get v.processes (q / plan.workers)) (sym w.closes.closed) ∙ f.1 in
       let low : least ≤ w.closes.least = (last_noted (q % plan.workers) inside).0 in (
-        subst (λ (v : Process S B). Each (event_cmp order) (λ e. least ≤ e.time) v.pending) f.2 (λ e k. let a = w.closes.pending (q / plan.workers) f.0 there e k in omega arith),
-        subst (λ (v : Process S B). Each (event_cmp order) (λ e. least ≤ e.time) v.debts) f.2 (λ e k. let a = w.closes.debts (q / plan.workers) f.0 there e k in omega arith),
+        subst (λ (v : ProcessState S B). Each (event_cmp order) (λ e. least ≤ e.time) v.pending) f.2 (λ e k. let a = w.closes.pending (q / plan.workers) f.0 there e k in omega arith),
+        subst (λ (v : ProcessState S B). Each (event_cmp order) (λ e. least ≤ e.time) v.debts) f.2 (λ e k. let a = w.closes.debts (q / plan.workers) f.0 there e k in omega arith),
         sound.held,
       )
 
@@ -115,10 +115,10 @@ module _ {M S B U : Type 0} {model : Ghosts M S B U} {order : B → B → Orderi
       exact : IsExactOrder (event_cmp order)
       exact = events_exact (record { total = laws.total; same = laws.same })
 
-      pending : (q : ℕ) (o : Option (Process S B)) → slice_get (world_of z).processes q ≡ o → Each (event_cmp order) (λ e. least ≤ e.time) (part (λ u. u.pending) o)
+      pending : (q : ℕ) (o : Option (ProcessState S B)) → slice_get (world_of z).processes q ≡ o → Each (event_cmp order) (λ e. least ≤ e.time) (part (λ u. u.pending) o)
       pending q None at = λ e k. absurd (omega arith)
       pending q (Some u) at = (process_from q u at).0
 
-      debts : (q : ℕ) (o : Option (Process S B)) → slice_get (world_of z).processes q ≡ o → Each (event_cmp order) (λ e. least ≤ e.time) (part (λ u. u.debts) o)
+      debts : (q : ℕ) (o : Option (ProcessState S B)) → slice_get (world_of z).processes q ≡ o → Each (event_cmp order) (λ e. least ≤ e.time) (part (λ u. u.debts) o)
       debts q None at = λ e k. absurd (omega arith)
       debts q (Some u) at = (process_from q u at).1

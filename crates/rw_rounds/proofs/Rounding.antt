@@ -12,7 +12,7 @@ use Rattle.rw_vt.specs.System.{system, below, IsReady}
 use Rattle.rw_lp.specs.declared.step.Answer.TheVariants.{Done}
 use Rattle.rw_lp.specs.HeldMessages.{held_messages}
 use Rattle.rw_lp.specs.Process as process
-use Rattle.rw_lp.specs.Process.{Process}
+use Rattle.rw_lp.specs.Process.{ProcessState}
 use Rattle.rw_lp.specs.Calls as lp
 use Rattle.rw_lp.specs.Calls.{LogicalProcess}
 use Rattle.rw_world.specs.declared.parts.Parts.{Parts}
@@ -40,7 +40,7 @@ pub record WorldLaws {M S B U : Type 0} (model : Ghosts M S B U) (order : B → 
   pub every_step : (m : M) (starts : List S) (initial : List (Event B)) (w : WorldState S B) (step : Step) → IsReady model m starts initial → Sound (system model order m starts initial) w → StepKept (system model order m starts initial) w step
 
 -- what is outstanding is not collected
-least_collected : {S B : Type 0} (t end : ℕ) (ps : List (Process S B)) → least_of_processes end (map (process.collect t) ps) ≡ least_of_processes end ps
+least_collected : {S B : Type 0} (t end : ℕ) (ps : List (ProcessState S B)) → least_of_processes end (map (process.collect t) ps) ≡ least_of_processes end ps
 least_collected t end [] = refl
 least_collected t end (u ∷ ps) = ap (λ k. lp.least (lp.least (lp.least k (held_messages u.held)) u.debts) u.pending) (least_collected t end ps)
 
@@ -98,19 +98,19 @@ module _ {M S B U : Type 0} {model : Ghosts M S B U} {order : B → B → Orderi
   floor_stays = ap (λ a. floor a.0) collects ∙ ap (λ k. least_of_letters k z.letters.items) (least_collected least (2 ^ 40) (world_of z).processes)
 
   -- joining the workers commits nothing
-  same_committed : (q : ℕ) (a c : Process S B) → slice_get (world_of x).processes q ≡ Some a → slice_get (world_of z).processes q ≡ Some c → a.committed ≡ c.committed
+  same_committed : (q : ℕ) (a c : ProcessState S B) → slice_get (world_of x).processes q ≡ Some a → slice_get (world_of z).processes q ≡ Some c → a.committed ≡ c.committed
   same_committed q a c was is =
       let before = (worlds.every_sound_world x.model x.starts.value.items x.initial.value.items (world_of x) whole.ready whole.sound).committed q a was in
       let after = (worlds.every_sound_world z.model z.starts.value.items z.initial.value.items (world_of z) whole_after.ready whole_after.sound).committed q c is in
       before ∙ ap (λ y. below y x.collected q) (sym same_system) ∙ ap (λ g. below (system_of model order (simulation_of z)) g q) (sym round.collected_is) ∙ sym after
 
   -- no committed event is lost
-  committed_longer : (q : ℕ) (a b : Process S B) → slice_get (world_of x).processes q ≡ Some a → slice_get (apply (system_of model order (simulation_of z)) (world_of z) (Collect least)).0.processes q ≡ Some b → (rest : List (Event B)) × (a.committed ++ rest ≡ b.committed)
+  committed_longer : (q : ℕ) (a b : ProcessState S B) → slice_get (world_of x).processes q ≡ Some a → slice_get (apply (system_of model order (simulation_of z)) (world_of z) (Collect least)).0.processes q ≡ Some b → (rest : List (Event B)) × (a.committed ++ rest ≡ b.committed)
   committed_longer q a b was is =
       go (slice_get (world_of z).processes q) refl
       (sym (slice_get-map (process.collect least) (world_of z).processes q) ∙ ap (λ r. slice_get r.0.processes q) (sym collects) ∙ is)
     where
-      go : (o : Option (Process S B)) → slice_get (world_of z).processes q ≡ o → option_map (process.collect least) o ≡ Some b → (rest : List (Event B)) × (a.committed ++ rest ≡ b.committed)
+      go : (o : Option (ProcessState S B)) → slice_get (world_of z).processes q ≡ o → option_map (process.collect least) o ≡ Some b → (rest : List (Event B)) × (a.committed ++ rest ≡ b.committed)
       go None at k = cc
       go (Some c) at k =
           let more = step_kept.grows q c b at is in

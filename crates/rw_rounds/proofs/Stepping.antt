@@ -6,7 +6,7 @@ use Rattle.std.proofs.lemmas.Bool.{cases_eq, eqb-true}
 use Rattle.rw_vt.specs.declared.event.Letter.{Letter}
 use Rattle.rw_vt.specs.declared.model.Model.{Ghosts}
 use Rattle.rw_vt.specs.Order.{event_cmp, Each, AtMost}
-use Rattle.rw_lp.specs.Process.{Process, Turned, Stays, execute_next, undo_one}
+use Rattle.rw_lp.specs.Process.{ProcessState, Turned, Stays, execute_next, undo_one}
 use Rattle.rw_lp.specs.Calls.{LogicalProcess, rules}
 use Rattle.rw_lp.specs.Arrival.{Arrived}
 use Rattle.rw_lp.specs.Sound.{SoundAt, HasCollected, Kept}
@@ -27,7 +27,7 @@ number_of r q h own = let n : r.plan.workers * (q / r.plan.workers) + q % r.plan
 
 module _ {M S B : Type 0} (r : Role) (h : r.number < r.plan.workers) (xs zs : List (LogicalProcess M S B)) (place : ℕ) (l z : LogicalProcess M S B) (there : slice_get xs place ≡ Some l) (set : zs ≡ slice_set xs place z) where
   -- seen by numbers, one process changed
-  pub stepped : (p : ℕ) (By : Process S B → Process S B → List (Letter B) → Type 0) (out : List (Letter B)) → p ≡ r.number + place * r.plan.workers → By l.process z.process out → Stepped p By (process_at r xs) (process_at r zs) l.process z.process out
+  pub stepped : (p : ℕ) (By : ProcessState S B → ProcessState S B → List (Letter B) → Type 0) (out : List (Letter B)) → p ≡ r.number + place * r.plan.workers → By l.process z.process out → Stepped p By (process_at r xs) (process_at r zs) l.process z.process out
   stepped p By out number by =
       let at = number_place r.plan.workers r.number place h in
       let own : p % r.plan.workers ≡ r.number = ap (λ q. q % r.plan.workers) number ∙ at.1 in
@@ -117,7 +117,7 @@ module _ {M S B U : Type 0} {model : Ghosts M S B U} {order : B → B → Orderi
       let is : next.process ≡ l = cc in
       let head : next.event ∷ next.rest ≡ e ∷ rest = sym next.pending ∙ ap (λ u. u.process.pending) is ∙ pending in
       let same_event : next.event ≡ e = cc in
-      subst (λ (u : Process S B). Each (rules model order m).order (λ g. AtMost (rules model order m).order e g) u.pending) f.2
+      subst (λ (u : ProcessState S B). Each (rules model order m).order (λ g. AtMost (rules model order m).order e g) u.pending) f.2
       (subst (λ d. Each (rules model order m).order (λ g. AtMost (rules model order m).order d g) f.0.process.pending) same_event (next.least (q / a.role.plan.workers) f.0 f.1))
 
   module _ (bound : ℕ) (next : IsNext (rules model order m) bound a.processes place) (given : List (Letter B)) where

@@ -6,13 +6,13 @@ use Rattle.rw_vt.specs.declared.event.Event.{Event}
 use Rattle.rw_vt.specs.declared.event.Letter.{Letter}
 use Rattle.rw_vt.specs.declared.model.Model.{Ghosts}
 use Rattle.rw_vt.specs.System.{system}
-use Rattle.rw_lp.specs.Process.{Process}
+use Rattle.rw_lp.specs.Process.{ProcessState}
 use Rattle.rw_lp.specs.Sound.{IsHeldFor, SoundAt, SoundLetters, Kept}
 use Rattle.rw_world.specs.Rounds as world
 use Rattle.rw_rounds.proofs.Going.{KeptAt}
 
 module _ {M S B U : Type 0} (model : Ghosts M S B U) (order : B → B → Ordering) (m : M) (starts starts' : List S) (initial initial' : List (Event B)) (g : ℕ) where
-  pub sound_among : (p : ℕ) (x : Process S B) → SoundAt (system model order m starts initial) g p x → SoundAt (system model order m starts' initial') g p x
+  pub sound_among : (p : ℕ) (x : ProcessState S B) → SoundAt (system model order m starts initial) g p x → SoundAt (system model order m starts' initial') g p x
   sound_among p x s = record {
     order = s.order;
     state = s.state;
@@ -32,7 +32,7 @@ module _ {M S B U : Type 0} (model : Ghosts M S B U) (order : B → B → Orderi
   pub letters_among : (ls : List (Letter B)) → SoundLetters (system model order m starts initial) g ls → SoundLetters (system model order m starts' initial') g ls
   letters_among ls s = record { valid = s.valid; from = s.from }
 
-  pub kept_among : (p : ℕ) (x z : Process S B) (came out : List (Letter B)) → Kept (system model order m starts initial) g p x z came out → Kept (system model order m starts' initial') g p x z came out
+  pub kept_among : (p : ℕ) (x z : ProcessState S B) (came out : List (Letter B)) → Kept (system model order m starts initial) g p x z came out → Kept (system model order m starts' initial') g p x z came out
   kept_among p x z came out k = record {
     sound = sound_among p z k.sound;
     change = record { start = k.change.start; kept = k.change.kept; sent = k.change.sent };
@@ -40,7 +40,7 @@ module _ {M S B U : Type 0} (model : Ghosts M S B U) (order : B → B → Orderi
   }
 
   -- and so in the world's words
-  pub kept_in_world : (q : ℕ) (a b : Option (Process S B)) (came out : List (Letter B)) → KeptAt (system model order m starts initial) g q a b came out → world.KeptAt (system model order m starts' initial') g q a b came out
+  pub kept_in_world : (q : ℕ) (a b : Option (ProcessState S B)) (came out : List (Letter B)) → KeptAt (system model order m starts initial) g q a b came out → world.KeptAt (system model order m starts' initial') g q a b came out
   kept_in_world q (Some x) (Some z) came out k = kept_among q x z came out k
   kept_in_world q None None came out k = tt
   kept_in_world q (Some x) None came out k = absurd k

@@ -2,7 +2,7 @@
 use Rattle.std.proofs.Common.{◌≡◌, ℕ, ◌+◌, ◌<◌, ◌≤◌, true, [], sym, subst, arith}
 use Rattle.rw_vt.specs.Order.{Each}
 use Rattle.rw_vt.specs.System.{System}
-use Rattle.rw_lp.specs.Process.{Process}
+use Rattle.rw_lp.specs.Process.{ProcessState}
 use Rattle.rw_rounds.specs.Bags.{Every}
 use Rattle.rw_rounds.specs.Deeds.{Goes}
 use Rattle.rw_rounds.specs.Turns.{WorkerState, is_own, process_at, TookTurn}
@@ -33,5 +33,5 @@ module _ {M S B : Type 0} (y : System S B) (a z : WorkerState M S B) (n : ℕ) w
     notes = w.notes;
     executed = w.executed;
     within = within;
-    held_back = λ few q x at. (let f = place_of z.role z.processes q x at in subst (λ (u : Process S B). Each y.order (λ e. z.seat.read + a.role.plan.window ≤ e.time) u.pending) f.2 (held few (Rattle.std.specs.Prelude.◌/◌ q z.role.plan.workers) f.0 f.1));
+    held_back = λ few q x at. (let f = place_of z.role z.processes q x at in subst (λ (u : ProcessState S B). Each y.order (λ e. z.seat.read + a.role.plan.window ≤ e.time) u.pending) f.2 (held few (Rattle.std.specs.Prelude.◌/◌ q z.role.plan.workers) f.0 f.1));
   }

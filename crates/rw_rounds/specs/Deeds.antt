@@ -4,7 +4,7 @@ use Rattle.rw_vt.specs.declared.event.Event.{Event}
 use Rattle.rw_vt.specs.declared.event.Letter.{Letter}
 use Rattle.rw_vt.specs.Order.{AtMost, Each}
 use Rattle.rw_vt.specs.System.{System}
-use Rattle.rw_lp.specs.Process.{Process, Turned, Stays, execute_next, undo_one}
+use Rattle.rw_lp.specs.Process.{ProcessState, Turned, Stays, execute_next, undo_one}
 use Rattle.rw_lp.specs.Arrival.{Arrived}
 use Rattle.rw_lp.specs.declared.step.StepFault.TheVariants.{Straggler}
 
@@ -17,7 +17,7 @@ pub data Deed (B : Type 0) : Type 0 where
   Execution : (p : ℕ) → Deed B
 
 -- process p went from x to z and gave these letters out, as the relation says; the others stayed
-pub record Stepped {S B : Type 0} (p : ℕ) (By : Process S B → Process S B → List (Letter B) → Type 0) (a b : ℕ → Option (Process S B)) (x z : Process S B) (out : List (Letter B)) : Type 0 where
+pub record Stepped {S B : Type 0} (p : ℕ) (By : ProcessState S B → ProcessState S B → List (Letter B) → Type 0) (a b : ℕ → Option (ProcessState S B)) (x z : ProcessState S B) (out : List (Letter B)) : Type 0 where
   pub was : a p ≡ Some x
   pub is : b p ≡ Some z
   pub by : By x z out
@@ -29,20 +29,20 @@ pub record IsFair {S B : Type 0} (y : System S B) (g : ℕ) (l : Letter B) : Typ
   pub from : g ≤ l.event.time
 
 -- what is next at x is the least of all pending events
-abbrev pub IsLeast : {S B : Type 0} → System S B → (ℕ → Option (Process S B)) → Process S B → Type 0
-IsLeast {S} {B} y a x = (e : Event B) (rest : List (Event B)) → x.pending ≡ e ∷ rest → (q : ℕ) (z : Process S B) → a q ≡ Some z → Each y.order (λ f. AtMost y.order e f) z.pending
+abbrev pub IsLeast : {S B : Type 0} → System S B → (ℕ → Option (ProcessState S B)) → ProcessState S B → Type 0
+IsLeast {S} {B} y a x = (e : Event B) (rest : List (Event B)) → x.pending ≡ e ∷ rest → (q : ℕ) (z : ProcessState S B) → a q ≡ Some z → Each y.order (λ f. AtMost y.order e f) z.pending
 
 -- the deed, done by processes none of which may go back before g
-abbrev pub Did : {S B : Type 0} → System S B → ℕ → Deed B → (ℕ → Option (Process S B)) → (ℕ → Option (Process S B)) → List (Letter B) → Type 0
-Did {S} {B} y g (Arrival l) a b out = (x z : Process S B) × Stepped l.event.to (Arrived y l.event.to l) a b x z out × IsFair y g l
+abbrev pub Did : {S B : Type 0} → System S B → ℕ → Deed B → (ℕ → Option (ProcessState S B)) → (ℕ → Option (ProcessState S B)) → List (Letter B) → Type 0
+Did {S} {B} y g (Arrival l) a b out = (x z : ProcessState S B) × Stepped l.event.to (Arrived y l.event.to l) a b x z out × IsFair y g l
 -- an undoing, where what is next is a straggler
-Did {S} {B} y g (Undoing p) a b out = (x z : Process S B) × Stepped p (λ x z out. undo_one y p x ≡ Turned z out) a b x z out × (execute_next y p x ≡ Stays Straggler)
-Did {S} {B} y g (Execution p) a b out = (x z : Process S B) × Stepped p (λ x z out. execute_next y p x ≡ Turned z out) a b x z out × IsLeast y a x
+Did {S} {B} y g (Undoing p) a b out = (x z : ProcessState S B) × Stepped p (λ x z out. undo_one y p x ≡ Turned z out) a b x z out × (execute_next y p x ≡ Stays Straggler)
+Did {S} {B} y g (Execution p) a b out = (x z : ProcessState S B) × Stepped p (λ x z out. execute_next y p x ≡ Turned z out) a b x z out × IsLeast y a x
 
 -- the deeds lead from a to b, and give out these letters
-abbrev pub Goes : {S B : Type 0} → System S B → ℕ → List (Deed B) → (ℕ → Option (Process S B)) → (ℕ → Option (Process S B)) → List (Letter B) → Type 0
+abbrev pub Goes : {S B : Type 0} → System S B → ℕ → List (Deed B) → (ℕ → Option (ProcessState S B)) → (ℕ → Option (ProcessState S B)) → List (Letter B) → Type 0
 Goes y g [] a b given = (b ≡ a) × (given ≡ [])
-Goes {S} {B} y g (d ∷ ds) a b given = (c : ℕ → Option (Process S B)) × (out rest : List (Letter B)) × Did y g d a c out × Goes y g ds c b rest × (given ≡ out ++ rest)
+Goes {S} {B} y g (d ∷ ds) a b given = (c : ℕ → Option (ProcessState S B)) × (out rest : List (Letter B)) × Did y g d a c out × Goes y g ds c b rest × (given ≡ out ++ rest)
 
 -- the letters that arrive
 abbrev pub arrivals : {B : Type 0} → List (Deed B) → List (Letter B)

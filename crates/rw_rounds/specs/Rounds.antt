@@ -5,7 +5,7 @@ use Rattle.rw_vt.specs.declared.event.Letter.{Letter}
 use Rattle.rw_vt.specs.declared.model.Model.{Ghosts}
 use Rattle.rw_vt.specs.Order.{Each}
 use Rattle.rw_vt.specs.System.{System, flatten}
-use Rattle.rw_lp.specs.Process.{Process}
+use Rattle.rw_lp.specs.Process.{ProcessState}
 use Rattle.rw_lp.specs.Calls.{LogicalProcess, rules}
 use Rattle.rw_world.specs.declared.parts.Parts.{Parts}
 use Rattle.rw_world.specs.Calls.{Simulation, system_of}
@@ -91,4 +91,4 @@ pub record Rounded {M S B U : Type 0} (model : Ghosts M S B U) (order : B → B 
   pub below_floor : z.floor ≤ floor z.simulation.world
   pub collected : z.simulation.world.collected ≡ max x.simulation.world.collected z.floor
   -- no committed event is lost
-  pub longer : (q : ℕ) (a b : Process S B) → slice_get x.simulation.world.processes q ≡ Some a → slice_get z.simulation.world.processes q ≡ Some b → (rest : _) × (a.committed ++ rest ≡ b.committed)
+  pub longer : (q : ℕ) (a b : ProcessState S B) → slice_get x.simulation.world.processes q ≡ Some a → slice_get z.simulation.world.processes q ≡ Some b → (rest : _) × (a.committed ++ rest ≡ b.committed)

@@ -6,7 +6,7 @@ use Rattle.rw_vt.specs.declared.event.Letter.{Letter}
 use Rattle.rw_vt.specs.declared.model.Model.{Ghosts}
 use Rattle.rw_vt.specs.Order.{event_cmp, Each}
 use Rattle.rw_vt.specs.System.{System, IsReady}
-use Rattle.rw_lp.specs.Process.{Process}
+use Rattle.rw_lp.specs.Process.{ProcessState}
 use Rattle.rw_lp.specs.Calls.{LogicalProcess, rules}
 use Rattle.rw_lp.specs.Sound.{HasCollected}
 use Rattle.rw_exchange.specs.Ports.{PortState, SamePort, IsWide, sent_to, received_from}
@@ -42,10 +42,10 @@ abbrev pub is_own : {B : Type 0} → Role → Letter B → Bool
 is_own r l = owner r l == r.number
 
 -- the worker's process q, if it has one of that number
-abbrev pub process_at : {M S B : Type 0} → Role → List (LogicalProcess M S B) → ℕ → Option (Process S B)
+abbrev pub process_at : {M S B : Type 0} → Role → List (LogicalProcess M S B) → ℕ → Option (ProcessState S B)
 process_at r xs q = cond (q % r.plan.workers == r.number) (option_map (λ l. l.process) (slice_get xs (q / r.plan.workers))) None
 
-abbrev pub processes_of : {M S B : Type 0} → WorkerState M S B → ℕ → Option (Process S B)
+abbrev pub processes_of : {M S B : Type 0} → WorkerState M S B → ℕ → Option (ProcessState S B)
 processes_of w = process_at w.role w.processes
 
 -- the test of a letter that was received: it is valid, to an own process, and not before the greatest time collected
@@ -105,7 +105,7 @@ pub record TookTurn {M S B : Type 0} (y : System S B) (a b : WorkerState M S B) 
   pub executed : executions deeds ≡ n
   pub within : n ≤ a.role.plan.batch
   -- where it did not use up its batch, all that is pending is held back by the last reading and the window
-  pub held_back : n < a.role.plan.batch → (q : ℕ) (x : Process S B) → processes_of b q ≡ Some x → Each y.order (λ e. b.seat.read + a.role.plan.window ≤ e.time) x.pending
+  pub held_back : n < a.role.plan.batch → (q : ℕ) (x : ProcessState S B) → processes_of b q ≡ Some x → Each y.order (λ e. b.seat.read + a.role.plan.window ≤ e.time) x.pending
 
 -- so many turns, one after another
 abbrev pub TookTurns : {M S B : Type 0} → System S B → ℕ → WorkerState M S B → WorkerState M S B → Type 0

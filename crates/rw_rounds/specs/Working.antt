@@ -7,7 +7,7 @@ use Rattle.rw_vt.specs.declared.event.Letter.{Letter}
 use Rattle.rw_vt.specs.declared.model.Model.{Ghosts}
 use Rattle.rw_vt.specs.Order.{Each, AtMost}
 use Rattle.rw_vt.specs.System.{System, outs}
-use Rattle.rw_lp.specs.Process.{Process, done, Turned, Stays, execute_next, undo_one}
+use Rattle.rw_lp.specs.Process.{ProcessState, done, Turned, Stays, execute_next, undo_one}
 use Rattle.rw_lp.specs.Calls.{LogicalProcess, rules}
 use Rattle.rw_lp.specs.Sound.{SoundAt}
 use Rattle.rw_lp.specs.declared.step.StepFault.TheVariants.{Straggler}
@@ -58,7 +58,7 @@ pub record Works {M S B : Type 0} (y : System S B) (r : Role) (a b : WorkerState
   pub named : (place : ℕ) (l z : LogicalProcess M S B) → slice_get a.processes place ≡ Some l → slice_get b.processes place ≡ Some z → (z.model ≡ l.model) × (z.number ≡ l.number)
 
 -- x executed what was next, or undid its last event where what is next is a straggler
-abbrev pub Moved : {S B : Type 0} → System S B → ℕ → Process S B → Process S B → Bool → List (Letter B) → Type 0
+abbrev pub Moved : {S B : Type 0} → System S B → ℕ → ProcessState S B → ProcessState S B → Bool → List (Letter B) → Type 0
 Moved y p x z true given = execute_next y p x ≡ Turned z given
 Moved y p x z false given = (undo_one y p x ≡ Turned z given) × (execute_next y p x ≡ Stays Straggler)
 

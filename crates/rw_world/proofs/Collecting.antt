@@ -14,7 +14,7 @@ use Rattle.rw_lp.specs.declared.step.Answer.TheVariants.{Done}
 use Rattle.rw_lp.specs.declared.step.StepFault.TheVariants.{AboveFloor}
 use Rattle.rw_lp.specs.HeldMessages.{held_messages}
 use Rattle.rw_lp.specs.Process as process
-use Rattle.rw_lp.specs.Process.{Process, done}
+use Rattle.rw_lp.specs.Process.{ProcessState, done}
 use Rattle.rw_lp.specs.Sound.{SoundAt}
 use Rattle.rw_lp.proofs.Committing.{done_stays, collect_keeps}
 use Rattle.rw_world.specs.WorldState.{WorldState, floor}
@@ -27,28 +27,28 @@ module _ {S B : Type 0} (y : System S B) {WellFormed : ℕ → S → Type 0} (la
     same_done : (q : ℕ) → done_of (map (process.collect t) w.processes) q ≡ done_of w.processes q
     same_done q = ap (part done) (slice_get-map (process.collect t) w.processes q) ∙ go (slice_get w.processes q) refl
       where
-        go : (o : Option (Process S B)) → slice_get w.processes q ≡ o → part done (option_map (process.collect t) o) ≡ part done o
+        go : (o : Option (ProcessState S B)) → slice_get w.processes q ≡ o → part done (option_map (process.collect t) o) ≡ part done o
         go None h = refl
         go (Some x) h = done_stays y law t w.collected q x (sound.each q x h)
 
     same_pending : (q : ℕ) → pending_of (map (process.collect t) w.processes) q ≡ pending_of w.processes q
     same_pending q = ap (part (λ x. x.pending)) (slice_get-map (process.collect t) w.processes q) ∙ go (slice_get w.processes q)
       where
-        go : (o : Option (Process S B)) → part (λ x. x.pending) (option_map (process.collect t) o) ≡ part (λ x. x.pending) o
+        go : (o : Option (ProcessState S B)) → part (λ x. x.pending) (option_map (process.collect t) o) ≡ part (λ x. x.pending) o
         go None = refl
         go (Some x) = refl
 
     same_debts : (q : ℕ) → debts_of (map (process.collect t) w.processes) q ≡ debts_of w.processes q
     same_debts q = ap (part (λ x. x.debts)) (slice_get-map (process.collect t) w.processes q) ∙ go (slice_get w.processes q)
       where
-        go : (o : Option (Process S B)) → part (λ x. x.debts) (option_map (process.collect t) o) ≡ part (λ x. x.debts) o
+        go : (o : Option (ProcessState S B)) → part (λ x. x.debts) (option_map (process.collect t) o) ≡ part (λ x. x.debts) o
         go None = refl
         go (Some x) = refl
 
-    collected_each : (q : ℕ) (u : Process S B) → slice_get (map (process.collect t) w.processes) q ≡ Some u → SoundAt y (max w.collected t) q u
+    collected_each : (q : ℕ) (u : ProcessState S B) → slice_get (map (process.collect t) w.processes) q ≡ Some u → SoundAt y (max w.collected t) q u
     collected_each q u h = go (slice_get w.processes q) refl (sym (slice_get-map (process.collect t) w.processes q) ∙ h)
       where
-        go : (o : Option (Process S B)) → slice_get w.processes q ≡ o → option_map (process.collect t) o ≡ Some u → SoundAt y (max w.collected t) q u
+        go : (o : Option (ProcessState S B)) → slice_get w.processes q ≡ o → option_map (process.collect t) o ≡ Some u → SoundAt y (max w.collected t) q u
         go None h k = cc
         go (Some x) h k =
             let is : process.collect t x ≡ u = cc in
@@ -57,13 +57,13 @@ module _ {S B : Type 0} (y : System S B) {WellFormed : ℕ → S → Type 0} (la
             (subst (λ o. Each y.order (λ e. t ≤ e.time) (part (λ x. x.pending) o)) h (quiet.pending q))
             (subst (λ o. Each y.order (λ e. t ≤ e.time) (part (λ x. x.debts) o)) h (quiet.debts q)))
 
-    same_held : (ps : List (Process S B)) → held_in (map (process.collect t) ps) ≡ held_in ps
+    same_held : (ps : List (ProcessState S B)) → held_in (map (process.collect t) ps) ≡ held_in ps
     same_held [] = refl
     same_held (x ∷ ps) = ap (λ l. held_messages x.held ++ l) (same_held ps)
 
     collected_balance : (e : Event B) → Balanced y (map (process.collect t) w.processes) w.letters e
     collected_balance e =
-        let sent : (List (Process S B)) → ℕ → S → List (Event B) = λ xs q s. outs (y.step q) s (done_of xs q) in
+        let sent : (List (ProcessState S B)) → ℕ → S → List (Event B) = λ xs q s. outs (y.step q) s (done_of xs q) in
         let a = copies_joined law.exact e (sent (map (process.collect t) w.processes)) (sent w.processes) 0 y.starts (λ i j s m q. ap (λ l. copies y.order e (outs (y.step j) s l)) (same_done j)) in
         let b = ap (copies y.order e) (same_done e.to) in
         let c = ap (copies y.order e) (same_pending e.to) in
@@ -71,7 +71,7 @@ module _ {S B : Type 0} (y : System S B) {WellFormed : ℕ → S → Type 0} (la
         let h = ap (copies y.order e) (same_held w.processes) in
         omega (arith, sound.balance e, copies-append law.exact e y.initial (flatten (map_from 0 (sent w.processes) y.starts)), copies-append law.exact e y.initial (flatten (map_from 0 (sent (map (process.collect t) w.processes)) y.starts)))
 
-    same_starts : (ps : List (Process S B)) → map (λ x. x.start) (map (process.collect t) ps) ≡ map (λ x. x.start) ps
+    same_starts : (ps : List (ProcessState S B)) → map (λ x. x.start) (map (process.collect t) ps) ≡ map (λ x. x.start) ps
     same_starts [] = refl
     same_starts (x ∷ ps) = ap (λ l. x.start ∷ l) (same_starts ps)
 

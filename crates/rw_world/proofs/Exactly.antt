@@ -8,7 +8,7 @@ use Rattle.rw_vt.specs.Order.{has, without, insert_in_order}
 use Rattle.rw_vt.specs.System.{System}
 use Rattle.rw_lp.specs.HeldMessages.{unheld}
 use Rattle.rw_lp.specs.Process as process
-use Rattle.rw_lp.specs.Process.{Process, Turn, Turned, Stays, done, is_less_than_last, split_last, execute_event, execute_least, execute_next, undo_last, undo_one, with_bags, annihilate, deliver_anti, deliver_message}
+use Rattle.rw_lp.specs.Process.{ProcessState, Turn, Turned, Stays, done, is_less_than_last, split_last, execute_event, execute_least, execute_next, undo_last, undo_one, with_bags, annihilate, deliver_anti, deliver_message}
 use Rattle.rw_lp.specs.declared.step.StepFault.{StepFault}
 use Rattle.rw_lp.specs.declared.step.StepFault.TheVariants.{NoSuchProcess, NoSuchLetter, NothingPending, Straggler, NothingToUndo, StillDone, AboveFloor}
 use Rattle.rw_lp.specs.declared.step.Answer.{Answer}
@@ -42,27 +42,27 @@ module _ {S B : Type 0} (y : System S B) (w : WorldState S B) where
   when_executed : (p : ℕ) (g : StepFault) → (apply y w (Execute p)).1 ≡ Refused g → Applies y.order w (Execute p) g
   when_executed p g e = go (slice_get w.processes p) refl e
     where
-      at_bool : (x : Process S B) (least : Event B) (rest : List (Event B)) → slice_get w.processes p ≡ Some x → x.pending ≡ least ∷ rest → (b : Bool) → is_less_than_last y.order least (split_last (done x)) ≡ b
+      at_bool : (x : ProcessState S B) (least : Event B) (rest : List (Event B)) → slice_get w.processes p ≡ Some x → x.pending ≡ least ∷ rest → (b : Bool) → is_less_than_last y.order least (split_last (done x)) ≡ b
           → (turned w p w.letters (cond b (Stays Straggler) (execute_event y p x least rest (unheld y.order (y.step p x.state least).1 x.held)))).1 ≡ Refused g → Applies y.order w (Execute p) g
       at_bool x least rest at is true late e = same_fault (Execute p) Straggler g e (record { number = p; process = x; least = least; rest = rest; step_is = refl; there = at; pending = is; late = late })
       at_bool x least rest at is false late e = cc
 
-      at_pending : (x : Process S B) → slice_get w.processes p ≡ Some x → (es : List (Event B)) → x.pending ≡ es → (turned w p w.letters (execute_least y p x es)).1 ≡ Refused g → Applies y.order w (Execute p) g
+      at_pending : (x : ProcessState S B) → slice_get w.processes p ≡ Some x → (es : List (Event B)) → x.pending ≡ es → (turned w p w.letters (execute_least y p x es)).1 ≡ Refused g → Applies y.order w (Execute p) g
       at_pending x at [] is e = same_fault (Execute p) NothingPending g e (record { number = p; process = x; step_is = refl; there = at; none = is })
       at_pending x at (least ∷ rest) is e = at_bool x least rest at is (is_less_than_last y.order least (split_last (done x))) refl e
 
-      go : (o : Option (Process S B)) → slice_get w.processes p ≡ o → (turn w p (execute_next y p) o).1 ≡ Refused g → Applies y.order w (Execute p) g
+      go : (o : Option (ProcessState S B)) → slice_get w.processes p ≡ o → (turn w p (execute_next y p) o).1 ≡ Refused g → Applies y.order w (Execute p) g
       go None at e = same_fault (Execute p) NoSuchProcess g e (record { number = p; step_is = inl refl; absent = absent w.processes p at })
       go (Some x) at e = at_pending x at x.pending refl e
 
   when_undone : (p : ℕ) (g : StepFault) → (apply y w (Undo p)).1 ≡ Refused g → Applies y.order w (Undo p) g
   when_undone p g e = go (slice_get w.processes p) refl e
     where
-      at_last : (x : Process S B) → slice_get w.processes p ≡ Some x → (o : Option (List (Event B) × Event B)) → split_last x.processed ≡ o → (turned w p w.letters (undo_last y p x o)).1 ≡ Refused g → Applies y.order w (Undo p) g
+      at_last : (x : ProcessState S B) → slice_get w.processes p ≡ Some x → (o : Option (List (Event B) × Event B)) → split_last x.processed ≡ o → (turned w p w.letters (undo_last y p x o)).1 ≡ Refused g → Applies y.order w (Undo p) g
       at_last x at None is e = same_fault (Undo p) NothingToUndo g e (record { number = p; process = x; step_is = refl; there = at; none = some_last x.processed is })
       at_last x at (Some r) is e = cc
 
-      go : (o : Option (Process S B)) → slice_get w.processes p ≡ o → (turn w p (undo_one y p) o).1 ≡ Refused g → Applies y.order w (Undo p) g
+      go : (o : Option (ProcessState S B)) → slice_get w.processes p ≡ o → (turn w p (undo_one y p) o).1 ≡ Refused g → Applies y.order w (Undo p) g
       go None at e = same_fault (Undo p) NoSuchProcess g e (record { number = p; step_is = inr refl; absent = absent w.processes p at })
       go (Some x) at e = at_last x at (split_last x.processed) refl e
 
@@ -77,29 +77,29 @@ module _ {S B : Type 0} (y : System S B) (w : WorldState S B) where
     when_delivered : (i : ℕ) (g : StepFault) → (apply y w (Deliver i)).1 ≡ Refused g → Applies y.order w (Deliver i) g
     when_delivered i g e = go (slice_get w.letters i) refl e
       where
-        at_message : (l : Letter B) (x : Process S B) (b : Bool) → (turned w l.event.to (remove_at w.letters i) (cond b (Turned (with_bags x x.pending (without y.order l.event x.debts) x.held) []) (Turned (with_bags x (insert_in_order y.order l.event x.pending) x.debts x.held) []))).1 ≡ Refused g → Applies y.order w (Deliver i) g
+        at_message : (l : Letter B) (x : ProcessState S B) (b : Bool) → (turned w l.event.to (remove_at w.letters i) (cond b (Turned (with_bags x x.pending (without y.order l.event x.debts) x.held) []) (Turned (with_bags x (insert_in_order y.order l.event x.pending) x.debts x.held) []))).1 ≡ Refused g → Applies y.order w (Deliver i) g
         at_message l x true e = cc
         at_message l x false e = cc
 
-        at_annihilated : (l : Letter B) (x : Process S B) (b : Bool) → (u v : Process S B) (ls : List (Letter B)) → (turned w l.event.to (remove_at w.letters i) (cond b (Turned u []) (Turned v ls))).1 ≡ Refused g → Applies y.order w (Deliver i) g
+        at_annihilated : (l : Letter B) (x : ProcessState S B) (b : Bool) → (u v : ProcessState S B) (ls : List (Letter B)) → (turned w l.event.to (remove_at w.letters i) (cond b (Turned u []) (Turned v ls))).1 ≡ Refused g → Applies y.order w (Deliver i) g
         at_annihilated l x true u v ls e = cc
         at_annihilated l x false u v ls e = cc
 
-        at_processed : (l : Letter B) (x : Process S B) → slice_get w.letters i ≡ Some l → slice_get w.processes l.event.to ≡ Some x → l.anti ≡ true → has y.order l.event x.pending ≡ false → (b : Bool) → has y.order l.event x.processed ≡ b
+        at_processed : (l : Letter B) (x : ProcessState S B) → slice_get w.letters i ≡ Some l → slice_get w.processes l.event.to ≡ Some x → l.anti ≡ true → has y.order l.event x.pending ≡ false → (b : Bool) → has y.order l.event x.processed ≡ b
             → (turned w l.event.to (remove_at w.letters i) (cond b (Stays StillDone) (Turned (with_bags x x.pending (insert_in_order y.order l.event x.debts) x.held) []))).1 ≡ Refused g → Applies y.order w (Deliver i) g
         at_processed l x here there anti not_pending true found e = same_fault (Deliver i) StillDone g e (record { number = i; letter = l; process = x; step_is = refl; letter_there = here; there = there; anti = anti; not_pending = not_pending; processed = found })
         at_processed l x here there anti not_pending false found e = cc
 
-        at_anti : (l : Letter B) (x : Process S B) → slice_get w.letters i ≡ Some l → slice_get w.processes l.event.to ≡ Some x → l.anti ≡ true → (b : Bool) → has y.order l.event x.pending ≡ b
+        at_anti : (l : Letter B) (x : ProcessState S B) → slice_get w.letters i ≡ Some l → slice_get w.processes l.event.to ≡ Some x → l.anti ≡ true → (b : Bool) → has y.order l.event x.pending ≡ b
             → (turned w l.event.to (remove_at w.letters i) (cond b (annihilate y.order l.event x) (cond (has y.order l.event x.processed) (Stays StillDone) (Turned (with_bags x x.pending (insert_in_order y.order l.event x.debts) x.held) [])))).1 ≡ Refused g → Applies y.order w (Deliver i) g
         at_anti l x here there anti true found e = at_annihilated l x (has y.order l.event (without y.order l.event x.pending)) _ _ _ e
         at_anti l x here there anti false found e = at_processed l x here there anti found (has y.order l.event x.processed) refl e
 
-        at_letter : (l : Letter B) (x : Process S B) → slice_get w.letters i ≡ Some l → slice_get w.processes l.event.to ≡ Some x → (b : Bool) → l.anti ≡ b → (turned w l.event.to (remove_at w.letters i) (cond b (deliver_anti y.order l.event x) (deliver_message y.order l.event x))).1 ≡ Refused g → Applies y.order w (Deliver i) g
+        at_letter : (l : Letter B) (x : ProcessState S B) → slice_get w.letters i ≡ Some l → slice_get w.processes l.event.to ≡ Some x → (b : Bool) → l.anti ≡ b → (turned w l.event.to (remove_at w.letters i) (cond b (deliver_anti y.order l.event x) (deliver_message y.order l.event x))).1 ≡ Refused g → Applies y.order w (Deliver i) g
         at_letter l x here there true is e = at_anti l x here there is (has y.order l.event x.pending) refl e
         at_letter l x here there false is e = at_message l x (has y.order l.event x.debts) e
 
-        at_process : (l : Letter B) → slice_get w.letters i ≡ Some l → (o : Option (Process S B)) → slice_get w.processes l.event.to ≡ o → (deliver_to y w i l o).1 ≡ Refused g → Applies y.order w (Deliver i) g
+        at_process : (l : Letter B) → slice_get w.letters i ≡ Some l → (o : Option (ProcessState S B)) → slice_get w.processes l.event.to ≡ o → (deliver_to y w i l o).1 ≡ Refused g → Applies y.order w (Deliver i) g
         at_process l here None there e = let h = absent w.processes l.event.to there in let k = inside i l here in absurd (omega arith)
         at_process l here (Some x) there e = at_letter l x here there l.anti refl e
 

@@ -10,7 +10,7 @@ use Rattle.rw_vt.specs.System.{System}
 use Rattle.rw_vt.proofs.Sorting.{Has-head}
 use Rattle.rw_vt.proofs.Runs.{IsLawful}
 use Rattle.rw_lp.specs.HeldMessages.{held_messages}
-use Rattle.rw_lp.specs.Process.{Process}
+use Rattle.rw_lp.specs.Process.{ProcessState}
 use Rattle.rw_lp.specs.Calls.{least}
 use Rattle.rw_lp.specs.Sound.{Stands, IsHeldFor, SoundAt}
 use Rattle.rw_lp.specs.declared.held.Held.{Held}
@@ -27,7 +27,7 @@ pub letters_min : {B : Type 0} (a b : ℕ) (ls : List (Letter B)) → least_of_l
 letters_min a b [] = omega arith
 letters_min a b (l ∷ ls) = omega (arith, letters_min a b ls)
 
-processes_min : {S B : Type 0} (a b : ℕ) (ps : List (Process S B)) → least_of_processes (min a b) ps ≡ min a (least_of_processes b ps)
+processes_min : {S B : Type 0} (a b : ℕ) (ps : List (ProcessState S B)) → least_of_processes (min a b) ps ≡ min a (least_of_processes b ps)
 processes_min a b [] = refl
 processes_min a b (x ∷ ps) =
     ap (λ n. least (least (least n (held_messages x.held)) x.debts) x.pending) (processes_min a b ps)
@@ -35,11 +35,11 @@ processes_min a b (x ∷ ps) =
     ∙ ap (λ n. least n x.pending) (least_min a (least (least_of_processes b ps) (held_messages x.held)) x.debts)
     ∙ least_min a (least (least (least_of_processes b ps) (held_messages x.held)) x.debts) x.pending
 
-pub processes_below : {S B : Type 0} (a : ℕ) (ps : List (Process S B)) → least_of_processes a ps ≤ a
+pub processes_below : {S B : Type 0} (a : ℕ) (ps : List (ProcessState S B)) → least_of_processes a ps ≤ a
 processes_below a ps = let e : a ≡ min a a = omega arith in let h = ap (λ n. least_of_processes n ps) e ∙ processes_min a a ps in omega arith
 
 -- the least of one process more
-pub processes_more : {S B : Type 0} (end now : ℕ) (x : Process S B) (ps : List (Process S B)) → now ≤ end → least_of_processes (min now (least (least (least end (held_messages x.held)) x.debts) x.pending)) ps ≡ least_of_processes now (x ∷ ps)
+pub processes_more : {S B : Type 0} (end now : ℕ) (x : ProcessState S B) (ps : List (ProcessState S B)) → now ≤ end → least_of_processes (min now (least (least (least end (held_messages x.held)) x.debts) x.pending)) ps ≡ least_of_processes now (x ∷ ps)
 processes_more end now x ps h =
     let mine = least (least (least end (held_messages x.held)) x.debts) x.pending in
     let rest = least_of_processes now ps in
@@ -57,7 +57,7 @@ processes_more end now x ps h =
 
 module _ {S B : Type 0} where
   -- where nothing is outstanding the floor is the end
-  idle_end : (end : ℕ) (ps : List (Process S B)) → are_idle ps ≡ true → least_of_processes end ps ≡ end
+  idle_end : (end : ℕ) (ps : List (ProcessState S B)) → are_idle ps ≡ true → least_of_processes end ps ≡ end
   idle_end end [] h = refl
   idle_end end (x ∷ ps) h =
       let a = and_parts (is_empty x.pending) (is_empty x.debts && (is_empty x.held && are_idle ps)) h in
@@ -104,14 +104,14 @@ module _ {S B : Type 0} (y : System S B) {WellFormed : ℕ → S → Type 0} (la
   none_held [] (x ∷ hs) e h = let k = h x hs refl in absurd (omega arith)
   none_held (a ∷ es) (x ∷ hs) e h = elim (false≢true e) [ ]
 
-  idle_at : (q : ℕ) (x : Process S B) → slice_get w.processes q ≡ Some x → IsQuiet y end w → (is_empty x.pending ≡ true) × (is_empty x.debts ≡ true) × (is_empty x.held ≡ true)
+  idle_at : (q : ℕ) (x : ProcessState S B) → slice_get w.processes q ≡ Some x → IsQuiet y end w → (is_empty x.pending ≡ true) × (is_empty x.debts ≡ true) × (is_empty x.held ≡ true)
   idle_at q x at quiet =
       let here : SoundAt y w.collected q x = sound.each q x at in
       let pending = no_events q x.pending here.pending_stand (subst (λ o. Each y.order (λ e. end ≤ e.time) (part (λ u. u.pending) o)) at (quiet.pending q)) in
       let debts = no_events q x.debts here.debts_stand (subst (λ o. Each y.order (λ e. end ≤ e.time) (part (λ u. u.debts) o)) at (quiet.debts q)) in
       (pending, debts, none_held x.pending x.held pending (λ z rest is. (All-head (λ h. IsHeldFor y x.pending h) z rest (subst (λ hs. Rattle.std.specs.List.All (λ h. IsHeldFor y x.pending h) hs) is here.held)).there))
 
-  all_idle : (ps : List (Process S B)) → ((q : ℕ) (x : Process S B) → slice_get ps q ≡ Some x → (is_empty x.pending ≡ true) × (is_empty x.debts ≡ true) × (is_empty x.held ≡ true)) → are_idle ps ≡ true
+  all_idle : (ps : List (ProcessState S B)) → ((q : ℕ) (x : ProcessState S B) → slice_get ps q ≡ Some x → (is_empty x.pending ≡ true) × (is_empty x.debts ≡ true) × (is_empty x.held ≡ true)) → are_idle ps ≡ true
   all_idle [] h = refl
   all_idle (x ∷ ps) h =
       let a = h zero x refl in

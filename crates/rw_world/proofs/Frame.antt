@@ -12,7 +12,7 @@ use Rattle.rw_vt.proofs.Bags.{none_if}
 use Rattle.rw_vt.proofs.Letters.{messages-append, antis-append}
 use Rattle.rw_vt.proofs.Runs.{IsLawful, copies_joined_but_one}
 use Rattle.rw_lp.specs.HeldMessages.{held_messages}
-use Rattle.rw_lp.specs.Process.{Process, Turn, Turned, Stays, done}
+use Rattle.rw_lp.specs.Process.{ProcessState, Turn, Turned, Stays, done}
 use Rattle.rw_lp.specs.Sound.{SoundAt, SoundLetters, Kept, Keeps}
 use Rattle.rw_lp.proofs.GivenOut.{letters_join}
 use Rattle.rw_world.specs.WorldState.{WorldState}
@@ -28,7 +28,7 @@ pub record Parted {S B : Type 0} (y : System S B) (p : ℕ) (ls left came : List
   pub come_here : (e : Event B) → 0 < messages y.order e came + antis y.order e came → e.to ≡ p
 
 module _ {S B : Type 0} (y : System S B) {WellFormed : ℕ → S → Type 0} (law : IsLawful y WellFormed) where
-  pub count-held_set : (e : Event B) (ps : List (Process S B)) (p : ℕ) (x z : Process S B) → slice_get ps p ≡ Some x → copies y.order e (held_in (slice_set ps p z)) + copies y.order e (held_messages x.held) ≡ copies y.order e (held_in ps) + copies y.order e (held_messages z.held)
+  pub count-held_set : (e : Event B) (ps : List (ProcessState S B)) (p : ℕ) (x z : ProcessState S B) → slice_get ps p ≡ Some x → copies y.order e (held_in (slice_set ps p z)) + copies y.order e (held_messages x.held) ≡ copies y.order e (held_in ps) + copies y.order e (held_messages z.held)
   count-held_set e [] p x z h = cc
   count-held_set e (u ∷ ps) zero x z h =
       let q : u ≡ x = cc in
@@ -37,9 +37,9 @@ module _ {S B : Type 0} (y : System S B) {WellFormed : ℕ → S → Type 0} (la
   count-held_set e (u ∷ ps) (suc p) x z h =
       omega (arith, count-held_set e ps p x z h, copies-append law.exact e (held_messages u.held) (held_in (slice_set ps p z)), copies-append law.exact e (held_messages u.held) (held_in ps))
 
-module _ {S B : Type 0} (y : System S B) {WellFormed : ℕ → S → Type 0} (law : IsLawful y WellFormed) (w : WorldState S B) (sound : Sound y w) (p : ℕ) (x : Process S B) (at : slice_get w.processes p ≡ Some x) (left came : List (Letter B)) (parted : Parted y p w.letters left came) (left_sound : SoundLetters y w.collected left) where
-  module _ (z : Process S B) (out : List (Letter B)) (kept : Kept y w.collected p x z came out) where
-    ps : List (Process S B)
+module _ {S B : Type 0} (y : System S B) {WellFormed : ℕ → S → Type 0} (law : IsLawful y WellFormed) (w : WorldState S B) (sound : Sound y w) (p : ℕ) (x : ProcessState S B) (at : slice_get w.processes p ≡ Some x) (left came : List (Letter B)) (parted : Parted y p w.letters left came) (left_sound : SoundLetters y w.collected left) where
+  module _ (z : ProcessState S B) (out : List (Letter B)) (kept : Kept y w.collected p x z came out) where
+    ps : List (ProcessState S B)
     ps = slice_set w.processes p z
 
     new_here : slice_get ps p ≡ Some z
@@ -52,7 +52,7 @@ module _ {S B : Type 0} (y : System S B) {WellFormed : ℕ → S → Type 0} (la
 
     sums : (e : Event B) → copies y.order e (all_sent y (done_of ps)) + copies y.order e (outs (y.step p) x.start (done x)) ≡ copies y.order e (all_sent y (done_of w.processes)) + copies y.order e (outs (y.step p) z.start (done z))
     sums e =
-        let sent : (List (Process S B)) → ℕ → S → List (Event B) = λ xs q s. outs (y.step q) s (done_of xs q) in
+        let sent : (List (ProcessState S B)) → ℕ → S → List (Event B) = λ xs q s. outs (y.step q) s (done_of xs q) in
         let one = copies_joined_but_one law.exact e (sent w.processes) (sent ps) 0 p p y.starts x.start (start_is y w sound p x at) (omega arith) (λ q s h. ap (λ o. outs (y.step q) s (part done o)) (sym (new_other q h))) in
         let old : copies y.order e (outs (y.step p) x.start (done_of w.processes p)) ≡ copies y.order e (outs (y.step p) x.start (done x)) = ap (λ o. copies y.order e (outs (y.step p) x.start (part done o))) at in
         let new : copies y.order e (outs (y.step p) x.start (done_of ps p)) ≡ copies y.order e (outs (y.step p) z.start (done z)) = ap (λ o. copies y.order e (outs (y.step p) x.start (part done o))) new_here ∙ ap (λ s. copies y.order e (outs (y.step p) s (done z))) (sym kept.change.start) in
@@ -92,7 +92,7 @@ module _ {S B : Type 0} (y : System S B) {WellFormed : ℕ → S → Type 0} (la
       balance = λ e. ⊎_elim (balance_here e) (balance_elsewhere e) (cases_eq e.to p);
     }
       where
-        each : (q : ℕ) (u : Process S B) → slice_get ps q ≡ Some u → (q ≡ p) ⊎ (q ≡ p → ⊥) → SoundAt y w.collected q u
+        each : (q : ℕ) (u : ProcessState S B) → slice_get ps q ≡ Some u → (q ≡ p) ⊎ (q ≡ p → ⊥) → SoundAt y w.collected q u
         each q u h (inl k) =
             let is : Some u ≡ Some z = sym h ∙ ap (slice_get ps) k ∙ new_here in
             let same : z ≡ u = cc in

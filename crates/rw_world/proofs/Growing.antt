@@ -9,7 +9,7 @@ use Rattle.rw_lp.specs.declared.step.Answer.{Answer}
 use Rattle.rw_lp.specs.declared.step.Answer.TheVariants.{Done}
 use Rattle.rw_lp.specs.declared.step.StepFault.TheVariants.{AboveFloor}
 use Rattle.rw_lp.specs.Process as process
-use Rattle.rw_lp.specs.Process.{Process, Turn, Turned, Stays, execute_next, undo_one}
+use Rattle.rw_lp.specs.Process.{ProcessState, Turn, Turned, Stays, execute_next, undo_one}
 use Rattle.rw_world.specs.declared.step.Step.{Step}
 use Rattle.rw_world.specs.declared.step.Step.TheVariants.{Execute, Undo, Deliver, Collect}
 use Rattle.rw_world.specs.WorldState.{WorldState, floor}
@@ -39,11 +39,11 @@ module _ {S B : Type 0} (y : System S B) where
     at_turned p left (Stays f) = omega arith
     at_turned p left (Turned z out) = omega arith
 
-    at_turn : (p : ℕ) (step : Process S B → Turn S B) (o : Option (Process S B)) → w.collected ≤ (turn w p step o).0.collected
+    at_turn : (p : ℕ) (step : ProcessState S B → Turn S B) (o : Option (ProcessState S B)) → w.collected ≤ (turn w p step o).0.collected
     at_turn p step None = omega arith
     at_turn p step (Some x) = at_turned p w.letters (step x)
 
-    at_place : (i : ℕ) (l : Letter B) (o : Option (Process S B)) → w.collected ≤ (deliver_to y w i l o).0.collected
+    at_place : (i : ℕ) (l : Letter B) (o : Option (ProcessState S B)) → w.collected ≤ (deliver_to y w i l o).0.collected
     at_place i l None = omega arith
     at_place i l (Some x) = at_turned l.event.to (remove_at w.letters i) (process.deliver y.order l x)
 
@@ -61,7 +61,7 @@ module _ {S B : Type 0} (y : System S B) where
     collected_grows (Deliver i) = at_deliver i (slice_get w.letters i)
     collected_grows (Collect t) = at_collect t (nat_le t (floor w))
 
-  pub committed_grows : {WellFormed : ℕ → S → Type 0} (law : IsLawful y WellFormed) (w : WorldState S B) → Sound y w → (s : Step) (q : ℕ) (x z : Process S B) → slice_get w.processes q ≡ Some x → slice_get (apply y w s).0.processes q ≡ Some z → (rest : List (Event B)) × (x.committed ++ rest ≡ z.committed)
+  pub committed_grows : {WellFormed : ℕ → S → Type 0} (law : IsLawful y WellFormed) (w : WorldState S B) → Sound y w → (s : Step) (q : ℕ) (x z : ProcessState S B) → slice_get w.processes q ≡ Some x → slice_get (apply y w s).0.processes q ≡ Some z → (rest : List (Event B)) × (x.committed ++ rest ≡ z.committed)
   committed_grows law w sound s q x z h k =
       let r = below_prefix w.collected (apply y w s).0.collected q (collected_grows w s) in
       (r.0, ap (λ l. l ++ r.0) ((in_order y law w sound).committed q x h) ∙ r.1 ∙ sym ((in_order y law (apply y w s).0 (apply_sound y law w sound s)).committed q z k))

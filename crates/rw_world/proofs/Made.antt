@@ -14,7 +14,7 @@ use Rattle.rw_vt.specs.System.{System, system}
 use Rattle.rw_lp.specs.declared.step.Answer.{Answer}
 use Rattle.rw_lp.specs.declared.step.Answer.TheVariants.{Done, Refused}
 use Rattle.rw_lp.specs.Process as process
-use Rattle.rw_lp.specs.Process.{Process, Turn, Turned, Stays, execute_least, execute_next, undo_last, undo_one, split_last}
+use Rattle.rw_lp.specs.Process.{ProcessState, Turn, Turned, Stays, execute_least, execute_next, undo_last, undo_one, split_last}
 use Rattle.rw_lp.specs.Calls.{LogicalProcess, MeetsNext, rules, Took}
 use Rattle.rw_world.specs.declared.parts.Parts.{Parts}
 use Rattle.rw_world.specs.declared.step.Step.{Step}
@@ -31,7 +31,7 @@ remove_at_is [] (suc i) = refl
 remove_at_is (x ∷ xs) zero = refl
 remove_at_is (x ∷ xs) (suc i) = ap (λ l. x ∷ l) (remove_at_is xs i)
 
-module _ {S B : Type 0} (w : WorldState S B) (p : ℕ) (u v : Process S B) (answer : Answer) (at : slice_get w.processes p ≡ Some u) where
+module _ {S B : Type 0} (w : WorldState S B) (p : ℕ) (u v : ProcessState S B) (answer : Answer) (at : slice_get w.processes p ≡ Some u) where
   -- the world after process p took a turn, by what the process did
   pub turned_is : (given : List (Letter B)) (t : Turn S B) → Took u v answer given t → turned w p w.letters t ≡ (record { processes = slice_set w.processes p v; letters = w.letters ++ given; collected = w.collected }, answer)
   turned_is given (Turned after out) k = rw (k.0, k.1, k.2) refl
@@ -47,7 +47,7 @@ module _ {S B : Type 0} (w : WorldState S B) (p : ℕ) (u v : Process S B) (answ
   undelivered_is left (Stays f) not_done k = let same = set_there w.processes p u at in rw (k.0, k.1, same) refl
 
 -- starts and initial events say nothing of a turn
-module _ {M S B U : Type 0} (model : Ghosts M S B U) (order : B → B → Ordering) (m : M) (starts : List S) (initial : List (Event B)) (p : ℕ) (x : Process S B) where
+module _ {M S B U : Type 0} (model : Ghosts M S B U) (order : B → B → Ordering) (m : M) (starts : List S) (initial : List (Event B)) (p : ℕ) (x : ProcessState S B) where
   execute_by_rules : execute_next (rules model order m) p x ≡ execute_next (system model order m starts initial) p x
   execute_by_rules = go x.pending
     where

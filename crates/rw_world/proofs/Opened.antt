@@ -10,7 +10,7 @@ use Rattle.rw_vt.specs.System.{System, outs, map_from, flatten, all_sent}
 use Rattle.rw_vt.proofs.Sorting.{copies-append, copies-in_order, Has-filter, IsAscending-in_order}
 use Rattle.rw_vt.proofs.Bags.{none_if, Each-nil, copies-filter_yes}
 use Rattle.rw_vt.proofs.Runs.{IsLawful, copies_joined}
-use Rattle.rw_lp.specs.Process.{Process, done}
+use Rattle.rw_lp.specs.Process.{ProcessState, done}
 use Rattle.rw_lp.specs.Sound.{Stands, IsHeldFor, SoundAt}
 use Rattle.rw_lp.proofs.GivenOut.{no_letters}
 use Rattle.rw_world.specs.WorldState.{opened_at, opened}
@@ -26,7 +26,7 @@ module _ {S B : Type 0} (y : System S B) where
   opened_is q = let k : 0 + q ≡ q = omega arith in get-map_from (opened_at y) 0 y.starts q ∙ ap (λ n. option_map (opened_at y n) (slice_get y.starts q)) k
 
   -- a list that is empty at each start is empty
-  nothing : (f : Process S B → List (Event B)) → ((q : ℕ) (s : S) → f (opened_at y q s) ≡ []) → (q : ℕ) → part f (slice_get (opened y).processes q) ≡ []
+  nothing : (f : ProcessState S B → List (Event B)) → ((q : ℕ) (s : S) → f (opened_at y q s) ≡ []) → (q : ℕ) → part f (slice_get (opened y).processes q) ≡ []
   nothing f none q = ap (part f) (opened_is q) ∙ go (slice_get y.starts q)
     where
       go : (o : Option S) → part f (option_map (opened_at y q) o) ≡ []
@@ -45,7 +45,7 @@ module _ {S B : Type 0} (y : System S B) where
         let empty = ap (copies y.order e) (map_from-empty {E = Event B} 0 y.starts) in
         omega (arith, joined, empty, copies-append law.exact e y.initial (flatten (map_from 0 sends y.starts)))
 
-    opened_each : (q : ℕ) (x : Process S B) → slice_get (opened y).processes q ≡ Some x → SoundAt y 0 q x
+    opened_each : (q : ℕ) (x : ProcessState S B) → slice_get (opened y).processes q ≡ Some x → SoundAt y 0 q x
     opened_each q x h = go (slice_get y.starts q) (sym (opened_is q) ∙ h)
       where
         stand : Each y.order (Stands y q) (in_order y.order (filter (λ a. a.to == q) y.initial))

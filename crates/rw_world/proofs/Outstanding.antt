@@ -14,7 +14,7 @@ use Rattle.rw_vt.proofs.Letters.{count-letter}
 use Rattle.rw_vt.proofs.Runs.{IsLawful}
 use Rattle.rw_lp.specs.declared.held.Held.{Held}
 use Rattle.rw_lp.specs.HeldMessages.{held_messages}
-use Rattle.rw_lp.specs.Process.{Process}
+use Rattle.rw_lp.specs.Process.{ProcessState}
 use Rattle.rw_lp.specs.Sound.{SoundAt}
 use Rattle.rw_lp.proofs.Holding.{held_from}
 use Rattle.rw_world.specs.WorldState.{WorldState, least_of_processes, least_of_letters, floor, is_empty, are_idle, is_finished}
@@ -29,7 +29,7 @@ module _ {S B : Type 0} (y : System S B) where
         let ih : (t ≤ m) × Each y.order (λ e. t ≤ e.time) xs = within_least m xs (omega arith) in
         (ih.0, Each-cons law.exact (λ e. t ≤ e.time) x xs (omega arith) ih.1)
 
-    within_processes : (m : ℕ) (ps : List (Process S B)) → t ≤ least_of_processes m ps → (t ≤ m) × ((q : ℕ) → Each y.order (λ e. t ≤ e.time) (pending_of ps q)) × ((q : ℕ) → Each y.order (λ e. t ≤ e.time) (debts_of ps q)) × Each y.order (λ e. t ≤ e.time) (held_in ps)
+    within_processes : (m : ℕ) (ps : List (ProcessState S B)) → t ≤ least_of_processes m ps → (t ≤ m) × ((q : ℕ) → Each y.order (λ e. t ≤ e.time) (pending_of ps q)) × ((q : ℕ) → Each y.order (λ e. t ≤ e.time) (debts_of ps q)) × Each y.order (λ e. t ≤ e.time) (held_in ps)
     within_processes m [] h = (h, (λ q e k. absurd (omega arith)), (λ q e k. absurd (omega arith)), λ e k. absurd (omega arith))
     within_processes m (x ∷ ps) h =
         let held = held_messages x.held in
@@ -69,7 +69,7 @@ module _ {S B : Type 0} (y : System S B) where
     empty_none t [] h = λ e k. absurd (omega arith)
     empty_none t (x ∷ xs) h = elim (false≢true h) [ ]
 
-    idle_none : (t : ℕ) (ps : List (Process S B)) → are_idle ps ≡ true → (q : ℕ) → Each y.order (λ e. t ≤ e.time) (pending_of ps q) × Each y.order (λ e. t ≤ e.time) (debts_of ps q)
+    idle_none : (t : ℕ) (ps : List (ProcessState S B)) → are_idle ps ≡ true → (q : ℕ) → Each y.order (λ e. t ≤ e.time) (pending_of ps q) × Each y.order (λ e. t ≤ e.time) (debts_of ps q)
     idle_none t [] h q = ((λ e k. absurd (omega arith)), (λ e k. absurd (omega arith)))
     idle_none t (x ∷ ps) h zero =
         let a = and_parts (is_empty x.pending) (is_empty x.debts && (is_empty x.held && are_idle ps)) h in
@@ -81,7 +81,7 @@ module _ {S B : Type 0} (y : System S B) where
         let c = and_parts (is_empty x.held) (are_idle ps) b.1 in
         idle_none t ps c.1 q
 
-    idle_held : (t : ℕ) (ps : List (Process S B)) → are_idle ps ≡ true → Each y.order (λ e. t ≤ e.time) (held_in ps)
+    idle_held : (t : ℕ) (ps : List (ProcessState S B)) → are_idle ps ≡ true → Each y.order (λ e. t ≤ e.time) (held_in ps)
     idle_held t [] h = λ e k. absurd (omega arith)
     idle_held t (x ∷ ps) h =
         let a = and_parts (is_empty x.pending) (is_empty x.debts && (is_empty x.held && are_idle ps)) h in
@@ -103,7 +103,7 @@ module _ {S B : Type 0} (y : System S B) where
         record { pending = λ q. (idle_none t w.processes a.1 q).0; debts = λ q. (idle_none t w.processes a.1 q).1; letters = no_letters t w.letters a.0; held = idle_held t w.processes a.1 }
 
   module _ {WellFormed : ℕ → S → Type 0} (law : IsLawful y WellFormed) (w : WorldState S B) (sound : Sound y w) where
-    held_all : (g : ℕ) (i : ℕ) (ps : List (Process S B)) → ((q : ℕ) (x : Process S B) → slice_get ps q ≡ Some x → SoundAt y g (i + q) x) → Each y.order (λ e. g ≤ e.time) (held_in ps)
+    held_all : (g : ℕ) (i : ℕ) (ps : List (ProcessState S B)) → ((q : ℕ) (x : ProcessState S B) → slice_get ps q ≡ Some x → SoundAt y g (i + q) x) → Each y.order (λ e. g ≤ e.time) (held_in ps)
     held_all g i [] f = λ e k. absurd (omega arith)
     held_all g i (x ∷ ps) f =
         let at = f zero x refl in
@@ -114,13 +114,13 @@ module _ {S B : Type 0} (y : System S B) where
     pub quiet_collected : IsQuiet y w.collected w
     quiet_collected = record { pending = λ q. pending q (slice_get w.processes q) refl; debts = λ q. debts q (slice_get w.processes q) refl; letters = sound.letters.from; held = held w.processes (λ q x h. sound.each q x h) }
       where
-        held : (ps : List (Process S B)) → ((q : ℕ) (x : Process S B) → slice_get ps q ≡ Some x → SoundAt y w.collected q x) → Each y.order (λ e. w.collected ≤ e.time) (held_in ps)
+        held : (ps : List (ProcessState S B)) → ((q : ℕ) (x : ProcessState S B) → slice_get ps q ≡ Some x → SoundAt y w.collected q x) → Each y.order (λ e. w.collected ≤ e.time) (held_in ps)
         held ps f = held_all w.collected 0 ps (λ q x h. let k : q ≡ 0 + q = omega arith in subst (λ n. SoundAt y w.collected n x) k (f q x h))
 
-        pending : (q : ℕ) (o : Option (Process S B)) → slice_get w.processes q ≡ o → Each y.order (λ e. w.collected ≤ e.time) (part (λ x. x.pending) o)
+        pending : (q : ℕ) (o : Option (ProcessState S B)) → slice_get w.processes q ≡ o → Each y.order (λ e. w.collected ≤ e.time) (part (λ x. x.pending) o)
         pending q None h = λ e k. absurd (omega arith)
         pending q (Some x) h = (sound.each q x h).pending_from
 
-        debts : (q : ℕ) (o : Option (Process S B)) → slice_get w.processes q ≡ o → Each y.order (λ e. w.collected ≤ e.time) (part (λ x. x.debts) o)
+        debts : (q : ℕ) (o : Option (ProcessState S B)) → slice_get w.processes q ≡ o → Each y.order (λ e. w.collected ≤ e.time) (part (λ x. x.debts) o)
         debts q None h = λ e k. absurd (omega arith)
         debts q (Some x) h = (sound.each q x h).debts_from

@@ -11,7 +11,7 @@ use Rattle.rw_vt.proofs.Bags.{one_if-itself}
 use Rattle.rw_vt.proofs.Letters.{count-letter}
 use Rattle.rw_vt.proofs.Runs.{IsLawful}
 use Rattle.rw_lp.specs.HeldMessages.{held_messages}
-use Rattle.rw_lp.specs.Process.{Process}
+use Rattle.rw_lp.specs.Process.{ProcessState}
 use Rattle.rw_lp.specs.Calls.{least}
 use Rattle.rw_world.specs.WorldState.{WorldState, least_of_processes, least_of_letters, floor}
 use Rattle.rw_world.specs.Sound.{IsQuiet, pending_of, debts_of, held_in}
@@ -30,7 +30,7 @@ module _ {S B : Type 0} (y : System S B) {WellFormed : ℕ → S → Type 0} (la
       let rest : t ≤ least m es = least_from m es h (λ a there. k a (omega arith)) in
       omega arith
 
-  processes_from : (m : ℕ) (ps : List (Process S B)) → t ≤ m → ((q : ℕ) → Each y.order (λ e. t ≤ e.time) (pending_of ps q)) → ((q : ℕ) → Each y.order (λ e. t ≤ e.time) (debts_of ps q)) → Each y.order (λ e. t ≤ e.time) (held_in ps) → t ≤ least_of_processes m ps
+  processes_from : (m : ℕ) (ps : List (ProcessState S B)) → t ≤ m → ((q : ℕ) → Each y.order (λ e. t ≤ e.time) (pending_of ps q)) → ((q : ℕ) → Each y.order (λ e. t ≤ e.time) (debts_of ps q)) → Each y.order (λ e. t ≤ e.time) (held_in ps) → t ≤ least_of_processes m ps
   processes_from m [] h pending debts held = h
   processes_from m (x ∷ ps) h pending debts held =
       let both = λ (a : Event B). copies-append law.exact a (held_messages x.held) (held_in ps) in

@@ -8,7 +8,7 @@ use Rattle.rw_lp.specs.declared.step.StepFault.TheVariants.{AboveFloor}
 use Rattle.rw_lp.specs.declared.step.Answer.{Answer}
 use Rattle.rw_lp.specs.declared.step.Answer.TheVariants.{Done, Refused}
 use Rattle.rw_lp.specs.Process as process
-use Rattle.rw_lp.specs.Process.{Process, Turn, Turned, Stays, execute_next, undo_one}
+use Rattle.rw_lp.specs.Process.{ProcessState, Turn, Turned, Stays, execute_next, undo_one}
 use Rattle.rw_world.specs.declared.step.Step.{Step}
 use Rattle.rw_world.specs.declared.step.Step.TheVariants.{Execute, Undo, Deliver, Collect}
 use Rattle.rw_world.specs.WorldState.{WorldState, floor}
@@ -23,11 +23,11 @@ module _ {S B : Type 0} (y : System S B) (w : WorldState S B) where
   at_turned p left (Stays f) g q = refl
   at_turned p left (Turned z out) g q = cc
 
-  at_turn : (p : ℕ) (step : Process S B → Turn S B) (o : Option (Process S B)) → Same (turn w p step o)
+  at_turn : (p : ℕ) (step : ProcessState S B → Turn S B) (o : Option (ProcessState S B)) → Same (turn w p step o)
   at_turn p step None f q = refl
   at_turn p step (Some x) f q = at_turned p w.letters (step x) f q
 
-  at_place : (i : ℕ) (l : Letter B) (o : Option (Process S B)) → Same (deliver_to y w i l o)
+  at_place : (i : ℕ) (l : Letter B) (o : Option (ProcessState S B)) → Same (deliver_to y w i l o)
   at_place i l None f q = refl
   at_place i l (Some x) f q = at_turned l.event.to (remove_at w.letters i) (process.deliver y.order l x) f q
 

@@ -14,7 +14,7 @@ use Rattle.rw_vt.proofs.Bags.{none_if}
 use Rattle.rw_vt.proofs.Letters.{messages-append, antis-append}
 use Rattle.rw_vt.proofs.Runs.{IsLawful}
 use Rattle.rw_lp.specs.HeldMessages.{held_messages}
-use Rattle.rw_lp.specs.Process.{Process, done}
+use Rattle.rw_lp.specs.Process.{ProcessState, done}
 use Rattle.rw_lp.specs.Sound.{SoundAt, Kept}
 use Rattle.rw_lp.proofs.GivenOut.{letters_join}
 use Rattle.rw_world.specs.WorldState.{WorldState}
@@ -25,7 +25,7 @@ use Rattle.rw_world.proofs.Sums.{sum_only, sum_some}
 
 module _ {S B : Type 0} (y : System S B) where
   -- one turn after another
-  pub kept_more : (g p : ℕ) (x z u : Process S B) (came out came' out' : List (Letter B)) → Kept y g p x z came out → Kept y g p z u came' out' → Kept y g p x u (came ++ came') (out ++ out')
+  pub kept_more : (g p : ℕ) (x z u : ProcessState S B) (came out came' out' : List (Letter B)) → Kept y g p x z came out → Kept y g p z u came' out' → Kept y g p x u (came ++ came') (out ++ out')
   kept_more g p x z u came out came' out' a b = record {
     sound = b.sound;
     change = record {
@@ -38,14 +38,14 @@ module _ {S B : Type 0} (y : System S B) where
 
   module _ {WellFormed : ℕ → S → Type 0} (law : IsLawful y WellFormed) (g : ℕ) (came out : ℕ → List (Letter B)) where
     -- each keeps its own balance, from place k on
-    abbrev Pairs : ℕ → List (Process S B) → List (Process S B) → Type 0
+    abbrev Pairs : ℕ → List (ProcessState S B) → List (ProcessState S B) → Type 0
     Pairs k ps vs = (i j : ℕ) → j ≡ k + i → KeptAt y g j (slice_get ps i) (slice_get vs i) (came j) (out j)
 
     -- what D gives at a place is done there
-    abbrev Tells : ℕ → List (Process S B) → (ℕ → List (Event B)) → Type 0
-    Tells k ps D = (i j : ℕ) (x : Process S B) → slice_get ps i ≡ Some x → j ≡ k + i → D j ≡ done x
+    abbrev Tells : ℕ → List (ProcessState S B) → (ℕ → List (Event B)) → Type 0
+    Tells k ps D = (i j : ℕ) (x : ProcessState S B) → slice_get ps i ≡ Some x → j ≡ k + i → D j ≡ done x
 
-    starts_stay : (k : ℕ) (ps vs : List (Process S B)) → Pairs k ps vs → map (λ x. x.start) vs ≡ map (λ x. x.start) ps
+    starts_stay : (k : ℕ) (ps vs : List (ProcessState S B)) → Pairs k ps vs → map (λ x. x.start) vs ≡ map (λ x. x.start) ps
     starts_stay k [] [] h = refl
     starts_stay k [] (z ∷ vs) h = absurd (h zero k (omega arith))
     starts_stay k (x ∷ ps) [] h = absurd (h zero k (omega arith))
@@ -55,7 +55,7 @@ module _ {S B : Type 0} (y : System S B) where
         ap (λ s. s ∷ map (λ x. x.start) vs) kept.change.start ∙ ap (λ l. x.start ∷ l) rest
 
     -- what all send and hold changes by what all gave out
-    sent_all : (e : Event B) (k : ℕ) (ps vs : List (Process S B)) (D D' : ℕ → List (Event B)) → Pairs k ps vs → Tells k ps D → Tells k vs D' →
+    sent_all : (e : Event B) (k : ℕ) (ps vs : List (ProcessState S B)) (D D' : ℕ → List (Event B)) → Pairs k ps vs → Tells k ps D → Tells k vs D' →
         copies y.order e (flatten (map_from k (λ q s. outs (y.step q) s (D' q)) (map (λ x. x.start) vs))) + copies y.order e (held_in vs) + antis y.order e (flatten (map_from k (λ q _. out q) (map (λ x. x.start) vs)))
         ≡ copies y.order e (flatten (map_from k (λ q s. outs (y.step q) s (D q)) (map (λ x. x.start) ps))) + copies y.order e (held_in ps) + messages y.order e (flatten (map_from k (λ q _. out q) (map (λ x. x.start) ps)))
     sent_all e k [] [] D D' h t t' = refl
@@ -87,13 +87,13 @@ module _ {S B : Type 0} (y : System S B) where
     started : map (λ x. x.start) v.processes ≡ y.starts
     started = starts_stay law w.collected came out 0 w.processes v.processes pairs ∙ sound.starts
 
-    tells : (ps : List (Process S B)) → Tells law w.collected came out 0 ps (done_of ps)
+    tells : (ps : List (ProcessState S B)) → Tells law w.collected came out 0 ps (done_of ps)
     tells ps i j x m q = let e : j ≡ i = omega arith in ap (λ n. done_of ps n) e ∙ ap (part done) m
 
-    each : (q : ℕ) (z : Process S B) → slice_get v.processes q ≡ Some z → SoundAt y v.collected q z
+    each : (q : ℕ) (z : ProcessState S B) → slice_get v.processes q ≡ Some z → SoundAt y v.collected q z
     each q z h = subst (λ n. SoundAt y n q z) (sym ex.collected) (go (slice_get w.processes q) (slice_get v.processes q) h (ex.kept q))
       where
-        go : (a b : Option (Process S B)) → b ≡ Some z → KeptAt y w.collected q a b (came q) (out q) → SoundAt y w.collected q z
+        go : (a b : Option (ProcessState S B)) → b ≡ Some z → KeptAt y w.collected q a b (came q) (out q) → SoundAt y w.collected q z
         go (Some x) (Some u) m k = let is : u ≡ z = cc in subst (SoundAt y w.collected q) is k.sound
         go None None m k = cc
         go (Some x) None m k = absurd k
@@ -101,7 +101,7 @@ module _ {S B : Type 0} (y : System S B) where
 
     sent_in_all : (e : Event B) → copies y.order e (all_sent y (done_of v.processes)) + copies y.order e (held_in v.processes) + antis y.order e (all_letters y out) ≡ copies y.order e (all_sent y (done_of w.processes)) + copies y.order e (held_in w.processes) + messages y.order e (all_letters y out)
     sent_in_all e =
-        let sends : List (Process S B) → ℕ → S → List (Event B) = λ ps q s. outs (y.step q) s (done_of ps q) in
+        let sends : List (ProcessState S B) → ℕ → S → List (Event B) = λ ps q s. outs (y.step q) s (done_of ps q) in
         let all = sent_all law w.collected came out e 0 w.processes v.processes (done_of w.processes) (done_of v.processes) pairs (tells w.processes) (tells v.processes) in
         let a1 = ap (λ ss. copies y.order e (flatten (map_from 0 (sends v.processes) ss))) started in
         let a2 = ap (λ ss. copies y.order e (flatten (map_from 0 (sends w.processes) ss))) sound.starts in
@@ -110,7 +110,7 @@ module _ {S B : Type 0} (y : System S B) where
         omega (arith, all, a1, a2, a3, a4, copies-append law.exact e y.initial (flatten (map_from 0 (sends v.processes) y.starts)), copies-append law.exact e y.initial (flatten (map_from 0 (sends w.processes) y.starts)))
 
     -- a place with no process
-    absent : (q : ℕ) → length y.starts ≤ q → (b : Option (Process S B)) → slice_get w.processes q ≡ b → b ≡ None
+    absent : (q : ℕ) → length y.starts ≤ q → (b : Option (ProcessState S B)) → slice_get w.processes q ≡ b → b ≡ None
     absent q h None m = refl
     absent q h (Some x) m = absurd (never (ap (λ l. slice_get l q) (sym sound.starts) ∙ slice_get-map (λ u. u.start) w.processes q ∙ ap (option_map (λ u. u.start)) m))
       where
@@ -126,7 +126,7 @@ module _ {S B : Type 0} (y : System S B) where
         copies y.order e (done_of v.processes q) + copies y.order e (pending_of v.processes q) + copies y.order e (debts_of w.processes q) + ca ≡ copies y.order e (done_of w.processes q) + copies y.order e (pending_of w.processes q) + copies y.order e (debts_of v.processes q) + cm
     kept_at e q which cm ca there beyond = go (slice_get w.processes q) (slice_get v.processes q) refl which (ex.kept q)
       where
-        go : (a b : Option (Process S B)) → slice_get w.processes q ≡ a → (q < length y.starts) ⊎ (length y.starts ≤ q) → KeptAt y w.collected q a b (came q) (out q) →
+        go : (a b : Option (ProcessState S B)) → slice_get w.processes q ≡ a → (q < length y.starts) ⊎ (length y.starts ≤ q) → KeptAt y w.collected q a b (came q) (out q) →
             copies y.order e (part done b) + copies y.order e (part (λ u. u.pending) b) + copies y.order e (part (λ u. u.debts) a) + ca ≡ copies y.order e (part done a) + copies y.order e (part (λ u. u.pending) a) + copies y.order e (part (λ u. u.debts) b) + cm
         go (Some x) (Some z) m (inl i) k = let t = there i in omega (arith, k.change.kept e, t.0, t.1)
         go (Some x) (Some z) m (inr o) k = let n : Some x ≡ None = absent q o (Some x) m in cc
@@ -162,7 +162,7 @@ module _ {S B : Type 0} (y : System S B) where
     letter_sound : (e : Event B) → 0 < messages y.order e v.letters + antis y.order e v.letters → (y.valid e ≡ true) × (w.collected ≤ e.time)
     letter_sound e h = go (cases_lt 0 (messages y.order e w.letters + antis y.order e w.letters))
       where
-        at : (q : ℕ) → 0 < messages y.order e (out q) + antis y.order e (out q) → (a b : Option (Process S B)) → slice_get w.processes q ≡ a → q < length y.starts → KeptAt y w.collected q a b (came q) (out q) → (y.valid e ≡ true) × (w.collected ≤ e.time)
+        at : (q : ℕ) → 0 < messages y.order e (out q) + antis y.order e (out q) → (a b : Option (ProcessState S B)) → slice_get w.processes q ≡ a → q < length y.starts → KeptAt y w.collected q a b (came q) (out q) → (y.valid e ≡ true) × (w.collected ≤ e.time)
         at q k (Some x) (Some z) m i c = (c.letters.valid e k, c.letters.from e k)
         at q k None None m i c =
             let some : (s : S) × (slice_get y.starts q ≡ Some s) = some_at y.starts q i in

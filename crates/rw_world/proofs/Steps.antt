@@ -13,7 +13,7 @@ use Rattle.rw_vt.proofs.Bags.{one_if-other}
 use Rattle.rw_vt.proofs.Letters.{count-letter}
 use Rattle.rw_vt.proofs.Runs.{IsLawful}
 use Rattle.rw_lp.specs.Process as process
-use Rattle.rw_lp.specs.Process.{Process, Turn}
+use Rattle.rw_lp.specs.Process.{ProcessState, Turn}
 use Rattle.rw_lp.specs.Sound.{SoundAt, Keeps}
 use Rattle.rw_lp.proofs.Turns.{deliver_keeps}
 use Rattle.rw_world.specs.WorldState.{WorldState}
@@ -28,14 +28,14 @@ module _ {S B : Type 0} (y : System S B) {WellFormed : ℕ → S → Type 0} (la
   none_came : (p : ℕ) → Parted y p w.letters w.letters []
   none_came p = record { messages_are = λ e. omega arith; antis_are = λ e. omega arith; come_here = λ e k. absurd (omega arith) }
 
-  good_start : (p : ℕ) (x : Process S B) → slice_get w.processes p ≡ Some x → WellFormed p x.start
+  good_start : (p : ℕ) (x : ProcessState S B) → slice_get w.processes p ≡ Some x → WellFormed p x.start
   good_start p x at = law.starts p x.start (start_is y w sound p x at)
 
   -- a turn to which no letter comes
-  pub turn_sound : (p : ℕ) (step : Process S B → Turn S B) → ((x : Process S B) → WellFormed p x.start → SoundAt y w.collected p x → Keeps y w.collected p x [] (step x)) → Sound y (turn w p step (slice_get w.processes p)).0
+  pub turn_sound : (p : ℕ) (step : ProcessState S B → Turn S B) → ((x : ProcessState S B) → WellFormed p x.start → SoundAt y w.collected p x → Keeps y w.collected p x [] (step x)) → Sound y (turn w p step (slice_get w.processes p)).0
   turn_sound p step keeps = find (slice_get w.processes p) refl
     where
-      find : (o : Option (Process S B)) → slice_get w.processes p ≡ o → Sound y (turn w p step o).0
+      find : (o : Option (ProcessState S B)) → slice_get w.processes p ≡ o → Sound y (turn w p step o).0
       find None h = sound
       find (Some x) h = any_turn_sound y law w sound p x h w.letters [] (none_came p) sound.letters (step x) (keeps x (good_start p x h) (sound.each p x h))
 
@@ -54,7 +54,7 @@ module _ {S B : Type 0} (y : System S B) {WellFormed : ℕ → S → Type 0} (la
   pub deliver_sound : (i : ℕ) → Sound y (deliver y w i (slice_get w.letters i)).0
   deliver_sound i = find (slice_get w.letters i) refl
     where
-      place : (l : Letter B) → slice_get w.letters i ≡ Some l → (o : Option (Process S B)) → slice_get w.processes l.event.to ≡ o → Sound y (deliver_to y w i l o).0
+      place : (l : Letter B) → slice_get w.letters i ≡ Some l → (o : Option (ProcessState S B)) → slice_get w.processes l.event.to ≡ o → Sound y (deliver_to y w i l o).0
       place l is None h = sound
       place l is (Some x) h =
           let there : 0 < messages y.order l.event w.letters + antis y.order l.event w.letters = letter_counts y law w.letters i l is in

@@ -1,11 +1,12 @@
 -- What contracts see of a world, and what its parts must keep.
-use Rattle.std.specs.Prelude.{◌≡◌, ℕ, Bool, List, ◌∷◌, ◌++◌, map, slice_get, Some}
+use Rattle.std.specs.Prelude.{◌≡◌, Bool, List, ◌∷◌, ◌++◌, map, slice_get, Some}
 use Rattle.std.specs.declared.cmp.Ordering.{Ordering}
+use Rattle.rw_vt.specs.Words.{Process, Time}
 use Rattle.rw_vt.specs.declared.event.Event.{Event}
 use Rattle.rw_vt.specs.declared.model.Model.{Ghosts}
 use Rattle.rw_vt.specs.System.{System, system, IsReady}
 use Rattle.rw_lp.specs.Process as process
-use Rattle.rw_lp.specs.Process.{Process}
+use Rattle.rw_lp.specs.Process.{ProcessState}
 use Rattle.rw_lp.specs.Calls.{LogicalProcess, MeetsNext}
 use Rattle.rw_lp.specs.declared.step.Answer.{Answer}
 use Rattle.rw_world.specs.declared.parts.Parts.{Parts}
@@ -38,12 +39,12 @@ abbrev pub simulation_of : {M S B U : Type 0} → Parts M S B U → Simulation M
 simulation_of x = record { model = x.model; starts = x.starts.value.items; initial = x.initial.value.items; world = world_of x }
 
 -- a process after it has collected
-abbrev pub collected : {M S B : Type 0} → ℕ → LogicalProcess M S B → LogicalProcess M S B
+abbrev pub collected : {M S B : Type 0} → Time → LogicalProcess M S B → LogicalProcess M S B
 collected t l = record { model = l.model; number = l.number; process = process.collect t l.process }
 
 -- the processes run the model m, and are numbered from 0
 abbrev pub AreNumbered : {M S B : Type 0} → M → List (LogicalProcess M S B) → Type 0
-AreNumbered {M} {S} {B} m xs = (p : ℕ) (x : LogicalProcess M S B) → slice_get xs p ≡ Some x → (x.model ≡ m) × (x.number ≡ p)
+AreNumbered {M} {S} {B} m xs = (p : Process) (x : LogicalProcess M S B) → slice_get xs p ≡ Some x → (x.model ≡ m) × (x.number ≡ p)
 
 -- the parts make up a sound world of the model, the starts and the initial events that they name
 pub record IsWhole {M S B U : Type 0} (model : Ghosts M S B U) (order : B → B → Ordering) (x : Parts M S B U) : Type 0 where
@@ -59,8 +60,8 @@ pub record Made {M S B U : Type 0} (model : Ghosts M S B U) (order : B → B →
 
 -- the step is to execute an event at a process that has one to execute next, in a state that passes the test
 pub record ExecutesAt {S B : Type 0} (cmp : Event B → Event B → Ordering) (w : WorldState S B) (test : S → Bool) (step : Step) : Type 0 where
-  pub number : ℕ
-  pub process : Process S B
+  pub number : Process
+  pub process : ProcessState S B
   pub executes : step ≡ Execute number
   pub there : slice_get w.processes number ≡ Some process
   pub meets : MeetsNext cmp process test

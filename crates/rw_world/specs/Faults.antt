@@ -1,10 +1,11 @@
 -- Where each refusal of a step applies.
-use Rattle.std.specs.Prelude.{◌≡◌, ◌<◌, ◌≤◌, ℕ, true, false, List, ◌∷◌, [], length, slice_get, Some, ◌⊎◌}
+use Rattle.std.specs.Prelude.{◌≡◌, ◌<◌, ◌≤◌, true, false, List, ◌∷◌, [], length, slice_get, Some, ◌⊎◌}
 use Rattle.std.specs.declared.cmp.Ordering.{Ordering}
+use Rattle.rw_vt.specs.Words.{Count, Process, Time}
 use Rattle.rw_vt.specs.declared.event.Event.{Event}
 use Rattle.rw_vt.specs.declared.event.Letter.{Letter}
 use Rattle.rw_vt.specs.Order.{has}
-use Rattle.rw_lp.specs.Process.{Process, done, is_less_than_last, split_last}
+use Rattle.rw_lp.specs.Process.{ProcessState, done, is_less_than_last, split_last}
 use Rattle.rw_lp.specs.declared.step.StepFault.{StepFault}
 use Rattle.rw_lp.specs.declared.step.StepFault.TheVariants.{NoSuchProcess, NoSuchLetter, NothingPending, Straggler, NothingToUndo, StillDone, AboveFloor}
 use Rattle.rw_world.specs.declared.step.Step.{Step}
@@ -13,28 +14,28 @@ use Rattle.rw_world.specs.WorldState.{WorldState, floor}
 
 -- the step names a process that is not there
 pub record NamesNoProcess {S B : Type 0} (w : WorldState S B) (step : Step) : Type 0 where
-  pub number : ℕ
+  pub number : Process
   pub step_is : (step ≡ Execute number) ⊎ (step ≡ Undo number)
   pub absent : length w.processes ≤ number
 
 -- the step names a letter that is not there
 pub record NamesNoLetter {S B : Type 0} (w : WorldState S B) (step : Step) : Type 0 where
-  pub number : ℕ
+  pub number : Count
   pub step_is : step ≡ Deliver number
   pub absent : length w.letters ≤ number
 
 -- a process is to execute, and nothing is pending there
 pub record FindsNothing {S B : Type 0} (w : WorldState S B) (step : Step) : Type 0 where
-  pub number : ℕ
-  pub process : Process S B
+  pub number : Process
+  pub process : ProcessState S B
   pub step_is : step ≡ Execute number
   pub there : slice_get w.processes number ≡ Some process
   pub none : process.pending ≡ []
 
 -- a process is to execute, and its least pending event is less than its last done one
 pub record FindsStraggler {S B : Type 0} (cmp : Event B → Event B → Ordering) (w : WorldState S B) (step : Step) : Type 0 where
-  pub number : ℕ
-  pub process : Process S B
+  pub number : Process
+  pub process : ProcessState S B
   pub least : Event B
   pub rest : List (Event B)
   pub step_is : step ≡ Execute number
@@ -44,17 +45,17 @@ pub record FindsStraggler {S B : Type 0} (cmp : Event B → Event B → Ordering
 
 -- a process is to undo, and nothing is processed there that is not committed
 pub record FindsNothingDone {S B : Type 0} (w : WorldState S B) (step : Step) : Type 0 where
-  pub number : ℕ
-  pub process : Process S B
+  pub number : Process
+  pub process : ProcessState S B
   pub step_is : step ≡ Undo number
   pub there : slice_get w.processes number ≡ Some process
   pub none : process.processed ≡ []
 
 -- an anti-message comes whose event is processed and not pending
 pub record FindsItDone {S B : Type 0} (cmp : Event B → Event B → Ordering) (w : WorldState S B) (step : Step) : Type 0 where
-  pub number : ℕ
+  pub number : Count
   pub letter : Letter B
-  pub process : Process S B
+  pub process : ProcessState S B
   pub step_is : step ≡ Deliver number
   pub letter_there : slice_get w.letters number ≡ Some letter
   pub there : slice_get w.processes letter.event.to ≡ Some process
@@ -64,7 +65,7 @@ pub record FindsItDone {S B : Type 0} (cmp : Event B → Event B → Ordering) (
 
 -- what is to be collected is not final
 pub record IsAboveFloor {S B : Type 0} (w : WorldState S B) (step : Step) : Type 0 where
-  pub time : ℕ
+  pub time : Time
   pub step_is : step ≡ Collect time
   pub above : floor w < time
 

@@ -1,12 +1,13 @@
 -- What holds of each world that steps lead to.
-use Rattle.std.specs.Prelude.{◌≡◌, ℕ, ◌+◌, ◌^◌, ◌<◌, ◌≤◌, true, List, [], ◌∷◌, ◌++◌, map, nat_lt, filter, slice_get, Option, Some, None}
+use Rattle.std.specs.Prelude.{◌≡◌, ◌+◌, ◌^◌, ◌<◌, ◌≤◌, true, List, [], ◌∷◌, ◌++◌, map, nat_lt, filter, slice_get, Option, Some, None}
+use Rattle.rw_vt.specs.Words.{Process, Time}
 use Rattle.rw_vt.specs.declared.event.Event.{Event}
 use Rattle.rw_vt.specs.declared.event.Letter.{Letter}
 use Rattle.rw_vt.specs.Order.{copies, Each}
 use Rattle.rw_vt.specs.Letters.{messages, antis}
 use Rattle.rw_vt.specs.System.{System, all_sent, below, IsOutcome}
 use Rattle.rw_lp.specs.HeldMessages.{held_messages}
-use Rattle.rw_lp.specs.Process.{Process, done}
+use Rattle.rw_lp.specs.Process.{ProcessState, done}
 use Rattle.rw_lp.specs.Sound.{SoundAt, SoundLetters}
 use Rattle.rw_lp.specs.declared.step.StepFault.{StepFault}
 use Rattle.rw_lp.specs.declared.step.Answer.TheVariants.{Refused}
@@ -15,54 +16,54 @@ use Rattle.rw_world.specs.WorldState.{WorldState, floor, is_finished}
 use Rattle.rw_world.specs.Steps.{apply}
 
 -- a list of a process, empty where there is none
-abbrev pub part : {S B : Type 0} → (Process S B → List (Event B)) → Option (Process S B) → List (Event B)
+abbrev pub part : {S B : Type 0} → (ProcessState S B → List (Event B)) → Option (ProcessState S B) → List (Event B)
 part f None = []
 part f (Some x) = f x
 
-abbrev pub committed_of : {S B : Type 0} → List (Process S B) → ℕ → List (Event B)
+abbrev pub committed_of : {S B : Type 0} → List (ProcessState S B) → Process → List (Event B)
 committed_of ps q = part (λ x. x.committed) (slice_get ps q)
 
-abbrev pub done_of : {S B : Type 0} → List (Process S B) → ℕ → List (Event B)
+abbrev pub done_of : {S B : Type 0} → List (ProcessState S B) → Process → List (Event B)
 done_of ps q = part done (slice_get ps q)
 
-abbrev pub pending_of : {S B : Type 0} → List (Process S B) → ℕ → List (Event B)
+abbrev pub pending_of : {S B : Type 0} → List (ProcessState S B) → Process → List (Event B)
 pending_of ps q = part (λ x. x.pending) (slice_get ps q)
 
-abbrev pub debts_of : {S B : Type 0} → List (Process S B) → ℕ → List (Event B)
+abbrev pub debts_of : {S B : Type 0} → List (ProcessState S B) → Process → List (Event B)
 debts_of ps q = part (λ x. x.debts) (slice_get ps q)
 
 -- all that is held anywhere
-abbrev pub held_in : {S B : Type 0} → List (Process S B) → List (Event B)
+abbrev pub held_in : {S B : Type 0} → List (ProcessState S B) → List (Event B)
 held_in [] = []
 held_in (x ∷ ps) = held_messages x.held ++ held_in ps
 
 -- each copy of e that was sent, or is held, is done, pending or on its way
-abbrev pub Balanced : {S B : Type 0} → System S B → List (Process S B) → List (Letter B) → Event B → Type 0
+abbrev pub Balanced : {S B : Type 0} → System S B → List (ProcessState S B) → List (Letter B) → Event B → Type 0
 Balanced y ps ls e =
     copies y.order e (all_sent y (done_of ps)) + copies y.order e (held_in ps) + copies y.order e (debts_of ps e.to) + antis y.order e ls
     ≡ copies y.order e (done_of ps e.to) + copies y.order e (pending_of ps e.to) + messages y.order e ls
 
 pub record Sound {S B : Type 0} (y : System S B) (w : WorldState S B) : Type 0 where
   pub starts : map (λ x. x.start) w.processes ≡ y.starts
-  pub each : (q : ℕ) (x : Process S B) → slice_get w.processes q ≡ Some x → SoundAt y w.collected q x
+  pub each : (q : Process) (x : ProcessState S B) → slice_get w.processes q ≡ Some x → SoundAt y w.collected q x
   pub letters : SoundLetters y w.collected w.letters
   pub balance : (e : Event B) → Balanced y w.processes w.letters e
 
 -- nothing outstanding has a time below t
-pub record IsQuiet {S B : Type 0} (y : System S B) (t : ℕ) (w : WorldState S B) : Type 0 where
-  pub pending : (q : ℕ) → Each y.order (λ e. t ≤ e.time) (pending_of w.processes q)
-  pub debts : (q : ℕ) → Each y.order (λ e. t ≤ e.time) (debts_of w.processes q)
+pub record IsQuiet {S B : Type 0} (y : System S B) (t : Time) (w : WorldState S B) : Type 0 where
+  pub pending : (q : Process) → Each y.order (λ e. t ≤ e.time) (pending_of w.processes q)
+  pub debts : (q : Process) → Each y.order (λ e. t ≤ e.time) (debts_of w.processes q)
   pub letters : (e : Event B) → 0 < messages y.order e w.letters + antis y.order e w.letters → t ≤ e.time
   pub held : Each y.order (λ e. t ≤ e.time) (held_in w.processes)
 
 -- the committed events, and all that is done before the floor, are those of the run in time order, and a finished world is its outcome
 pub record IsInOrder {S B : Type 0} (y : System S B) (w : WorldState S B) : Type 0 where
-  pub committed : (q : ℕ) (x : Process S B) → slice_get w.processes q ≡ Some x → x.committed ≡ below y w.collected q
-  pub before_floor : (t q : ℕ) → t ≤ floor w → filter (λ e. nat_lt e.time t) (done_of w.processes q) ≡ below y t q
+  pub committed : (q : Process) (x : ProcessState S B) → slice_get w.processes q ≡ Some x → x.committed ≡ below y w.collected q
+  pub before_floor : (t : Time) (q : Process) → t ≤ floor w → filter (λ e. nat_lt e.time t) (done_of w.processes q) ≡ below y t q
   pub finished : is_finished w ≡ true → IsOutcome y (2 ^ 40) (map done w.processes) (map (λ x. x.state) w.processes)
 
 -- a step keeps a sound world sound, a refused one leaves it as it was, and committed lists only grow
 pub record StepKept {S B : Type 0} (y : System S B) (w : WorldState S B) (step : Step) : Type 0 where
   pub sound : Sound y (apply y w step).0
   pub refused : (fault : StepFault) → (apply y w step).1 ≡ Refused fault → (apply y w step).0 ≡ w
-  pub grows : (q : ℕ) (x z : Process S B) → slice_get w.processes q ≡ Some x → slice_get (apply y w step).0.processes q ≡ Some z → (rest : List (Event B)) × (x.committed ++ rest ≡ z.committed)
+  pub grows : (q : Process) (x z : ProcessState S B) → slice_get w.processes q ≡ Some x → slice_get (apply y w step).0.processes q ≡ Some z → (rest : List (Event B)) × (x.committed ++ rest ≡ z.committed)

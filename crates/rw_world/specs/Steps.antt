@@ -1,5 +1,6 @@
 -- The steps of a world, what each answers, and where a whole schedule leads.
-use Rattle.std.specs.Prelude.{ℕ, zero, suc, max, cond, List, [], ◌∷◌, ◌++◌, map, nat_le, slice_get, slice_set, Option, Some, None}
+use Rattle.std.specs.Prelude.{zero, suc, max, cond, List, [], ◌∷◌, ◌++◌, map, nat_le, slice_get, slice_set, Option, Some, None}
+use Rattle.rw_vt.specs.Words.{Count, Process, Time}
 use Rattle.rw_vt.specs.declared.event.Letter.{Letter}
 use Rattle.rw_vt.specs.System.{System}
 use Rattle.rw_lp.specs.declared.step.StepFault.{StepFault}
@@ -7,7 +8,7 @@ use Rattle.rw_lp.specs.declared.step.StepFault.TheVariants.{NoSuchProcess, NoSuc
 use Rattle.rw_lp.specs.declared.step.Answer.{Answer}
 use Rattle.rw_lp.specs.declared.step.Answer.TheVariants.{Done, Refused}
 use Rattle.rw_lp.specs.Process as process
-use Rattle.rw_lp.specs.Process.{Process, Turn, Turned, Stays, execute_next, undo_one}
+use Rattle.rw_lp.specs.Process.{ProcessState, Turn, Turned, Stays, execute_next, undo_one}
 use Rattle.rw_world.specs.declared.step.Step.{Step}
 use Rattle.rw_world.specs.declared.step.Step.TheVariants.{Execute, Undo, Deliver, Collect}
 use Rattle.rw_world.specs.WorldState.{WorldState, floor}
@@ -16,31 +17,31 @@ abbrev pub refuse : {S B : Type 0} → WorldState S B → StepFault → WorldSta
 refuse w fault = (w, Refused fault)
 
 -- process p took this turn, while these letters were left on their way
-abbrev pub turned : {S B : Type 0} → WorldState S B → ℕ → List (Letter B) → Turn S B → WorldState S B × Answer
+abbrev pub turned : {S B : Type 0} → WorldState S B → Process → List (Letter B) → Turn S B → WorldState S B × Answer
 turned w p left (Stays fault) = refuse w fault
 turned w p left (Turned x out) = (record { processes = slice_set w.processes p x; letters = left ++ out; collected = w.collected }, Done)
 
 -- process p, if there is one, takes a turn
-abbrev pub turn : {S B : Type 0} → WorldState S B → ℕ → (Process S B → Turn S B) → Option (Process S B) → WorldState S B × Answer
+abbrev pub turn : {S B : Type 0} → WorldState S B → Process → (ProcessState S B → Turn S B) → Option (ProcessState S B) → WorldState S B × Answer
 turn w p step None = refuse w NoSuchProcess
 turn w p step (Some x) = turned w p w.letters (step x)
 
 -- the list without the one at a place
-abbrev pub remove_at : {A : Type 0} → List A → ℕ → List A
+abbrev pub remove_at : {A : Type 0} → List A → Count → List A
 remove_at [] i = []
 remove_at (x ∷ xs) zero = xs
 remove_at (x ∷ xs) (suc i) = x ∷ remove_at xs i
 
 -- letter i comes to this process
-abbrev pub deliver_to : {S B : Type 0} → System S B → WorldState S B → ℕ → Letter B → Option (Process S B) → WorldState S B × Answer
+abbrev pub deliver_to : {S B : Type 0} → System S B → WorldState S B → Count → Letter B → Option (ProcessState S B) → WorldState S B × Answer
 deliver_to y w i l None = refuse w NoSuchProcess
 deliver_to y w i l (Some x) = turned w l.event.to (remove_at w.letters i) (process.deliver y.order l x)
 
-abbrev pub deliver : {S B : Type 0} → System S B → WorldState S B → ℕ → Option (Letter B) → WorldState S B × Answer
+abbrev pub deliver : {S B : Type 0} → System S B → WorldState S B → Count → Option (Letter B) → WorldState S B × Answer
 deliver y w i None = refuse w NoSuchLetter
 deliver y w i (Some l) = deliver_to y w i l (slice_get w.processes l.event.to)
 
-abbrev pub collect : {S B : Type 0} → WorldState S B → ℕ → WorldState S B × Answer
+abbrev pub collect : {S B : Type 0} → WorldState S B → Time → WorldState S B × Answer
 collect w t =
     cond (nat_le t (floor w))
     (record { processes = map (process.collect t) w.processes; letters = w.letters; collected = max w.collected t }, Done)

@@ -1,20 +1,21 @@
 -- A world of processes: what it is, where it starts, and what is outstanding in it.
-use Rattle.std.specs.Prelude.{ℕ, ◌^◌, min, Bool, true, false, List, [], ◌∷◌, filter, ◌==◌, ◌&&◌}
+use Rattle.std.specs.Prelude.{◌^◌, min, Bool, true, false, List, [], ◌∷◌, filter, ◌==◌, ◌&&◌}
+use Rattle.rw_vt.specs.Words.{Process, Time}
 use Rattle.rw_vt.specs.declared.event.Letter.{Letter}
 use Rattle.rw_vt.specs.System.{System, map_from}
 use Rattle.rw_lp.specs.HeldMessages.{held_messages}
-use Rattle.rw_lp.specs.Process.{Process}
+use Rattle.rw_lp.specs.Process.{ProcessState}
 use Rattle.rw_lp.specs.Calls.{unstarted, least}
 
 -- the processes, the letters on their way, and the greatest time collected
 pub record WorldState (S B : Type 0) : Type 0 where
-  pub processes : List (Process S B)
+  pub processes : List (ProcessState S B)
   pub letters : List (Letter B)
-  pub collected : ℕ
+  pub collected : Time
 
 -- Before any step: the initial events are pending where they go
 
-abbrev pub opened_at : {S B : Type 0} → System S B → ℕ → S → Process S B
+abbrev pub opened_at : {S B : Type 0} → System S B → Process → S → ProcessState S B
 opened_at y q s = unstarted y.order s (filter (λ e. e.to == q) y.initial)
 
 abbrev pub opened : {S B : Type 0} → System S B → WorldState S B
@@ -22,23 +23,23 @@ opened y = record { processes = map_from 0 (opened_at y) y.starts; letters = [];
 
 -- What is outstanding
 
-abbrev pub least_of_processes : {S B : Type 0} → ℕ → List (Process S B) → ℕ
+abbrev pub least_of_processes : {S B : Type 0} → Time → List (ProcessState S B) → Time
 least_of_processes m [] = m
 least_of_processes m (x ∷ xs) = least (least (least (least_of_processes m xs) (held_messages x.held)) x.debts) x.pending
 
-abbrev pub least_of_letters : {B : Type 0} → ℕ → List (Letter B) → ℕ
+abbrev pub least_of_letters : {B : Type 0} → Time → List (Letter B) → Time
 least_of_letters m [] = m
 least_of_letters m (l ∷ ls) = min l.event.time (least_of_letters m ls)
 
 -- the least time of what is outstanding, the end of time if there is nothing: global virtual time
-abbrev pub floor : {S B : Type 0} → WorldState S B → ℕ
+abbrev pub floor : {S B : Type 0} → WorldState S B → Time
 floor w = least_of_letters (least_of_processes (2 ^ 40) w.processes) w.letters
 
 abbrev pub is_empty : {A : Type 0} → List A → Bool
 is_empty [] = true
 is_empty (x ∷ xs) = false
 
-abbrev pub are_idle : {S B : Type 0} → List (Process S B) → Bool
+abbrev pub are_idle : {S B : Type 0} → List (ProcessState S B) → Bool
 are_idle [] = true
 are_idle (x ∷ xs) = is_empty x.pending && (is_empty x.debts && (is_empty x.held && are_idle xs))
 

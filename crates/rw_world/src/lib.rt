@@ -10,7 +10,7 @@ ghost use Rattle.std.specs.Prelude.{◌≡◌, ◌≤◌, ◌^◌, ◌↔◌, �
 ghost use Rattle.rw_vt.specs.declared.event.Event.{Event};
 ghost use Rattle.rw_vt.specs.declared.event.Letter.{Letter};
 ghost use Rattle.rw_vt.specs.System.{system, IsReady};
-ghost use Rattle.rw_lp.specs.Process.{Process};
+ghost use Rattle.rw_lp.specs.Process.{ProcessState};
 ghost use Rattle.rw_lp.specs.Sound.{Kept};
 ghost use Rattle.rw_world.specs.declared.step.Step.{Step};
 ghost use Rattle.rw_world.specs.WorldState.{WorldState, floor};
@@ -62,5 +62,5 @@ pub fn every_exchange<M: Model>()
 /// What one process kept on the way from one state to a second, and from there to a third, it kept on the whole way: its
 /// balance of letters adds up. This is a law of the definitions, for every model; the call itself does nothing.
 pub fn every_way<M: Model>()
-    ensures { (m : M) (starts : List M.State) (initial : List (Event M.Body)) (g p : ℕ) (x z u : Process M.State M.Body) (came more out rest : List (Letter M.Body)) → Kept (system M.Model M.Body.cmp m starts initial) g p x z came out → Kept (system M.Model M.Body.cmp m starts initial) g p z u more rest → Kept (system M.Model M.Body.cmp m starts initial) g p x u (came ++ more) (out ++ rest) }
+    ensures { (m : M) (starts : List M.State) (initial : List (Event M.Body)) (g p : ℕ) (x z u : ProcessState M.State M.Body) (came more out rest : List (Letter M.Body)) → Kept (system M.Model M.Body.cmp m starts initial) g p x z came out → Kept (system M.Model M.Body.cmp m starts initial) g p z u more rest → Kept (system M.Model M.Body.cmp m starts initial) g p x u (came ++ more) (out ++ rest) }
 {}

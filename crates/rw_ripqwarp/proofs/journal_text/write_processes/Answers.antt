@@ -1,5 +1,5 @@
 use Rattle.std.proofs.Common.{◌≡◌, ◌+◌, ◌<◌, ◌++◌, ◌∙◌, ℕ, suc, List, refl, sym, ap, arith, take, length, zero-add, append_assoc}
-use Rattle.rw_lp.specs.Process.{Process}
+use Rattle.rw_lp.specs.Process.{ProcessState}
 use Rattle.rw_photo.specs.declared.body.Body.{Body}
 use Rattle.rw_photo.specs.Cache.{Cache}
 use Rattle.rw_world.specs.Sound.{committed_of}
@@ -10,7 +10,7 @@ use Rattle.rw_ripqwarp.proofs.journal_text.write_processes.Goals as goal
 pub loop-process-preserved : goal.loop-process-preserved
 loop-process-preserved c =
     let n : ℕ = c.loop-process.process in
-    let processes : List (Process Cache Body) = c.args.world.now.world.processes in
+    let processes : List (ProcessState Cache Body) = c.args.world.now.world.processes in
     let text : List ℕ = c.args.text.now.items in
     let next : n + 1 ≡ suc n = omega arith in
     let within : n < length processes = omega (arith, c.requires.processes, c.loop-process-test.true) in

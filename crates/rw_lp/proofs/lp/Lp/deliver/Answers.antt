@@ -1,7 +1,7 @@
 use Rattle.std.proofs.Common.{[], sym, subst}
 use Rattle.rw_vt.specs.Order.{event_cmp}
 use Rattle.rw_lp.specs.Past.{IsFor}
-use Rattle.rw_lp.specs.Process.{Process, deliver}
+use Rattle.rw_lp.specs.Process.{ProcessState, deliver}
 use Rattle.rw_lp.specs.Calls.{LogicalProcess, process_of, rules, Took, came}
 use Rattle.rw_lp.specs.Sound.{Change}
 use Rattle.rw_lp.proofs.lp.Lp.deliver.Goals as goal
@@ -17,10 +17,10 @@ invariant_of-lp g c = c.in_ok-answer.ensures.own
 
 pub returns-clause-turn : goal.returns-clause-turn
 returns-clause-turn g c =
-    let z : Process g.row.M-State.Denot g.row.M-Body.Denot = (process_of c.self.inside.history c.meet.new.pending c.meet.new.debts).process in
+    let z : ProcessState g.row.M-State.Denot g.row.M-Body.Denot = (process_of c.self.inside.history c.meet.new.pending c.meet.new.debts).process in
     subst (λ (w : LogicalProcess g.row.M.Denot g.row.M-State.Denot g.row.M-Body.Denot). Took w.process z c.in_ok-answer.answer [] (deliver (event_cmp g.M.Body.Ord.cmp) c.args.letter w.process)) c.self.view_is c.in_ok-answer.ensures.turn
 
 pub returns-clause-balance : goal.returns-clause-balance
 returns-clause-balance g c =
-    let z : Process g.row.M-State.Denot g.row.M-Body.Denot = (process_of c.self.inside.history c.meet.new.pending c.meet.new.debts).process in
+    let z : ProcessState g.row.M-State.Denot g.row.M-Body.Denot = (process_of c.self.inside.history c.meet.new.pending c.meet.new.debts).process in
     subst (λ (w : LogicalProcess g.row.M.Denot g.row.M-State.Denot g.row.M-Body.Denot). Change (rules g.M.Model g.M.Body.Ord.cmp w.model) w.number w.process z (came c.in_ok-answer.answer c.args.letter) []) c.self.view_is c.in_ok-answer.ensures.balance

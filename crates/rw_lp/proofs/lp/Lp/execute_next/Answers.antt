@@ -9,7 +9,7 @@ use Rattle.rw_vt.proofs.Sorting.{IsExactOrder, Has-head}
 use Rattle.rw_lp.specs.declared.step.StepFault.TheVariants.{NothingPending, Straggler}
 use Rattle.rw_lp.specs.declared.step.Answer.TheVariants.{Done, Refused}
 use Rattle.rw_lp.specs.Past.{Past}
-use Rattle.rw_lp.specs.Process.{Process, executed, execute_next}
+use Rattle.rw_lp.specs.Process.{ProcessState, executed, execute_next}
 use Rattle.rw_lp.specs.Calls.{LogicalProcess, process_of, rules, MeetsNext, Took}
 use Rattle.rw_lp.proofs.Bridges.{nothing_pending, is_straggler, is_executed}
 use Rattle.rw_lp.proofs.Own.{pending_less, still_for}
@@ -73,7 +73,7 @@ returns-clause-turn g c =
     let late = sym c.is_past.ensures ∙ c.if-is_past.false in
     let given : List (Letter g.row.M-Body.Denot) = letters_of false (y.step x.number x.process.state e).1 in
     let rest : c.take-taken.new.self ≡ head.0 = c.take-taken.ensures.rest ∙ ap (without (event_cmp g.M.Body.Ord.cmp) e) head.1 ∙ without_head o e head.0 in
-    let now : Process g.row.M-State.Denot g.row.M-Body.Denot = (process_of c.in_ok-history.history c.take-taken.new.self c.self.inside.debts).process in
+    let now : ProcessState g.row.M-State.Denot g.row.M-Body.Denot = (process_of c.in_ok-history.history c.take-taken.new.self c.self.inside.debts).process in
     let is : now ≡ executed y x.number x.process e head.0 [] =
     ap (λ (h : Past g.row.M.Denot g.row.M-State.Denot g.row.M-Body.Denot). (process_of h c.take-taken.new.self c.self.inside.debts).process) c.in_ok-history.ensures.after
     ∙ ap (λ l. executed y x.number x.process e l []) rest in
@@ -99,7 +99,7 @@ returns-clause-balance g c =
     let head = c.in-Some.ensures.first in
     let given : List (Letter g.row.M-Body.Denot) = letters_of false (y.step x.number x.process.state e).1 in
     let rest : c.take-taken.new.self ≡ head.0 = c.take-taken.ensures.rest ∙ ap (without (event_cmp g.M.Body.Ord.cmp) e) head.1 ∙ without_head o e head.0 in
-    let now : Process g.row.M-State.Denot g.row.M-Body.Denot = (process_of c.in_ok-history.history c.take-taken.new.self c.self.inside.debts).process in
+    let now : ProcessState g.row.M-State.Denot g.row.M-Body.Denot = (process_of c.in_ok-history.history c.take-taken.new.self c.self.inside.debts).process in
     let is : now ≡ executed y x.number x.process e head.0 [] =
     ap (λ (h : Past g.row.M.Denot g.row.M-State.Denot g.row.M-Body.Denot). (process_of h c.take-taken.new.self c.self.inside.debts).process) c.in_ok-history.ensures.after
     ∙ ap (λ l. executed y x.number x.process e l []) rest in

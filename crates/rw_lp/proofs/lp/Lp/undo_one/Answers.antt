@@ -5,7 +5,7 @@ use Rattle.rw_vt.proofs.EventOrder.{events_exact}
 use Rattle.rw_vt.proofs.Sorting.{IsExactOrder}
 use Rattle.rw_lp.specs.declared.step.Answer.TheVariants.{Done}
 use Rattle.rw_lp.specs.Past.{Past}
-use Rattle.rw_lp.specs.Process.{Process, undone, undo_one}
+use Rattle.rw_lp.specs.Process.{ProcessState, undone, undo_one}
 use Rattle.rw_lp.specs.Calls.{LogicalProcess, process_of, rules, Took}
 use Rattle.rw_lp.proofs.Bridges.{is_undone}
 use Rattle.rw_lp.proofs.Own.{pending_more, still_for}
@@ -39,7 +39,7 @@ returns-clause-turn g c =
     let y = rules g.M.Model g.M.Body.Ord.cmp x.model in
     let e = c.in-Some.event in
     let front = c.in_ok-history.history.processed in
-    let now : Process g.row.M-State.Denot g.row.M-Body.Denot = (process_of c.in_ok-history.history c.put.new.self c.self.inside.debts).process in
+    let now : ProcessState g.row.M-State.Denot g.row.M-Body.Denot = (process_of c.in_ok-history.history c.put.new.self c.self.inside.debts).process in
     let past : Past g.row.M.Denot g.row.M-State.Denot g.row.M-Body.Denot = record { model = x.model; number = x.number; start = x.process.start; committed = x.process.committed; processed = front; state = after (y.step x.number) x.process.start (x.process.committed ++ front) } in
     let is : now ≡ undone y x.number x.process front e [] =
     ap (λ (h : Past g.row.M.Denot g.row.M-State.Denot g.row.M-Body.Denot). (process_of h c.put.new.self c.self.inside.debts).process) last.rest
@@ -56,7 +56,7 @@ returns-clause-balance g c =
     let y = rules g.M.Model g.M.Body.Ord.cmp x.model in
     let e = c.in-Some.event in
     let front = c.in_ok-history.history.processed in
-    let now : Process g.row.M-State.Denot g.row.M-Body.Denot = (process_of c.in_ok-history.history c.put.new.self c.self.inside.debts).process in
+    let now : ProcessState g.row.M-State.Denot g.row.M-Body.Denot = (process_of c.in_ok-history.history c.put.new.self c.self.inside.debts).process in
     let past : Past g.row.M.Denot g.row.M-State.Denot g.row.M-Body.Denot = record { model = x.model; number = x.number; start = x.process.start; committed = x.process.committed; processed = front; state = after (y.step x.number) x.process.start (x.process.committed ++ front) } in
     let is : now ≡ undone y x.number x.process front e [] =
     ap (λ (h : Past g.row.M.Denot g.row.M-State.Denot g.row.M-Body.Denot). (process_of h c.put.new.self c.self.inside.debts).process) last.rest
