@@ -9,7 +9,7 @@ use Rattle.rw_vt.specs.Order.{event_cmp}
 use Rattle.rw_lp.specs.Process.{ProcessState}
 use Rattle.rw_lp.specs.Calls.{LogicalProcess, rules}
 use Rattle.rw_lp.specs.Sound.{SoundAt, HasCollected, IsSoundOnceCollected}
-use Rattle.rw_exchange.specs.Ports.{IsWide}
+use Rattle.rw_exchange.specs.Ports.{PortState, SamePort, IsWide}
 use Rattle.rw_board.specs.Seats.{SeatState}
 use Rattle.rw_rounds.specs.Bags.{weigh, only, Every}
 use Rattle.rw_rounds.specs.Deeds.{IsFair, arrivals}
@@ -155,6 +155,25 @@ module _ {M S B U : Type 0} {model : Ghosts M S B U} {order : B → B → Orderi
   pub fit_with_seat : (a : WorkerState M S B) (seat : SeatState) → IsFitAndSound model order m a → IsFitAndSound model order m (record a { seat = seat })
   fit_with_seat a seat up = record {
     fit = record { starts = up.fit.starts; ready = up.fit.ready; number = up.fit.number; window = up.fit.window; in_place = up.fit.in_place; complete = up.fit.complete; inbox_fair = up.fit.inbox_fair; inbox_own = up.fit.inbox_own; kept = up.fit.kept; port = up.fit.port; wide = up.fit.wide };
+    sound = up.sound;
+  }
+
+  -- nor what it received, and what it set aside
+  pub fit_with_port : (a : WorkerState M S B) (port : PortState (Letter B)) (aside : List (Letter B)) → SamePort a.port port → IsFitAndSound model order m a → IsFitAndSound model order m (record a { port = port; aside = aside })
+  fit_with_port a port aside same up = record {
+    fit = record {
+      starts = up.fit.starts;
+      ready = up.fit.ready;
+      number = up.fit.number;
+      window = up.fit.window;
+      in_place = up.fit.in_place;
+      complete = up.fit.complete;
+      inbox_fair = up.fit.inbox_fair;
+      inbox_own = up.fit.inbox_own;
+      kept = up.fit.kept;
+      port = same.worker ∙ up.fit.port;
+      wide = (ap length same.out ∙ up.fit.wide.0, ap length same.into ∙ up.fit.wide.1, same.sent ∙ up.fit.wide.2, same.received ∙ up.fit.wide.3);
+    };
     sound = up.sound;
   }
 

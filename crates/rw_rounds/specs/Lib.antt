@@ -6,4 +6,5 @@ pub mod Rounds
 pub mod Stops
 pub mod Seated
 pub mod Setting
+pub mod Gathering
 pub mod Working

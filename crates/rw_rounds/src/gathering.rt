@@ -2,10 +2,9 @@ ghost use Rattle.std.specs.Prelude.{◌≡◌, ◌+◌, ◌/◌, ◌%◌, ◌<�
 ghost use Rattle.std.specs.VecDeque.{deque_capacity};
 ghost use Rattle.rw_vt.specs.declared.event.Letter.{Letter};
 ghost use Rattle.rw_vt.specs.System.{flatten};
-ghost use Rattle.rw_board.specs.Least.{least};
 ghost use Rattle.rw_exchange.specs.Ports.{entry, IsOpening};
 ghost use Rattle.rw_rounds.specs.Bags.{weigh, total};
-ghost use Rattle.rw_rounds.specs.Rounds.{AreOnTheirWay};
+ghost use Rattle.rw_rounds.specs.Gathering.{IsGathered};
 
 use crate::desk::Desk;
 use crate::traffic::Traffic;
@@ -13,7 +12,7 @@ use crate::worker::Worker;
 use rw_board::{Board, Seat};
 use rw_exchange::{Left, Port};
 use rw_lp::Lp;
-use rw_vt::{END, Letter, Model as VtModel, NoMemory, Refusal};
+use rw_vt::{Letter, Model as VtModel, NoMemory, Refusal};
 use std::alloc::Global;
 use std::collections::VecDeque;
 
@@ -56,11 +55,7 @@ pub(crate) fn gather<M: VtModel>(
     requires board { All (λ s. s.board ≡ board.board) (map (λ w. w.seat) workers.items) }
     requires some { 0 < length workers.items }
     requires complete { (q : ℕ) → q < count → slice_get (slice_index_or (map (λ w. w.processes) workers.items) (q % length workers.items) []) (q / length workers.items) ≡ None → ⊥ }
-    ensures count { IfOk result (λ r. length r.processes.items ≡ count) }
-    ensures processes { IfOk result (λ r. (q : ℕ) → q < count → slice_get r.processes.items q ≡ slice_get (slice_index_or (map (λ w. w.processes) workers.items) (q % length workers.items) []) (q / length workers.items)) }
-    ensures letters { IfOk result (λ r. AreOnTheirWay workers.items r.letters.items) }
-    ensures end { IfOk result (λ r. r.floor ≤ END) }
-    ensures noted { IfOk result (λ r. All (λ s. r.floor ≤ least s.noted) (map (λ w. w.seat) workers.items)) }
+    ensures { IfOk result (λ r. IsGathered count workers.items r.processes.items r.letters.items r.floor) }
 {
     let Leavings {
         hands,

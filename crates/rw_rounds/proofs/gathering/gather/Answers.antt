@@ -23,27 +23,26 @@ pub join_processes-requires-clause-complete : goal.join_processes-requires-claus
 join_processes-requires-clause-complete g c q within none =
     c.requires.complete q within (sym (same_hands (λ h. h.items) (λ w. w.processes) c.in_ok-hands.field-0.hands.items c.args.workers.items c.in_ok-hands.ensures.hands q) ∙ none)
 
-pub returns-clause-processes : goal.returns-clause-processes
-returns-clause-processes g c q within =
-    c.in_ok-processes.ensures.each q within ∙ same_hands (λ h. h.items) (λ w. w.processes) c.in_ok-hands.field-0.hands.items c.args.workers.items c.in_ok-hands.ensures.hands q
-
-pub returns-clause-letters : goal.returns-clause-letters
-returns-clause-letters g c =
+pub returns : goal.returns
+returns g c =
     let ws = c.args.workers.items in
     let ports = c.in_ok-hands.field-0.ports in
     let left = c.in_ok-left.left in
     let many : vec_len ports ≡ length ws = ports.ok.0 ∙ (ap length c.in_ok-hands.ensures.ports ∙ length-map ws (λ w. w.port)) in
     let rings : ℕ → (_ → ℕ) → ℕ = λ n h. total n (λ i. total n (λ k. weigh h (entry left i k))) in
     record {
-      left = λ i k. entry left i k;
-      settled = λ i k li lk. subst (λ ps. received_between ps i k ++ entry left i k ≡ sent_between ps i k) c.in_ok-hands.ensures.ports
-          (c.in_ok-left.ensures.fifo i k (subst (λ n. i < n) (sym many) li) (subst (λ n. k < n) (sym many) lk));
-      letters_are = λ h.
-          c.in_ok-letters.ensures.all h
-          ∙ ap (λ n. rings n h + weigh h (flatten (map (λ k. k.items) c.deref.result.now)) + weigh h (flatten (map (λ a. a.items) c.deref-2.result.now))) (c.in_ok-left.ensures.count ∙ many)
-          ∙ ap (λ z. rings (length ws) h + weigh h (flatten z) + weigh h (flatten (map (λ a. a.items) c.deref-2.result.now))) (ap (map (λ k. k.items)) c.deref.ensures.value ∙ c.in_ok-hands.ensures.kept)
-          ∙ ap (λ z. rings (length ws) h + weigh h (flatten (map (λ w. w.kept) ws)) + weigh h (flatten z)) (ap (map (λ a. a.items)) c.deref-2.ensures.value ∙ c.in_ok-hands.ensures.aside);
+      count = c.in_ok-processes.ensures.count;
+      processes = λ q within. c.in_ok-processes.ensures.each q within ∙ same_hands (λ h. h.items) (λ w. w.processes) c.in_ok-hands.field-0.hands.items ws c.in_ok-hands.ensures.hands q;
+      letters = record {
+        left = λ i k. entry left i k;
+        settled = λ i k li lk. subst (λ ps. received_between ps i k ++ entry left i k ≡ sent_between ps i k) c.in_ok-hands.ensures.ports
+            (c.in_ok-left.ensures.fifo i k (subst (λ n. i < n) (sym many) li) (subst (λ n. k < n) (sym many) lk));
+        letters_are = λ h.
+            c.in_ok-letters.ensures.all h
+            ∙ ap (λ n. rings n h + weigh h (flatten (map (λ k. k.items) c.deref.result.now)) + weigh h (flatten (map (λ a. a.items) c.deref-2.result.now))) (c.in_ok-left.ensures.count ∙ many)
+            ∙ ap (λ z. rings (length ws) h + weigh h (flatten z) + weigh h (flatten (map (λ a. a.items) c.deref-2.result.now))) (ap (map (λ k. k.items)) c.deref.ensures.value ∙ c.in_ok-hands.ensures.kept)
+            ∙ ap (λ z. rings (length ws) h + weigh h (flatten (map (λ w. w.kept) ws)) + weigh h (flatten z)) (ap (map (λ a. a.items)) c.deref-2.ensures.value ∙ c.in_ok-hands.ensures.aside);
+      };
+      end = c.close-floor.ensures.end;
+      noted = subst (All (λ s. c.close-floor.result ≤ least s.noted)) c.in_ok-hands.ensures.seats c.close-floor.ensures.noted;
     }
-
-pub returns-clause-noted : goal.returns-clause-noted
-returns-clause-noted g c = subst (All (λ s. c.close-floor.result ≤ least s.noted)) c.in_ok-hands.ensures.seats c.close-floor.ensures.noted

@@ -1,9 +1,14 @@
-use Rattle.std.proofs.Common.{◌≡◌, ◌+◌, ◌++◌, length, map, ap, ◌∙◌, arith}
+use Rattle.std.proofs.Common.{◌≡◌, ℕ, ◌+◌, ◌++◌, length, map, sym, ap, ◌∙◌, add-one, arith}
 use Rattle.rw_vt.specs.System.{flatten}
 use Rattle.rw_exchange.specs.Ports.{entry}
 use Rattle.rw_rounds.specs.Bags.{weigh, total}
 use Rattle.rw_rounds.proofs.Sums.{weigh-append}
 use Rattle.rw_rounds.proofs.gathering.join_letters.Goals as goal
+
+pub loop-from-preserved : goal.loop-from-preserved
+loop-from-preserved g c h =
+    let f : ℕ → ℕ = λ i. total (length c.args.left.now) (λ k. weigh h (entry c.args.left.now i k)) in
+    c.in_ok-add_sent.ensures.more h ∙ ap (λ w. w + f c.loop-from.from) (c.loop-from.invariant h) ∙ ap (λ n. total n f) (sym (add-one c.loop-from.from))
 
 pub returns : goal.returns
 returns g c = record {

@@ -3,8 +3,10 @@ use Rattle.rw_lp.specs.Calls.{rules}
 use Rattle.rw_rounds.specs.Bags.{Every}
 use Rattle.rw_rounds.specs.Deeds.{IsFair}
 use Rattle.rw_rounds.specs.Turns.{passes}
-use Rattle.rw_rounds.specs.Working.{role_of, desk_of, Works}
+use Rattle.rw_rounds.specs.Working.{role_of, desk_of, IsFitAndSound, Works}
+use Rattle.rw_rounds.proofs.Governing.{Laws}
 use Rattle.rw_rounds.proofs.Adding.{works_none, works_then, works_received, works_set_aside}
+use Rattle.rw_rounds.proofs.Fits.{fit_with_port}
 use Rattle.rw_rounds.proofs.Passing.{passes_own, passes_fair}
 use Rattle.rw_rounds.proofs.desk.Desk.receive_one.Goals as goal
 
@@ -33,3 +35,19 @@ returns-in_ok-push-2-clause-works g c =
     let x = c.args.self.now in
     let fails : passes (rules g.M.Model g.M.Body.Ord.cmp c.args.model.now) (role_of x) c.in-Some.letter ≡ false = sym c.passes.ensures.passes ∙ c.if-passes.false in
     works_set_aside (rules g.M.Model g.M.Body.Ord.cmp c.args.model.now) (role_of x) (desk_of x) _ refl refl refl c.in-Some.letter c.args.from c.requires.other.0 c.requires.fit.fit.wide.3 refl refl c.in-Some.ensures.some c.in-Some.ensures.same refl fails c.in_ok-push-2.ensures.items
+
+pub returns-in_default-clause-fit : goal.returns-in_default-clause-fit
+returns-in_default-clause-fit g c =
+    subst (λ p. IsFitAndSound g.M.Model g.M.Body.Ord.cmp c.args.model.now (record (desk_of c.args.self.now) { port = p })) (sym c.in_default.ensures.none) c.requires.fit
+
+pub deal-requires-clause-fit : goal.deal-requires-clause-fit
+deal-requires-clause-fit g c =
+    let laws : Laws g.M.Model g.M.Body.Ord.cmp = record { total = g.met.M.Body.Ord.total; same = g.met.M.Model.same; keeps = g.met.M.Model.keeps; future = g.met.M.Model.future; ranges = g.met.M.Model.ranges } in
+    let x = c.args.self.now in
+    fit_with_port laws c.args.model.now (desk_of x) c.receive.new.self x.aside.items c.in-Some.ensures.same c.requires.fit
+
+pub returns-in_ok-push-2-clause-fit : goal.returns-in_ok-push-2-clause-fit
+returns-in_ok-push-2-clause-fit g c =
+    let laws : Laws g.M.Model g.M.Body.Ord.cmp = record { total = g.met.M.Body.Ord.total; same = g.met.M.Model.same; keeps = g.met.M.Model.keeps; future = g.met.M.Model.future; ranges = g.met.M.Model.ranges } in
+    let x = c.args.self.now in
+    fit_with_port laws c.args.model.now (desk_of x) c.receive.new.self c.push-else-passes.new.self.items c.in-Some.ensures.same c.requires.fit
