@@ -1,6 +1,5 @@
-use crate::given::Given;
+use crate::run::Run;
 use anyhow::Result;
-use rw_command::{Out, command};
 use serde_json::Value;
 use std::alloc::{AllocError, Global};
 use std::sync::Wait;
@@ -33,20 +32,20 @@ impl Case {
         alloc: Global,
     ) -> Result<bool, AllocError> {
         let words = self.words(alloc)?;
-        let mut given = Given {
-            bytes: self.text("stdin").as_bytes(),
-        };
-        let mut out = Out::new(Vec::new(alloc));
-        let mut err = Vec::new(alloc);
-        let status = command(rt, alloc, words, &mut given, &mut out, &mut err);
-        let same_status = self.value.get("status").and_then(Value::as_u64)
-            == Some(u64::from(status));
-        let same_out = out.into_inner().as_slice() == self.text("stdout").as_bytes();
+        let run = Run::of(rt, alloc, words, self.text("stdin").as_bytes());
+        Ok(self.expects(&run))
+    }
+
+    /// Whether the run is what the case says.
+    fn expects(&self, run: &Run) -> bool {
+        let status = self.value.get("status").and_then(Value::as_u64);
         let same_err = match self.value.get("stderr").and_then(Value::as_str) {
-            Some(text) => err.as_slice() == text.as_bytes(),
+            Some(text) => run.err.as_slice() == text.as_bytes(),
             None => true,
         };
-        Ok(same_status && same_out && same_err)
+        status == Some(u64::from(run.status))
+            && run.out.as_slice() == self.text("stdout").as_bytes()
+            && same_err
     }
 
     /// The program's words, its name first.

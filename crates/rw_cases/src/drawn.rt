@@ -1,74 +1,87 @@
 //! Drawn runs: a trace and the options of its caches come from a seed, and it is run in rounds and on one thread.
-use crate::given::Given;
-use rw_command::{Out, command};
+use crate::run::Run;
+use crate::tally::Tally;
 use std::alloc::{AllocError, Global};
 use std::sync::Wait;
 use std::thread::Threads;
 
 /// How rounds are run: few letters at a time, many, with all held back but the next, and more workers than caches.
-const PLANS: [&str; 6] = [
-    "--workers 1 --turns 1 --batch 3",
-    "--workers 2 --turns 2 --batch 1 --ring 1",
-    "--workers 3 --window 1",
-    "--workers 4 --turns 3 --batch 5 --ring 2",
-    "--workers 2 --turns 4 --window 20",
-    "--workers 16 --batch 4096 --ring 1",
+const ROUNDS: [&str; 6] = [
+    "warp --workers 1 --turns 1 --batch 3",
+    "warp --workers 2 --turns 2 --batch 1 --ring 1",
+    "warp --workers 3 --window 1",
+    "warp --workers 4 --turns 3 --batch 5 --ring 2",
+    "warp --workers 2 --turns 4 --window 20",
+    "warp --workers 16 --batch 4096 --ring 1",
 ];
 
-/// How many drawn runs agreed with the run on one thread, and how many did not.
-#[derive(Drop)]
-pub struct Tally {
-    pub agree: u64,
-    pub differ: u64,
-}
-
-/// Runs the trace of each of so many seeds under each plan.
+/// Runs the trace of each of so many seeds in rounds, and counts the runs that agree with the run on one thread.
 pub fn compare<R: Threads + Wait + Sync>(
     rt: &R,
     alloc: Global,
     seeds: u64,
 ) -> Result<Tally, AllocError> {
-    let mut tally = Tally {
-        agree: 0,
-        differ: 0,
-    };
+    let mut tally = Tally::default();
     for seed in 0..seeds {
-        let mut dice = Dice { number: seed };
-        let edges = dice.draw(1, 4);
-        let caches = caches(alloc, &mut dice, edges)?;
-        let trace = trace(alloc, &mut dice, edges)?;
-        let serial = report(rt, alloc, &format!(in alloc; "serial {caches} -")?, &trace)?;
-        for plan in PLANS {
-            let words = format!(in alloc; "warp {caches} {plan} -")?;
-            if serial.is_some() && report(rt, alloc, &words, &trace)? == serial {
-                tally.agree = tally.agree.wrapping_add(1);
-            } else {
-                tally.differ = tally.differ.wrapping_add(1);
-            }
-        }
+        compare_rounds(rt, alloc, &Drawn::of(alloc, seed)?, &mut tally)?;
     }
     Ok(tally)
 }
 
-/// What the program writes on standard output, given these words and the trace; None where it ends with a fault.
-fn report<R: Threads + Wait + Sync>(
+/// Runs a drawn trace in rounds of each kind, and counts the runs that agree with the run on one thread.
+fn compare_rounds<R: Threads + Wait + Sync>(
     rt: &R,
     alloc: Global,
-    words: &str,
-    trace: &str,
-) -> Result<Option<Vec<u8>>, AllocError> {
-    let mut list = Vec::new(alloc);
-    list.push(String::from_str(alloc, "ripqwarp")?)?;
-    for word in words.split(' ') {
-        list.push(String::from_str(alloc, word)?)?;
+    drawn: &Drawn,
+    tally: &mut Tally,
+) -> Result<(), AllocError> {
+    let serial = drawn.report(rt, alloc, "serial")?;
+    for rounds in ROUNDS {
+        let warp = drawn.report(rt, alloc, rounds)?;
+        tally.count(serial.is_some() && warp == serial);
     }
-    let mut given = Given {
-        bytes: trace.as_bytes(),
-    };
-    let mut out = Out::new(Vec::new(alloc));
-    let mut err = Vec::new(alloc);
-    let status = command(rt, alloc, list, &mut given, &mut out, &mut err);
-    Ok((status == 0).then(|| out.into_inner()))
+    Ok(())
+}
+
+/// A trace, and the options of the caches that it goes through.
+#[derive(Drop)]
+struct Drawn {
+    caches: String,
+    trace: String,
+}
+
+impl Drawn {
+    /// What a seed draws.
+    fn of(alloc: Global, seed: u64) -> Result<Drawn, AllocError> {
+        let mut dice = Dice { number: seed };
+        let edges = dice.draw(1, 4);
+        Ok(Drawn {
+            caches: caches(alloc, &mut dice, edges)?,
+            trace: trace(alloc, &mut dice, edges)?,
+        })
+    }
+
+    /// What the program writes on standard output under a command; None where it ends with a fault.
+    fn report<R: Threads + Wait + Sync>(
+        &self,
+        rt: &R,
+        alloc: Global,
+        command: &str,
+    ) -> Result<Option<Vec<u8>>, AllocError> {
+        let words = self.words(alloc, command)?;
+        let run = Run::of(rt, alloc, words, self.trace.as_bytes());
+        Ok((run.status == 0).then_some(run.out))
+    }
+
+    /// The program's words, its name first.
+    fn words(&self, alloc: Global, command: &str) -> Result<Vec<String>, AllocError> {
+        let text = format!(in alloc; "ripqwarp {command} {} -", self.caches)?;
+        let mut words = Vec::new(alloc);
+        for word in text.split(' ') {
+            words.push(String::from_str(alloc, word)?)?;
+        }
+        Ok(words)
+    }
 }
 
 /// Numbers drawn by a linear congruential generator.

@@ -11,30 +11,44 @@
 mod case;
 mod drawn;
 mod given;
+mod run;
+mod tally;
 
 use anyhow::{Context, Result};
 use case::Case;
+use std::alloc::Global;
 use std::fs;
+use std::sync::Wait;
+use std::thread::Threads;
+use tally::Tally;
 
 /// How many traces are drawn.
 const SEEDS: u64 = 40;
 
 fn main(rt: HostRuntime) -> Result<()> {
     let text = fs::read_to_string(&rt, "cases.jsonl").context("reading cases.jsonl")?;
-    let mut agree = 0u64;
-    let mut differ = 0u64;
-    for line in text.lines() {
-        let case = Case::parse(rt.alloc(), line).context("parsing a case")?;
-        if case.agrees(&rt, rt.alloc())? {
-            agree = agree.wrapping_add(1);
-        } else {
-            differ = differ.wrapping_add(1);
-            let name = case.name();
-            println!(rt; "{name} differs")?;
-        }
-    }
-    println!(rt; "{agree} agree, {differ} differ")?;
+    let stored = stored(&rt, rt.alloc(), &text)?;
+    println!(rt; "{} agree, {} differ", stored.agree, stored.differ)?;
     let drawn = drawn::compare(&rt, rt.alloc(), SEEDS)?;
     println!(rt; "{} drawn runs agree, {} differ", drawn.agree, drawn.differ)?;
     Ok(())
+}
+
+/// Runs the cases of a text, one a line, and counts those that agree.
+fn stored<R: Print + Threads + Wait + Sync>(rt: &R, alloc: Global, text: &str) -> Result<Tally> {
+    let mut tally = Tally::default();
+    for line in text.lines() {
+        tally.count(agrees(rt, alloc, line)?);
+    }
+    Ok(tally)
+}
+
+/// Runs the case of a line, and tells whether the program does what it says. Prints its name where not.
+fn agrees<R: Print + Threads + Wait + Sync>(rt: &R, alloc: Global, line: &str) -> Result<bool> {
+    let case = Case::parse(alloc, line).context("parsing a case")?;
+    let agrees = case.agrees(rt, alloc)?;
+    if !agrees {
+        println!(rt; "{} differs", case.name())?;
+    }
+    Ok(agrees)
 }

@@ -1,5 +1,4 @@
-// The command line as `clap` reads it. Options that take a number stand in tables, in the order of the help; each is added
-// by a call that takes the command and gives it back.
+// The command line as `clap` reads it: what each command takes stands in tables, in the order of the help.
 use clap::{Arg, Command, value_parser};
 use rw_photo::{Config, Shape};
 use rw_vt::END;
@@ -26,28 +25,215 @@ fn with_command<'a>(
 
 /// The command that runs a trace on one thread.
 fn serial<'a>(alloc: Global) -> Result<Command<'a>, AllocError> {
-    let command = Command::new(alloc, "serial")
-        .about("Runs a trace on one thread and prints the counters of each cache")
-        .arg(trace(alloc))?;
-    with_caches(alloc, command)
+    let about = "Runs a trace on one thread and prints the counters of each cache";
+    command(alloc, "serial", about, &[Argument::Trace])
 }
 
 /// The command that runs a trace in rounds of workers.
 fn warp<'a>(alloc: Global) -> Result<Command<'a>, AllocError> {
     let about =
         "Runs a trace on several threads, ahead of time, and prints the report that serial prints";
-    let command = Command::new(alloc, "warp").about(about).arg(trace(alloc))?;
-    let command = with_numbers(alloc, command, &ROUNDS)?;
-    with_caches(alloc, command)
+    command(alloc, "warp", about, &ROUNDS)
 }
 
 /// The command that runs a trace by a schedule.
 fn journal<'a>(alloc: Global) -> Result<Command<'a>, AllocError> {
-    let command = Command::new(alloc, "journal")
-        .about("Runs a trace by a schedule of steps and prints what was refused and what is final")
-        .arg(schedule(alloc))?
-        .arg(trace(alloc))?;
-    with_caches(alloc, command)
+    let about = "Runs a trace by a schedule of steps and prints what was refused and what is final";
+    command(
+        alloc,
+        "journal",
+        about,
+        &[Argument::Schedule, Argument::Trace],
+    )
+}
+
+/// A command that takes these arguments, and behind them the options of the caches.
+fn command<'a>(
+    alloc: Global,
+    name: &'static str,
+    about: &'static str,
+    arguments: &[Argument],
+) -> Result<Command<'a>, AllocError> {
+    let command = Command::new(alloc, name).about(about);
+    let command = with_arguments(alloc, command, arguments)?;
+    with_arguments(alloc, command, &CACHES)
+}
+
+/// The command with these arguments more.
+fn with_arguments<'a>(
+    alloc: Global,
+    command: Command<'a>,
+    arguments: &[Argument],
+) -> Result<Command<'a>, AllocError> {
+    let mut command = command;
+    for argument in arguments {
+        command = command.arg(argument.parsed(alloc))?;
+    }
+    Ok(command)
+}
+
+/// What a command takes.
+enum Argument {
+    /// The trace, which each command takes.
+    Trace,
+    /// The steps by which a trace is run.
+    Schedule,
+    /// How caches choose what they keep.
+    Policy,
+    /// A number from 1 to the greatest that is taken.
+    Number {
+        name: &'static str,
+        kind: Kind,
+        most: i64,
+        default: &'static str,
+        help: &'static str,
+    },
+}
+
+/// What a number says.
+#[derive(Clone, Copy)]
+enum Kind {
+    /// How many there are.
+    Count,
+    /// How large something is.
+    Size,
+    /// How long something takes.
+    Ticks,
+}
+
+/// What says how the work of a round is shared out, and how far rounds go.
+const ROUNDS: [Argument; 7] = [
+    Argument::Trace,
+    Argument::Number {
+        name: "workers",
+        kind: Kind::Count,
+        most: 16,
+        default: "2",
+        help: "Workers, each a thread with caches of its own, 1 to 16",
+    },
+    Argument::Number {
+        name: "turns",
+        kind: Kind::Count,
+        most: 4096,
+        default: "16",
+        help: "Turns that a worker takes in a round, 1 to 4096",
+    },
+    Argument::Number {
+        name: "batch",
+        kind: Kind::Count,
+        most: 4096,
+        default: "64",
+        help: "Events that a worker may execute in a turn, 1 to 4096",
+    },
+    Argument::Number {
+        name: "window",
+        kind: Kind::Ticks,
+        most: END as i64,
+        default: "1099511627776",
+        help: "Ticks that a worker may run ahead of the others, 1 to 1099511627776",
+    },
+    Argument::Number {
+        name: "ring",
+        kind: Kind::Count,
+        most: 4096,
+        default: "64",
+        help: "Letters on their way from a worker to another, 1 to 4096",
+    },
+    Argument::Number {
+        name: "rounds",
+        kind: Kind::Count,
+        most: 1_048_576,
+        default: "65536",
+        help: "Rounds after which the run is given up, 1 to 1048576",
+    },
+];
+
+/// What says how many caches there are, what they keep, how large they are, and how long what is sent is on its way.
+const CACHES: [Argument; 10] = [
+    Argument::Number {
+        name: "edges",
+        kind: Kind::Count,
+        most: Config::MAX_EDGES as i64,
+        default: "1",
+        help: "Edge caches, 1 to 256",
+    },
+    Argument::Number {
+        name: "origins",
+        kind: Kind::Count,
+        most: Config::MAX_ORIGINS as i64,
+        default: "1",
+        help: "Origin caches, 1 to 64",
+    },
+    Argument::Policy,
+    Argument::Number {
+        name: "sections",
+        kind: Kind::Size,
+        most: Shape::MAX_SECTIONS as i64,
+        default: "8",
+        help: "Insertion points of each cache, 1 to 16",
+    },
+    Argument::Number {
+        name: "block",
+        kind: Kind::Size,
+        most: Shape::MAX_BLOCK as i64,
+        default: "1048576",
+        help: "Bytes of a block, 1 to 268435456",
+    },
+    Argument::Number {
+        name: "edge-blocks",
+        kind: Kind::Size,
+        most: Shape::MAX_BLOCKS as i64,
+        default: "64",
+        help: "Full blocks on each edge's flash, 1 to 65536",
+    },
+    Argument::Number {
+        name: "origin-blocks",
+        kind: Kind::Size,
+        most: Shape::MAX_BLOCKS as i64,
+        default: "64",
+        help: "Full blocks on each origin's flash, 1 to 65536",
+    },
+    Argument::Number {
+        name: "up",
+        kind: Kind::Ticks,
+        most: Config::MAX_DELAY as i64,
+        default: "3",
+        help: "Ticks from an edge to an origin, 1 to 1048576",
+    },
+    Argument::Number {
+        name: "down",
+        kind: Kind::Ticks,
+        most: Config::MAX_DELAY as i64,
+        default: "3",
+        help: "Ticks from an origin to an edge, 1 to 1048576",
+    },
+    Argument::Number {
+        name: "back",
+        kind: Kind::Ticks,
+        most: Config::MAX_DELAY as i64,
+        default: "10",
+        help: "Ticks from an origin to the backend and back, 1 to 1048576",
+    },
+];
+
+impl Argument {
+    /// The argument as `clap` parses it.
+    fn parsed<'a>(&self, alloc: Global) -> Arg<'a> {
+        match *self {
+            Argument::Trace => trace(alloc),
+            Argument::Schedule => schedule(alloc),
+            Argument::Policy => policy(alloc),
+            Argument::Number {
+                name,
+                kind,
+                most,
+                default,
+                help,
+            } => number(alloc, name, kind, most)
+                .default_value(default)
+                .help(help),
+        }
+    }
 }
 
 /// The trace, which each command takes.
@@ -67,13 +253,6 @@ fn schedule<'a>(alloc: Global) -> Arg<'a> {
         .help("The steps, one space between: E and U and a process, D and a letter, C and a time")
 }
 
-/// The command with the options that say which caches there are.
-fn with_caches<'a>(alloc: Global, command: Command<'a>) -> Result<Command<'a>, AllocError> {
-    let command = with_numbers(alloc, command, &PLACES)?;
-    let command = command.arg(policy(alloc))?;
-    with_numbers(alloc, command, &SHAPES)
-}
-
 /// How caches choose what they keep.
 fn policy<'a>(alloc: Global) -> Arg<'a> {
     Arg::new(alloc, "policy")
@@ -84,170 +263,15 @@ fn policy<'a>(alloc: Global) -> Arg<'a> {
         .help("How caches choose what they keep; off keeps nothing")
 }
 
-/// An option that takes a number, from 1 on.
-struct Number {
-    name: &'static str,
-    kind: Kind,
-    /// The greatest number that is taken.
-    most: i64,
-    default: &'static str,
-    help: &'static str,
-}
-
-/// What a number says.
-#[derive(Clone, Copy)]
-enum Kind {
-    /// How many there are.
-    Count,
-    /// How large something is.
-    Size,
-    /// How long something takes.
-    Ticks,
-}
-
-/// How the work of a round is shared out, and how far rounds go.
-const ROUNDS: [Number; 6] = [
-    Number {
-        name: "workers",
-        kind: Kind::Count,
-        most: 16,
-        default: "2",
-        help: "Workers, each a thread with caches of its own, 1 to 16",
-    },
-    Number {
-        name: "turns",
-        kind: Kind::Count,
-        most: 4096,
-        default: "16",
-        help: "Turns that a worker takes in a round, 1 to 4096",
-    },
-    Number {
-        name: "batch",
-        kind: Kind::Count,
-        most: 4096,
-        default: "64",
-        help: "Events that a worker may execute in a turn, 1 to 4096",
-    },
-    Number {
-        name: "window",
-        kind: Kind::Ticks,
-        most: END as i64,
-        default: "1099511627776",
-        help: "Ticks that a worker may run ahead of the others, 1 to 1099511627776",
-    },
-    Number {
-        name: "ring",
-        kind: Kind::Count,
-        most: 4096,
-        default: "64",
-        help: "Letters on their way from a worker to another, 1 to 4096",
-    },
-    Number {
-        name: "rounds",
-        kind: Kind::Count,
-        most: 1_048_576,
-        default: "65536",
-        help: "Rounds after which the run is given up, 1 to 1048576",
-    },
-];
-
-/// How many caches there are.
-const PLACES: [Number; 2] = [
-    Number {
-        name: "edges",
-        kind: Kind::Count,
-        most: Config::MAX_EDGES as i64,
-        default: "1",
-        help: "Edge caches, 1 to 256",
-    },
-    Number {
-        name: "origins",
-        kind: Kind::Count,
-        most: Config::MAX_ORIGINS as i64,
-        default: "1",
-        help: "Origin caches, 1 to 64",
-    },
-];
-
-/// How large caches are, and how long what is sent is on its way.
-const SHAPES: [Number; 7] = [
-    Number {
-        name: "sections",
-        kind: Kind::Size,
-        most: Shape::MAX_SECTIONS as i64,
-        default: "8",
-        help: "Insertion points of each cache, 1 to 16",
-    },
-    Number {
-        name: "block",
-        kind: Kind::Size,
-        most: Shape::MAX_BLOCK as i64,
-        default: "1048576",
-        help: "Bytes of a block, 1 to 268435456",
-    },
-    Number {
-        name: "edge-blocks",
-        kind: Kind::Size,
-        most: Shape::MAX_BLOCKS as i64,
-        default: "64",
-        help: "Full blocks on each edge's flash, 1 to 65536",
-    },
-    Number {
-        name: "origin-blocks",
-        kind: Kind::Size,
-        most: Shape::MAX_BLOCKS as i64,
-        default: "64",
-        help: "Full blocks on each origin's flash, 1 to 65536",
-    },
-    Number {
-        name: "up",
-        kind: Kind::Ticks,
-        most: Config::MAX_DELAY as i64,
-        default: "3",
-        help: "Ticks from an edge to an origin, 1 to 1048576",
-    },
-    Number {
-        name: "down",
-        kind: Kind::Ticks,
-        most: Config::MAX_DELAY as i64,
-        default: "3",
-        help: "Ticks from an origin to an edge, 1 to 1048576",
-    },
-    Number {
-        name: "back",
-        kind: Kind::Ticks,
-        most: Config::MAX_DELAY as i64,
-        default: "10",
-        help: "Ticks from an origin to the backend and back, 1 to 1048576",
-    },
-];
-
-/// The command with these options.
-fn with_numbers<'a>(
-    alloc: Global,
-    command: Command<'a>,
-    numbers: &[Number],
-) -> Result<Command<'a>, AllocError> {
-    let mut command = command;
-    for number in numbers {
-        command = command.arg(number.arg(alloc))?;
-    }
-    Ok(command)
-}
-
-impl Number {
-    /// The option as `clap` reads it.
-    fn arg<'a>(&self, alloc: Global) -> Arg<'a> {
-        let (unit, parser) = match self.kind {
-            Kind::Count => ("N", value_parser!(u32)),
-            Kind::Size => ("N", value_parser!(u64)),
-            Kind::Ticks => ("TICKS", value_parser!(u64)),
-        };
-        Arg::new(alloc, self.name)
-            .long(self.name)
-            .value_name(unit)
-            .value_parser(parser.range(1..=self.most))
-            .default_value(self.default)
-            .help(self.help)
-    }
+/// An option that takes a number from 1 to the greatest.
+fn number<'a>(alloc: Global, name: &'static str, kind: Kind, most: i64) -> Arg<'a> {
+    let (unit, parser) = match kind {
+        Kind::Count => ("N", value_parser!(u32)),
+        Kind::Size => ("N", value_parser!(u64)),
+        Kind::Ticks => ("TICKS", value_parser!(u64)),
+    };
+    Arg::new(alloc, name)
+        .long(name)
+        .value_name(unit)
+        .value_parser(parser.range(1..=most))
 }

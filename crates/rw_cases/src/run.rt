@@ -1,0 +1,33 @@
+use crate::given::Given;
+use rw_command::{Out, command};
+use std::alloc::Global;
+use std::sync::Wait;
+use std::thread::Threads;
+
+/// What a run of the program wrote, and its exit status.
+#[derive(Drop)]
+pub struct Run {
+    pub status: u8,
+    pub out: Vec<u8>,
+    pub err: Vec<u8>,
+}
+
+impl Run {
+    /// Runs the program with these words, its name first, and these bytes on standard input.
+    pub fn of<R: Threads + Wait + Sync>(
+        rt: &R,
+        alloc: Global,
+        words: Vec<String>,
+        bytes: &[u8],
+    ) -> Run {
+        let mut given = Given { bytes };
+        let mut out = Out::new(Vec::new(alloc));
+        let mut err = Vec::new(alloc);
+        let status = command(rt, alloc, words, &mut given, &mut out, &mut err);
+        Run {
+            status,
+            out: out.into_inner(),
+            err,
+        }
+    }
+}
