@@ -81,12 +81,26 @@ impl<M: Model + Copy> Desk<M> {
                 self.answers(alloc, call, Answer::Refused(fault), &no_letters)
             }
             Line::Ahead(processed, next, least) => {
-                self.shows(&no_events, processed, next, least)
+                let holds = self.shows(&no_events, processed, next, least);
+                self.if_it(holds)
             }
-            Line::Settled(committed) => self.shows(committed, &no_events, None, END),
+            Line::Settled(committed) => {
+                let holds = self.shows(committed, &no_events, None, END);
+                self.if_it(holds)
+            }
             Line::Shows(committed, processed, next, least) => {
-                self.shows(committed, processed, next, least)
+                let holds = self.shows(committed, processed, next, least);
+                self.if_it(holds)
             }
+        }
+    }
+
+    /// The process, where its line holds.
+    fn if_it(self, holds: bool) -> Result<Desk<M>, Fail> {
+        if holds {
+            Ok(self)
+        } else {
+            Err(Fail::from("a line does not hold"))
         }
     }
 
@@ -99,11 +113,8 @@ impl<M: Model + Copy> Desk<M> {
     ) -> Result<Desk<M>, Fail> {
         let mut out = Vec::new(alloc);
         let (desk, answer) = self.called(alloc, call, &mut out)?;
-        if answer == want && out.as_slice() == given {
-            Ok(desk)
-        } else {
-            Err(Fail::from("another answer, or other letters"))
-        }
+        let holds = answer == want && out.as_slice() == given;
+        desk.if_it(holds)
     }
 
     fn called(
@@ -118,22 +129,17 @@ impl<M: Model + Copy> Desk<M> {
     }
 
     fn shows(
-        self,
+        &self,
         committed: &[Event<M::Body>],
         processed: &[Event<M::Body>],
         next: Option<Event<M::Body>>,
         least: u64,
-    ) -> Result<Desk<M>, Fail> {
+    ) -> bool {
         let lp = &self.lp;
-        let holds = lp.journal() == committed
+        lp.journal() == committed
             && lp.processed() == processed
             && lp.next().copied() == next
-            && lp.least() == least;
-        if holds {
-            Ok(self)
-        } else {
-            Err(Fail::from("other events"))
-        }
+            && lp.least() == least
     }
 
     /// The law of a process that has collected.

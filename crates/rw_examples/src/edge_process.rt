@@ -110,7 +110,9 @@ fn ends(
     counted: Counters,
     desk: Desk<Photo>,
 ) -> Result<(), Fail> {
-    if desk.does(alloc, lines)?.state().counters() == counted {
+    let desk = desk.does(alloc, lines)?;
+    let counters = desk.state().counters();
+    if counters == counted {
         Ok(())
     } else {
         Err(Fail::from("other counters"))

@@ -324,6 +324,9 @@ const NOTHING: &str = "S0 {0, 1, []}, next 2";
 const SPLIT: &str =
     "S0 {6, 1, [3d]}, S1 {7, 8, [2d]}, S2 {4, 5, [0d]}, 1 (6, 0, 0), 2 (6, 2, 2), 3 (6, 3, 3), 4 (6, 6, 6), next 9";
 
+/// The queue of one section that primitives make.
+const SEALED_BOTH: &str = "S0 {3, 2, [0d, 1v]}, 1 (6, 0, 1), 2 (4, 0, 0), next 4";
+
 fn opened(alloc: Global, sections: u64, blocks: u64) -> Result<Queue, Fail>
     ensures { IfOk result (λ q. IsWellFormed q) }
 {
@@ -331,31 +334,13 @@ fn opened(alloc: Global, sections: u64, blocks: u64) -> Result<Queue, Fail>
     Ok(Queue::new(alloc, shape)?)
 }
 
-/// Goes to and fro through examples of one section.
-fn to_and_fro<R: Abort>(
-    rt: &R,
-    alloc: Global,
-    blocks: u64,
-    examples: &[Example],
-) -> Result<(), Fail> {
-    let mut queue = opened(alloc, 1, blocks)?;
-    replay(rt, alloc, &mut queue, Policy::Lru, NOTHING, examples)?;
-    Ok(())
-}
-
-#[test]
-fn a_third_insertion_evicts(rt: HostRuntime) -> Result<(), Fail> {
-    to_and_fro(&rt, rt.alloc(), 1, &EVICTS)
-}
-
-#[test]
-fn a_promoted_object_is_written_again(rt: HostRuntime) -> Result<(), Fail> {
-    to_and_fro(&rt, rt.alloc(), 1, &WRITES_AGAIN)
-}
-
-#[test]
-fn promotions_move_places(rt: HostRuntime) -> Result<(), Fail> {
-    to_and_fro(&rt, rt.alloc(), 4, &PROMOTES)
+/// The queue after the splits.
+fn split<R: Abort>(rt: &R, alloc: Global) -> Result<Queue, Fail>
+    ensures { IfOk result (λ q. IsWellFormed q) }
+{
+    let mut queue = opened(alloc, 4, 8)?;
+    forward(rt, alloc, &mut queue, Policy::Lru, &SPLITS)?;
+    Ok(queue)
 }
 
 /// Makes a sealed virtual block behind a sealed device block, by primitives.
@@ -372,85 +357,117 @@ fn seal_both(queue: &mut Queue) -> Result<(), NoMemory>
     Ok(())
 }
 
-#[test]
-fn a_virtual_victim(rt: HostRuntime) -> Result<(), Fail> {
-    let shape = Shape::new(1, 10, 1).ok_or("shape")?;
-    let mut queue = Queue::new(rt.alloc(), shape)?;
-    seal_both(&mut queue)?;
-    let before = "S0 {3, 2, [0d, 1v]}, 1 (6, 0, 1), 2 (4, 0, 0), next 4";
-    replay(
-        &rt,
-        rt.alloc(),
-        &mut queue,
-        Policy::Lru,
-        before,
-        &EVICTS_BOTH,
-    )?;
-    Ok(())
-}
-
-/// The queue after the splits.
-fn split<R: Abort>(rt: &R, alloc: Global) -> Result<Queue, Fail>
+/// A queue of one section with them.
+fn with_sealed_virtual(alloc: Global) -> Result<Queue, Fail>
     ensures { IfOk result (λ q. IsWellFormed q) }
 {
-    let mut queue = opened(alloc, 4, 8)?;
-    forward(rt, alloc, &mut queue, Policy::Lru, &SPLITS)?;
+    let shape = Shape::new(1, 10, 1).ok_or("shape")?;
+    let mut queue = Queue::new(alloc, shape)?;
+    seal_both(&mut queue)?;
     Ok(queue)
 }
 
-/// Goes to and fro through examples from there.
-fn on_from_the_splits<R: Abort>(
+/// Goes to and fro through examples.
+fn to_and_fro<R: Abort>(
     rt: &R,
     alloc: Global,
     policy: Policy,
+    before: &str,
     examples: &[Example],
+    queue: Queue,
 ) -> Result<(), Fail>
-    requires { policy ≢ Off }
+    requires well_formed { IsWellFormed queue }
+    requires stores { policy ≢ Off }
 {
-    let mut queue = split(rt, alloc)?;
-    replay(rt, alloc, &mut queue, policy, SPLIT, examples)?;
+    let mut queue = queue;
+    replay(rt, alloc, &mut queue, policy, before, examples)?;
     Ok(())
+}
+
+#[test]
+fn a_third_insertion_evicts(rt: HostRuntime) -> Result<(), Fail> {
+    let queue = opened(rt.alloc(), 1, 1)?;
+    to_and_fro(&rt, rt.alloc(), Policy::Lru, NOTHING, &EVICTS, queue)
+}
+
+#[test]
+fn a_promoted_object_is_written_again(rt: HostRuntime) -> Result<(), Fail> {
+    let queue = opened(rt.alloc(), 1, 1)?;
+    to_and_fro(&rt, rt.alloc(), Policy::Lru, NOTHING, &WRITES_AGAIN, queue)
+}
+
+#[test]
+fn a_virtual_victim(rt: HostRuntime) -> Result<(), Fail> {
+    let queue = with_sealed_virtual(rt.alloc())?;
+    to_and_fro(
+        &rt,
+        rt.alloc(),
+        Policy::Lru,
+        SEALED_BOTH,
+        &EVICTS_BOTH,
+        queue,
+    )
+}
+
+#[test]
+fn promotions_move_places(rt: HostRuntime) -> Result<(), Fail> {
+    let queue = opened(rt.alloc(), 1, 4)?;
+    to_and_fro(&rt, rt.alloc(), Policy::Lru, NOTHING, &PROMOTES, queue)
 }
 
 #[test]
 fn insertions_split(rt: HostRuntime) -> Result<(), Fail> {
-    let mut queue = opened(rt.alloc(), 4, 8)?;
-    replay(&rt, rt.alloc(), &mut queue, Policy::Lru, NOTHING, &SPLITS)?;
-    Ok(())
+    let queue = opened(rt.alloc(), 4, 8)?;
+    to_and_fro(&rt, rt.alloc(), Policy::Lru, NOTHING, &SPLITS, queue)
 }
 
 #[test]
 fn an_insertion_merges_and_splits(rt: HostRuntime) -> Result<(), Fail> {
-    on_from_the_splits(&rt, rt.alloc(), Policy::Lru, &MERGES)
-}
-
-#[test]
-fn segments_take_a_miss_and_a_hit(rt: HostRuntime) -> Result<(), Fail> {
-    on_from_the_splits(&rt, rt.alloc(), Policy::Slru3, &SEGMENTS_MISS)?;
-    on_from_the_splits(&rt, rt.alloc(), Policy::Slru3, &SEGMENTS_HIT)
-}
-
-#[test]
-fn levels_of_objects(rt: HostRuntime) -> Result<(), Fail> {
     let queue = split(&rt, rt.alloc())?;
-    for (object, want) in [
-        (1, Some(1)),
-        (2, Some(1)),
-        (3, Some(2)),
-        (4, Some(2)),
-        (5, None),
-    ] {
-        assert!(rt; level_of(&queue, object) == want, "of object {object}");
-    }
-    Ok(())
+    to_and_fro(&rt, rt.alloc(), Policy::Lru, SPLIT, &MERGES, queue)
 }
 
 #[test]
-fn targets_of_levels(rt: HostRuntime) -> Result<(), Fail> {
+fn segments_take_a_miss(rt: HostRuntime) -> Result<(), Fail> {
     let queue = split(&rt, rt.alloc())?;
-    assert!(rt; target(&queue, Policy::Slru3, 1) == 1);
-    assert!(rt; target(&queue, Policy::Slru3, 2) == 0);
-    assert!(rt; target(&queue, Policy::Slru3, 3) == 0);
-    assert!(rt; target(&queue, Policy::Lru, 1) == 0);
+    to_and_fro(&rt, rt.alloc(), Policy::Slru3, SPLIT, &SEGMENTS_MISS, queue)
+}
+
+#[test]
+fn segments_take_a_hit(rt: HostRuntime) -> Result<(), Fail> {
+    let queue = split(&rt, rt.alloc())?;
+    to_and_fro(&rt, rt.alloc(), Policy::Slru3, SPLIT, &SEGMENTS_HIT, queue)
+}
+
+/// The levels of objects 1 to 5.
+fn levels(queue: &Queue) -> [Option<u8>; 5]
+    requires { IsWellFormed queue.now }
+{
+    [
+        level_of(queue, 1),
+        level_of(queue, 2),
+        level_of(queue, 3),
+        level_of(queue, 4),
+        level_of(queue, 5),
+    ]
+}
+
+/// Where each level of segments goes, and where least recently used does.
+fn targets(queue: &Queue) -> [u32; 4]
+    requires { IsWellFormed queue.now }
+{
+    [
+        target(queue, Policy::Slru3, 1),
+        target(queue, Policy::Slru3, 2),
+        target(queue, Policy::Slru3, 3),
+        target(queue, Policy::Lru, 1),
+    ]
+}
+
+#[test]
+fn levels_and_targets(rt: HostRuntime) -> Result<(), Fail> {
+    let queue = split(&rt, rt.alloc())?;
+    assert!(rt; levels(&queue) == [Some(1), Some(1), Some(2), Some(2), None]);
+    assert!(rt; targets(&queue) == [1, 0, 0, 0]);
     Ok(())
 }

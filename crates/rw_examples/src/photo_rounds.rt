@@ -111,6 +111,26 @@ fn in_order(alloc: Global, config: &Config) -> Result<Outcome<Photo>, Fail> {
     Ok(rw_serial::run(alloc, &Photo::new(*config), starts, initial)?)
 }
 
+/// What rounds through the gate leave and do.
+fn in_rounds<G: Gate + Sync, R: Threads + Wait + Sync>(
+    rt: &R,
+    alloc: Global,
+    plan: Plan,
+    gate: &G,
+) -> Result<(Outcome<Photo>, Traffic), Fail> {
+    let world = opened(alloc, &config()?)?;
+    match run(rt, alloc, world, plan, gate) {
+        Ok(left) => Ok(left),
+        Err(_) => Err(Fail::from("run")),
+    }
+}
+
+/// Whether two outcomes have the same journals and counters.
+fn agree(one: &Outcome<Photo>, other: &Outcome<Photo>) -> bool {
+    let counted = one.states.iter().map(CacheState::counters);
+    one.journals == other.journals && counted.eq(other.states.iter().map(CacheState::counters))
+}
+
 /// What rounds through the gate do, where they leave what the run on one thread leaves.
 fn traffic<G: Gate + Sync, R: Threads + Wait + Sync>(
     rt: &R,
@@ -118,18 +138,13 @@ fn traffic<G: Gate + Sync, R: Threads + Wait + Sync>(
     plan: Plan,
     gate: &G,
 ) -> Result<Traffic, Fail> {
-    let config = config()?;
-    let want = in_order(alloc, &config)?;
-    let Ok((outcome, traffic)) = run(rt, alloc, opened(alloc, &config)?, plan, gate) else {
-        return Err(Fail::from("run"));
-    };
-    let counted = outcome.states.iter().map(CacheState::counters);
-    if outcome.journals != want.journals
-        || !counted.eq(want.states.iter().map(CacheState::counters))
-    {
-        return Err(Fail::from("another outcome than that of the run on one thread"));
+    let (outcome, traffic) = in_rounds(rt, alloc, plan, gate)?;
+    let want = in_order(alloc, &config()?)?;
+    if agree(&outcome, &want) {
+        Ok(traffic)
+    } else {
+        Err(Fail::from("another outcome than that of the run on one thread"))
     }
-    Ok(traffic)
 }
 
 #[test]

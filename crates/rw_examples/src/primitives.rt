@@ -380,28 +380,47 @@ fn three_sections<R: Abort>(rt: &R, alloc: Global) -> Result<Queue, Fail>
     Ok(queue)
 }
 
-#[test]
-fn one_section(rt: HostRuntime) -> Result<(), Fail> {
-    let mut queue = opened(rt.alloc(), 1, 1)?;
-    replay(&rt, rt.alloc(), &mut queue, NOTHING, &ONE_SECTION)?;
-    replay(&rt, rt.alloc(), &mut queue, NOTHING, &WRITTEN_AGAIN)?;
+/// The queue of three sections.
+const SPLIT: &str =
+    "S0 {10, 9, [6d, 1v]}, S1 {11, 12, [3d]}, S2 {7, 8, [2d, 0d]}, 1 (6, 0, 1), 2 (6, 2, 9), 3 (6, 3, 3), 4 (6, 6, 6), 5 (6, 10, 10), next 13";
+
+/// Goes to and fro through steps.
+fn to_and_fro<R: Abort>(
+    rt: &R,
+    alloc: Global,
+    before: &str,
+    steps: &[(Step, &str)],
+    queue: Queue,
+) -> Result<(), Fail>
+    requires { IsLoose queue }
+{
+    let mut queue = queue;
+    replay(rt, alloc, &mut queue, before, steps)?;
     Ok(())
 }
 
 #[test]
-fn three_sections_and_back(rt: HostRuntime) -> Result<(), Fail> {
-    let mut queue = opened(rt.alloc(), 4, 8)?;
-    replay(&rt, rt.alloc(), &mut queue, NOTHING, &THREE_SECTIONS)?;
-    Ok(())
+fn objects_come_and_go(rt: HostRuntime) -> Result<(), Fail> {
+    let queue = opened(rt.alloc(), 1, 1)?;
+    to_and_fro(&rt, rt.alloc(), NOTHING, &ONE_SECTION, queue)
 }
 
 #[test]
-fn four_sections_and_back(rt: HostRuntime) -> Result<(), Fail> {
-    let mut queue = three_sections(&rt, rt.alloc())?;
-    let before =
-        "S0 {10, 9, [6d, 1v]}, S1 {11, 12, [3d]}, S2 {7, 8, [2d, 0d]}, 1 (6, 0, 1), 2 (6, 2, 9), 3 (6, 3, 3), 4 (6, 6, 6), 5 (6, 10, 10), next 13";
-    replay(&rt, rt.alloc(), &mut queue, before, &FOUR_SECTIONS)?;
-    Ok(())
+fn an_object_is_written_again(rt: HostRuntime) -> Result<(), Fail> {
+    let queue = opened(rt.alloc(), 1, 1)?;
+    to_and_fro(&rt, rt.alloc(), NOTHING, &WRITTEN_AGAIN, queue)
+}
+
+#[test]
+fn sections_are_split_and_merged(rt: HostRuntime) -> Result<(), Fail> {
+    let queue = opened(rt.alloc(), 4, 8)?;
+    to_and_fro(&rt, rt.alloc(), NOTHING, &THREE_SECTIONS, queue)
+}
+
+#[test]
+fn sections_are_merged_to_one(rt: HostRuntime) -> Result<(), Fail> {
+    let queue = three_sections(&rt, rt.alloc())?;
+    to_and_fro(&rt, rt.alloc(), SPLIT, &FOUR_SECTIONS, queue)
 }
 
 /// What a queue answers of a block: the first object whose home it is, the first whose place it is, its bytes, its section.

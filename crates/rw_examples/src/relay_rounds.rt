@@ -124,11 +124,15 @@ fn a_round_tells_its_floor(rt: HostRuntime) -> Result<(), Fail> {
     Ok(())
 }
 
+/// Whether the first parcel is all that is committed.
+fn has_committed_first(world: &World<Relay>) -> bool {
+    world.journal(0) == [first()].as_slice() && world.journal(1).is_empty()
+}
+
 #[test]
 fn a_round_commits_what_is_before_its_floor(rt: HostRuntime) -> Result<(), Fail> {
     let world = one_round(&rt, rt.alloc())?.into_world();
-    assert!(rt; world.journal(0) == [first()].as_slice());
-    assert!(rt; world.journal(1).is_empty());
+    assert!(rt; has_committed_first(&world));
     Ok(())
 }
 
