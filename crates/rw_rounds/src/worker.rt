@@ -85,6 +85,7 @@ impl<M: VtModel> Worker<M> {
         ensures fit { IfOk result (λ r. IsFit M.Model M.Body.cmp model.now r.0) }
     {
         let Worker { mut desk, inbox } = self;
+        // What every process promises.
         soundness(&desk.processes);
         let executed = desk.turn(alloc, model, board, inbox)?;
         let worker = Worker {
