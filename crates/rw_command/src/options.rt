@@ -67,7 +67,7 @@ fn with_arguments<'a>(
 ) -> Result<Command<'a>, AllocError> {
     let mut command = command;
     for argument in arguments {
-        command = command.arg(argument.parsed(alloc))?;
+        command = command.arg(argument.arg(alloc))?;
     }
     Ok(command)
 }
@@ -101,7 +101,7 @@ enum Kind {
     Ticks,
 }
 
-/// What says how the work of a round is shared out, and how far rounds go.
+/// The trace, then how the work of a round is shared out, and how far rounds go.
 const ROUNDS: [Argument; 7] = [
     Argument::Trace,
     Argument::Number {
@@ -148,7 +148,7 @@ const ROUNDS: [Argument; 7] = [
     },
 ];
 
-/// What says how many caches there are, what they keep, how large they are, and how long what is sent is on its way.
+/// How many caches there are, what they keep, how large they are, and how long what is sent is on its way.
 const CACHES: [Argument; 10] = [
     Argument::Number {
         name: "edges",
@@ -217,8 +217,8 @@ const CACHES: [Argument; 10] = [
 ];
 
 impl Argument {
-    /// The argument as `clap` parses it.
-    fn parsed<'a>(&self, alloc: Global) -> Arg<'a> {
+    /// The argument as `clap` knows it.
+    fn arg<'a>(&self, alloc: Global) -> Arg<'a> {
         match *self {
             Argument::Trace => trace(alloc),
             Argument::Schedule => schedule(alloc),
