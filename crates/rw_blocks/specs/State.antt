@@ -3,8 +3,8 @@ use Rattle.std.specs.Prelude.{◌≤◌, List, [], ◌∷◌, Option, slice_inde
 use Rattle.std.specs.Ordering.{nat_cmp}
 use Rattle.std.specs.Map.{lookup}
 use Rattle.std.specs.BTreeMap.{is_at}
-use Rattle.rw_vt.specs.Words.{Count}
-use Rattle.rw_blocks.specs.Words.{Object, Position, Section, Serial, Size}
+use Rattle.rw_vt.specs.Words.{Count, Position}
+use Rattle.rw_blocks.specs.Words.{Object, Section, Serial, Size}
 use Rattle.rw_blocks.specs.declared.Kind.{Kind}
 use Rattle.rw_blocks.specs.declared.Kind.TheVariants.{Device, Virtual}
 use Rattle.rw_blocks.specs.declared.Place.{Place}

@@ -17,10 +17,6 @@ Serial = ℕ
 abbrev pub Section : Type 0
 Section = ℕ
 
--- a place in a list, counted from 0 at the front
-abbrev pub Position : Type 0
-Position = ℕ
-
 -- a number by which the index tells a section: no other one has it
 abbrev pub Tag : Type 0
 Tag = ℕ

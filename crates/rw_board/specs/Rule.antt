@@ -3,25 +3,26 @@ use Rattle.std.specs.Prelude.{◌≡◌, ℕ, ◌+◌, ◌-◌, ◌<◌, ◌≤�
 use mathlib.Core.Option.{some}
 use lib.ListN.{get_elem?}
 use Rattle.atomic_table.specs.Table.{State, Me, Step}
+use Rattle.rw_vt.specs.Words.{Count, Time}
 use Rattle.rw_vt.specs.declared.event.TheConstants.{END}
 use Rattle.rw_board.specs.Least.{least}
 use Rattle.rw_board.specs.declared.rule.View.{View}
 
-abbrev pub view : List ℕ → ℕ → ℕ → View
+abbrev pub view : List Time → Time → Count → View
 view noted read weight = record { noted = noted; read = read; weight = weight }
 
 -- the least of END and of all that was noted
-abbrev pub least_of_all : List View → ℕ
+abbrev pub least_of_all : List View → Time
 least_of_all [] = END
 least_of_all (v ∷ vs) = min (least v.noted) (least_of_all vs)
 
-abbrev pub weights : List View → ℕ
+abbrev pub weights : List View → Count
 weights [] = 0
 weights (v ∷ vs) = v.weight + weights vs
 
 -- The rule for n seats: the word is the least of END and of all notes, and at most the last reading of each seat that is not
 -- spent; a seat of weight 0 is spent and has noted nothing; the weights add up to n
-pub record Kept {S : Type 0} (n : ℕ) (s : State S View) : Type 0 where
+pub record Kept {S : Type 0} (n : Count) (s : State S View) : Type 0 where
   pub word : s.words ≡ least_of_all s.views ∷ []
   pub bound : (k : ℕ) (v : View) → get_elem? s.views k ≡ some v → 0 < v.weight → least_of_all s.views ≤ v.read
   pub spent : (k : ℕ) (v : View) → get_elem? s.views k ≡ some v → v.weight ≡ 0 → v.noted ≡ []
@@ -29,15 +30,15 @@ pub record Kept {S : Type 0} (n : ℕ) (s : State S View) : Type 0 where
 
 module _ {S : Type 0} where
   -- a fetch_min: the caller has noted the time
-  abbrev pub Notes : Step S → Me S View → ℕ → Me S View → Type 0
+  abbrev pub Notes : Step S → Me S View → Time → Me S View → Type 0
   Notes st m found w = w ≡ (view (m.0.noted ++ st.first ∷ []) m.0.read m.0.weight, m.1)
 
   -- a load: the caller has read the word, which is no later than END, than what it noted and than what it read before
-  abbrev pub Reads : Step S → Me S View → ℕ → Me S View → Type 0
+  abbrev pub Reads : Step S → Me S View → Time → Me S View → Type 0
   Reads st m found w = (w ≡ (view m.0.noted found m.0.weight, m.1)) × (found ≤ END) × (found ≤ least m.0.noted) × (found ≤ m.0.read)
 
 -- the first seat, which has the whole weight
-abbrev pub of_all : ℕ → View
+abbrev pub of_all : Count → View
 of_all n = view [] END n
 
 -- what is left of a seat that gives a new one a weight of one

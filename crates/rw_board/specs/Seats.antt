@@ -1,32 +1,33 @@
 -- What a contract sees of a board and of its seats.
-use Rattle.std.specs.Prelude.{ℕ, List, [], ◌∷◌, ◌++◌}
+use Rattle.std.specs.Prelude.{List, [], ◌∷◌, ◌++◌}
 use Rattle.atomic_table.specs.Seated.{TableId}
+use Rattle.rw_vt.specs.Words.{Count, Time}
 use Rattle.rw_vt.specs.declared.event.TheConstants.{END}
 
 -- which board it is, and how many seats it was opened with
 pub record BoardState : Type 0 where
   pub board : TableId
-  pub seats : ℕ
+  pub seats : Count
 
 -- which board it belongs to, the times that it noted, in order, and its last reading
 pub record SeatState : Type 0 where
   pub board : TableId
-  pub noted : List ℕ
-  pub read : ℕ
+  pub noted : List Time
+  pub read : Time
 
 -- a seat that has noted nothing and read nothing
 abbrev pub new_seat : TableId → SeatState
 new_seat board = record { board = board; noted = []; read = END }
 
 -- the seat, once it has noted the time
-abbrev pub having_noted : SeatState → ℕ → SeatState
+abbrev pub having_noted : SeatState → Time → SeatState
 having_noted seat time = record seat { noted = seat.noted ++ time ∷ [] }
 
 -- the seat, once it has read this
-abbrev pub having_read : SeatState → ℕ → SeatState
+abbrev pub having_read : SeatState → Time → SeatState
 having_read seat found = record seat { read = found }
 
 -- all times noted by some seats, one seat after another
-abbrev pub all_noted : List SeatState → List ℕ
+abbrev pub all_noted : List SeatState → List Time
 all_noted [] = []
 all_noted (seat ∷ seats) = seat.noted ++ all_noted seats

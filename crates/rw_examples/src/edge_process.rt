@@ -5,7 +5,7 @@ use crate::desk::Call::{Arrive, Collect, Deliver, ExecuteNext, UndoOne};
 use crate::desk::Line::{Ahead, Gives, Settled};
 use crate::desk::{Desk, Line};
 use rw_photo::{Body, Config, Counters, Photo, Policy, Shape};
-use rw_vt::{END, Event, Letter};
+use rw_vt::{END, Event, Letter, Model, execute_and_reverse};
 use std::alloc::Global;
 use std::test::Fail;
 
@@ -192,4 +192,20 @@ fn a_fill_that_nobody_awaits_is_taken_back(rt: HostRuntime) -> Result<(), Fail> 
         Counters::default(),
         stored(rt.alloc())?,
     )
+}
+
+#[test]
+fn a_fill_at_the_start_leaves_the_very_state(rt: HostRuntime) -> Result<(), Fail> {
+    let alloc = rt.alloc();
+    let shape = Shape::new(8, 4, 64).ok_or("shape")?;
+    let config = Config::new(1, 1, Policy::Lru, shape, shape, 3, 3, 10).ok_or("config")?;
+    let photo = Photo::new(config);
+    let fill = fill(21, 0);
+    assert!(rt; fill.to == 0);
+    assert!(rt; photo.valid(&fill));
+    let mut edge = photo.start(alloc, 0)?;
+    let sent = execute_and_reverse(alloc, &photo, 0, &mut edge, &fill)?;
+    assert!(rt; sent.is_empty());
+    assert_eq!(rt; edge.counters(), Counters::default());
+    Ok(())
 }

@@ -1,49 +1,50 @@
 -- What a contract sees of a port, and of all ports of one opening. T is the type of the letters.
 use Rattle.std.specs.Prelude.{◌≡◌, ◌≢◌, ℕ, ◌<◌, List, [], ◌∷◌, ◌++◌, length, map, slice_index_or, slice_set, Option}
 use Rattle.std.specs.List.{All}
+use Rattle.rw_vt.specs.Words.{Count, Worker}
 use Rattle.rw_exchange.specs.Rings.{Ring, AllButOwn, cell}
 
 -- A worker's port: the rings to and from each worker, all that went through this end of each, oldest first, and how many
 -- slots of the ring to each worker the port knows to be free
 pub record PortState (T : Type 0) : Type 0 where
-  pub worker : ℕ
-  pub capacity : ℕ
+  pub worker : Worker
+  pub capacity : Count
   pub out : List (Option Ring)
   pub into : List (Option Ring)
   pub sent : List (List T)
   pub received : List (List T)
-  pub free : List ℕ
+  pub free : List Count
 
 module _ {T : Type 0} where
-  abbrev pub sent_to : PortState T → ℕ → List T
+  abbrev pub sent_to : PortState T → Worker → List T
   sent_to p k = slice_index_or p.sent k []
 
-  abbrev pub received_from : PortState T → ℕ → List T
+  abbrev pub received_from : PortState T → Worker → List T
   received_from p k = slice_index_or p.received k []
 
   -- the slots of the ring to k that the port knows to be free
-  abbrev pub free_to : PortState T → ℕ → ℕ
+  abbrev pub free_to : PortState T → Worker → Count
   free_to p k = slice_index_or p.free k 0
 
   -- the port, once it has sent the letter to the worker k, and then knows of so many free slots there
-  abbrev pub having_sent : PortState T → ℕ → T → ℕ → PortState T
+  abbrev pub having_sent : PortState T → Worker → T → Count → PortState T
   having_sent p k x free =
       record p { sent = slice_set p.sent k (sent_to p k ++ x ∷ []); free = slice_set p.free k free }
 
   -- the port, once it has received the letter from the worker k
-  abbrev pub having_received : PortState T → ℕ → T → PortState T
+  abbrev pub having_received : PortState T → Worker → T → PortState T
   having_received p k x = record p { received = slice_set p.received k (received_from p k ++ x ∷ []) }
 
   -- k is one of the other workers
-  abbrev pub IsOther : PortState T → ℕ → Type 0
+  abbrev pub IsOther : PortState T → Worker → Type 0
   IsOther p k = (k < length p.out) × (k ≢ p.worker)
 
   -- nothing was sent or received yet
   abbrev pub IsNew : PortState T → Type 0
-  IsNew p = ((k : ℕ) → sent_to p k ≡ []) × ((k : ℕ) → received_from p k ≡ [])
+  IsNew p = ((k : Worker) → sent_to p k ≡ []) × ((k : Worker) → received_from p k ≡ [])
 
   -- the port has this many lists of letters, and as many places for rings
-  abbrev pub IsWide : ℕ → PortState T → Type 0
+  abbrev pub IsWide : Count → PortState T → Type 0
   IsWide n p = (length p.out ≡ n) × (length p.into ≡ n) × (length p.sent ≡ n) × (length p.received ≡ n)
 
   -- q is p, perhaps after it has sent and received more
@@ -67,24 +68,24 @@ module _ {T : Type 0} where
   intos_of ps = map (λ p. p.into) ps
 
   -- all that went into the ring from the worker i to the worker j
-  abbrev pub sent_between : List (PortState T) → ℕ → ℕ → List T
+  abbrev pub sent_between : List (PortState T) → Worker → Worker → List T
   sent_between ps i j = entry (map (λ p. p.sent) ps) i j
 
   -- all that came out of it
-  abbrev pub received_between : List (PortState T) → ℕ → ℕ → List T
+  abbrev pub received_between : List (PortState T) → Worker → Worker → List T
   received_between ps i j = entry (map (λ p. p.received) ps) j i
 
   -- These are all ports of one opening, in order: port i has a ring to each other worker and none to itself, and the ring from
   -- i to j is the one that port j has from i
   pub record IsOpening (ps : List (PortState T)) : Type 0 where
-    pub numbered : (i : ℕ) (d : PortState T) → i < length ps → (slice_index_or ps i d).worker ≡ i
+    pub numbered : (i : Worker) (d : PortState T) → i < length ps → (slice_index_or ps i d).worker ≡ i
     pub wide : All (IsWide (length ps)) ps
-    pub others : (i : ℕ) → i < length ps → AllButOwn i (slice_index_or (outs_of ps) i [])
-    pub paired : (i j : ℕ) → i < length ps → j < length ps → cell (outs_of ps) i j ≡ cell (intos_of ps) j i
+    pub others : (i : Worker) → i < length ps → AllButOwn i (slice_index_or (outs_of ps) i [])
+    pub paired : (i j : Worker) → i < length ps → j < length ps → cell (outs_of ps) i j ≡ cell (intos_of ps) j i
 
   -- the same ports in the same order, perhaps after they have sent and received more
   abbrev pub AreSamePorts : List (PortState T) → List (PortState T) → Type 0
-  AreSamePorts ps qs = (length qs ≡ length ps) × ((i : ℕ) (d : PortState T) → i < length ps → SamePort (slice_index_or ps i d) (slice_index_or qs i d))
+  AreSamePorts ps qs = (length qs ≡ length ps) × ((i : Worker) (d : PortState T) → i < length ps → SamePort (slice_index_or ps i d) (slice_index_or qs i d))
 
   -- whatever goes through them, they are all ports of one opening
   abbrev pub StayAnOpening : List (PortState T) → Type 0

@@ -53,7 +53,7 @@ pub record AreFor {M S B U : Type 0} (model : Ghosts M S B U) (cmp : Event B →
 -- the last processed event e of x is taken back, which leads to z and gives these letters out
 pub record IsTakenBack {M S B U : Type 0} (model : Ghosts M S B U) (x z : Past M S B) (e : Event B) (given : List (Letter B)) : Type 0 where
   pub last : x.processed ≡ z.processed ++ e ∷ []
-  pub rest : z ≡ record { model = x.model; number = x.number; start = x.start; committed = x.committed; processed = z.processed; state = after (model.step x.model x.number) x.start (x.committed ++ z.processed) }
+  pub rest : z ≡ record x { processed = z.processed; state = after (model.step x.model x.number) x.start (x.committed ++ z.processed) }
   pub valid : model.is_valid x.model e ≡ true
   pub here : e.to ≡ x.number
   pub sent : given ≡ letters_of true (model.step x.model x.number (after (model.step x.model x.number) x.start (x.committed ++ z.processed)) e).1

@@ -80,7 +80,7 @@ impl<M: VtModel> History<M> {
         requires valid { M.is_valid self.model event ≡ true }
         requires here { event.to ≡ self.number }
         requires late { is_less_than_last (event_cmp M.Body.cmp) event (split_last (self.committed ++ self.processed)) ≡ false }
-        ensures after { IfOk result (λ h. h ≡ record { model = self.model; number = self.number; start = self.start; committed = self.committed; processed = self.processed ++ event ∷ []; state = (M.step self.model self.number self.state event).0 }) }
+        ensures after { IfOk result (λ h. h ≡ record self { processed = self.processed ++ event ∷ []; state = (M.step self.model self.number self.state event).0 }) }
         ensures sent { OnOk result (out.new.items ≡ out.old.items ++ letters_of false (M.step self.model self.number self.state event).1) }
         ensures exhausted { (result ≡ Err Refusal.Exhausted) ↔ (M.is_exhausted self.model self.state ≡ true) }
         ensures fold { OnOk result (self.state ≡ after (M.step self.model self.number) self.start (self.committed ++ self.processed)) }
@@ -126,7 +126,7 @@ impl<M: VtModel> History<M> {
 
     /// Commits the processed events of time below `time`, and drops the records that would take them back.
     pub fn commit(self, time: u64) -> Result<History<M>, Refusal>
-        ensures committed { IfOk result (λ h. h ≡ record { model = self.model; number = self.number; start = self.start; committed = self.committed ++ filter (λ e. nat_lt e.time time) self.processed; processed = filter (λ e. nat_le time e.time) self.processed; state = self.state }) }
+        ensures committed { IfOk result (λ h. h ≡ record self { committed = self.committed ++ filter (λ e. nat_lt e.time time) self.processed; processed = filter (λ e. nat_le time e.time) self.processed }) }
         ensures done { IfOk result (λ h. h.committed ++ h.processed ≡ self.committed ++ self.processed) }
         ensures memory { IfErr result (λ e. e ≡ Memory) }
     {

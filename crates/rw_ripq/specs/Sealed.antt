@@ -1,8 +1,8 @@
 -- Where a sealed block stands, and the queue without it.
 use Rattle.std.specs.Prelude.{Bool, true, false, ◌&&◌, length, nat_eq, sum_by}
 use Rattle.std.specs.List.{list_any, position_or_len}
-use Rattle.rw_vt.specs.Words.{Count}
-use Rattle.rw_blocks.specs.Words.{Position, Section, Serial}
+use Rattle.rw_vt.specs.Words.{Count, Position}
+use Rattle.rw_blocks.specs.Words.{Section, Serial}
 use Rattle.rw_blocks.specs.State.{QueueState, SectionState, section_at}
 use Rattle.rw_blocks.specs.Sums.{has_serial, rows_placed}
 use Rattle.rw_blocks.specs.Loose.{is_sealed_virtual}

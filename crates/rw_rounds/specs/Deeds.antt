@@ -1,5 +1,6 @@
 -- What one worker's processes do, one deed after another, and what they give out.
-use Rattle.std.specs.Prelude.{◌≡◌, ℕ, suc, ◌≤◌, true, List, [], ◌∷◌, ◌++◌, Option, Some}
+use Rattle.std.specs.Prelude.{◌≡◌, suc, ◌≤◌, true, List, [], ◌∷◌, ◌++◌, Option, Some}
+use Rattle.rw_vt.specs.Words.{Count, Process, Time}
 use Rattle.rw_vt.specs.declared.event.Event.{Event}
 use Rattle.rw_vt.specs.declared.event.Letter.{Letter}
 use Rattle.rw_vt.specs.Order.{AtMost, Each}
@@ -12,37 +13,37 @@ pub data Deed (B : Type 0) : Type 0 where
   -- a letter comes to its process, after the undoings that it needs
   Arrival : (l : Letter B) → Deed B
   -- the last processed event of process p is undone
-  Undoing : (p : ℕ) → Deed B
+  Undoing : (p : Process) → Deed B
   -- the least pending event of process p is executed
-  Execution : (p : ℕ) → Deed B
+  Execution : (p : Process) → Deed B
 
 -- process p went from x to z and gave these letters out, as the relation says; the others stayed
-pub record Stepped {S B : Type 0} (p : ℕ) (By : ProcessState S B → ProcessState S B → List (Letter B) → Type 0) (a b : ℕ → Option (ProcessState S B)) (x z : ProcessState S B) (out : List (Letter B)) : Type 0 where
+pub record Stepped {S B : Type 0} (p : Process) (By : ProcessState S B → ProcessState S B → List (Letter B) → Type 0) (a b : Process → Option (ProcessState S B)) (x z : ProcessState S B) (out : List (Letter B)) : Type 0 where
   pub was : a p ≡ Some x
   pub is : b p ≡ Some z
   pub by : By x z out
-  pub others : (q : ℕ) → (q ≡ p → ⊥) → b q ≡ a q
+  pub others : (q : Process) → (q ≡ p → ⊥) → b q ≡ a q
 
 -- the letter is of a valid event that is not before g
-pub record IsFair {S B : Type 0} (y : System S B) (g : ℕ) (l : Letter B) : Type 0 where
+pub record IsFair {S B : Type 0} (y : System S B) (g : Time) (l : Letter B) : Type 0 where
   pub valid : y.valid l.event ≡ true
   pub from : g ≤ l.event.time
 
 -- what is next at x is the least of all pending events
-abbrev pub IsLeast : {S B : Type 0} → System S B → (ℕ → Option (ProcessState S B)) → ProcessState S B → Type 0
-IsLeast {S} {B} y a x = (e : Event B) (rest : List (Event B)) → x.pending ≡ e ∷ rest → (q : ℕ) (z : ProcessState S B) → a q ≡ Some z → Each y.order (λ f. AtMost y.order e f) z.pending
+abbrev pub IsLeast : {S B : Type 0} → System S B → (Process → Option (ProcessState S B)) → ProcessState S B → Type 0
+IsLeast {S} {B} y a x = (e : Event B) (rest : List (Event B)) → x.pending ≡ e ∷ rest → (q : Process) (z : ProcessState S B) → a q ≡ Some z → Each y.order (λ f. AtMost y.order e f) z.pending
 
 -- the deed, done by processes none of which may go back before g
-abbrev pub Did : {S B : Type 0} → System S B → ℕ → Deed B → (ℕ → Option (ProcessState S B)) → (ℕ → Option (ProcessState S B)) → List (Letter B) → Type 0
+abbrev pub Did : {S B : Type 0} → System S B → Time → Deed B → (Process → Option (ProcessState S B)) → (Process → Option (ProcessState S B)) → List (Letter B) → Type 0
 Did {S} {B} y g (Arrival l) a b out = (x z : ProcessState S B) × Stepped l.event.to (Arrived y l.event.to l) a b x z out × IsFair y g l
 -- an undoing, where what is next is a straggler
 Did {S} {B} y g (Undoing p) a b out = (x z : ProcessState S B) × Stepped p (λ x z out. undo_one y p x ≡ Turned z out) a b x z out × (execute_next y p x ≡ Stays Straggler)
 Did {S} {B} y g (Execution p) a b out = (x z : ProcessState S B) × Stepped p (λ x z out. execute_next y p x ≡ Turned z out) a b x z out × IsLeast y a x
 
 -- the deeds lead from a to b, and give out these letters
-abbrev pub Goes : {S B : Type 0} → System S B → ℕ → List (Deed B) → (ℕ → Option (ProcessState S B)) → (ℕ → Option (ProcessState S B)) → List (Letter B) → Type 0
+abbrev pub Goes : {S B : Type 0} → System S B → Time → List (Deed B) → (Process → Option (ProcessState S B)) → (Process → Option (ProcessState S B)) → List (Letter B) → Type 0
 Goes y g [] a b given = (b ≡ a) × (given ≡ [])
-Goes {S} {B} y g (d ∷ ds) a b given = (c : ℕ → Option (ProcessState S B)) × (out rest : List (Letter B)) × Did y g d a c out × Goes y g ds c b rest × (given ≡ out ++ rest)
+Goes {S} {B} y g (d ∷ ds) a b given = (c : Process → Option (ProcessState S B)) × (out rest : List (Letter B)) × Did y g d a c out × Goes y g ds c b rest × (given ≡ out ++ rest)
 
 -- the letters that arrive
 abbrev pub arrivals : {B : Type 0} → List (Deed B) → List (Letter B)
@@ -52,7 +53,7 @@ arrivals (Undoing p ∷ ds) = arrivals ds
 arrivals (Execution p ∷ ds) = arrivals ds
 
 -- how many deeds are executions
-abbrev pub executions : {B : Type 0} → List (Deed B) → ℕ
+abbrev pub executions : {B : Type 0} → List (Deed B) → Count
 executions [] = 0
 executions (Arrival l ∷ ds) = executions ds
 executions (Undoing p ∷ ds) = executions ds

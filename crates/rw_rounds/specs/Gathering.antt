@@ -1,5 +1,6 @@
 -- What is gathered once the workers of a round are joined.
-use Rattle.std.specs.Prelude.{◌≡◌, ℕ, ◌/◌, ◌%◌, ◌^◌, ◌<◌, ◌≤◌, List, [], All, length, map, slice_get, slice_index_or}
+use Rattle.std.specs.Prelude.{◌≡◌, ◌/◌, ◌%◌, ◌^◌, ◌<◌, ◌≤◌, List, [], All, length, map, slice_get, slice_index_or}
+use Rattle.rw_vt.specs.Words.{Count, Process, Time}
 use Rattle.rw_vt.specs.declared.event.Letter.{Letter}
 use Rattle.rw_lp.specs.Calls.{LogicalProcess}
 use Rattle.rw_board.specs.Least.{least}
@@ -7,9 +8,9 @@ use Rattle.rw_rounds.specs.Turns.{WorkerState}
 use Rattle.rw_rounds.specs.Rounds.{AreOnTheirWay}
 
 -- so many processes of the workers in the order of their numbers, the letters on their way, and a time that is no later than any noted
-pub record IsGathered {M S B : Type 0} (n : ℕ) (ws : List (WorkerState M S B)) (all : List (LogicalProcess M S B)) (rest : List (Letter B)) (floor : ℕ) : Type 0 where
+pub record IsGathered {M S B : Type 0} (n : Count) (ws : List (WorkerState M S B)) (all : List (LogicalProcess M S B)) (rest : List (Letter B)) (floor : Time) : Type 0 where
   pub count : length all ≡ n
-  pub processes : (q : ℕ) → q < n → slice_get all q ≡ slice_get (slice_index_or (map (λ w. w.processes) ws) (q % length ws) []) (q / length ws)
+  pub processes : (q : Process) → q < n → slice_get all q ≡ slice_get (slice_index_or (map (λ w. w.processes) ws) (q % length ws) []) (q / length ws)
   pub letters : AreOnTheirWay ws rest
   pub end : floor ≤ 2 ^ 40
   pub noted : All (λ s. floor ≤ least s.noted) (map (λ w. w.seat) ws)

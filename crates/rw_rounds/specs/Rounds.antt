@@ -1,6 +1,7 @@
 -- A round: each worker takes its turns and closes, and then all are joined.
 use Rattle.std.specs.Prelude.{◌≡◌, ℕ, ◌+◌, ◌*◌, ◌/◌, ◌%◌, ◌^◌, ◌<◌, ◌≤◌, max, List, [], ◌∷◌, ◌++◌, length, map, filter, slice_get, Some}
 use Rattle.std.specs.declared.cmp.Ordering.{Ordering}
+use Rattle.rw_vt.specs.Words.{Count, Position, Process, Time, Worker}
 use Rattle.rw_vt.specs.declared.event.Letter.{Letter}
 use Rattle.rw_vt.specs.declared.model.Model.{Ghosts}
 use Rattle.rw_vt.specs.Order.{Each}
@@ -17,13 +18,13 @@ use Rattle.rw_rounds.specs.Bags.{weigh, Every, total}
 use Rattle.rw_rounds.specs.Turns.{Role, WorkerState, is_own, IsFit, TookTurns}
 
 -- what worker i is, where g is the greatest time collected
-abbrev pub role : Plan → ℕ → ℕ → Role
+abbrev pub role : Plan → Time → Worker → Role
 role plan g i = record { number = i; plan = plan; collected = g }
 
 -- of these processes and letters, a worker begins with those that are its own, and has sent and received nothing yet
 pub record Begins {M S B : Type 0} (processes : List (LogicalProcess M S B)) (letters : List (Letter B)) (r : Role) (a : WorkerState M S B) : Type 0 where
   pub role : a.role ≡ r
-  pub processes_are : (place : ℕ) → slice_get a.processes place ≡ slice_get processes (r.number + place * r.plan.workers)
+  pub processes_are : (place : Position) → slice_get a.processes place ≡ slice_get processes (r.number + place * r.plan.workers)
   pub inbox : a.inbox ≡ filter (is_own r) letters
   pub none_kept : a.kept ≡ []
   pub none_aside : a.aside ≡ []
@@ -34,13 +35,13 @@ pub record Begins {M S B : Type 0} (processes : List (LogicalProcess M S B)) (le
 
 -- after its last turn a worker notes a time that none of its pending events and debts is before, and that of each letter that it keeps
 pub record Closes {M S B : Type 0} (y : System S B) (a b : WorkerState M S B) : Type 0 where
-  pub least : ℕ
-  pub pending : (place : ℕ) (l : LogicalProcess M S B) → slice_get a.processes place ≡ Some l → Each y.order (λ e. least ≤ e.time) l.process.pending
-  pub debts : (place : ℕ) (l : LogicalProcess M S B) → slice_get a.processes place ≡ Some l → Each y.order (λ e. least ≤ e.time) l.process.debts
+  pub least : Time
+  pub pending : (place : Position) (l : LogicalProcess M S B) → slice_get a.processes place ≡ Some l → Each y.order (λ e. least ≤ e.time) l.process.pending
+  pub debts : (place : Position) (l : LogicalProcess M S B) → slice_get a.processes place ≡ Some l → Each y.order (λ e. least ≤ e.time) l.process.debts
   pub closed : b ≡ record a { seat = record a.seat { noted = a.seat.noted ++ least ∷ map (λ l. l.event.time) a.kept } }
 
 -- so many turns, and the closing, of a worker of the model m
-pub record TookRound {M S B U : Type 0} (model : Ghosts M S B U) (order : B → B → Ordering) (m : M) (turns : ℕ) (a b : WorkerState M S B) : Type 0 where
+pub record TookRound {M S B U : Type 0} (model : Ghosts M S B U) (order : B → B → Ordering) (m : M) (turns : Count) (a b : WorkerState M S B) : Type 0 where
   pub between : WorkerState M S B
   pub turns_are : TookTurns (rules model order m) turns a between
   pub closes : Closes (rules model order m) between b
@@ -49,36 +50,36 @@ pub record TookRound {M S B U : Type 0} (model : Ghosts M S B U) (order : B → 
 -- these letters are on their way once the workers are done: those left in the rings between them, those kept and those set aside
 pub record AreOnTheirWay {M S B : Type 0} (ws : List (WorkerState M S B)) (letters : List (Letter B)) : Type 0 where
   -- what was left in the rings, by sender and receiver
-  pub left : ℕ → ℕ → List (Letter B)
-  pub settled : (i k : ℕ) → i < length ws → k < length ws → received_between (map (λ w. w.port) ws) i k ++ left i k ≡ sent_between (map (λ w. w.port) ws) i k
+  pub left : Worker → Worker → List (Letter B)
+  pub settled : (i k : Worker) → i < length ws → k < length ws → received_between (map (λ w. w.port) ws) i k ++ left i k ≡ sent_between (map (λ w. w.port) ws) i k
   pub letters_are : (h : Letter B → ℕ) → weigh h letters ≡ total (length ws) (λ i. total (length ws) (λ k. weigh h (left i k))) + weigh h (flatten (map (λ w. w.kept) ws)) + weigh h (flatten (map (λ w. w.aside) ws))
 
 -- the workers of the plan take the parts x to the parts z
-pub record Round {M S B U : Type 0} (model : Ghosts M S B U) (order : B → B → Ordering) (plan : Plan) (x z : Parts M S B U) (least : ℕ) : Type 0 where
+pub record Round {M S B U : Type 0} (model : Ghosts M S B U) (order : B → B → Ordering) (plan : Plan) (x z : Parts M S B U) (least : Time) : Type 0 where
   -- by worker: as it began, and as it closed
-  pub first : ℕ → WorkerState M S B
-  pub last : ℕ → WorkerState M S B
+  pub first : Worker → WorkerState M S B
+  pub last : Worker → WorkerState M S B
   -- what was left in the rings, by sender and receiver
-  pub left : ℕ → ℕ → List (Letter B)
-  pub begins : (i : ℕ) → i < plan.workers → Begins x.processes.items x.letters.items (role plan x.collected i) (first i)
-  pub works : (i : ℕ) → i < plan.workers → TookRound model order x.model plan.turns (first i) (last i)
-  pub settled : (i k : ℕ) → i < plan.workers → k < plan.workers → received_from (last k).port i ++ left i k ≡ sent_to (last i).port k
+  pub left : Worker → Worker → List (Letter B)
+  pub begins : (i : Worker) → i < plan.workers → Begins x.processes.items x.letters.items (role plan x.collected i) (first i)
+  pub works : (i : Worker) → i < plan.workers → TookRound model order x.model plan.turns (first i) (last i)
+  pub settled : (i k : Worker) → i < plan.workers → k < plan.workers → received_from (last k).port i ++ left i k ≡ sent_to (last i).port k
   -- what the board gave
   pub least_end : least ≤ 2 ^ 40
-  pub least_noted : (i : ℕ) → i < plan.workers → Every (λ t. least ≤ t) (last i).seat.noted
+  pub least_noted : (i : Worker) → i < plan.workers → Every (λ t. least ≤ t) (last i).seat.noted
   -- the parts in which they are joined
   pub model_is : z.model ≡ x.model
   pub starts_are : z.starts ≡ x.starts
   pub initial_are : z.initial ≡ x.initial
   pub collected_is : z.collected ≡ x.collected
-  pub processes_are : (q : ℕ) → slice_get z.processes.items q ≡ slice_get (last (q % plan.workers)).processes (q / plan.workers)
+  pub processes_are : (q : Process) → slice_get z.processes.items q ≡ slice_get (last (q % plan.workers)).processes (q / plan.workers)
   pub letters_are : (h : Letter B → ℕ) → weigh h z.letters.items ≡ total plan.workers (λ i. total plan.workers (λ k. weigh h (left i k))) + total plan.workers (λ i. weigh h (last i).kept + weigh h (last i).aside)
 
 -- What contracts see of a run between two rounds: the world, how it is run, and what the last round gave as its floor
 pub record SimState (M S B : Type 0) : Type 0 where
   pub simulation : Simulation M S B
   pub plan : Plan
-  pub floor : ℕ
+  pub floor : Time
 
 -- what a round promises of the worlds before and after it
 pub record Rounded {M S B U : Type 0} (model : Ghosts M S B U) (order : B → B → Ordering) (x z : SimState M S B) : Type 0 where
@@ -91,4 +92,4 @@ pub record Rounded {M S B U : Type 0} (model : Ghosts M S B U) (order : B → B 
   pub below_floor : z.floor ≤ floor z.simulation.world
   pub collected : z.simulation.world.collected ≡ max x.simulation.world.collected z.floor
   -- no committed event is lost
-  pub longer : (q : ℕ) (a b : ProcessState S B) → slice_get x.simulation.world.processes q ≡ Some a → slice_get z.simulation.world.processes q ≡ Some b → (rest : _) × (a.committed ++ rest ≡ b.committed)
+  pub longer : (q : Process) (a b : ProcessState S B) → slice_get x.simulation.world.processes q ≡ Some a → slice_get z.simulation.world.processes q ≡ Some b → (rest : _) × (a.committed ++ rest ≡ b.committed)

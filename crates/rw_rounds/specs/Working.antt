@@ -2,6 +2,7 @@
 use Rattle.std.specs.Prelude.{◌≡◌, ℕ, ◌+◌, ◌<◌, ◌≤◌, Bool, true, false, not, List, [], ◌∷◌, ◌++◌, length, slice_get, Option, Some, None}
 use Rattle.std.specs.declared.cmp.Ordering.{Ordering}
 use Rattle.std.specs.Ordering.{is_gt}
+use Rattle.rw_vt.specs.Words.{Count, Position, Process, Time, Worker}
 use Rattle.rw_vt.specs.declared.event.Event.{Event}
 use Rattle.rw_vt.specs.declared.event.Letter.{Letter}
 use Rattle.rw_vt.specs.declared.model.Model.{Ghosts}
@@ -28,11 +29,11 @@ desk_of d = record { role = role_of d; processes = d.processes.items; inbox = []
 -- the worker is fit for a turn, and each of its processes is sound, as every process is that has collected so far
 pub record IsFitAndSound {M S B U : Type 0} (model : Ghosts M S B U) (order : B → B → Ordering) (m : M) (w : WorkerState M S B) : Type 0 where
   pub fit : IsFit model order m w
-  pub sound : (place : ℕ) (l : LogicalProcess M S B) → slice_get w.processes place ≡ Some l → SoundAt (rules model order m) w.role.collected l.number l.process
+  pub sound : (place : Position) (l : LogicalProcess M S B) → slice_get w.processes place ≡ Some l → SoundAt (rules model order m) w.role.collected l.number l.process
 
 -- From a to b the worker r dealt with letters: of those that were at hand and those that were given out or received since,
 -- own ones arrived, others were sent or are kept, and the rest is at hand; with n executions
-pub record Works {M S B : Type 0} (y : System S B) (r : Role) (a b : WorkerState M S B) (at_hand rest : List (Letter B)) (n : ℕ) : Type 0 where
+pub record Works {M S B : Type 0} (y : System S B) (r : Role) (a b : WorkerState M S B) (at_hand rest : List (Letter B)) (n : Count) : Type 0 where
   pub before : a.role ≡ r
   pub after : b.role ≡ r
   pub inbox : b.inbox ≡ a.inbox
@@ -41,43 +42,43 @@ pub record Works {M S B : Type 0} (y : System S B) (r : Role) (a b : WorkerState
   pub same_board : b.seat.board ≡ a.seat.board
   pub deeds : List (Deed B)
   pub given : List (Letter B)
-  pub sent : ℕ → List (Letter B)
-  pub received : ℕ → List (Letter B)
-  pub noted : List ℕ
+  pub sent : Worker → List (Letter B)
+  pub received : Worker → List (Letter B)
+  pub noted : List Time
   pub goes : Goes y r.collected deeds (process_at r a.processes) (process_at r b.processes) given
-  pub sent_more : (k : ℕ) → sent_to b.port k ≡ sent_to a.port k ++ sent k
-  pub received_more : (k : ℕ) → received_from b.port k ≡ received_from a.port k ++ received k
+  pub sent_more : (k : Worker) → sent_to b.port k ≡ sent_to a.port k ++ sent k
+  pub received_more : (k : Worker) → received_from b.port k ≡ received_from a.port k ++ received k
   pub noted_more : b.seat.noted ≡ a.seat.noted ++ noted
   pub arrived : (h : Letter B → ℕ) → weigh h (arrivals deeds) + weigh (only (is_own r) h) rest ≡ weigh (only (is_own r) h) at_hand + total r.plan.workers (λ k. weigh (only (passes y r) h) (received k)) + weigh (only (is_own r) h) given
   pub set_aside : (h : Letter B → ℕ) → weigh h b.aside ≡ weigh h a.aside + total r.plan.workers (λ k. weigh (only (λ l. not (passes y r l)) h) (received k))
   pub passed_on : (h : Letter B → ℕ) → weigh h a.kept + weigh (only (λ l. not (is_own r l)) h) at_hand + weigh (only (λ l. not (is_own r l)) h) given ≡ total r.plan.workers (λ k. weigh h (sent k)) + weigh h b.kept + weigh (only (λ l. not (is_own r l)) h) rest
-  pub on_its_ring : (k : ℕ) → Every (λ l. owner r l ≡ k) (sent k)
+  pub on_its_ring : (k : Worker) → Every (λ l. owner r l ≡ k) (sent k)
   pub notes : (h : ℕ → ℕ) → weigh h noted ≡ total r.plan.workers (λ k. weigh (λ l. h l.event.time) (sent k))
   pub executed : executions deeds ≡ n
   -- each process stays that of its model and its number
-  pub named : (place : ℕ) (l z : LogicalProcess M S B) → slice_get a.processes place ≡ Some l → slice_get b.processes place ≡ Some z → (z.model ≡ l.model) × (z.number ≡ l.number)
+  pub named : (place : Position) (l z : LogicalProcess M S B) → slice_get a.processes place ≡ Some l → slice_get b.processes place ≡ Some z → (z.model ≡ l.model) × (z.number ≡ l.number)
 
 -- x executed what was next, or undid its last event where what is next is a straggler
-abbrev pub Moved : {S B : Type 0} → System S B → ℕ → ProcessState S B → ProcessState S B → Bool → List (Letter B) → Type 0
+abbrev pub Moved : {S B : Type 0} → System S B → Process → ProcessState S B → ProcessState S B → Bool → List (Letter B) → Type 0
 Moved y p x z true given = execute_next y p x ≡ Turned z given
 Moved y p x z false given = (undo_one y p x ≡ Turned z given) × (execute_next y p x ≡ Stays Straggler)
 
 -- no pending event is before the bound
-abbrev pub HeldBack : {M S B : Type 0} → System S B → ℕ → List (LogicalProcess M S B) → Type 0
-HeldBack {M} {S} {B} y bound xs = (place : ℕ) (l : LogicalProcess M S B) → slice_get xs place ≡ Some l → Each y.order (λ e. bound ≤ e.time) l.process.pending
+abbrev pub HeldBack : {M S B : Type 0} → System S B → Time → List (LogicalProcess M S B) → Type 0
+HeldBack {M} {S} {B} y bound xs = (place : Position) (l : LogicalProcess M S B) → slice_get xs place ≡ Some l → Each y.order (λ e. bound ≤ e.time) l.process.pending
 
 -- the event is less than the least one found so far, or none was found
-abbrev pub comes_before : {B : Type 0} → (Event B → Event B → Ordering) → Event B → Option (ℕ × Event B) → Bool
+abbrev pub comes_before : {B : Type 0} → (Event B → Event B → Ordering) → Event B → Option (Position × Event B) → Bool
 comes_before cmp e None = true
 comes_before cmp e (Some found) = is_gt (cmp found.1 e)
 
 -- of the processes before place k, this one has the least of all pending events, or nothing is pending there
-abbrev pub IsLeastBefore : {M S B : Type 0} → (Event B → Event B → Ordering) → List (LogicalProcess M S B) → ℕ → Option (ℕ × Event B) → Type 0
-IsLeastBefore {M} {S} {B} cmp xs k None = (place : ℕ) (l : LogicalProcess M S B) → place < k → slice_get xs place ≡ Some l → l.process.pending ≡ []
-IsLeastBefore {M} {S} {B} cmp xs k (Some found) = (x : LogicalProcess M S B) × (rest : List (Event B)) × (slice_get xs found.0 ≡ Some x) × (x.process.pending ≡ found.1 ∷ rest) × ((place : ℕ) (l : LogicalProcess M S B) → place < k → slice_get xs place ≡ Some l → Each cmp (λ f. AtMost cmp found.1 f) l.process.pending)
+abbrev pub IsLeastBefore : {M S B : Type 0} → (Event B → Event B → Ordering) → List (LogicalProcess M S B) → Count → Option (Position × Event B) → Type 0
+IsLeastBefore {M} {S} {B} cmp xs k None = (place : Position) (l : LogicalProcess M S B) → place < k → slice_get xs place ≡ Some l → l.process.pending ≡ []
+IsLeastBefore {M} {S} {B} cmp xs k (Some found) = (x : LogicalProcess M S B) × (rest : List (Event B)) × (slice_get xs found.0 ≡ Some x) × (x.process.pending ≡ found.1 ∷ rest) × ((place : Position) (l : LogicalProcess M S B) → place < k → slice_get xs place ≡ Some l → Each cmp (λ f. AtMost cmp found.1 f) l.process.pending)
 
 -- the process at this place has the least of all pending events, and that is before the bound
-pub record IsNext {M S B : Type 0} (y : System S B) (bound : ℕ) (xs : List (LogicalProcess M S B)) (place : ℕ) : Type 0 where
+pub record IsNext {M S B : Type 0} (y : System S B) (bound : Time) (xs : List (LogicalProcess M S B)) (place : Position) : Type 0 where
   pub within : place < length xs
   pub process : LogicalProcess M S B
   pub event : Event B
@@ -85,19 +86,19 @@ pub record IsNext {M S B : Type 0} (y : System S B) (bound : ℕ) (xs : List (Lo
   pub there : slice_get xs place ≡ Some process
   pub pending : process.process.pending ≡ event ∷ rest
   pub early : event.time < bound
-  pub least : (other : ℕ) (l : LogicalProcess M S B) → slice_get xs other ≡ Some l → Each y.order (λ f. AtMost y.order event f) l.process.pending
+  pub least : (other : Position) (l : LogicalProcess M S B) → slice_get xs other ≡ Some l → Each y.order (λ f. AtMost y.order event f) l.process.pending
 
 -- How much work may be left
 
 -- the done events of a process, what they sent, and what is held
-abbrev pub size : {M S B : Type 0} → System S B → LogicalProcess M S B → ℕ
+abbrev pub size : {M S B : Type 0} → System S B → LogicalProcess M S B → Count
 size y l = length (done l.process) + length (outs (y.step l.number) l.process.start (done l.process)) + length l.process.held
 
-abbrev pub sizes : {M S B : Type 0} → System S B → List (LogicalProcess M S B) → ℕ
+abbrev pub sizes : {M S B : Type 0} → System S B → List (LogicalProcess M S B) → Count
 sizes y [] = 0
 sizes y (l ∷ ls) = size y l + sizes y ls
 
 -- how many events are done
-abbrev pub dones : {M S B : Type 0} → List (LogicalProcess M S B) → ℕ
+abbrev pub dones : {M S B : Type 0} → List (LogicalProcess M S B) → Count
 dones [] = 0
 dones (l ∷ ls) = length (done l.process) + dones ls

@@ -9,6 +9,14 @@ Time = ℕ
 abbrev pub Process : Type 0
 Process = ℕ
 
+-- a worker of a round, counted from 0
+abbrev pub Worker : Type 0
+Worker = ℕ
+
 -- how many
 abbrev pub Count : Type 0
 Count = ℕ
+
+-- a place in a list, counted from 0
+abbrev pub Position : Type 0
+Position = ℕ

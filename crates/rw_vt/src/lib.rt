@@ -10,5 +10,5 @@ mod model;
 mod refusal;
 
 pub use event::{END, Event, Letter};
-pub use model::{Model, Outcome, in_order};
+pub use model::{Model, Outcome, execute_and_reverse, in_order};
 pub use refusal::{NoMemory, Refusal};

@@ -116,6 +116,33 @@ pub trait Model {
     ghost light: { (m : Self) (p : ℕ) (before after : Self.State) (e : Event Self.Body) (undo : Self.Undo) → Links m p before e undo after → weight undo ≤ weight_bound m p before after };
 }
 
+/// Executes an event at the process that it names, and takes that back: the state is the very one from before. So it is for
+/// every model, from every well-formed state and for every valid event (reverse computation: Carothers, Perumalla and
+/// Fujimoto 1999). Hands back what the event sent, in order, which is not cancelled here.
+///
+/// Refused as `Exhausted` only where `exhausted` holds of the state, and as `Memory` only where memory was refused. After a
+/// refusal nothing is said of `state`: drop it.
+pub fn execute_and_reverse<M: Model>(
+    alloc: Global,
+    model: &M,
+    process: u32,
+    state: &mut M::State,
+    event: &Event<M::Body>,
+) -> Result<Vec<Event<M::Body>>, Refusal>
+    requires process { process < M.process_count model.now }
+    requires well_formed { M.IsWellFormed model.now process state.old }
+    requires valid { M.is_valid model.now event.now ≡ true }
+    requires here { event.now.to ≡ process }
+    ensures exact { OnOk result (state.new ≡ state.old) }
+    ensures sends { IfOk result (λ sent. sent.items ≡ (M.step model.now process state.old event.now).1) }
+    ensures exhausted { result ≡ Err Refusal.Exhausted → M.is_exhausted model.now state.old ≡ true }
+{
+    let mut sent = Vec::new(alloc);
+    let undo = model.execute(alloc, process, state, event, &mut sent)?;
+    model.reverse(alloc, process, state, event, undo)?;
+    Ok(sent)
+}
+
 /// What a whole run leaves: for each process the events that it executed, in order, and its state.
 #[derive(Drop)]
 pub struct Outcome<M: Model> {

@@ -52,6 +52,7 @@ module _ {S B : Type 0} (y : System S B) {WellFormed : ℕ → S → Type 0} (la
   pub in_order : IsInOrder y w
   in_order = record {
     committed = committed_is;
+    left = λ q x h. ap (after (y.step q) x.start) (committed_is q x h);
     before_floor = λ t q h. done_below y law w sound t (quiet_to_floor y law t w h) q;
     finished = outcome_is;
   }

@@ -29,7 +29,7 @@ system_of model order x = system model order x.model x.starts x.initial
 
 -- the same, in another world
 abbrev pub with_world : {M S B : Type 0} → Simulation M S B → WorldState S B → Simulation M S B
-with_world x w = record { model = x.model; starts = x.starts; initial = x.initial; world = w }
+with_world x w = record x { world = w }
 
 -- what the parts make up
 abbrev pub world_of : {M S B U : Type 0} → Parts M S B U → WorldState S B
@@ -40,7 +40,7 @@ simulation_of x = record { model = x.model; starts = x.starts.value.items; initi
 
 -- a process after it has collected
 abbrev pub collected : {M S B : Type 0} → Time → LogicalProcess M S B → LogicalProcess M S B
-collected t l = record { model = l.model; number = l.number; process = process.collect t l.process }
+collected t l = record l { process = process.collect t l.process }
 
 -- the processes run the model m, and are numbered from 0
 abbrev pub AreNumbered : {M S B : Type 0} → M → List (LogicalProcess M S B) → Type 0

@@ -5,7 +5,7 @@ use Rattle.rw_vt.specs.declared.event.Event.{Event}
 use Rattle.rw_vt.specs.declared.event.Letter.{Letter}
 use Rattle.rw_vt.specs.Order.{copies, Each}
 use Rattle.rw_vt.specs.Letters.{messages, antis}
-use Rattle.rw_vt.specs.System.{System, all_sent, below, IsOutcome}
+use Rattle.rw_vt.specs.System.{System, after, all_sent, below, IsOutcome}
 use Rattle.rw_lp.specs.HeldMessages.{held_messages}
 use Rattle.rw_lp.specs.Process.{ProcessState, done}
 use Rattle.rw_lp.specs.Sound.{SoundAt, SoundLetters}
@@ -56,9 +56,10 @@ pub record IsQuiet {S B : Type 0} (y : System S B) (t : Time) (w : WorldState S 
   pub letters : (e : Event B) → 0 < messages y.order e w.letters + antis y.order e w.letters → t ≤ e.time
   pub held : Each y.order (λ e. t ≤ e.time) (held_in w.processes)
 
--- the committed events, and all that is done before the floor, are those of the run in time order, and a finished world is its outcome
+-- the committed events, the states that they leave, and all that is done before the floor, are those of executing all events in order of time, and a finished world is the outcome of that
 pub record IsInOrder {S B : Type 0} (y : System S B) (w : WorldState S B) : Type 0 where
   pub committed : (q : Process) (x : ProcessState S B) → slice_get w.processes q ≡ Some x → x.committed ≡ below y w.collected q
+  pub left : (q : Process) (x : ProcessState S B) → slice_get w.processes q ≡ Some x → after (y.step q) x.start x.committed ≡ after (y.step q) x.start (below y w.collected q)
   pub before_floor : (t : Time) (q : Process) → t ≤ floor w → filter (λ e. nat_lt e.time t) (done_of w.processes q) ≡ below y t q
   pub finished : is_finished w ≡ true → IsOutcome y (2 ^ 40) (map done w.processes) (map (λ x. x.state) w.processes)
 
