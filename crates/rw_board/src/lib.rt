@@ -5,6 +5,8 @@
 //! how far the others may still reach back. When the round is over, the word is a lower bound of what is outstanding:
 //! what Jefferson (1985) calls global virtual time. There is no lock and no waiting: a note is one atomic `fetch_min`,
 //! a reading is one atomic load.
+//!
+//! Worked examples: `rw_tests/src/board_of_two_seats.rt`.
 
 mod board;
 mod rule;

@@ -1,5 +1,7 @@
 #![tactic(auto)]
 //! The command line: from the program's words to what it writes and its exit status.
+//!
+//! Worked examples: `rw_tests/src/commands.rt`, and the cases of `rw_cases`.
 
 mod command_line;
 mod fault;

@@ -4,6 +4,8 @@
 //! Every worker of a round owns one [`Port`], which may move to a thread of its own. Nothing waits: a letter that a ring
 //! has no room for comes back to its sender, and what is still in the rings when the round is over is given out by
 //! [`settle`]. No letter is lost, repeated or made up.
+//!
+//! Worked examples: `rw_tests/src/rings.rt`.
 
 mod build;
 mod lane;

@@ -4,6 +4,8 @@
 //! [`Lp`] keeps what it did with the records that take it back, its pending events and its debts. Each call is one step
 //! of the relation that `specs/Process.antt` defines, or, for `arrive`, the fewest undoings and a delivery. Nothing here
 //! knows what a model's events mean: all rests on the laws of [`rw_vt::Model`].
+//!
+//! Worked examples: `rw_tests/src/edge_process.rt` and `station_process.rt`.
 
 ghost use Rattle.std.specs.Prelude.{◌≡◌, ℕ, List, slice_get, Some};
 ghost use Rattle.rw_vt.specs.declared.event.Event.{Event};

@@ -2,6 +2,8 @@
 //! The operations of RIPQ (Tang, Huang, Lloyd, Kumar and Li, FAST 2015) over the queue of blocks: an insertion, which
 //! may evict, merge and split, and the promotion of a hit. Each hands back a [`Trail`], by which [`rewind`] takes the
 //! whole of it back (reverse computation: Carothers, Perumalla and Fujimoto, 1999).
+//!
+//! Worked examples: `rw_tests/src/insertions.rt`.
 
 mod adjusting;
 mod eviction;

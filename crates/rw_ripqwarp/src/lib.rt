@@ -1,5 +1,7 @@
 #![tactic(auto)]
 //! The program as a library: from the bytes of a trace to the bytes of a report, or of a journal under a schedule.
+//!
+//! Worked examples: `rw_tests/src/reports.rt`, and the cases of `rw_cases`.
 
 ghost use Rattle.std.specs.Prelude.{◌≡◌, ℕ, List};
 ghost use Rattle.rw_photo.specs.declared.config.Config.{Config};

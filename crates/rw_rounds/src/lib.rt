@@ -7,6 +7,8 @@
 //!
 //! [`run_round`] lets each worker take its turns in a thread of its own, joins what they leave and commits what is final;
 //! [`run`] makes rounds until nothing is outstanding. How one round leads to the next is in `specs/Rounds.antt`.
+//!
+//! Worked examples: `rw_tests/src/relay_rounds.rt` and `photo_rounds.rt`.
 
 mod closing;
 mod dealing;

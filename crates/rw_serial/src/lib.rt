@@ -4,6 +4,8 @@
 //! So each process executes its events in order, and none is ever taken back. This is the sequential execution that Time
 //! Warp (Jefferson 1985) is measured by: whatever its schedule, a parallel run is to leave the very journals and states
 //! that this one leaves.
+//!
+//! Worked examples: `rw_tests/src/reports.rt`, and the cases of `rw_cases`.
 
 mod ledger;
 mod pending;

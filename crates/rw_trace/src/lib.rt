@@ -4,6 +4,8 @@
 //! The records are those that the `csv` crate gives: comma and double quote, nothing trimmed, a byte order mark at the
 //! start taken off. The first one is the header `time,edge,object,size`; each further one is a row. What a trace means is
 //! `trace_of` of `specs/Trace.antt`; `specs/Laws.antt` says the same in the words of the format.
+//!
+//! Worked examples: `rw_tests/src/traces.rt`.
 
 ghost use Rattle.std.specs.Prelude.{All, List, ◌≡◌, ◌≢◌, ◌≤◌, ◌^◌, ◌∷◌, [], Ok, Err, Some, IfOk, IfSome, length, IfErr, MatchBool, MatchResult, true};
 ghost use Rattle.csv.specs.Reading.{error_kind, stops_reader};

@@ -4,6 +4,8 @@
 //! What a run of a model means is defined here once, in `specs/System.antt`: time is sliced, each slice is sorted, and
 //! nothing else is said of how it is computed. The one-thread run, a logical process and the world of all processes all
 //! state their contracts by those definitions.
+//!
+//! Worked examples: `rw_tests/src/edge_process.rt`; every other test goes through a model too.
 
 mod event;
 mod model;

@@ -5,6 +5,8 @@
 //! delivers a letter or commits what is final; a schedule is any list of steps. Whatever the schedule, what is committed is
 //! what executing all events in order of time would have done: the contract of [`World::run_steps`] says so, for every
 //! lawful model, and the functions of this page say it of the definitions.
+//!
+//! Worked examples: `rw_tests/src/relay_world.rt`.
 
 ghost use Rattle.std.specs.Prelude.{◌≡◌, ◌≤◌, ◌^◌, ◌↔◌, ◌++◌, ℕ, List};
 ghost use Rattle.rw_vt.specs.declared.event.Event.{Event};

@@ -1,5 +1,0 @@
-use Rattle.rw_blocks.specs.Loose.{IsWellFormed}
-use Rattle.rw_examples.proofs.insertions.forward.Given as goal
-
-abbrev pub invariant-loop-example : goal.invariant-loop-example
-invariant-loop-example g l = IsWellFormed l.queue
