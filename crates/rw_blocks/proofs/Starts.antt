@@ -6,7 +6,7 @@ use Rattle.rw_blocks.specs.declared.Kind.{Kind}
 use Rattle.rw_blocks.specs.declared.Kind.TheVariants.{Device, Virtual}
 use Rattle.rw_blocks.specs.State.{Limits, IsShape, start_of}
 use Rattle.rw_blocks.specs.Sums.{bytes_held}
-use Rattle.rw_blocks.specs.Loose.{IsLoose, IsWellFormed, count}
+use Rattle.rw_blocks.specs.Loose.{IsLoose, IsWellFormedQueue, count}
 use Rattle.rw_blocks.proofs.Grown.{one, one-other, one-both}
 
 start-count : (l : Limits) (kind : Kind) (b : ℕ) → count kind (start_of l) b ≡ one Device 0 kind b + one Virtual 1 kind b
@@ -36,7 +36,7 @@ IsLoose-start l shaped =
       ordered = tt;
     }
 
-pub IsWellFormed-start : (l : Limits) → IsShape l.sections l.block l.blocks → IsWellFormed (start_of l)
+pub IsWellFormed-start : (l : Limits) → IsShape l.sections l.block l.blocks → IsWellFormedQueue (start_of l)
 IsWellFormed-start l shaped =
     record {
       loose = IsLoose-start l shaped;

@@ -63,7 +63,7 @@ abbrev pub sealed_devices : QueueState → Count
 sealed_devices q = sum_by devices_in q.sections
 
 -- what holds of a queue between operations
-pub record IsWellFormed (q : QueueState) : Type 0 where
+pub record IsWellFormedQueue (q : QueueState) : Type 0 where
   pub loose : IsLoose q
   -- no sealed virtual block is without rows
   pub used : (b : Serial) → is_sealed_virtual q b ≡ true → 1 ≤ length (rows_placed q b)

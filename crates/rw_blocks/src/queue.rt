@@ -3,7 +3,7 @@ ghost use Rattle.std.specs.Prelude.{◌≡◌, ℕ, ◌≤◌, ◌<◌, ◌+◌,
 ghost use Rattle.std.specs.Option.{option_map};
 ghost use Rattle.rw_blocks.specs.State.{QueueState, IsShape, start_of, row_at, row_or, section_at, active_of, sealed_block};
 ghost use Rattle.rw_blocks.specs.Sums.{total, bytes_held, rows_homed, rows_placed, has_block, has_serial, fill, bytes_in, bytes, below};
-ghost use Rattle.rw_blocks.specs.Loose.{IsLoose, IsWellFormed, IsFree, count, block_count, sealed_devices};
+ghost use Rattle.rw_blocks.specs.Loose.{IsLoose, IsWellFormedQueue, IsFree, count, block_count, sealed_devices};
 ghost use Rattle.rw_blocks.specs.Primitives.{after_add, after_remove, after_rehome, after_replace, after_seal, after_take_out, after_split, after_merge, with_row, section_joining};
 ghost use Rattle.rw_blocks.specs.Undo.{undo_of, IsUndoable, Undoes, upper_of, lower_of};
 ghost use Rattle.rw_blocks.specs.declared.Mark.TheVariants.{Seal, TakeOut, Split, Merge};
@@ -58,7 +58,7 @@ impl Queue {
     #[tactic(auto, using(crate::proofs::Starts::start_laws))]
     pub fn new(alloc: Global, shape: Shape) -> Result<Queue, NoMemory>
         ensures start { IfOk result (λ q. q ≡ start_of shape) }
-        ensures well_formed { IfOk result (λ q. IsWellFormed q) }
+        ensures well_formed { IfOk result (λ q. IsWellFormedQueue q) }
     {
         let sections = Sections::new(alloc, 0, 1)?;
         let mut bytes = Vec::new(alloc);

@@ -10,7 +10,7 @@ use Rattle.rw_board.specs.declared.rule.View.{View}
 use Rattle.rw_vt.specs.declared.event.TheConstants.{END}
 use Rattle.rw_board.specs.Least.{least}
 use Rattle.rw_board.specs.Seats.{SeatState, all_noted}
-use Rattle.rw_board.specs.Rule.{view, least_of_all, weights, Kept, Notes, Reads, with_one_less, of_one, both, nobody}
+use Rattle.rw_board.specs.Rule.{view, least_of_all, weights, KeepsRule, Notes, Reads, with_one_less, of_one, both, nobody}
 
 pub least-END : (xs : List ℕ) → least xs ≤ END
 least-END [] = le_refl END
@@ -85,7 +85,7 @@ each_one P w p zero v e = subst P (some-injective w v e) p
 each_one P w p (suc j) v e = absurd (some-ne-none v (sym e))
 
 -- at the start
-pub begins : (n : ℕ) → Kept {S = Unit {0}} n (opening (END ∷ []) [] (view [] END n))
+pub begins : (n : ℕ) → KeepsRule {S = Unit {0}} n (opening (END ∷ []) [] (view [] END n))
 begins n = record {
   word = refl;
   bound = λ k v e _. each_one (λ (u : View). END ≤ u.read) (view [] END n) (le_refl END) k v e;
@@ -94,10 +94,10 @@ begins n = record {
 }
 
 module _ {S : Type 0} where
-  found_is : (n : ℕ) (s : State S View) → Kept n s → get_or s.words 0 0 ≡ least_of_all s.views
+  found_is : (n : ℕ) (s : State S View) → KeepsRule n s → get_or s.words 0 0 ≡ least_of_all s.views
   found_is n s kept = ap (λ (ws : List ℕ). get_or ws 0 0) kept.word
 
-  pub notes : (n slots id t : ℕ) (m : Me S View) → 0 < m.0.weight → Allows (Kept n) slots id m 0 (λ x. min x t) (Notes (step slots 0 t 0 none) m)
+  pub notes : (n slots id t : ℕ) (m : Me S View) → 0 < m.0.weight → Allows (KeepsRule n) slots id m 0 (λ x. min x t) (Notes (step slots 0 t 0 none) m)
   notes n slots id t m heavy s kept homes at small =
       let w : View = view (m.0.noted ++ t ∷ []) m.0.read m.0.weight in
       let new : least w.noted ≡ min (least m.0.noted) t = omega (arith, least-append m.0.noted (t ∷ []), least-END m.0.noted) in
@@ -117,7 +117,7 @@ module _ {S : Type 0} where
         refl,
       )
 
-  pub reads : (n slots id : ℕ) (m : Me S View) → 0 < m.0.weight → Allows (Kept n) slots id m 0 (λ x. x) (Reads (step slots 0 0 0 none) m)
+  pub reads : (n slots id : ℕ) (m : Me S View) → 0 < m.0.weight → Allows (KeepsRule n) slots id m 0 (λ x. x) (Reads (step slots 0 0 0 none) m)
   reads n slots id m heavy s kept homes at small =
       let found : ℕ = get_or s.words 0 0 in
       let w : View = view m.0.noted found m.0.weight in
@@ -140,7 +140,7 @@ module _ {S : Type 0} where
         (refl, omega arith, omega arith, omega arith),
       )
 
-  pub splits : (n id : ℕ) (v : View) → 1 < v.weight → Splits {S = S} (Kept n) id v (with_one_less v) (of_one v)
+  pub splits : (n id : ℕ) (v : View) → 1 < v.weight → Splits {S = S} (KeepsRule n) id v (with_one_less v) (of_one v)
   splits n id v heavy s kept at =
       let l : View = with_one_less v in let r : View = of_one v in
       let new : least l.noted ≡ min (least v.noted) END = omega (arith, least-END v.noted) in
@@ -157,7 +157,7 @@ module _ {S : Type 0} where
         whole = omega (arith, weights_set s.views id v l at, weights_snoc (set s.views id l) r, kept.whole);
       }
 
-  pub joins : (n id other : ℕ) (v w : View) → 0 < v.weight → 0 < w.weight → Joins {S = S} (Kept n) id v other w (both v w) nobody
+  pub joins : (n id other : ℕ) (v w : View) → 0 < v.weight → 0 < w.weight → Joins {S = S} (KeepsRule n) id v other w (both v w) nobody
   joins n id other v w heavy weighty s kept at apart there =
       let b : View = both v w in let vs : List View = set s.views id b in
       let was : get_elem? s.views other ≡ some w = sym (set_else s.views id other b apart) ∙ there in
@@ -178,9 +178,9 @@ module _ {S : Type 0} where
       }
 
   -- a seat with the whole weight has noted all that counts
-  pub all_own : (n id : ℕ) (v : View) (s : State S View) → Seen (Kept n) id v s → v.weight ≡ n → least_of_all s.views ≡ least v.noted
+  pub all_own : (n id : ℕ) (v : View) (s : State S View) → Seen (KeepsRule n) id v s → v.weight ≡ n → least_of_all s.views ≡ least v.noted
   all_own n id v s seen whole =
-      let kept : Kept n s = seen.0 in
+      let kept : KeepsRule n s = seen.0 in
       let others : weights (set s.views id nobody) ≡ 0 = omega (arith, weights_set s.views id v nobody seen.1, kept.whole) in
       let up : least_of_all s.views ≤ least v.noted = at_most s.views id v seen.1 in
       let down : least v.noted ≤ least_of_all s.views = at_least (least v.noted) s.views (least-END v.noted)
@@ -190,11 +190,11 @@ module _ {S : Type 0} where
       subst (λ (xs : List ℕ). least v.noted ≤ least xs) (sym (kept.spent j u e (omega arith))) (least-END v.noted))) in omega arith
 
   -- what the word is at the end
-  pub ends : (n id word : ℕ) (v : View) (ws : List ℕ) (xs : List S) → Final (Seen (Kept n) id v) ws xs → get_elem? ws 0 ≡ some word → v.weight ≡ n → 0 < n → (word ≡ least v.noted) × (word ≤ v.read)
+  pub ends : (n id word : ℕ) (v : View) (ws : List ℕ) (xs : List S) → Final (Seen (KeepsRule n) id v) ws xs → get_elem? ws 0 ≡ some word → v.weight ≡ n → 0 < n → (word ≡ least v.noted) × (word ≤ v.read)
   ends n id word v ws xs final at whole more =
       let s : State S View = final.0 in
-      let seen : Seen (Kept n) id v s = final.1 in
-      let kept : Kept n s = seen.0 in
+      let seen : Seen (KeepsRule n) id v s = final.1 in
+      let kept : KeepsRule n s = seen.0 in
       let is : least_of_all s.views ≡ word = some-injective (least_of_all s.views) word (subst (λ (zs : List ℕ). get_elem? zs 0 ≡ some word) kept.word (subst (λ (zs : List ℕ). get_elem? zs 0 ≡ some word) (sym final.2) at)) in
       let own : least_of_all s.views ≡ least v.noted = all_own n id v s seen whole in
       let read : least_of_all s.views ≤ v.read = kept.bound id v seen.1 (omega arith) in (omega arith, omega arith)

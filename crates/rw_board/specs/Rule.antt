@@ -22,7 +22,7 @@ weights (v ∷ vs) = v.weight + weights vs
 
 -- The rule for n seats: the word is the least of END and of all notes, and at most the last reading of each seat that is not
 -- spent; a seat of weight 0 is spent and has noted nothing; the weights add up to n
-pub record Kept {S : Type 0} (n : Count) (s : State S View) : Type 0 where
+pub record KeepsRule {S : Type 0} (n : Count) (s : State S View) : Type 0 where
   pub word : s.words ≡ least_of_all s.views ∷ []
   pub bound : (k : ℕ) (v : View) → get_elem? s.views k ≡ some v → 0 < v.weight → least_of_all s.views ≤ v.read
   pub spent : (k : ℕ) (v : View) → get_elem? s.views k ≡ some v → v.weight ≡ 0 → v.noted ≡ []

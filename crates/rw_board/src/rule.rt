@@ -1,5 +1,5 @@
 //! What is always true of the board's word, and what each atomic step does to it.
-ghost use Rattle.rw_board.specs.Rule.{Kept, Notes, Reads, of_all, with_one_less, of_one, both, nobody};
+ghost use Rattle.rw_board.specs.Rule.{KeepsRule, Notes, Reads, of_all, with_one_less, of_one, both, nobody};
 
 use atomic_table::{Join, Play, Split, TableRule};
 use std::collections::LinkedList;
@@ -17,7 +17,7 @@ pub(crate) struct View {
 pub(crate) struct LeastNoted;
 
 impl TableRule<(), View, u64> for LeastNoted {
-    ghost holds = { Kept };
+    ghost holds = { KeepsRule };
 
     ghost first = { of_all };
 }

@@ -2,7 +2,7 @@
 use Rattle.std.proofs.Common.{◌≡◌, ℕ, ◌+◌, true, false, cond, List, [], ◌∷◌, ◌++◌, refl, sym, ap, ◌∙◌, subst, arith, append_assoc, append-nil, zero, suc, Option, Some, None}
 use Rattle.rw_vt.specs.declared.event.Event.{Event}
 use Rattle.rw_vt.specs.declared.event.Letter.{Letter}
-use Rattle.rw_vt.specs.Order.{one_if, copies, insert_in_order, has, without}
+use Rattle.rw_vt.specs.Order.{one_if_same, copies, insert_in_order, has, without}
 use Rattle.rw_vt.specs.Letters.{letters_of, messages, antis}
 use Rattle.rw_vt.specs.System.{System, after, outs}
 use Rattle.rw_vt.proofs.Sorting.{IsExactOrder, copies-append, copies-insert}
@@ -21,7 +21,7 @@ use Rattle.rw_lp.specs.Sound.{Change}
 use Rattle.rw_lp.proofs.Splits.{IsSplit, split_is}
 
 module _ {S B : Type 0} (y : System S B) (o : IsExactOrder y.order) (p : ℕ) where
-  count_last : (a e : Event B) (xs : List (Event B)) → copies y.order a (xs ++ e ∷ []) ≡ copies y.order a xs + one_if y.order a e
+  count_last : (a e : Event B) (xs : List (Event B)) → copies y.order a (xs ++ e ∷ []) ≡ copies y.order a xs + one_if_same y.order a e
   count_last a e xs = omega (arith, copies-append o a xs (e ∷ []))
 
   sent_last : (s : S) (xs : List (Event B)) (e a : Event B) → copies y.order a (outs (y.step p) s (xs ++ e ∷ [])) ≡ copies y.order a (outs (y.step p) s xs) + copies y.order a (y.step p (after (y.step p) s xs) e).1
@@ -48,8 +48,8 @@ module _ {S B : Type 0} (y : System S B) (o : IsExactOrder y.order) (p : ℕ) wh
       change = record {
         start = refl;
         kept = λ a.
-            let d1 : copies y.order a (x.committed ++ (x.processed ++ e ∷ [])) ≡ copies y.order a (done x) + one_if y.order a e = ap (copies y.order a) more ∙ count_last a e (done x) in
-            let p1 : copies y.order a x.pending ≡ one_if y.order a e + copies y.order a rest = ap (copies y.order a) q in
+            let d1 : copies y.order a (x.committed ++ (x.processed ++ e ∷ [])) ≡ copies y.order a (done x) + one_if_same y.order a e = ap (copies y.order a) more ∙ count_last a e (done x) in
+            let p1 : copies y.order a x.pending ≡ one_if_same y.order a e + copies y.order a rest = ap (copies y.order a) q in
             omega arith;
         sent = λ a.
             let s1 : copies y.order a (outs (y.step p) x.start (x.committed ++ (x.processed ++ e ∷ []))) ≡ copies y.order a (outs (y.step p) x.start (done x)) + copies y.order a sends =
@@ -72,7 +72,7 @@ module _ {S B : Type 0} (y : System S B) (o : IsExactOrder y.order) (p : ℕ) wh
       change = record {
         start = refl;
         kept = λ a.
-            let d1 : copies y.order a (done x) ≡ copies y.order a (x.committed ++ front) + one_if y.order a e = ap (copies y.order a) more ∙ count_last a e (x.committed ++ front) in
+            let d1 : copies y.order a (done x) ≡ copies y.order a (x.committed ++ front) + one_if_same y.order a e = ap (copies y.order a) more ∙ count_last a e (x.committed ++ front) in
             omega (arith, d1, copies-insert o a e x.pending);
         sent = λ a.
             let s1 : copies y.order a (outs (y.step p) x.start (done x)) ≡ copies y.order a (outs (y.step p) x.start (x.committed ++ front)) + copies y.order a sends =
@@ -87,15 +87,15 @@ module _ {S B : Type 0} (y : System S B) (o : IsExactOrder y.order) (p : ℕ) wh
   -- a delivery, by what it found
   pub anti_meets : (x : ProcessState S B) (l : Letter B) (pending : List (Event B)) → l.anti ≡ true → has y.order l.event x.pending ≡ true → pending ≡ without y.order l.event x.pending → Change y p x (with_bags x pending x.debts x.held) (l ∷ []) []
   anti_meets x l pending q h is = bags_balanced x l pending x.debts (λ c.
-      let m1 : messages y.order c (l ∷ []) ≡ 0 = ap (λ b. cond b 0 (one_if y.order c l.event) + 0) q in
-      let a1 : antis y.order c (l ∷ []) ≡ one_if y.order c l.event + 0 = ap (λ b. cond b (one_if y.order c l.event) 0 + 0) q in
+      let m1 : messages y.order c (l ∷ []) ≡ 0 = ap (λ b. cond b 0 (one_if_same y.order c l.event) + 0) q in
+      let a1 : antis y.order c (l ∷ []) ≡ one_if_same y.order c l.event + 0 = ap (λ b. cond b (one_if_same y.order c l.event) 0 + 0) q in
       let p1 : copies y.order c pending ≡ copies y.order c (without y.order l.event x.pending) = ap (copies y.order c) is in
       omega (arith, m1, a1, p1, copies-without o c l.event x.pending h))
 
   pub anti_owed : (x : ProcessState S B) (l : Letter B) (pending debts : List (Event B)) → l.anti ≡ true → pending ≡ x.pending → debts ≡ insert_in_order y.order l.event x.debts → Change y p x (with_bags x pending debts x.held) (l ∷ []) []
   anti_owed x l pending debts q same is = bags_balanced x l pending debts (λ c.
-      let m1 : messages y.order c (l ∷ []) ≡ 0 = ap (λ b. cond b 0 (one_if y.order c l.event) + 0) q in
-      let a1 : antis y.order c (l ∷ []) ≡ one_if y.order c l.event + 0 = ap (λ b. cond b (one_if y.order c l.event) 0 + 0) q in
+      let m1 : messages y.order c (l ∷ []) ≡ 0 = ap (λ b. cond b 0 (one_if_same y.order c l.event) + 0) q in
+      let a1 : antis y.order c (l ∷ []) ≡ one_if_same y.order c l.event + 0 = ap (λ b. cond b (one_if_same y.order c l.event) 0 + 0) q in
       let p1 : copies y.order c pending ≡ copies y.order c x.pending = ap (copies y.order c) same in
       let d1 : copies y.order c debts ≡ copies y.order c (insert_in_order y.order l.event x.debts) = ap (copies y.order c) is in
       omega (arith, m1, a1, p1, d1, copies-insert o c l.event x.debts))
@@ -105,15 +105,15 @@ module _ {S B : Type 0} (y : System S B) (o : IsExactOrder y.order) (p : ℕ) wh
 
   pub message_meets : (x : ProcessState S B) (l : Letter B) (debts : List (Event B)) → l.anti ≡ false → has y.order l.event x.debts ≡ true → debts ≡ without y.order l.event x.debts → Change y p x (with_bags x x.pending debts x.held) (l ∷ []) []
   message_meets x l debts q h is = bags_balanced x l x.pending debts (λ c.
-      let m1 : messages y.order c (l ∷ []) ≡ one_if y.order c l.event + 0 = ap (λ b. cond b 0 (one_if y.order c l.event) + 0) q in
-      let a1 : antis y.order c (l ∷ []) ≡ 0 = ap (λ b. cond b (one_if y.order c l.event) 0 + 0) q in
+      let m1 : messages y.order c (l ∷ []) ≡ one_if_same y.order c l.event + 0 = ap (λ b. cond b 0 (one_if_same y.order c l.event) + 0) q in
+      let a1 : antis y.order c (l ∷ []) ≡ 0 = ap (λ b. cond b (one_if_same y.order c l.event) 0 + 0) q in
       let d1 : copies y.order c debts ≡ copies y.order c (without y.order l.event x.debts) = ap (copies y.order c) is in
       omega (arith, m1, a1, d1, copies-without o c l.event x.debts h))
 
   pub message_put : (x : ProcessState S B) (l : Letter B) (pending debts : List (Event B)) → l.anti ≡ false → debts ≡ x.debts → pending ≡ insert_in_order y.order l.event x.pending → Change y p x (with_bags x pending debts x.held) (l ∷ []) []
   message_put x l pending debts q same is = bags_balanced x l pending debts (λ c.
-      let m1 : messages y.order c (l ∷ []) ≡ one_if y.order c l.event + 0 = ap (λ b. cond b 0 (one_if y.order c l.event) + 0) q in
-      let a1 : antis y.order c (l ∷ []) ≡ 0 = ap (λ b. cond b (one_if y.order c l.event) 0 + 0) q in
+      let m1 : messages y.order c (l ∷ []) ≡ one_if_same y.order c l.event + 0 = ap (λ b. cond b 0 (one_if_same y.order c l.event) + 0) q in
+      let a1 : antis y.order c (l ∷ []) ≡ 0 = ap (λ b. cond b (one_if_same y.order c l.event) 0 + 0) q in
       let d1 : copies y.order c debts ≡ copies y.order c x.debts = ap (copies y.order c) same in
       let p1 : copies y.order c pending ≡ copies y.order c (insert_in_order y.order l.event x.pending) = ap (copies y.order c) is in
       omega (arith, m1, a1, d1, p1, copies-insert o c l.event x.pending))

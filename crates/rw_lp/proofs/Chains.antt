@@ -10,55 +10,55 @@ use Rattle.rw_vt.proofs.Runs.{after-append}
 use Rattle.rw_vt.proofs.Sorting.{IsExactOrder}
 use Rattle.rw_vt.proofs.Bags.{Each-nil, Each-cons, Each-append, Each-front, IsAscending-front}
 use Rattle.rw_lp.specs.declared.undo_record.UndoRecord.{UndoRecord}
-use Rattle.rw_lp.specs.Past.{Past, IsFor, IsRecordOf, Leads, IsLinked}
+use Rattle.rw_lp.specs.Past.{Past, IsFor, IsRecordOf, LeadsByRecords, IsLinked}
 
 -- a step keeps a state well formed
 abbrev pub KeepsWell : {M S B U : Type 0} → Ghosts M S B U → M → Type 0
 KeepsWell {M} {S} {B} model m = (p : ℕ) (s : S) (e : Event B) → model.IsWellFormed m p s → model.is_valid m e ≡ true → e.to ≡ p → model.IsWellFormed m p (model.step m p s e).0
 
 module _ {M S B U : Type 0} (model : Ghosts M S B U) (m : M) (p : ℕ) where
-  pub leads_push : (s t : S) (es : List (Event B)) (rs : List (UndoRecord B U)) (e : Event B) (r : UndoRecord B U) → Leads model m p s es rs t → IsRecordOf model m p t e r → Leads model m p s (es ++ e ∷ []) (rs ++ r ∷ []) (model.step m p t e).0
+  pub leads_push : (s t : S) (es : List (Event B)) (rs : List (UndoRecord B U)) (e : Event B) (r : UndoRecord B U) → LeadsByRecords model m p s es rs t → IsRecordOf model m p t e r → LeadsByRecords model m p s (es ++ e ∷ []) (rs ++ r ∷ []) (model.step m p t e).0
   leads_push s t [] [] e r h k = (subst (λ w. IsRecordOf model m p w e r) h k, ap (λ w. (model.step m p w e).0) h)
   leads_push s t [] (x ∷ xs) e r h k = absurd h
   leads_push s t (x ∷ xs) [] e r h k = absurd h
   leads_push s t (x ∷ xs) (y ∷ ys) e r h k = (h.0, leads_push (model.step m p s x).0 t xs ys e r h.1 k)
 
-  none_left : (s t : S) (ys : List (UndoRecord B U)) (r : UndoRecord B U) → Leads model m p s [] (ys ++ r ∷ []) t → ⊥
+  none_left : (s t : S) (ys : List (UndoRecord B U)) (r : UndoRecord B U) → LeadsByRecords model m p s [] (ys ++ r ∷ []) t → ⊥
   none_left s t [] r h = h
   none_left s t (y ∷ ys) r h = h
 
-  none_taken : (s t : S) (xs : List (Event B)) (e : Event B) → Leads model m p s (xs ++ e ∷ []) [] t → ⊥
+  none_taken : (s t : S) (xs : List (Event B)) (e : Event B) → LeadsByRecords model m p s (xs ++ e ∷ []) [] t → ⊥
   none_taken s t [] e h = h
   none_taken s t (x ∷ xs) e h = h
 
-  pub leads_pop : (s t : S) (es : List (Event B)) (rs : List (UndoRecord B U)) (e : Event B) (r : UndoRecord B U) → Leads model m p s (es ++ e ∷ []) (rs ++ r ∷ []) t → (u : S) × Leads model m p s es rs u × IsRecordOf model m p u e r × (t ≡ (model.step m p u e).0)
+  pub leads_pop : (s t : S) (es : List (Event B)) (rs : List (UndoRecord B U)) (e : Event B) (r : UndoRecord B U) → LeadsByRecords model m p s (es ++ e ∷ []) (rs ++ r ∷ []) t → (u : S) × LeadsByRecords model m p s es rs u × IsRecordOf model m p u e r × (t ≡ (model.step m p u e).0)
   leads_pop s t [] [] e r h = (s, refl, h.0, h.1)
   leads_pop s t [] (y ∷ ys) e r h = absurd (none_left (model.step m p s e).0 t ys r h.1)
   leads_pop s t (x ∷ xs) [] e r h = absurd (none_taken (model.step m p s x).0 t xs e h.1)
   leads_pop s t (x ∷ xs) (y ∷ ys) e r h = let q = leads_pop (model.step m p s x).0 t xs ys e r h.1 in (q.0, (h.0, q.1), q.2, q.3)
 
   -- what a chain leads to is the fold of its events
-  pub leads_after : (s t : S) (es : List (Event B)) (rs : List (UndoRecord B U)) → Leads model m p s es rs t → t ≡ after (model.step m p) s es
+  pub leads_after : (s t : S) (es : List (Event B)) (rs : List (UndoRecord B U)) → LeadsByRecords model m p s es rs t → t ≡ after (model.step m p) s es
   leads_after s t [] [] h = h
   leads_after s t [] (r ∷ rs) h = absurd h
   leads_after s t (e ∷ es) [] h = absurd h
   leads_after s t (e ∷ es) (r ∷ rs) h = leads_after (model.step m p s e).0 t es rs h.1
 
-  pub leads_length : (s t : S) (es : List (Event B)) (rs : List (UndoRecord B U)) → Leads model m p s es rs t → length rs ≡ length es
+  pub leads_length : (s t : S) (es : List (Event B)) (rs : List (UndoRecord B U)) → LeadsByRecords model m p s es rs t → length rs ≡ length es
   leads_length s t [] [] h = refl
   leads_length s t [] (r ∷ rs) h = absurd h
   leads_length s t (e ∷ es) [] h = absurd h
   leads_length s t (e ∷ es) (r ∷ rs) h = let n = leads_length (model.step m p s e).0 t es rs h.1 in omega arith
 
-  pub leads_well_formed : KeepsWell model m → (s t : S) (es : List (Event B)) (rs : List (UndoRecord B U)) → model.IsWellFormed m p s → Leads model m p s es rs t → model.IsWellFormed m p t
+  pub leads_well_formed : KeepsWell model m → (s t : S) (es : List (Event B)) (rs : List (UndoRecord B U)) → model.IsWellFormed m p s → LeadsByRecords model m p s es rs t → model.IsWellFormed m p t
   leads_well_formed keeps s t [] [] w h = subst (model.IsWellFormed m p) (sym h) w
   leads_well_formed keeps s t [] (r ∷ rs) w h = absurd h
   leads_well_formed keeps s t (e ∷ es) [] w h = absurd h
   leads_well_formed keeps s t (e ∷ es) (r ∷ rs) w h = leads_well_formed keeps (model.step m p s e).0 t es rs (keeps p s e w h.0.valid h.0.here) h.1
 
   -- the first k done, the rest is a chain from there
-  pub leads_drop : KeepsWell model m → (k : ℕ) (s t : S) (es : List (Event B)) (rs : List (UndoRecord B U)) → model.IsWellFormed m p s → Leads model m p s es rs t
-      → model.IsWellFormed m p (after (model.step m p) s (take k es)) × Leads model m p (after (model.step m p) s (take k es)) (drop k es) (drop k rs) t
+  pub leads_drop : KeepsWell model m → (k : ℕ) (s t : S) (es : List (Event B)) (rs : List (UndoRecord B U)) → model.IsWellFormed m p s → LeadsByRecords model m p s es rs t
+      → model.IsWellFormed m p (after (model.step m p) s (take k es)) × LeadsByRecords model m p (after (model.step m p) s (take k es)) (drop k es) (drop k rs) t
   leads_drop keeps zero s t es rs w h = (w, h)
   leads_drop keeps (suc k) s t [] [] w h = (w, h)
   leads_drop keeps (suc k) s t [] (r ∷ rs) w h = absurd h
@@ -75,7 +75,7 @@ module _ {M S B U : Type 0} (model : Ghosts M S B U) {cmp : Event B → Event B 
   pub linked_well_formed : (x : Past M S B) (rs : List (UndoRecord B U)) → KeepsWell model x.model → IsLinked model cmp x rs → model.IsWellFormed x.model x.number x.state
   linked_well_formed x rs keeps h = leads_well_formed model x.model x.number keeps (after (model.step x.model x.number) x.start x.committed) x.state x.processed rs h.well_formed h.leads
 
-  leads_for : (m : M) (p : ℕ) (s t : S) (es : List (Event B)) (rs : List (UndoRecord B U)) → Leads model m p s es rs t → Each cmp (IsFor model m p) es
+  leads_for : (m : M) (p : ℕ) (s t : S) (es : List (Event B)) (rs : List (UndoRecord B U)) → LeadsByRecords model m p s es rs t → Each cmp (IsFor model m p) es
   leads_for m p s t [] [] h = Each-nil o (IsFor model m p)
   leads_for m p s t [] (r ∷ rs) h = absurd h
   leads_for m p s t (e ∷ es) [] h = absurd h
@@ -104,7 +104,7 @@ module _ {M S B U : Type 0} (model : Ghosts M S B U) {cmp : Event B → Event B 
       let m = x.model in
       let p = x.number in
       let s : S = after (model.step m p) x.start x.committed in
-      let q = leads_pop model m p s x.state front rs e r (subst (λ l. Leads model m p s (front ++ e ∷ []) l x.state) all_is (subst (λ es. Leads model m p s es all x.state) is h.leads)) in
+      let q = leads_pop model m p s x.state front rs e r (subst (λ l. LeadsByRecords model m p s (front ++ e ∷ []) l x.state) all_is (subst (λ es. LeadsByRecords model m p s es all x.state) is h.leads)) in
       let u : S = after (model.step m p) x.start (x.committed ++ front) in
       let same : q.0 ≡ u = leads_after model m p s q.0 front rs q.1 ∙ sym (after-append (model.step m p) x.start x.committed front) in (
         subst (model.IsWellFormed m p) same (leads_well_formed model m p keeps s q.0 front rs h.well_formed q.1),
@@ -113,7 +113,7 @@ module _ {M S B U : Type 0} (model : Ghosts M S B U) {cmp : Event B → Event B 
         record {
           number = h.number;
           well_formed = h.well_formed;
-          leads = subst (Leads model m p s front rs) same q.1;
+          leads = subst (LeadsByRecords model m p s front rs) same q.1;
           committed = h.committed;
           order = IsAscending-front o (x.committed ++ front) (e ∷ []) (subst (IsAscending cmp) (ap (λ l. x.committed ++ l) is ∙ sym (append_assoc x.committed front (e ∷ []))) h.order);
         },
@@ -139,7 +139,7 @@ module _ {M S B U : Type 0} (model : Ghosts M S B U) {cmp : Event B → Event B 
       record {
         number = h.number;
         well_formed = subst (model.IsWellFormed m p) same q.0;
-        leads = rw (k_is, l_is) (subst (λ w. Leads model m p w (drop k x.processed) (drop k rs) x.state) same q.1);
+        leads = rw (k_is, l_is) (subst (λ w. LeadsByRecords model m p w (drop k x.processed) (drop k rs) x.state) same q.1);
         committed = subst (Each cmp (IsFor model m p)) (sym c_is) (Each-append o (IsFor model m p) x.committed (take k x.processed) h.committed first);
         order = subst (IsAscending cmp) (sym joined) h.order;
       }

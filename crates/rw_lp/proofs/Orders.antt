@@ -11,12 +11,12 @@ use Rattle.std.proofs.lemmas.Cmp.{tied_itself}
 use Rattle.std.proofs.lemmas.List.Recursion.{is_sum_by}
 use Rattle.std.proofs.lemmas.List.Sorted.{sum_by-IsPermutation}
 use Rattle.rw_vt.specs.declared.event.Event.{Event}
-use Rattle.rw_vt.specs.Order.{AtMost, one_if, copies, Each, IsAscending, in_order, without}
+use Rattle.rw_vt.specs.Order.{AtMost, one_if_same, copies, Each, IsAscending, in_order, without}
 use Rattle.rw_vt.proofs.Sorting.{IsExactOrder, at_most_chain, ascending_settled, copies-in_order, IsAscending-in_order}
 use Rattle.rw_vt.proofs.Bags.{Each-nil, Each-cons, Each-head, Each-tail, IsAscending-push}
 use Rattle.rw_lp.specs.Process.{is_less_than_last, split_last}
 use Rattle.rw_lp.proofs.Splits.{IsSplit, split_is}
-use Rattle.rw_lp.specs.Calls.{least}
+use Rattle.rw_lp.specs.Calls.{least_time}
 
 not_below : (r : Ordering) → is_lt r ≡ false → is_gt (ordering_reverse r) ≡ false
 not_below Less h = absurd (true≢false h)
@@ -25,10 +25,10 @@ not_below Greater h = refl
 
 -- counts do not depend on the order
 copies-moved : {E : Type 0} (cmp : E → E → Ordering) (e : E) (xs ys : List E) → IsPermutation xs ys → copies cmp e xs ≡ copies cmp e ys
-copies-moved {E} cmp e xs ys h = as_sum xs ∙ sym (sum_by-IsPermutation (one_if cmp e) xs ys h) ∙ sym (as_sum ys)
+copies-moved {E} cmp e xs ys h = as_sum xs ∙ sym (sum_by-IsPermutation (one_if_same cmp e) xs ys h) ∙ sym (as_sum ys)
   where
-    as_sum : (zs : List E) → copies cmp e zs ≡ sum_by (one_if cmp e) zs
-    as_sum zs = is_sum_by (copies cmp e) (one_if cmp e) refl (λ z zs. refl) zs
+    as_sum : (zs : List E) → copies cmp e zs ≡ sum_by (one_if_same cmp e) zs
+    as_sum zs = is_sum_by (copies cmp e) (one_if_same cmp e) refl (λ z zs. refl) zs
 
 module _ {E : Type 0} {cmp : E → E → Ordering} (o : IsExactOrder cmp) where
   sorted_tail : (x : E) (xs : List E) → IsSorted cmp (x ∷ xs) → IsSorted cmp xs
@@ -107,38 +107,38 @@ module _ {B : Type 0} {cmp : Event B → Event B → Ordering} (o : IsExactOrder
           (rw (early, next) (ap (λ l. x ∷ l) h.0), rw next h.1)
 
   -- the least time is that of the first
-  least_above : (m n : ℕ) (xs : List (Event B)) → n ≤ m → Each cmp (λ e. n ≤ e.time) xs → n ≤ least m xs
+  least_above : (m n : ℕ) (xs : List (Event B)) → n ≤ m → Each cmp (λ e. n ≤ e.time) xs → n ≤ least_time m xs
   least_above m n [] l all = l
   least_above m n (x ∷ xs) l all =
       let h = least_above m n xs l (Each-tail o (λ e. n ≤ e.time) x xs all) in
       let here : n ≤ x.time = Each-head o (λ e. n ≤ e.time) x xs all in
       omega arith
 
-  least_below : (m : ℕ) (xs : List (Event B)) → least m xs ≤ m
+  least_below : (m : ℕ) (xs : List (Event B)) → least_time m xs ≤ m
   least_below m [] = omega arith
   least_below m (x ∷ xs) = omega (arith, least_below m xs)
 
-  pub least_first : (m : ℕ) (x : Event B) (xs : List (Event B)) → IsAscending cmp (x ∷ xs) → least m (x ∷ xs) ≡ min x.time m
+  pub least_first : (m : ℕ) (x : Event B) (xs : List (Event B)) → IsAscending cmp (x ∷ xs) → least_time m (x ∷ xs) ≡ min x.time m
   least_first m x xs up =
       let below = least_below m xs in
-      let above = least_above (least m xs) (min x.time m) [] in
+      let above = least_above (least_time m xs) (min x.time m) [] in
       let h = least_above m (min x.time m) xs (omega arith) (λ e k. let late = by_time x e (up.0 e k) in omega arith) in
       omega arith
 
 -- no event is earlier than the least
-pub least_each : {B : Type 0} {cmp : Event B → Event B → Ordering} → IsExactOrder cmp → (m : ℕ) (xs : List (Event B)) → Each cmp (λ e. least m xs ≤ e.time) xs
+pub least_each : {B : Type 0} {cmp : Event B → Event B → Ordering} → IsExactOrder cmp → (m : ℕ) (xs : List (Event B)) → Each cmp (λ e. least_time m xs ≤ e.time) xs
 least_each o m [] = Each-nil o (λ e. m ≤ e.time)
 least_each o m (x ∷ xs) =
-    Each-cons o (λ e. least m (x ∷ xs) ≤ e.time) x xs (omega arith) (λ e k. let late = least_each o m xs e k in omega arith)
+    Each-cons o (λ e. least_time m (x ∷ xs) ≤ e.time) x xs (omega arith) (λ e k. let late = least_each o m xs e k in omega arith)
 
 -- the least of two lists
-pub least_both : {B : Type 0} (m : ℕ) (xs ys : List (Event B)) → least (least m ys) xs ≡ min (least m xs) (least m ys)
+pub least_both : {B : Type 0} (m : ℕ) (xs ys : List (Event B)) → least_time (least_time m ys) xs ≡ min (least_time m xs) (least_time m ys)
 least_both m [] ys = go (below m ys)
   where
-    below : {B : Type 0} (m : ℕ) (ys : List (Event B)) → least m ys ≤ m
+    below : {B : Type 0} (m : ℕ) (ys : List (Event B)) → least_time m ys ≤ m
     below m [] = omega arith
     below m (y ∷ ys) = omega (arith, below m ys)
 
-    go : least m ys ≤ m → least m ys ≡ min m (least m ys)
+    go : least_time m ys ≤ m → least_time m ys ≡ min m (least_time m ys)
     go h = omega arith
 least_both m (x ∷ xs) ys = omega (arith, least_both m xs ys)

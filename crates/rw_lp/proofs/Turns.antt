@@ -4,7 +4,7 @@ use Rattle.std.proofs.lemmas.Bool.{cases_Bool}
 use Rattle.std.specs.Ordering.{is_eq}
 use Rattle.rw_vt.specs.declared.event.Event.{Event}
 use Rattle.rw_vt.specs.declared.event.Letter.{Letter}
-use Rattle.rw_vt.specs.Order.{AtMost, one_if, copies, Each, IsAscending, insert_in_order, has, without}
+use Rattle.rw_vt.specs.Order.{AtMost, one_if_same, copies, Each, IsAscending, insert_in_order, has, without}
 use Rattle.rw_vt.specs.Letters.{letters_of, messages, antis}
 use Rattle.rw_vt.specs.System.{System, after, outs}
 use Rattle.rw_vt.proofs.Sorting.{tied, copies-append, copies-insert, Has-head, IsAscending-insert}
@@ -28,7 +28,7 @@ module _ {S B : Type 0} (y : System S B) {WellFormed : ℕ → S → Type 0} (la
       ap (copies y.order a) (outs-append (y.step p) s xs (e ∷ []) ∙ ap (λ l. outs (y.step p) s xs ++ l) (append-nil sends))
       ∙ copies-append law.exact a (outs (y.step p) s xs) sends
 
-  count_push : (a e : Event B) (xs : List (Event B)) → copies y.order a (xs ++ e ∷ []) ≡ copies y.order a xs + one_if y.order a e
+  count_push : (a e : Event B) (xs : List (Event B)) → copies y.order a (xs ++ e ∷ []) ≡ copies y.order a xs + one_if_same y.order a e
   count_push a e xs = omega (arith, copies-append law.exact a xs (e ∷ []))
 
   -- what is not less than the last goes to the end
@@ -76,8 +76,8 @@ module _ {S B : Type 0} (y : System S B) {WellFormed : ℕ → S → Type 0} (la
         change = record {
           start = refl;
           kept = λ a.
-              let d1 : copies y.order a (done z) ≡ copies y.order a (done x) + one_if y.order a e = ap (copies y.order a) more ∙ count_push a e (done x) in
-              let p1 : copies y.order a x.pending ≡ one_if y.order a e + copies y.order a rest = ap (copies y.order a) q in
+              let d1 : copies y.order a (done z) ≡ copies y.order a (done x) + one_if_same y.order a e = ap (copies y.order a) more ∙ count_push a e (done x) in
+              let p1 : copies y.order a x.pending ≡ one_if_same y.order a e + copies y.order a rest = ap (copies y.order a) q in
               omega arith;
           sent = λ a.
               let s1 : copies y.order a (outs (y.step p) x.start (done z)) ≡ copies y.order a (outs (y.step p) x.start (done x)) + copies y.order a sends =
@@ -93,8 +93,8 @@ module _ {S B : Type 0} (y : System S B) {WellFormed : ℕ → S → Type 0} (la
 
         still : (a : Event B) → is_eq (y.order a e) ≡ false → 0 < copies y.order a x.pending → 0 < copies y.order a rest
         still a n k =
-            let none : one_if y.order a e ≡ 0 = one_if-other law.exact a e n in
-            let p1 : copies y.order a x.pending ≡ one_if y.order a e + copies y.order a rest = ap (copies y.order a) q in
+            let none : one_if_same y.order a e ≡ 0 = one_if-other law.exact a e n in
+            let p1 : copies y.order a x.pending ≡ one_if_same y.order a e + copies y.order a rest = ap (copies y.order a) q in
             omega arith
 
         at_z : SoundAt y g p z
@@ -157,8 +157,8 @@ module _ {S B : Type 0} (y : System S B) {WellFormed : ℕ → S → Type 0} (la
 
         kept : (a : Event B) → copies y.order a (x.committed ++ front) + copies y.order a (insert_in_order y.order e x.pending) + copies y.order a x.debts + 0 ≡ copies y.order a (done x) + copies y.order a x.pending + copies y.order a x.debts + 0
         kept a =
-            let d1 : copies y.order a (done x) ≡ copies y.order a (x.committed ++ front) + one_if y.order a e = ap (copies y.order a) more ∙ count_push a e (x.committed ++ front) in
-            let p1 : copies y.order a (insert_in_order y.order e x.pending) ≡ one_if y.order a e + copies y.order a x.pending = copies-insert law.exact a e x.pending in
+            let d1 : copies y.order a (done x) ≡ copies y.order a (x.committed ++ front) + one_if_same y.order a e = ap (copies y.order a) more ∙ count_push a e (x.committed ++ front) in
+            let p1 : copies y.order a (insert_in_order y.order e x.pending) ≡ one_if_same y.order a e + copies y.order a x.pending = copies-insert law.exact a e x.pending in
             omega arith
 
         sent : (a : Event B) → copies y.order a (outs (y.step p) x.start (done x)) ≡ copies y.order a (outs (y.step p) x.start (x.committed ++ front)) + copies y.order a sends
@@ -254,11 +254,11 @@ module _ {S B : Type 0} (y : System S B) {WellFormed : ℕ → S → Type 0} (la
       message_keeps : l.anti ≡ false → Keeps y g p x (l ∷ []) (deliver_message y.order l.event x)
       message_keeps kind = go (has y.order l.event x.debts) refl
         where
-          m1 : (a : Event B) → messages y.order a (l ∷ []) ≡ one_if y.order a l.event + 0
-          m1 a = ap (λ b. cond b 0 (one_if y.order a l.event) + 0) kind
+          m1 : (a : Event B) → messages y.order a (l ∷ []) ≡ one_if_same y.order a l.event + 0
+          m1 a = ap (λ b. cond b 0 (one_if_same y.order a l.event) + 0) kind
 
           a1 : (a : Event B) → antis y.order a (l ∷ []) ≡ 0
-          a1 a = ap (λ b. cond b (one_if y.order a l.event) 0 + 0) kind
+          a1 a = ap (λ b. cond b (one_if_same y.order a l.event) 0 + 0) kind
 
           go : (b : Bool) → has y.order l.event x.debts ≡ b → Keeps y g p x (l ∷ []) (cond b (Turned (with_bags x x.pending (without y.order l.event x.debts) x.held) []) (Turned (with_bags x (insert_in_order y.order l.event x.pending) x.debts x.held) []))
           go true h =
@@ -281,12 +281,12 @@ module _ {S B : Type 0} (y : System S B) {WellFormed : ℕ → S → Type 0} (la
       anti_keeps kind = go (has y.order l.event x.pending) (has y.order l.event x.processed) refl
         where
           m1 : (a : Event B) → messages y.order a (l ∷ []) ≡ 0
-          m1 a = ap (λ b. cond b 0 (one_if y.order a l.event) + 0) kind
+          m1 a = ap (λ b. cond b 0 (one_if_same y.order a l.event) + 0) kind
 
-          a1 : (a : Event B) → antis y.order a (l ∷ []) ≡ one_if y.order a l.event + 0
-          a1 a = ap (λ b. cond b (one_if y.order a l.event) 0 + 0) kind
+          a1 : (a : Event B) → antis y.order a (l ∷ []) ≡ one_if_same y.order a l.event + 0
+          a1 a = ap (λ b. cond b (one_if_same y.order a l.event) 0 + 0) kind
 
-          mine : (a : Event B) → is_eq (y.order a l.event) ≡ false → one_if y.order a l.event ≡ 0
+          mine : (a : Event B) → is_eq (y.order a l.event) ≡ false → one_if_same y.order a l.event ≡ 0
           mine a n = one_if-other law.exact a l.event n
 
           same_event : (a : Event B) → is_eq (y.order a l.event) ≡ true → 0 < copies y.order l.event (without y.order l.event x.pending) → 0 < copies y.order a (without y.order l.event x.pending)

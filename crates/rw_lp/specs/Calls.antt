@@ -59,6 +59,6 @@ IsTaken (Turned after out) = Unit {0}
 IsTaken (Stays fault) = ⊥
 
 -- the least of m and the times of these events
-abbrev pub least : {B : Type 0} → Time → List (Event B) → Time
-least m [] = m
-least m (e ∷ es) = min e.time (least m es)
+abbrev pub least_time : {B : Type 0} → Time → List (Event B) → Time
+least_time m [] = m
+least_time m (e ∷ es) = min e.time (least_time m es)

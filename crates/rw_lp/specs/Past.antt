@@ -31,17 +31,17 @@ pub record IsRecordOf {M S B U : Type 0} (model : Ghosts M S B U) (m : M) (p : P
   pub links : model.Links m p before e r.undo (model.step m p before e).0
 
 -- from the state s these events, each with its record, lead to the state t
-abbrev pub Leads : {M S B U : Type 0} → Ghosts M S B U → M → Process → S → List (Event B) → List (UndoRecord B U) → S → Type 0
-Leads model m p s [] [] t = t ≡ s
-Leads model m p s [] (r ∷ rs) t = ⊥
-Leads model m p s (e ∷ es) [] t = ⊥
-Leads model m p s (e ∷ es) (r ∷ rs) t = IsRecordOf model m p s e r × Leads model m p (model.step m p s e).0 es rs t
+abbrev pub LeadsByRecords : {M S B U : Type 0} → Ghosts M S B U → M → Process → S → List (Event B) → List (UndoRecord B U) → S → Type 0
+LeadsByRecords model m p s [] [] t = t ≡ s
+LeadsByRecords model m p s [] (r ∷ rs) t = ⊥
+LeadsByRecords model m p s (e ∷ es) [] t = ⊥
+LeadsByRecords model m p s (e ∷ es) (r ∷ rs) t = IsRecordOf model m p s e r × LeadsByRecords model m p (model.step m p s e).0 es rs t
 
 -- from a well-formed start the committed events and then the processed ones, which are in order and for the process, lead to the state, and each processed one can be taken back
 pub record IsLinked {M S B U : Type 0} (model : Ghosts M S B U) (cmp : Event B → Event B → Ordering) (x : Past M S B) (records : List (UndoRecord B U)) : Type 0 where
   pub number : x.number < model.process_count x.model
   pub well_formed : model.IsWellFormed x.model x.number (after (model.step x.model x.number) x.start x.committed)
-  pub leads : Leads model x.model x.number (after (model.step x.model x.number) x.start x.committed) x.processed records x.state
+  pub leads : LeadsByRecords model x.model x.number (after (model.step x.model x.number) x.start x.committed) x.processed records x.state
   pub committed : Each cmp (IsFor model x.model x.number) x.committed
   pub order : IsAscending cmp (x.committed ++ x.processed)
 

@@ -3,7 +3,7 @@ ghost use Rattle.std.specs.List.{position_or_len};
 ghost use Rattle.std.specs.Ordering.{is_eq, is_le};
 ghost use Rattle.rw_vt.specs.Order.{event_cmp, in_order, insert_in_order, has, without, IsAscending};
 ghost use Rattle.rw_vt.specs.declared.event.Event.{Event};
-ghost use Rattle.rw_lp.specs.Calls.{least};
+ghost use Rattle.rw_lp.specs.Calls.{least_time};
 
 use rw_vt::{END, Event, Model as VtModel};
 use std::alloc::{AllocError, Global};
@@ -93,7 +93,7 @@ impl<M: VtModel> Bag<M> {
 
     /// The least time, or the end of time where the bag is empty. Takes no memory.
     pub fn least(&self) -> u64
-        ensures { result ≡ least (2 ^ 40) self.now }
+        ensures { result ≡ least_time (2 ^ 40) self.now }
     {
         match self.first() {
             Some(event) => event.time.min(END),

@@ -6,7 +6,7 @@ ghost use Rattle.rw_vt.specs.declared.event.Letter.{Letter};
 ghost use Rattle.rw_vt.specs.declared.refusal.Refusal.TheVariants.{Memory};
 ghost use Rattle.rw_lp.specs.HeldMessages.{held_messages};
 ghost use Rattle.rw_lp.specs.Process.{ProcessState, done, deliver, execute_next, undo_one, collect};
-ghost use Rattle.rw_lp.specs.Calls.{LogicalProcess, process_of, rules, unstarted, MeetsNext, Took, came, least};
+ghost use Rattle.rw_lp.specs.Calls.{LogicalProcess, process_of, rules, unstarted, MeetsNext, Took, came, least_time};
 ghost use Rattle.rw_lp.specs.Past.{AreFor, IsFor};
 ghost use Rattle.rw_lp.specs.Sound.{Change, IsSoundOnceCollected};
 ghost use Rattle.rw_lp.specs.Arrival.{Arrived, is_barred};
@@ -245,7 +245,7 @@ impl<M: VtModel> Lp<M> {
     /// The least time of pending events, debts and held messages, in ticks, or [`END`](rw_vt::END) if there is none. Takes no
     /// memory.
     pub fn least(&self) -> u64
-        ensures is { result ≡ least (least (least (2 ^ 40) (held_messages self.now.process.held)) self.now.process.debts) self.now.process.pending }
+        ensures is { result ≡ least_time (least_time (least_time (2 ^ 40) (held_messages self.now.process.held)) self.now.process.debts) self.now.process.pending }
         ensures pending { Each (event_cmp M.Body.cmp) (λ e. result ≤ e.time) self.now.process.pending }
         ensures debts { Each (event_cmp M.Body.cmp) (λ e. result ≤ e.time) self.now.process.debts }
     {

@@ -13,11 +13,12 @@ use Rattle.rw_photo.specs.declared.body.Body.{Body}
 use Rattle.rw_photo.specs.declared.counters.Counters.{Counters}
 use Rattle.rw_photo.specs.declared.photo.Deed.{Deed}
 use Rattle.rw_photo.specs.declared.undo.Undo.{Undo}
-use Rattle.rw_photo.specs.Counts.{AreCounts, added, minus, one_if, plus, taken_off}
+use Rattle.rw_ripq.specs.Work.{one_if}
+use Rattle.rw_photo.specs.Counts.{AreCounts, added, minus, plus, taken_off}
 use Rattle.rw_photo.specs.Cache.{Cache, waiting, with_waiting}
-use Rattle.rw_photo.specs.Events.{Happening, after, object_of}
+use Rattle.rw_photo.specs.Events.{Happening, cache_after, object_of}
 use Rattle.rw_photo.specs.Deeds.{HasDone, list_of}
-use Rattle.rw_photo.specs.Undoing.{TakesBack, before, some_if, waiting_before}
+use Rattle.rw_photo.specs.Undoing.{TakesBack, cache_before, some_if, waiting_before}
 
 minus-plus : (n k : ℕ) → n < 2 ^ 64 → k < 2 ^ 64 → minus (plus n k) k ≡ n
 minus-plus n k a b = omega arith
@@ -79,12 +80,12 @@ made s t q a b c i = record { queue = q i; awaited = a i; sends = b i; counters 
 -- a deed, once it is counted, is taken back by its record
 pub takes_back : (h : Happening) (s mid now : Cache) (e : Event Body) (d : Deed) (u : Undo)
     → IsStrictlySortedBy nat_cmp (keys_of s.awaited) → s.sends < 2 ^ 64 → AreCounts s.counters → AreCounts d.counted
-    → HasDone h s (object_of e.body) d mid → now ≡ after s (object_of e.body) h
+    → HasDone h s (object_of e.body) d mid → now ≡ cache_after s (object_of e.body) h
     → u.trail ≡ d.trail → u.counted ≡ d.counted → u.sent ≡ is_some d.send → waiting_before u ≡ waiting s (object_of e.body)
     → TakesBack s e u now
 takes_back h s mid now e d u up sends counters counts done is trail counted sent wait =
     record {
-      back = made (before o u now) s queue awaited sent_back counters_back;
+      back = made (cache_before o u now) s queue awaited sent_back counters_back;
       leads = subst (λ ms. Leads ms s.queue now.queue) (sym trail) (subst (Leads d.trail s.queue) queue_is done.leads);
       short = subst (λ ms. IsShort ms s.queue now.queue) (sym trail) (subst (IsShort d.trail s.queue) queue_is done.short);
     }

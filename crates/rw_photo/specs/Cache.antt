@@ -7,7 +7,7 @@ use Rattle.std.specs.Ordering.{nat_cmp}
 use Rattle.rw_vt.specs.Words.{Count, Process}
 use Rattle.rw_blocks.specs.Words.{Object}
 use Rattle.rw_blocks.specs.State.{QueueState, Limits, row_at, start_of}
-use Rattle.rw_blocks.specs.Loose.{IsWellFormed as IsWellFormedQueue}
+use Rattle.rw_blocks.specs.Loose.{IsWellFormedQueue}
 use Rattle.rw_ripq.specs.declared.Policy.TheVariants.{Off}
 use Rattle.rw_photo.specs.declared.config.Config.{Config}
 use Rattle.rw_photo.specs.declared.counters.Counters.{Counters}

@@ -1,6 +1,7 @@
 -- What caches count, modulo 2 ^ 64.
 use Rattle.std.specs.Prelude.{◌+◌, ◌-◌, ◌%◌, ◌^◌, ◌<◌, Bool, true, false}
 use Rattle.rw_vt.specs.Words.{Count}
+use Rattle.rw_ripq.specs.Work.{one_if}
 use Rattle.rw_ripq.specs.declared.Tally.{Tally}
 use Rattle.rw_photo.specs.declared.counters.Counters.{Counters}
 
@@ -72,10 +73,6 @@ pub record AreCounts (k : Counters) : Type 0 where
 
 -- What one event counts
 
-abbrev pub one_if : Bool → Count
-one_if true = 1
-one_if false = 0
-
 -- a hit, which moved its object or not
 abbrev pub one_hit : Bool → Counters
 one_hit moved = record no_counts { requests = 1; hits = 1; promoted = one_if moved }
@@ -89,8 +86,8 @@ abbrev pub one_coalesced : Counters
 one_coalesced = record (one_miss no_counts) { coalesced = 1 }
 
 -- a fill that answers n requests, beside what storing its object counts
-abbrev pub answers : Count → Counters → Counters
-answers n k = record k { late = n }
+abbrev pub with_late : Count → Counters → Counters
+with_late n k = record k { late = n }
 
 -- an object that is too large for a block
 abbrev pub one_bypassed : Counters

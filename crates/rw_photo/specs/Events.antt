@@ -9,7 +9,7 @@ use Rattle.rw_photo.specs.declared.body.Body.{Body}
 use Rattle.rw_photo.specs.declared.body.Body.TheVariants.{Request, Miss, Fill}
 use Rattle.rw_photo.specs.declared.config.Config.{Config}
 use Rattle.rw_photo.specs.declared.counters.Counters.{Counters}
-use Rattle.rw_photo.specs.Counts.{plus, added, no_counts, one_miss, one_coalesced, answers}
+use Rattle.rw_photo.specs.Counts.{plus, added, no_counts, one_miss, one_coalesced, with_late}
 use Rattle.rw_photo.specs.Cache.{Cache, is_edge, is_stored, waiting, with_waiting}
 use Rattle.rw_photo.specs.Storing.{hit, stored}
 
@@ -77,10 +77,10 @@ asked c p s t o z g false =
 
 -- a fill at an edge, which answers the requests that wait for it, if any, and stores what the edge lacks
 abbrev pub filled : Config → Cache → Object → Size → Bool → Happening
-filled c s o z true = record { queue = s.queue; waiting = None; counts = answers (unwrap_or (waiting s o) 0) no_counts; sent = [] }
+filled c s o z true = record { queue = s.queue; waiting = None; counts = with_late (unwrap_or (waiting s o) 0) no_counts; sent = [] }
 filled c s o z false =
     let k = stored c.policy s.queue o z in
-    record { queue = k.queue; waiting = None; counts = answers (unwrap_or (waiting s o) 0) k.counts; sent = [] }
+    record { queue = k.queue; waiting = None; counts = with_late (unwrap_or (waiting s o) 0) k.counts; sent = [] }
 
 -- what happens at process p at time t
 abbrev pub happening : Config → Process → Cache → Time → Body → Happening
@@ -89,8 +89,8 @@ happening c p s t (Miss o z g) = asked c p s t o z g (is_stored s o)
 happening c p s t (Fill o z) = filled c s o z (is_stored s o)
 
 -- the cache after it, which concerned object o
-abbrev pub after : Cache → Object → Happening → Cache
-after s o h =
+abbrev pub cache_after : Cache → Object → Happening → Cache
+cache_after s o h =
     record {
       queue = h.queue;
       awaited = with_waiting s.awaited o h.waiting;
@@ -99,7 +99,7 @@ after s o h =
     }
 
 abbrev pub step : Config → Process → Cache → Event Body → Cache × List (Event Body)
-step c p s e = let h = happening c p s e.time e.body in (after s (object_of e.body) h, h.sent)
+step c p s e = let h = happening c p s e.time e.body in (cache_after s (object_of e.body) h, h.sent)
 
 -- From a trace
 

@@ -14,7 +14,7 @@ use Rattle.rw_vt.specs.declared.event.Event.{Event}
 use Rattle.rw_vt.specs.Valid.{IsInRange, IsSentBy}
 use Rattle.rw_vt.proofs.Entries.{found-value, sorted-insert_entry, sorted-remove_entry, values-insert_entry, values-remove_entry}
 use Rattle.rw_blocks.specs.State.{QueueState, row_at}
-use Rattle.rw_blocks.specs.Loose.{IsWellFormed as IsWellFormedQueue}
+use Rattle.rw_blocks.specs.Loose.{IsWellFormedQueue}
 use Rattle.rw_blocks.specs.declared.Place.{Place}
 use Rattle.rw_ripq.specs.declared.Policy.{Policy}
 use Rattle.rw_ripq.specs.declared.Policy.TheVariants.{Off, Lru, Slru3}

@@ -7,7 +7,8 @@ use Rattle.rw_ripq.specs.Trail.{Leads, rewind_of}
 use Rattle.rw_ripq.specs.Weight.{IsShort}
 use Rattle.rw_photo.specs.declared.body.Body.{Body}
 use Rattle.rw_photo.specs.declared.undo.Undo.{Undo}
-use Rattle.rw_photo.specs.Counts.{minus, taken_off, one_if}
+use Rattle.rw_ripq.specs.Work.{one_if}
+use Rattle.rw_photo.specs.Counts.{minus, taken_off}
 use Rattle.rw_photo.specs.Cache.{Cache, with_waiting}
 use Rattle.rw_photo.specs.Events.{object_of}
 
@@ -20,8 +21,8 @@ abbrev pub waiting_before : Undo → Option Count
 waiting_before u = some_if u.awaited u.waiting
 
 -- the cache before what happened to object o, by its undo record
-abbrev pub before : Object → Undo → Cache → Cache
-before o u s =
+abbrev pub cache_before : Object → Undo → Cache → Cache
+cache_before o u s =
     record {
       queue = rewind_of u.trail s.queue;
       awaited = with_waiting s.awaited o (waiting_before u);
@@ -32,6 +33,6 @@ before o u s =
 -- the undo record takes the cache after the event back to the one before; its trail leads the queue back, and is no longer
 -- than what the event changed there
 pub record TakesBack (old : Cache) (e : Event Body) (u : Undo) (now : Cache) : Type 0 where
-  pub back : before (object_of e.body) u now ≡ old
+  pub back : cache_before (object_of e.body) u now ≡ old
   pub leads : Leads u.trail old.queue now.queue
   pub short : IsShort u.trail old.queue now.queue

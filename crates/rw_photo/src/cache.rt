@@ -1,10 +1,11 @@
 ghost use Rattle.std.specs.Prelude.{◌≡◌, ◌≢◌, ◌+◌, ◌<◌, ◌≤◌, ◌^◌, false, None, Some, OnOk, IfOk};
 ghost use Rattle.rw_blocks.specs.State.{row_at};
-ghost use Rattle.rw_blocks.specs.Loose.{IsWellFormed as IsWellFormedQueue};
+ghost use Rattle.rw_blocks.specs.Loose.{IsWellFormedQueue};
 ghost use Rattle.rw_ripq.specs.Trail.{IsRewindable, Leads, rewind_of};
 ghost use Rattle.rw_ripq.specs.Weight.{IsShort};
 ghost use Rattle.rw_photo.specs.Cache.{is_stored, start_in, waiting, with_waiting};
-ghost use Rattle.rw_photo.specs.Counts.{added, minus, one_if, plus, taken_off};
+ghost use Rattle.rw_ripq.specs.Work.{one_if};
+ghost use Rattle.rw_photo.specs.Counts.{added, minus, plus, taken_off};
 ghost use Rattle.rw_photo.specs.Events.{sending};
 ghost use Rattle.rw_photo.specs.Storing.{hit, stored};
 

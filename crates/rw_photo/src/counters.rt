@@ -1,5 +1,5 @@
 ghost use Rattle.std.specs.Prelude.{◌≡◌};
-ghost use Rattle.rw_photo.specs.Counts.{added, answers, taken_off, one_bypassed, one_coalesced, one_hit, one_inserted, one_miss};
+ghost use Rattle.rw_photo.specs.Counts.{added, with_late, taken_off, one_bypassed, one_coalesced, one_hit, one_inserted, one_miss};
 
 use rw_ripq::Tally;
 
@@ -70,7 +70,7 @@ impl Counters {
 
     /// The same, of a fill that answers so many requests.
     pub(crate) fn with_late(self, late: u64) -> Counters
-        ensures { result ≡ answers late self }
+        ensures { result ≡ with_late late self }
     {
         Counters { late, ..self }
     }

@@ -19,7 +19,7 @@ use Rattle.rw_ripq.proofs.Lookups.{lookup-insert_other, lookup-remove_other}
 use Rattle.rw_ripq.proofs.Walks.{Keeps, left_one}
 use Rattle.rw_ripq.specs.Evict.{objects_homed, reinsert}
 use Rattle.rw_ripq.specs.Victim.{IsVictim}
-use Rattle.rw_ripq.specs.Weight.{is_moved, moved_rows}
+use Rattle.rw_ripq.specs.Weight.{has_left_home, moved_rows}
 use Rattle.rw_ripq.specs.Work.{Work}
 
 abbrev pub price : Option Place → Option Place → ℕ
@@ -47,7 +47,7 @@ moved-three : (t : Bool) → cond t 0 3 ≤ 4 * cond (not t) 1 0
 moved-three true = omega arith
 moved-three false = omega arith
 
-price-moved : (a b : Option Place) → price a b ≤ 4 * cond (is_moved a b) 1 0
+price-moved : (a b : Option Place) → price a b ≤ 4 * cond (has_left_home a b) 1 0
 price-moved None b = omega arith
 price-moved (Some r) None = omega arith
 price-moved (Some r) (Some s) = moved-three (nat_eq r.home s.home)
@@ -57,7 +57,7 @@ sum-four f p [] le = omega arith
 sum-four f p (x ∷ xs) le = omega (arith, sum_by-cons f x xs, sum_by-cons (λ x. cond (p x) 1 0) x xs, le x, sum-four f p xs le)
 
 pub cost-moved : (old now : QueueState) → cost old now ≤ 4 * moved_rows old now
-cost-moved old now = sum-four (λ o. price (row_at old o) (row_at now o)) (λ o. is_moved (row_at old o) (row_at now o)) (keys_of old.rows) (λ o. price-moved (row_at old o) (row_at now o))
+cost-moved old now = sum-four (λ o. price (row_at old o) (row_at now o)) (λ o. has_left_home (row_at old o) (row_at now o)) (keys_of old.rows) (λ o. price-moved (row_at old o) (row_at now o))
 
 -- a sum over the keys that rises at a key that is there
 pub key-sum : (f g : ℕ → ℕ) (es : List (ℕ × Place)) (o : ℕ) (p : Place) (d : ℕ) → lookup (is_key (nat_cmp o)) es ≡ Some p → ((x : ℕ) → f x ≤ g x) → f o + d ≤ g o → sum_by f (keys_of es) + d ≤ sum_by g (keys_of es)

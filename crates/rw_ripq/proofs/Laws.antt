@@ -2,7 +2,7 @@
 use Rattle.std.proofs.Common.{◌≡◌, ℕ, ◌+◌, ◌≤◌, ◌<◌, arith, length, nat_eq}
 use Rattle.std.specs.Prelude.{Some, None, IsSome}
 use Rattle.rw_ripq.proofs.Basics.{of_some}
-use Rattle.rw_blocks.specs.Loose.{IsLoose, IsWellFormed}
+use Rattle.rw_blocks.specs.Loose.{IsLoose, IsWellFormedQueue}
 use Rattle.rw_blocks.specs.State.{QueueState, row_at, row_or}
 use Rattle.rw_blocks.specs.declared.Place.{Place}
 use Rattle.rw_ripq.specs.Record.{IsInsertable}
@@ -24,7 +24,7 @@ use Rattle.rw_ripq.specs.declared.Policy.{Policy}
 
 -- ---- insertion
 -- a well-formed queue has room for one more object
-pub insertable : (q : QueueState) (o z : ℕ) → IsWellFormed q → row_at q o ≡ None → 1 ≤ z → z ≤ q.shape.block → IsInsertable q o z
+pub insertable : (q : QueueState) (o z : ℕ) → IsWellFormedQueue q → row_at q o ≡ None → 1 ≤ z → z ≤ q.shape.block → IsInsertable q o z
 insertable q o z well new some small =
     record {
       loose = well.loose;
@@ -35,7 +35,7 @@ insertable q o z well new some small =
     }
 
 pub record InsertLaws (old : QueueState) (o z : ℕ) (w : Work) : Type 0 where
-  pub well_formed : IsWellFormed w.queue
+  pub well_formed : IsWellFormedQueue w.queue
   pub shape : w.queue.shape ≡ old.shape
   pub sizes : KeepsSizes old w.queue
   pub adds : AddsOnly old o z w.queue
@@ -44,7 +44,7 @@ pub record InsertLaws (old : QueueState) (o z : ℕ) (w : Work) : Type 0 where
   pub leaves : LeavesWithBlock old w.queue
   pub tail : LeavesFromTail old w.queue
 
-pub insert_at-laws : (q : QueueState) (o z i : ℕ) → IsWellFormed q → row_at q o ≡ None → 1 ≤ z → z ≤ q.shape.block → i < length q.sections → InsertLaws q o z (insert_at q o z i)
+pub insert_at-laws : (q : QueueState) (o z i : ℕ) → IsWellFormedQueue q → row_at q o ≡ None → 1 ≤ z → z ≤ q.shape.block → i < length q.sections → InsertLaws q o z (insert_at q o z i)
 insert_at-laws q o z i well new some small within =
     let c : IsInsertable q o z = insertable q o z well new some small in
     record {
@@ -58,13 +58,13 @@ insert_at-laws q o z i well new some small within =
       tail = insert-tail q o z i c within;
     }
 
-pub insert-laws : (p : Policy) (q : QueueState) (o z l : ℕ) → IsWellFormed q → row_at q o ≡ None → 1 ≤ z → z ≤ q.shape.block → InsertLaws q o z (insert p q o z l)
+pub insert-laws : (p : Policy) (q : QueueState) (o z l : ℕ) → IsWellFormedQueue q → row_at q o ≡ None → 1 ≤ z → z ≤ q.shape.block → InsertLaws q o z (insert p q o z l)
 insert-laws p q o z l well new some small =
     insert_at-laws q o z (target p q l) well new some small (target-there p q l well.loose.some_section)
 
 -- ---- promotion
 pub record PromoteLaws (old : QueueState) (o : ℕ) (now : QueueState) : Type 0 where
-  pub well_formed : IsWellFormed now
+  pub well_formed : IsWellFormedQueue now
   pub shape : now.shape ≡ old.shape
   pub home : KeepsHome old o now
   pub others : KeepsOthers old o now
@@ -72,7 +72,7 @@ pub record PromoteLaws (old : QueueState) (o : ℕ) (now : QueueState) : Type 0 
   pub leaves : LeavesWithBlock old now
   pub tail : LeavesFromTail old now
 
-pub promote_to-laws : (q : QueueState) (o i : ℕ) (r : Place) → IsWellFormed q → row_at q o ≡ Some r → i < length q.sections → PromoteLaws q o (promote_to q o i)
+pub promote_to-laws : (q : QueueState) (o i : ℕ) (r : Place) → IsWellFormedQueue q → row_at q o ≡ Some r → i < length q.sections → PromoteLaws q o (promote_to q o i)
 promote_to-laws q o i r well is within =
     record {
       well_formed = promote-well_formed q o i r well within is;
@@ -84,16 +84,16 @@ promote_to-laws q o i r well is within =
       tail = λ k c s there sealed behind none now. promote-stays q o i k s there none;
     }
 
-pub promote-laws : (p : Policy) (q : QueueState) (o : ℕ) (r : Place) → IsWellFormed q → row_at q o ≡ Some r → PromoteLaws q o (promote p q o)
+pub promote-laws : (p : Policy) (q : QueueState) (o : ℕ) (r : Place) → IsWellFormedQueue q → row_at q o ≡ Some r → PromoteLaws q o (promote p q o)
 promote-laws p q o r well is =
     promote_to-laws q o (hit_target p q o) r well is (target-there p q (hit_level p q o) well.loose.some_section)
 
 -- ---- what the code makes
-pub insertion : (p : Policy) (q : QueueState) (o z l i : ℕ) (w : Work) → IsWellFormed q → row_at q o ≡ None → 1 ≤ z → z ≤ q.shape.block → w ≡ insert_at q o z i → i ≡ target p q l → InsertLaws q o z w
+pub insertion : (p : Policy) (q : QueueState) (o z l i : ℕ) (w : Work) → IsWellFormedQueue q → row_at q o ≡ None → 1 ≤ z → z ≤ q.shape.block → w ≡ insert_at q o z i → i ≡ target p q l → InsertLaws q o z w
 insertion p q o z l i w well new some small made at =
     rw (made, at) (insert-laws p q o z l well new some small)
 
-pub promotion : (p : Policy) (q v : QueueState) (o i : ℕ) → IsWellFormed q → IsSome (row_at q o) → v ≡ promote_to q o i → i ≡ hit_target p q o → PromoteLaws q o v
+pub promotion : (p : Policy) (q v : QueueState) (o i : ℕ) → IsWellFormedQueue q → IsSome (row_at q o) → v ≡ promote_to q o i → i ≡ hit_target p q o → PromoteLaws q o v
 promotion p q v o i well resident made at =
     let row = of_some (row_at q o) resident in
     rw (made, at) (promote-laws p q o row.0 well row.1)

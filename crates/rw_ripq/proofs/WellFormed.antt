@@ -2,7 +2,7 @@
 use Rattle.std.proofs.Common.{◌≡◌, ℕ, ◌+◌, ◌/◌, ◌≤◌, ◌<◌, refl, sym, ap, subst, ◌∙◌, arith, Bool, true, false, length, inl, inr}
 use Rattle.std.specs.Prelude.{Some, unwrap_or}
 use Rattle.rw_blocks.proofs.Kept.{of_row}
-use Rattle.rw_blocks.specs.Loose.{IsLoose, IsPlaced, IsSized, IsWellFormed, count, is_sealed_virtual}
+use Rattle.rw_blocks.specs.Loose.{IsLoose, IsPlaced, IsSized, IsWellFormedQueue, count, is_sealed_virtual}
 use Rattle.rw_blocks.specs.Primitives.{after_replace}
 use Rattle.rw_blocks.specs.State.{Limits, QueueState, no_place, row_at, row_or, section_at}
 use Rattle.rw_blocks.specs.Sums.{rows_placed}
@@ -88,7 +88,7 @@ start-used q o z i c within used =
     let w : QueueState = with_room q Device i z in
     used-added None_of w (put_new q o z i) o (put_row w z i) (IsLoose-with_room q Device i z c.loose within) (row-with_room q Device i z o ∙ c.new) refl refl (used-device_room None_of q i z within used)
 
-pub insert-well_formed : (q : QueueState) (o z i : ℕ) → IsWellFormed q → IsInsertable q o z → i < length q.sections → IsWellFormed (insert_at q o z i).queue
+pub insert-well_formed : (q : QueueState) (o z i : ℕ) → IsWellFormedQueue q → IsInsertable q o z → i < length q.sections → IsWellFormedQueue (insert_at q o z i).queue
 insert-well_formed q o z i well c within =
     let g = insert-good all-used q o z i c within (start-used q o z i c within (used-from q well.used)) in
     record {
@@ -112,7 +112,7 @@ used-moved false q o i r loose within is used c some =
     used-written None_of w q1 o r _ (IsLoose-with_room q Virtual i z loose within) (row-with_room q Virtual i z o ∙ is) refl refl (used-virtual_room None_of q i z within (omega (arith, size, small)) used) in
     used-cleared None_of q1 p (IsLoose-moved q o i r loose within is) (subst (λ y. UsedBut (Or None_of y) q1) at used1) c some
 
-pub promote-well_formed : (q : QueueState) (o i : ℕ) (r : Place) → IsWellFormed q → i < length q.sections → row_at q o ≡ Some r → IsWellFormed (promote_to q o i)
+pub promote-well_formed : (q : QueueState) (o i : ℕ) (r : Place) → IsWellFormedQueue q → i < length q.sections → row_at q o ≡ Some r → IsWellFormedQueue (promote_to q o i)
 promote-well_formed q o i r well within is =
     let t : Bool = is_active_in q (row_or q o).place i in
     record {

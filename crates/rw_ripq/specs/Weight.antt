@@ -9,14 +9,14 @@ use Rattle.rw_ripq.specs.Work.{Work}
 use Rattle.rw_ripq.specs.Sealed.{is_sealed, sealed_blocks}
 
 -- whether the row left or has another home
-abbrev pub is_moved : Option Place → Option Place → Bool
-is_moved None now = false
-is_moved (Some r) None = true
-is_moved (Some r) (Some s) = not (nat_eq r.home s.home)
+abbrev pub has_left_home : Option Place → Option Place → Bool
+has_left_home None now = false
+has_left_home (Some r) None = true
+has_left_home (Some r) (Some s) = not (nat_eq r.home s.home)
 
 -- how many rows of the old state left or got another home
 abbrev pub moved_rows : QueueState → QueueState → Count
-moved_rows old now = count_by (λ o. is_moved (row_at old o) (row_at now o)) (keys_of old.rows)
+moved_rows old now = count_by (λ o. has_left_home (row_at old o) (row_at now o)) (keys_of old.rows)
 
 -- how many sealed blocks of the old state are gone
 abbrev pub gone_blocks : QueueState → QueueState → Count

@@ -1,7 +1,7 @@
 // Insert: a miss puts an object at the target of its level, and the queue is adjusted where that sealed a device block.
 ghost use Rattle.std.specs.Prelude.{◌≡◌, ◌≤◌, ◌<◌, ◌+◌, ◌^◌, ◌≢◌, ◌↔◌, length, None, OnOk, IfOk, Err};
 ghost use Rattle.rw_blocks.specs.State.{row_at, QueueState};
-ghost use Rattle.rw_blocks.specs.Loose.{IsWellFormed};
+ghost use Rattle.rw_blocks.specs.Loose.{IsWellFormedQueue};
 ghost use Rattle.rw_vt.specs.declared.refusal.Refusal.{Refusal};
 ghost use Rattle.rw_ripq.specs.Work.{work_of, untouched, no_tally};
 ghost use Rattle.rw_ripq.specs.Insert.{insert, insert_at};
@@ -38,7 +38,7 @@ pub fn insert(
     size: u64,
     level: u8,
 ) -> Result<(Trail, Tally), Refusal>
-    requires well_formed { IsWellFormed queue.old }
+    requires well_formed { IsWellFormedQueue queue.old }
     requires stores { policy ≢ Policy.Off }
     requires new { row_at queue.old object ≡ None }
     requires some { 1 ≤ size }
@@ -50,7 +50,7 @@ pub fn insert(
     ensures tally { IfOk result (λ done. done.1 ≡ (insert policy queue.old object size level).tally) }
     ensures leads { IfOk result (λ done. Leads done.0 queue.old queue.new) }
     ensures short { IfOk result (λ done. IsShort done.0 queue.old queue.new) }
-    ensures kept { OnOk result (IsWellFormed queue.new) }
+    ensures kept { OnOk result (IsWellFormedQueue queue.new) }
     ensures sizes { OnOk result (KeepsSizes queue.old queue.new) }
     ensures adds { OnOk result (AddsOnly queue.old object size queue.new) }
     ensures rows { IfOk result (λ done. length queue.new.rows + done.1.evicted ≡ length queue.old.rows + 1) }

@@ -1,7 +1,7 @@
 // Promote: a hit raises an object's priority by a virtual block, without writing it.
 ghost use Rattle.std.specs.Prelude.{◌≡◌, ◌≤◌, ◌<◌, ◌+◌, ◌^◌, ◌≢◌, ◌↔◌, length, not, nat_eq, OnOk, IfOk, IsSome, Some, Err};
 ghost use Rattle.rw_blocks.specs.State.{row_at, row_or, QueueState};
-ghost use Rattle.rw_blocks.specs.Loose.{IsLoose, IsWellFormed};
+ghost use Rattle.rw_blocks.specs.Loose.{IsLoose, IsWellFormedQueue};
 ghost use Rattle.rw_vt.specs.declared.refusal.Refusal.{Refusal};
 ghost use Rattle.rw_ripq.specs.Levels.{hit_target};
 ghost use Rattle.rw_ripq.specs.Promote.{is_active_in, promote_to, promote};
@@ -47,7 +47,7 @@ pub fn promote(
     policy: Policy,
     object: u64,
 ) -> Result<(Trail, bool), Refusal>
-    requires well_formed { IsWellFormed queue.old }
+    requires well_formed { IsWellFormedQueue queue.old }
     requires resident { IsSome (row_at queue.old object) }
     requires stores { policy ≢ Policy.Off }
     ensures exhausted { (result ≡ Err Refusal.Exhausted) ↔ (2 ^ 62 ≤ queue.old.next) }
@@ -55,7 +55,7 @@ pub fn promote(
     ensures changed { IfOk result (λ done. done.1 ≡ not (nat_eq (row_or queue.new object).place (row_or queue.old object).place)) }
     ensures leads { IfOk result (λ done. Leads done.0 queue.old queue.new) }
     ensures short { IfOk result (λ done. IsShort done.0 queue.old queue.new) }
-    ensures kept { OnOk result (IsWellFormed queue.new) }
+    ensures kept { OnOk result (IsWellFormedQueue queue.new) }
     ensures home { OnOk result (KeepsHome queue.old object queue.new) }
     ensures others { OnOk result (KeepsOthers queue.old object queue.new) }
     ensures order { OnOk result (KeepsOrder queue.old queue.new) }
@@ -74,7 +74,7 @@ pub fn promote_row(
     object: u64,
     row: Place,
 ) -> Result<(Trail, bool), Refusal>
-    requires well_formed { IsWellFormed queue.old }
+    requires well_formed { IsWellFormedQueue queue.old }
     requires row { row_at queue.old object ≡ Some row }
     requires stores { policy ≢ Policy.Off }
     ensures exhausted { (result ≡ Err Refusal.Exhausted) ↔ (2 ^ 62 ≤ queue.old.next) }
@@ -82,7 +82,7 @@ pub fn promote_row(
     ensures changed { IfOk result (λ done. done.1 ≡ not (nat_eq (row_or queue.new object).place (row_or queue.old object).place)) }
     ensures leads { IfOk result (λ done. Leads done.0 queue.old queue.new) }
     ensures short { IfOk result (λ done. IsShort done.0 queue.old queue.new) }
-    ensures kept { OnOk result (IsWellFormed queue.new) }
+    ensures kept { OnOk result (IsWellFormedQueue queue.new) }
     ensures home { OnOk result (KeepsHome queue.old object queue.new) }
     ensures others { OnOk result (KeepsOthers queue.old object queue.new) }
     ensures order { OnOk result (KeepsOrder queue.old queue.new) }

@@ -9,7 +9,7 @@ use Rattle.rw_lp.specs.Process.{ProcessState}
 use Rattle.rw_lp.specs.Calls.{LogicalProcess}
 use Rattle.rw_exchange.specs.Ports.{PortState, SamePort, sent_to, free_to, received_from, having_sent, having_received}
 use Rattle.rw_board.specs.Seats.{having_noted}
-use Rattle.rw_rounds.specs.Bags.{weigh, only, Every, total}
+use Rattle.rw_rounds.specs.Bags.{weigh, only, Every, sum_below}
 use Rattle.rw_rounds.specs.Deeds.{Deed, Arrival, Undoing, Execution, Did, Goes, arrivals, executions}
 use Rattle.rw_rounds.specs.Turns.{Role, WorkerState, owner, is_own, passes, process_at}
 use Rattle.rw_rounds.specs.Working.{Works}
@@ -59,11 +59,11 @@ module _ {T : Type 0} where
   pub received_at : (p : PortState T) (k j : ℕ) (x : T) → k < length p.received → received_from (having_received p k x) j ≡ received_from p j ++ at_only k (x ∷ []) j
   received_at p k j x h = put_at p.received k j x h
 
-none_at : (r : Role) → total r.plan.workers (λ k. 0) ≡ 0
+none_at : (r : Role) → sum_below r.plan.workers (λ k. 0) ≡ 0
 none_at r = total_zero r.plan.workers (λ k. 0) (λ i l. refl)
 
 module _ {B : Type 0} (r : Role) where
-  total_both : (h : Letter B → ℕ) (f k : ℕ → List (Letter B)) → total r.plan.workers (λ i. weigh h (f i ++ k i)) ≡ total r.plan.workers (λ i. weigh h (f i)) + total r.plan.workers (λ i. weigh h (k i))
+  total_both : (h : Letter B → ℕ) (f k : ℕ → List (Letter B)) → sum_below r.plan.workers (λ i. weigh h (f i ++ k i)) ≡ sum_below r.plan.workers (λ i. weigh h (f i)) + sum_below r.plan.workers (λ i. weigh h (k i))
   total_both h f k = total_same r.plan.workers (λ i. weigh h (f i ++ k i)) (λ i. weigh h (f i) + weigh h (k i)) (λ i l. weigh-append h (f i) (k i)) ∙ total_add r.plan.workers (λ i. weigh h (f i)) (λ i. weigh h (k i))
 
   only_own : (h : Letter B → ℕ) (l : Letter B) → is_own r l ≡ true → (only (is_own r) h l ≡ h l) × (only (λ m. not (is_own r m)) h l ≡ 0)

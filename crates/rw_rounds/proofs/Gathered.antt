@@ -16,7 +16,7 @@ use Rattle.rw_board.specs.Least.{least}
 use Rattle.rw_board.specs.Seats.{SeatState, BoardState, new_seat}
 use Rattle.rw_rounds.specs.declared.plan.Plan.{Plan}
 use Rattle.rw_rounds.specs.Plans.{IsInRanges}
-use Rattle.rw_rounds.specs.Bags.{weigh, Every, total}
+use Rattle.rw_rounds.specs.Bags.{weigh, Every, sum_below}
 use Rattle.rw_rounds.specs.Turns.{WorkerState, IsInPlace, TookTurns}
 use Rattle.rw_rounds.specs.Rounds.{role, Begins, Closes, TookRound}
 use Rattle.rw_rounds.specs.Seated.{IsSeated}
@@ -78,12 +78,12 @@ pub every_from_least : (l : ℕ) (ts : List ℕ) → l ≤ least ts → Every (�
 every_from_least l [] h = tt
 every_from_least l (t ∷ ts) h = (omega arith, every_from_least l ts (omega arith))
 
-total_first : (n : ℕ) (f : ℕ → ℕ) → total (suc n) f ≡ f 0 + total n (λ i. f (suc i))
+total_first : (n : ℕ) (f : ℕ → ℕ) → sum_below (suc n) f ≡ f 0 + sum_below n (λ i. f (suc i))
 total_first zero f = omega arith
 total_first (suc n) f = omega (arith, total_first n f)
 
 -- what lists weigh that are joined
-pub weigh_flatten : {W X : Type 0} (h : X → ℕ) (f : W → List X) (ws : List W) (d : W) → weigh h (flatten (map f ws)) ≡ total (length ws) (λ i. weigh h (f (get_or ws i d)))
+pub weigh_flatten : {W X : Type 0} (h : X → ℕ) (f : W → List X) (ws : List W) (d : W) → weigh h (flatten (map f ws)) ≡ sum_below (length ws) (λ i. weigh h (f (get_or ws i d)))
 weigh_flatten h f [] d = refl
 weigh_flatten h f (w ∷ ws) d =
     weigh-append h (f w) (flatten (map f ws))
@@ -263,9 +263,9 @@ module _ {M S B U : Type 0} {model : Ghosts M S B U} {order : B → B → Orderi
           every_from_least l (get_or ws' i d).seat.noted (subst (λ s. l ≤ least s.noted) e (all i d.seat (subst (λ n. i < n) (sym (ap length is ∙ length-map ws' (λ w. w.seat))) within)))
 
       pub kept_after : (h : Letter B → ℕ) (kept aside : List (List (Letter B))) (d : WorkerState M S B) → kept ≡ map (λ w. w.kept) ws' → aside ≡ map (λ w. w.aside) ws'
-          → weigh h (flatten kept) + weigh h (flatten aside) ≡ total plan.workers (λ i. weigh h (get_or ws' i d).kept + weigh h (get_or ws' i d).aside)
+          → weigh h (flatten kept) + weigh h (flatten aside) ≡ sum_below plan.workers (λ i. weigh h (get_or ws' i d).kept + weigh h (get_or ws' i d).aside)
       kept_after h kept aside d is too =
           let many : length ws' ≡ plan.workers = took.long ∙ up.many in
-          let k : weigh h (flatten kept) ≡ total plan.workers (λ i. weigh h (get_or ws' i d).kept) = ap (λ z. weigh h (flatten z)) is ∙ weigh_flatten h (λ w. w.kept) ws' d ∙ ap (λ n. total n (λ i. weigh h (get_or ws' i d).kept)) many in
-          let a : weigh h (flatten aside) ≡ total plan.workers (λ i. weigh h (get_or ws' i d).aside) = ap (λ z. weigh h (flatten z)) too ∙ weigh_flatten h (λ w. w.aside) ws' d ∙ ap (λ n. total n (λ i. weigh h (get_or ws' i d).aside)) many in
+          let k : weigh h (flatten kept) ≡ sum_below plan.workers (λ i. weigh h (get_or ws' i d).kept) = ap (λ z. weigh h (flatten z)) is ∙ weigh_flatten h (λ w. w.kept) ws' d ∙ ap (λ n. sum_below n (λ i. weigh h (get_or ws' i d).kept)) many in
+          let a : weigh h (flatten aside) ≡ sum_below plan.workers (λ i. weigh h (get_or ws' i d).aside) = ap (λ z. weigh h (flatten z)) too ∙ weigh_flatten h (λ w. w.aside) ws' d ∙ ap (λ n. sum_below n (λ i. weigh h (get_or ws' i d).aside)) many in
           omega (arith, k, a, total_add plan.workers (λ i. weigh h (get_or ws' i d).kept) (λ i. weigh h (get_or ws' i d).aside))

@@ -7,7 +7,7 @@ use Rattle.rw_vt.proofs.Letters.{count-letter}
 use Rattle.rw_vt.proofs.Bags.{one_if-itself}
 use Rattle.rw_lp.specs.Process.{ProcessState, execute_next, undo_one}
 use Rattle.rw_lp.specs.Sound.{SoundAt, SoundLetters, Kept}
-use Rattle.rw_rounds.specs.Bags.{weigh, Every, total}
+use Rattle.rw_rounds.specs.Bags.{weigh, Every, sum_below}
 use Rattle.rw_rounds.specs.Deeds.{Deed, Arrival, Undoing, Execution, Stepped, IsFair, Did, Goes, arrivals}
 use Rattle.rw_rounds.proofs.Governing.{Governs}
 use Rattle.rw_rounds.proofs.Keeping.{kept_more, kept_none, kept_of, arrival_keeps}
@@ -31,8 +31,8 @@ pub record Gone {S B : Type 0} (y : System S B) (g n : ℕ) (a b : ℕ → Optio
   pub out : ℕ → List (Letter B)
   pub kept : (q : ℕ) → KeptAt y g q (a q) (b q) (came q) (out q)
   pub idle : (q : ℕ) → a q ≡ None → (came q ≡ []) × (out q ≡ [])
-  pub arrived_are : (h : Letter B → ℕ) → total n (λ q. weigh h (came q)) ≡ weigh h arrived
-  pub given_are : (h : Letter B → ℕ) → total n (λ q. weigh h (out q)) ≡ weigh h given
+  pub arrived_are : (h : Letter B → ℕ) → sum_below n (λ q. weigh h (came q)) ≡ weigh h arrived
+  pub given_are : (h : Letter B → ℕ) → sum_below n (λ q. weigh h (out q)) ≡ weigh h given
   pub come_here : (q : ℕ) → Every (λ l. l.event.to ≡ q) (came q)
   pub fair : Every (IsFair y g) given
 

@@ -17,7 +17,7 @@ use Rattle.rw_world.specs.Rounds.{all_letters, Exchanged}
 use Rattle.rw_exchange.specs.Ports.{sent_to, received_from}
 use Rattle.rw_rounds.specs.declared.plan.Plan.{Plan}
 use Rattle.rw_rounds.specs.Plans.{IsInRanges}
-use Rattle.rw_rounds.specs.Bags.{weigh, only, Every, total}
+use Rattle.rw_rounds.specs.Bags.{weigh, only, Every, sum_below}
 use Rattle.rw_rounds.specs.Deeds.{IsFair}
 use Rattle.rw_rounds.specs.Turns.{Role, WorkerState, owner, is_own, passes, process_at}
 use Rattle.rw_rounds.specs.Rounds.{role, Round}
@@ -94,12 +94,12 @@ module _ {M S B U : Type 0} {model : Ghosts M S B U} {order : B → B → Orderi
   record Mailed (i : ℕ) (m : Mail B) : Type 0 where
     pub kept : (q : ℕ) → KeptAt y x.collected q (process_at (r i) (round.first i).processes q) (process_at (r i) (round.last i).processes q) (m.came q) (m.out q)
     pub idle : (q : ℕ) → process_at (r i) (round.first i).processes q ≡ None → (m.came q ≡ []) × (m.out q ≡ [])
-    pub arrived_are : (h : Letter B → ℕ) → total count (λ q. weigh h (m.came q)) ≡ weigh h m.arrived
-    pub given_are : (h : Letter B → ℕ) → total count (λ q. weigh h (m.out q)) ≡ weigh h m.given
+    pub arrived_are : (h : Letter B → ℕ) → sum_below count (λ q. weigh h (m.came q)) ≡ weigh h m.arrived
+    pub given_are : (h : Letter B → ℕ) → sum_below count (λ q. weigh h (m.out q)) ≡ weigh h m.given
     pub come_here : (q : ℕ) → Every (λ l. l.event.to ≡ q) (m.came q)
     pub balance : (h : Letter B → ℕ) →
-        weigh h m.arrived + weigh h (round.last i).kept + weigh h (round.last i).aside + total n (λ k. weigh h (sent_to (round.last i).port k))
-        ≡ weigh h m.given + weigh h (round.first i).inbox + total n (λ k. weigh h (received_from (round.last i).port k))
+        weigh h m.arrived + weigh h (round.last i).kept + weigh h (round.last i).aside + sum_below n (λ k. weigh h (sent_to (round.last i).port k))
+        ≡ weigh h m.given + weigh h (round.first i).inbox + sum_below n (λ k. weigh h (received_from (round.last i).port k))
 
   mailed : (i : ℕ) → i < plan.workers → (m : Mail B) × Mailed i m
   mailed i l =
@@ -117,8 +117,8 @@ module _ {M S B U : Type 0} {model : Ghosts M S B U} {order : B → B → Orderi
               let b1 : weigh h (round.last i).inbox ≡ 0 = ap (λ (u : WorkerState M S B). weigh h u.inbox) w.closes.closed ∙ ap (weigh h) (inbox_empties y plan.turns (round.first i) w.between ranges.turns.0 w.turns_are) in
               let b2 : weigh h (round.first i).kept ≡ 0 = ap (weigh h) b.none_kept in
               let b3 : weigh h (round.first i).aside ≡ 0 = ap (weigh h) b.none_aside in
-              let b4 : total n (λ k. weigh h (sent_to (round.first i).port k)) ≡ 0 = total_zero n (λ k. weigh h (sent_to (round.first i).port k)) (λ k lt. ap (weigh h) (b.new.0 k)) in
-              let b5 : total n (λ k. weigh h (received_from (round.first i).port k)) ≡ 0 = total_zero n (λ k. weigh h (received_from (round.first i).port k)) (λ k lt. ap (weigh h) (b.new.1 k)) in
+              let b4 : sum_below n (λ k. weigh h (sent_to (round.first i).port k)) ≡ 0 = total_zero n (λ k. weigh h (sent_to (round.first i).port k)) (λ k lt. ap (weigh h) (b.new.0 k)) in
+              let b5 : sum_below n (λ k. weigh h (received_from (round.first i).port k)) ≡ 0 = total_zero n (λ k. weigh h (received_from (round.first i).port k)) (λ k lt. ap (weigh h) (b.new.1 k)) in
               omega (arith, wk.balance h);
         },
       )
@@ -170,62 +170,62 @@ module _ {M S B U : Type 0} {model : Ghosts M S B U} {order : B → B → Orderi
     elsewhere : (q i : ℕ) → i < plan.workers → (i ≡ q % plan.workers → ⊥) → ((mail i).came q ≡ []) × ((mail i).out q ≡ [])
     elsewhere q i l k = (by i l).idle q (ap (λ b. cond b (option_map (λ l. l.process) (slice_get (round.first i).processes (q / plan.workers))) None) (ne_eqb (q % plan.workers) i (λ e. k (sym e))))
 
-    came_all : (h : Letter B → ℕ) → total count (λ q. weigh h (came_to q)) ≡ total n (λ i. weigh h (mail i).arrived)
+    came_all : (h : Letter B → ℕ) → sum_below count (λ q. weigh h (came_to q)) ≡ sum_below n (λ i. weigh h (mail i).arrived)
     came_all h =
-        total_same count (λ q. weigh h (came_to q)) (λ q. total n (λ i. weigh h ((mail i).came q)))
+        total_same count (λ q. weigh h (came_to q)) (λ q. sum_below n (λ i. weigh h ((mail i).came q)))
         (λ q lt. sym (total_one n (q % plan.workers) (λ i. weigh h ((mail i).came q)) (owned q) (λ i l k. ap (weigh h) (elsewhere q i l k).0)))
         ∙ total_swap count n (λ q i. weigh h ((mail i).came q))
-        ∙ total_same n (λ i. total count (λ q. weigh h ((mail i).came q))) (λ i. weigh h (mail i).arrived) (λ i l. (by i l).arrived_are h)
+        ∙ total_same n (λ i. sum_below count (λ q. weigh h ((mail i).came q))) (λ i. weigh h (mail i).arrived) (λ i l. (by i l).arrived_are h)
 
-    out_all : (h : Letter B → ℕ) → total count (λ q. weigh h (out_of q)) ≡ total n (λ i. weigh h (mail i).given)
+    out_all : (h : Letter B → ℕ) → sum_below count (λ q. weigh h (out_of q)) ≡ sum_below n (λ i. weigh h (mail i).given)
     out_all h =
-        total_same count (λ q. weigh h (out_of q)) (λ q. total n (λ i. weigh h ((mail i).out q)))
+        total_same count (λ q. weigh h (out_of q)) (λ q. sum_below n (λ i. weigh h ((mail i).out q)))
         (λ q lt. sym (total_one n (q % plan.workers) (λ i. weigh h ((mail i).out q)) (owned q) (λ i l k. ap (weigh h) (elsewhere q i l k).1)))
         ∙ total_swap count n (λ q i. weigh h ((mail i).out q))
-        ∙ total_same n (λ i. total count (λ q. weigh h ((mail i).out q))) (λ i. weigh h (mail i).given) (λ i l. (by i l).given_are h)
+        ∙ total_same n (λ i. sum_below count (λ q. weigh h ((mail i).out q))) (λ i. weigh h (mail i).given) (λ i l. (by i l).given_are h)
 
-    inboxes_all : (h : Letter B → ℕ) → total n (λ i. weigh h (round.first i).inbox) ≡ weigh h x.letters.items
+    inboxes_all : (h : Letter B → ℕ) → sum_below n (λ i. weigh h (round.first i).inbox) ≡ weigh h x.letters.items
     inboxes_all h =
         total_same n (λ i. weigh h (round.first i).inbox) (λ i. weigh h (filter (λ l. l.event.to % plan.workers == i) x.letters.items)) (λ i l. ap (weigh h) (round.begins i l).inbox)
         ∙ weigh_by h n (λ l. l.event.to % plan.workers) (λ l. owned l.event.to) x.letters.items
 
     -- what was sent in all was received, or is left
-    rings_all : (h : Letter B → ℕ) → total n (λ i. total n (λ k. weigh h (sent_to (round.last i).port k))) ≡ total n (λ i. total n (λ k. weigh h (received_from (round.last i).port k))) + total n (λ i. total n (λ k. weigh h (round.left i k)))
+    rings_all : (h : Letter B → ℕ) → sum_below n (λ i. sum_below n (λ k. weigh h (sent_to (round.last i).port k))) ≡ sum_below n (λ i. sum_below n (λ k. weigh h (received_from (round.last i).port k))) + sum_below n (λ i. sum_below n (λ k. weigh h (round.left i k)))
     rings_all h =
-        total_same n (λ i. total n (λ k. weigh h (sent_to (round.last i).port k))) (λ i. total n (λ k. weigh h (received_from (round.last k).port i)) + total n (λ k. weigh h (round.left i k)))
+        total_same n (λ i. sum_below n (λ k. weigh h (sent_to (round.last i).port k))) (λ i. sum_below n (λ k. weigh h (received_from (round.last k).port i)) + sum_below n (λ k. weigh h (round.left i k)))
         (λ i li.
         total_same n (λ k. weigh h (sent_to (round.last i).port k)) (λ k. weigh h (received_from (round.last k).port i) + weigh h (round.left i k)) (λ k lk. ap (weigh h) (sym (round.settled i k li lk)) ∙ weigh-append h (received_from (round.last k).port i) (round.left i k))
         ∙ total_add n (λ k. weigh h (received_from (round.last k).port i)) (λ k. weigh h (round.left i k)))
-        ∙ total_add n (λ i. total n (λ k. weigh h (received_from (round.last k).port i))) (λ i. total n (λ k. weigh h (round.left i k)))
-        ∙ ap (λ s. s + total n (λ i. total n (λ k. weigh h (round.left i k)))) (total_swap n n (λ i k. weigh h (received_from (round.last k).port i)))
+        ∙ total_add n (λ i. sum_below n (λ k. weigh h (received_from (round.last k).port i))) (λ i. sum_below n (λ k. weigh h (round.left i k)))
+        ∙ ap (λ s. s + sum_below n (λ i. sum_below n (λ k. weigh h (round.left i k)))) (total_swap n n (λ i k. weigh h (received_from (round.last k).port i)))
 
     -- the letters of both worlds
-    letters_same : (h : Letter B → ℕ) → weigh h x.letters.items + total count (λ q. weigh h (out_of q)) ≡ total count (λ q. weigh h (came_to q)) + weigh h z.letters.items
+    letters_same : (h : Letter B → ℕ) → weigh h x.letters.items + sum_below count (λ q. weigh h (out_of q)) ≡ sum_below count (λ q. weigh h (came_to q)) + weigh h z.letters.items
     letters_same h =
         let A : ℕ → ℕ = λ i. weigh h (mail i).arrived in
         let K : ℕ → ℕ = λ i. weigh h (round.last i).kept in
         let D : ℕ → ℕ = λ i. weigh h (round.last i).aside in
-        let T : ℕ → ℕ = λ i. total n (λ k. weigh h (sent_to (round.last i).port k)) in
+        let T : ℕ → ℕ = λ i. sum_below n (λ k. weigh h (sent_to (round.last i).port k)) in
         let G : ℕ → ℕ = λ i. weigh h (mail i).given in
         let I : ℕ → ℕ = λ i. weigh h (round.first i).inbox in
-        let C : ℕ → ℕ = λ i. total n (λ k. weigh h (received_from (round.last i).port k)) in
-        let each : total n (λ i. A i + K i + D i + T i) ≡ total n (λ i. G i + I i + C i) = total_same n (λ i. A i + K i + D i + T i) (λ i. G i + I i + C i) (λ i l. (by i l).balance h) in
-        let l1 : total n (λ i. A i + K i + D i + T i) ≡ total n (λ i. A i + K i + D i) + total n T = total_add n (λ i. A i + K i + D i) T in
-        let l2 : total n (λ i. A i + K i + D i) ≡ total n (λ i. A i + K i) + total n D = total_add n (λ i. A i + K i) D in
-        let l3 : total n (λ i. A i + K i) ≡ total n A + total n K = total_add n A K in
-        let r1 : total n (λ i. G i + I i + C i) ≡ total n (λ i. G i + I i) + total n C = total_add n (λ i. G i + I i) C in
-        let r2 : total n (λ i. G i + I i) ≡ total n G + total n I = total_add n G I in
-        let k1 : total n (λ i. K i + D i) ≡ total n K + total n D = total_add n K D in
-        let a : total count (λ q. weigh h (came_to q)) ≡ total n A = came_all h in
-        let g : total count (λ q. weigh h (out_of q)) ≡ total n G = out_all h in
-        let i : total n I ≡ weigh h x.letters.items = inboxes_all h in
-        let rings : total n T ≡ total n C + total n (λ i. total n (λ k. weigh h (round.left i k))) = rings_all h in
-        let joined : weigh h z.letters.items ≡ total n (λ i. total n (λ k. weigh h (round.left i k))) + total n (λ i. K i + D i) = round.letters_are h in
+        let C : ℕ → ℕ = λ i. sum_below n (λ k. weigh h (received_from (round.last i).port k)) in
+        let each : sum_below n (λ i. A i + K i + D i + T i) ≡ sum_below n (λ i. G i + I i + C i) = total_same n (λ i. A i + K i + D i + T i) (λ i. G i + I i + C i) (λ i l. (by i l).balance h) in
+        let l1 : sum_below n (λ i. A i + K i + D i + T i) ≡ sum_below n (λ i. A i + K i + D i) + sum_below n T = total_add n (λ i. A i + K i + D i) T in
+        let l2 : sum_below n (λ i. A i + K i + D i) ≡ sum_below n (λ i. A i + K i) + sum_below n D = total_add n (λ i. A i + K i) D in
+        let l3 : sum_below n (λ i. A i + K i) ≡ sum_below n A + sum_below n K = total_add n A K in
+        let r1 : sum_below n (λ i. G i + I i + C i) ≡ sum_below n (λ i. G i + I i) + sum_below n C = total_add n (λ i. G i + I i) C in
+        let r2 : sum_below n (λ i. G i + I i) ≡ sum_below n G + sum_below n I = total_add n G I in
+        let k1 : sum_below n (λ i. K i + D i) ≡ sum_below n K + sum_below n D = total_add n K D in
+        let a : sum_below count (λ q. weigh h (came_to q)) ≡ sum_below n A = came_all h in
+        let g : sum_below count (λ q. weigh h (out_of q)) ≡ sum_below n G = out_all h in
+        let i : sum_below n I ≡ weigh h x.letters.items = inboxes_all h in
+        let rings : sum_below n T ≡ sum_below n C + sum_below n (λ i. sum_below n (λ k. weigh h (round.left i k))) = rings_all h in
+        let joined : weigh h z.letters.items ≡ sum_below n (λ i. sum_below n (λ k. weigh h (round.left i k))) + sum_below n (λ i. K i + D i) = round.letters_are h in
         omega arith
 
     -- the letters of all processes, one process after another
-    joined_all : (h : Letter B → ℕ) (f : ℕ → List (Letter B)) → weigh h (all_letters (system_of model order (simulation_of x)) f) ≡ total count (λ q. weigh h (f q))
-    joined_all h f = weigh_joined h f x.starts.value.items ∙ ap (λ k. total k (λ q. weigh h (f q))) whole.ready.enough
+    joined_all : (h : Letter B → ℕ) (f : ℕ → List (Letter B)) → weigh h (all_letters (system_of model order (simulation_of x)) f) ≡ sum_below count (λ q. weigh h (f q))
+    joined_all h f = weigh_joined h f x.starts.value.items ∙ ap (λ k. sum_below k (λ q. weigh h (f q))) whole.ready.enough
 
     lists_same : (h : Letter B → ℕ) → weigh h (x.letters.items ++ all_letters (system_of model order (simulation_of x)) out_of) ≡ weigh h (all_letters (system_of model order (simulation_of x)) came_to ++ z.letters.items)
     lists_same h =

@@ -23,7 +23,7 @@ use Rattle.rw_world.specs.Sound.{IsQuiet, part, held_in}
 use Rattle.rw_exchange.specs.Ports.{received_from}
 use Rattle.rw_rounds.specs.declared.plan.Plan.{Plan}
 use Rattle.rw_rounds.specs.Plans.{IsInRanges}
-use Rattle.rw_rounds.specs.Bags.{weigh, Every, total}
+use Rattle.rw_rounds.specs.Bags.{weigh, Every, sum_below}
 use Rattle.rw_rounds.specs.Turns.{WorkerState, process_at}
 use Rattle.rw_rounds.specs.Rounds.{role, Round}
 use Rattle.rw_rounds.proofs.ByPlace.{place_of}
@@ -81,9 +81,9 @@ module _ {M S B U : Type 0} {model : Ghosts M S B U} {order : B → B → Orderi
       every_zero (λ l. least ≤ l.event.time) (λ l. early least l.event.time) z.letters.items (λ l. none_early least l.event.time)
       (round.letters_are (λ l. early least l.event.time) ∙ sums)
     where
-      sums : total plan.workers (λ i. total plan.workers (λ k. early_in (round.left i k))) + total plan.workers (λ i. early_in (round.last i).kept + early_in (round.last i).aside) ≡ 0
+      sums : sum_below plan.workers (λ i. sum_below plan.workers (λ k. early_in (round.left i k))) + sum_below plan.workers (λ i. early_in (round.last i).kept + early_in (round.last i).aside) ≡ 0
       sums =
-          let a = total_zero plan.workers (λ i. total plan.workers (λ k. early_in (round.left i k))) (λ i li. total_zero plan.workers (λ k. early_in (round.left i k)) (λ k lk. none_left_early i k li lk)) in
+          let a = total_zero plan.workers (λ i. sum_below plan.workers (λ k. early_in (round.left i k))) (λ i li. total_zero plan.workers (λ k. early_in (round.left i k)) (λ k lk. none_left_early i k li lk)) in
           let b = total_zero plan.workers (λ i. early_in (round.last i).kept + early_in (round.last i).aside) (λ i li. let c = none_kept_early i li in let d = ap early_in (none_aside laws plan x z least ranges whole round i li) in omega arith) in
           omega arith
 

@@ -8,7 +8,7 @@ use Rattle.std.proofs.lemmas.Option.{slice_get-map}
 use Rattle.rw_vt.specs.declared.event.Event.{Event}
 use Rattle.rw_vt.specs.declared.event.Letter.{Letter}
 use Rattle.rw_vt.specs.declared.model.Model.{Ghosts}
-use Rattle.rw_vt.specs.System.{system, below, IsReady}
+use Rattle.rw_vt.specs.System.{system, journal_below, IsReady}
 use Rattle.rw_lp.specs.declared.step.Answer.TheVariants.{Done}
 use Rattle.rw_lp.specs.HeldMessages.{held_messages}
 use Rattle.rw_lp.specs.Process as process
@@ -102,7 +102,7 @@ module _ {M S B U : Type 0} {model : Ghosts M S B U} {order : B → B → Orderi
   same_committed q a c was is =
       let before = (worlds.every_sound_world x.model x.starts.value.items x.initial.value.items (world_of x) whole.ready whole.sound).committed q a was in
       let after = (worlds.every_sound_world z.model z.starts.value.items z.initial.value.items (world_of z) whole_after.ready whole_after.sound).committed q c is in
-      before ∙ ap (λ y. below y x.collected q) (sym same_system) ∙ ap (λ g. below (system_of model order (simulation_of z)) g q) (sym round.collected_is) ∙ sym after
+      before ∙ ap (λ y. journal_below y x.collected q) (sym same_system) ∙ ap (λ g. journal_below (system_of model order (simulation_of z)) g q) (sym round.collected_is) ∙ sym after
 
   -- no committed event is lost
   committed_longer : (q : ℕ) (a b : ProcessState S B) → slice_get (world_of x).processes q ≡ Some a → slice_get (apply (system_of model order (simulation_of z)) (world_of z) (Collect least)).0.processes q ≡ Some b → (rest : List (Event B)) × (a.committed ++ rest ≡ b.committed)

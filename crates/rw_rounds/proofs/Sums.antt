@@ -3,28 +3,28 @@ use Rattle.std.proofs.Common.{◌≡◌, ℕ, zero, suc, ◌+◌, ◌<◌, cond,
 use Rattle.std.specs.Prelude.{◌⊎◌, ◌==◌, reverse}
 use Rattle.std.proofs.lemmas.Grind.{reverse_onto}
 use Rattle.std.proofs.lemmas.Bool.{cases_eq, eq-eqb, ne_eqb}
-use Rattle.rw_rounds.specs.Bags.{weigh, Every, total}
+use Rattle.rw_rounds.specs.Bags.{weigh, Every, sum_below}
 
-pub total_same : (n : ℕ) (f k : ℕ → ℕ) → ((i : ℕ) → i < n → f i ≡ k i) → total n f ≡ total n k
+pub total_same : (n : ℕ) (f k : ℕ → ℕ) → ((i : ℕ) → i < n → f i ≡ k i) → sum_below n f ≡ sum_below n k
 total_same zero f k e = refl
-total_same (suc n) f k e = let last : f n ≡ k n = e n (omega arith) in let rest : total n f ≡ total n k = total_same n f k (λ i l. e i (omega arith)) in omega arith
+total_same (suc n) f k e = let last : f n ≡ k n = e n (omega arith) in let rest : sum_below n f ≡ sum_below n k = total_same n f k (λ i l. e i (omega arith)) in omega arith
 
-pub total_add : (n : ℕ) (f k : ℕ → ℕ) → total n (λ i. f i + k i) ≡ total n f + total n k
+pub total_add : (n : ℕ) (f k : ℕ → ℕ) → sum_below n (λ i. f i + k i) ≡ sum_below n f + sum_below n k
 total_add zero f k = refl
 total_add (suc n) f k = omega (arith, total_add n f k)
 
-pub total_zero : (n : ℕ) (f : ℕ → ℕ) → ((i : ℕ) → i < n → f i ≡ 0) → total n f ≡ 0
+pub total_zero : (n : ℕ) (f : ℕ → ℕ) → ((i : ℕ) → i < n → f i ≡ 0) → sum_below n f ≡ 0
 total_zero zero f e = refl
-total_zero (suc n) f e = let a : f n ≡ 0 = e n (omega arith) in let b : total n f ≡ 0 = total_zero n f (λ i l. e i (omega arith)) in omega arith
+total_zero (suc n) f e = let a : f n ≡ 0 = e n (omega arith) in let b : sum_below n f ≡ 0 = total_zero n f (λ i l. e i (omega arith)) in omega arith
 
 -- a sum in which one place alone counts
-pub total_one : (n q : ℕ) (f : ℕ → ℕ) → q < n → ((r : ℕ) → r < n → (r ≡ q → ⊥) → f r ≡ 0) → total n f ≡ f q
+pub total_one : (n q : ℕ) (f : ℕ → ℕ) → q < n → ((r : ℕ) → r < n → (r ≡ q → ⊥) → f r ≡ 0) → sum_below n f ≡ f q
 total_one zero q f h none = absurd (omega arith)
 total_one (suc n) q f h none = go (cases_eq n q) (total_one n q f)
   where
-    go : (n ≡ q) ⊎ (n ≡ q → ⊥) → (q < n → ((r : ℕ) → r < n → (r ≡ q → ⊥) → f r ≡ 0) → total n f ≡ f q) → total n f + f n ≡ f q
-    go (inl k) ih = let a : total n f ≡ 0 = total_zero n f (λ i l. none i (omega arith) (λ m. omega arith)) in let b : f n ≡ f q = ap f k in omega arith
-    go (inr k) ih = let a : total n f ≡ f q = ih (omega arith) (λ r l. none r (omega arith)) in let b : f n ≡ 0 = none n (omega arith) k in omega arith
+    go : (n ≡ q) ⊎ (n ≡ q → ⊥) → (q < n → ((r : ℕ) → r < n → (r ≡ q → ⊥) → f r ≡ 0) → sum_below n f ≡ f q) → sum_below n f + f n ≡ f q
+    go (inl k) ih = let a : sum_below n f ≡ 0 = total_zero n f (λ i l. none i (omega arith) (λ m. omega arith)) in let b : f n ≡ f q = ap f k in omega arith
+    go (inr k) ih = let a : sum_below n f ≡ f q = ih (omega arith) (λ r l. none r (omega arith)) in let b : f n ≡ 0 = none n (omega arith) k in omega arith
 
 -- a list at one place
 abbrev pub at_only : {X : Type 0} → ℕ → List X → ℕ → List X
@@ -69,5 +69,5 @@ module _ {X : Type 0} where
   every_reverse P [] e = tt
   every_reverse P (x ∷ xs) e = subst (Every P) (sym (reverse_onto xs x [])) (every_append P (reverse xs) (x ∷ []) (every_reverse P xs e.1) (e.0, tt))
 
-  pub weigh_at : (n p : ℕ) (h : X → ℕ) (xs : List X) → p < n → total n (λ q. weigh h (at_only p xs q)) ≡ weigh h xs
+  pub weigh_at : (n p : ℕ) (h : X → ℕ) (xs : List X) → p < n → sum_below n (λ q. weigh h (at_only p xs q)) ≡ weigh h xs
   weigh_at n p h xs l = total_one n p (λ q. weigh h (at_only p xs q)) l (λ r l k. ap (weigh h) (at_other p r xs k)) ∙ ap (weigh h) (at_here p xs)

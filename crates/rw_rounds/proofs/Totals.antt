@@ -6,16 +6,16 @@ use Rattle.std.specs.declared.cmp.Ordering.{Ordering}
 use Rattle.std.proofs.lemmas.Bool.{cases_eq, cases_Bool, eq-eqb, ne_eqb}
 use Rattle.rw_vt.specs.declared.event.Event.{Event}
 use Rattle.rw_vt.specs.declared.event.Letter.{Letter}
-use Rattle.rw_vt.specs.Order.{one_if}
+use Rattle.rw_vt.specs.Order.{one_if_same}
 use Rattle.rw_vt.specs.Letters.{messages, antis}
 use Rattle.rw_vt.specs.System.{map_from, flatten}
 use Rattle.rw_vt.proofs.Sorting.{IsExactOrder, tied}
 use Rattle.rw_vt.proofs.Bags.{one_if-other}
 use Rattle.rw_vt.proofs.Letters.{count-letter}
-use Rattle.rw_rounds.specs.Bags.{weigh, only, Every, total}
+use Rattle.rw_rounds.specs.Bags.{weigh, only, Every, sum_below}
 use Rattle.rw_rounds.proofs.Sums.{total_same, total_add, total_zero, total_one, weigh-append}
 
-pub total_none : (n : ℕ) (f : ℕ → ℕ) → total n f ≡ 0 → (i : ℕ) → i < n → f i ≡ 0
+pub total_none : (n : ℕ) (f : ℕ → ℕ) → sum_below n f ≡ 0 → (i : ℕ) → i < n → f i ≡ 0
 total_none zero f e i l = absurd (omega arith)
 total_none (suc n) f e i l = go (cases_eq i n) (total_none n f (omega arith))
   where
@@ -23,12 +23,12 @@ total_none (suc n) f e i l = go (cases_eq i n) (total_none n f (omega arith))
     go (inl q) ih = let a : f n ≡ 0 = omega arith in ap f q ∙ a
     go (inr q) ih = ih i (omega arith)
 
-pub total_swap : (m n : ℕ) (f : ℕ → ℕ → ℕ) → total m (λ i. total n (λ k. f i k)) ≡ total n (λ k. total m (λ i. f i k))
+pub total_swap : (m n : ℕ) (f : ℕ → ℕ → ℕ) → sum_below m (λ i. sum_below n (λ k. f i k)) ≡ sum_below n (λ k. sum_below m (λ i. f i k))
 total_swap zero n f = sym (total_zero n (λ _. 0) (λ i l. refl))
-total_swap (suc m) n f = omega (arith, total_swap m n f, total_add n (λ k. total m (λ i. f i k)) (λ k. f m k))
+total_swap (suc m) n f = omega (arith, total_swap m n f, total_add n (λ k. sum_below m (λ i. f i k)) (λ k. f m k))
 
 -- the first one apart
-total_first : (n : ℕ) (f : ℕ → ℕ) → total (suc n) f ≡ f 0 + total n (λ i. f (suc i))
+total_first : (n : ℕ) (f : ℕ → ℕ) → sum_below (suc n) f ≡ f 0 + sum_below n (λ i. f (suc i))
 total_first zero f = omega arith
 total_first (suc n) f = omega (arith, total_first n f)
 
@@ -42,12 +42,12 @@ module _ {X : Type 0} where
       go false k = omega arith
 
   -- lists each of which is one with more at its end
-  pub total_more : (h : X → ℕ) (n : ℕ) (x y z : ℕ → List X) → ((k : ℕ) → z k ≡ x k ++ y k) → total n (λ k. weigh h (z k)) ≡ total n (λ k. weigh h (x k)) + total n (λ k. weigh h (y k))
+  pub total_more : (h : X → ℕ) (n : ℕ) (x y z : ℕ → List X) → ((k : ℕ) → z k ≡ x k ++ y k) → sum_below n (λ k. weigh h (z k)) ≡ sum_below n (λ k. weigh h (x k)) + sum_below n (λ k. weigh h (y k))
   total_more h n x y z q =
       total_same n (λ k. weigh h (z k)) (λ k. weigh h (x k) + weigh h (y k)) (λ k l. ap (weigh h) (q k) ∙ weigh-append h (x k) (y k))
       ∙ total_add n (λ k. weigh h (x k)) (λ k. weigh h (y k))
 
-  pub total_split : (p : X → Bool) (h : X → ℕ) (n : ℕ) (x : ℕ → List X) → total n (λ k. weigh h (x k)) ≡ total n (λ k. weigh (only p h) (x k)) + total n (λ k. weigh (only (λ l. not (p l)) h) (x k))
+  pub total_split : (p : X → Bool) (h : X → ℕ) (n : ℕ) (x : ℕ → List X) → sum_below n (λ k. weigh h (x k)) ≡ sum_below n (λ k. weigh (only p h) (x k)) + sum_below n (λ k. weigh (only (λ l. not (p l)) h) (x k))
   total_split p h n x =
       total_same n (λ k. weigh h (x k)) (λ k. weigh (only p h) (x k) + weigh (only (λ l. not (p l)) h) (x k)) (λ k l. weigh_split p h (x k))
       ∙ total_add n (λ k. weigh (only p h) (x k)) (λ k. weigh (only (λ l. not (p l)) h) (x k))
@@ -77,7 +77,7 @@ module _ {X : Type 0} where
       go false q rest = rest
 
   -- each goes to one of n places, and what goes to each is taken together
-  pub weigh_by : (h : X → ℕ) (n : ℕ) (place : X → ℕ) → ((x : X) → place x < n) → (xs : List X) → total n (λ i. weigh h (filter (λ x. place x == i) xs)) ≡ weigh h xs
+  pub weigh_by : (h : X → ℕ) (n : ℕ) (place : X → ℕ) → ((x : X) → place x < n) → (xs : List X) → sum_below n (λ i. weigh h (filter (λ x. place x == i) xs)) ≡ weigh h xs
   weigh_by h n place below [] = total_zero n (λ _. 0) (λ i k. refl)
   weigh_by h n place below (x ∷ xs) =
       total_same n (λ i. weigh h (filter (λ u. place u == i) (x ∷ xs))) (λ i. cond (place x == i) (h x) 0 + weigh h (filter (λ u. place u == i) xs)) (λ i k. part i (place x == i))
@@ -88,29 +88,29 @@ module _ {X : Type 0} where
       part i true = refl
       part i false = omega arith
 
-      one : total n (λ i. cond (place x == i) (h x) 0) ≡ h x
+      one : sum_below n (λ i. cond (place x == i) (h x) 0) ≡ h x
       one =
           total_one n (place x) (λ i. cond (place x == i) (h x) 0) (below x) (λ i l k. ap (λ b. cond b (h x) 0) (ne_eqb (place x) i (λ q. k (sym q))))
           ∙ ap (λ b. cond b (h x) 0) (eq-eqb (place x) (place x) refl)
 
   -- lists by place, joined
-  weigh_from : {A : Type 0} (h : X → ℕ) (f : ℕ → List X) (k : ℕ) (us : List A) (g : ℕ → ℕ) → ((i : ℕ) → g i ≡ k + i) → weigh h (flatten (map_from k (λ q _. f q) us)) ≡ total (length us) (λ i. weigh h (f (g i)))
+  weigh_from : {A : Type 0} (h : X → ℕ) (f : ℕ → List X) (k : ℕ) (us : List A) (g : ℕ → ℕ) → ((i : ℕ) → g i ≡ k + i) → weigh h (flatten (map_from k (λ q _. f q) us)) ≡ sum_below (length us) (λ i. weigh h (f (g i)))
   weigh_from h f k [] g at = refl
   weigh_from h f k (u ∷ us) g at =
       let first : weigh h (f (g 0)) ≡ weigh h (f k) = ap (λ q. weigh h (f q)) (let e = at 0 in omega arith) in
       let ih = weigh_from h f (k + 1) us (λ i. g (suc i)) (λ i. let e = at (suc i) in omega arith) in
       omega (arith, weigh-append h (f k) (flatten (map_from (k + 1) (λ q _. f q) us)), total_first (length us) (λ i. weigh h (f (g i))))
 
-  pub weigh_joined : {A : Type 0} (h : X → ℕ) (f : ℕ → List X) (us : List A) → weigh h (flatten (map_from 0 (λ q _. f q) us)) ≡ total (length us) (λ i. weigh h (f i))
+  pub weigh_joined : {A : Type 0} (h : X → ℕ) (f : ℕ → List X) (us : List A) → weigh h (flatten (map_from 0 (λ q _. f q) us)) ≡ sum_below (length us) (λ i. weigh h (f i))
   weigh_joined h f us = weigh_from h f 0 us (λ i. i) (λ i. omega arith)
 
 module _ {B : Type 0} (cmp : Event B → Event B → Ordering) where
   -- 1 for the message of e, and 1 for its anti
   abbrev pub message : Event B → Letter B → ℕ
-  message e l = cond l.anti 0 (one_if cmp e l.event)
+  message e l = cond l.anti 0 (one_if_same cmp e l.event)
 
   abbrev pub anti : Event B → Letter B → ℕ
-  anti e l = cond l.anti (one_if cmp e l.event) 0
+  anti e l = cond l.anti (one_if_same cmp e l.event) 0
 
   pub messages_weigh : (e : Event B) (ls : List (Letter B)) → messages cmp e ls ≡ weigh (message e) ls
   messages_weigh e [] = refl

@@ -5,7 +5,7 @@ use Rattle.std.proofs.lemmas.Bool.{cases_lt, lt-ltb, le-ltb}
 use Rattle.rw_vt.specs.declared.event.Letter.{Letter}
 use Rattle.rw_vt.specs.System.{System}
 use Rattle.rw_exchange.specs.Ports.{sent_to, received_from}
-use Rattle.rw_rounds.specs.Bags.{weigh, only, Every, total}
+use Rattle.rw_rounds.specs.Bags.{weigh, only, Every, sum_below}
 use Rattle.rw_rounds.specs.Deeds.{IsFair, Goes, arrivals}
 use Rattle.rw_rounds.specs.Turns.{Role, WorkerState, owner, is_own, passes, process_at, TookTurn, TookTurns}
 use Rattle.rw_rounds.specs.Rounds.{Closes}
@@ -51,7 +51,7 @@ module _ {S B : Type 0} (y : System S B) where
     pub sent_fair : (k : ℕ) → k < r.plan.workers → Every (IsFair y r.collected) (sent_to x.port k)
     pub sent_there : (k : ℕ) → Every (λ l. owner r l ≡ k) (sent_to x.port k)
     pub noted : (f : ℕ) → Every (λ t. f ≤ t) x.seat.noted → (k : ℕ) → k < r.plan.workers → Every (λ l. f ≤ l.event.time) (sent_to x.port k)
-    pub aside_is : (h : Letter B → ℕ) → weigh h x.aside ≡ total r.plan.workers (λ k. weigh (only (λ l. not (passes y r l)) h) (received_from x.port k))
+    pub aside_is : (h : Letter B → ℕ) → weigh h x.aside ≡ sum_below r.plan.workers (λ k. weigh (only (λ l. not (passes y r l)) h) (received_from x.port k))
 
   -- from a to b the worker r, in a model of n processes, lost no letter and made none up
   pub record Worked {M : Type 0} (n : ℕ) (r : Role) (a b : WorkerState M S B) : Type 0 where
@@ -59,8 +59,8 @@ module _ {S B : Type 0} (y : System S B) where
     pub given : List (Letter B)
     pub gone : Gone y r.collected n (process_at r a.processes) (process_at r b.processes) arrived given
     pub balance : (h : Letter B → ℕ) →
-        weigh h arrived + weigh h b.inbox + weigh h b.kept + weigh h b.aside + total r.plan.workers (λ k. weigh h (sent_to b.port k)) + total r.plan.workers (λ k. weigh h (received_from a.port k))
-        ≡ weigh h given + weigh h a.inbox + weigh h a.kept + weigh h a.aside + total r.plan.workers (λ k. weigh h (sent_to a.port k)) + total r.plan.workers (λ k. weigh h (received_from b.port k))
+        weigh h arrived + weigh h b.inbox + weigh h b.kept + weigh h b.aside + sum_below r.plan.workers (λ k. weigh h (sent_to b.port k)) + sum_below r.plan.workers (λ k. weigh h (received_from a.port k))
+        ≡ weigh h given + weigh h a.inbox + weigh h a.kept + weigh h a.aside + sum_below r.plan.workers (λ k. weigh h (sent_to a.port k)) + sum_below r.plan.workers (λ k. weigh h (received_from b.port k))
 
   module _ {M : Type 0} {Started : ℕ → S → Type 0} (n : ℕ) (rule : (g : ℕ) → Governs y Started g n) where
     module _ (a b : WorkerState M S B) (executed : ℕ) (up : IsConsistent Started a.role a) (t : TookTurn y a b executed) where

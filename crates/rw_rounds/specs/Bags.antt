@@ -16,6 +16,6 @@ Every P [] = Unit {0}
 Every P (x ∷ xs) = P x × Every P xs
 
 -- f 0 + .. + f (n - 1)
-abbrev pub total : ℕ → (ℕ → ℕ) → ℕ
-total zero f = 0
-total (suc n) f = total n f + f n
+abbrev pub sum_below : ℕ → (ℕ → ℕ) → ℕ
+sum_below zero f = 0
+sum_below (suc n) f = sum_below n f + f n

@@ -14,7 +14,7 @@ use Rattle.rw_world.specs.Sound.{Sound}
 use Rattle.rw_world.specs.WorldState.{floor}
 use Rattle.rw_exchange.specs.Ports.{IsNew, IsWide, sent_to, received_from, sent_between, received_between}
 use Rattle.rw_rounds.specs.declared.plan.Plan.{Plan}
-use Rattle.rw_rounds.specs.Bags.{weigh, Every, total}
+use Rattle.rw_rounds.specs.Bags.{weigh, Every, sum_below}
 use Rattle.rw_rounds.specs.Turns.{Role, WorkerState, is_own, IsFit, TookTurns}
 
 -- what worker i is, where g is the greatest time collected
@@ -52,7 +52,7 @@ pub record AreOnTheirWay {M S B : Type 0} (ws : List (WorkerState M S B)) (lette
   -- what was left in the rings, by sender and receiver
   pub left : Worker → Worker → List (Letter B)
   pub settled : (i k : Worker) → i < length ws → k < length ws → received_between (map (λ w. w.port) ws) i k ++ left i k ≡ sent_between (map (λ w. w.port) ws) i k
-  pub letters_are : (h : Letter B → ℕ) → weigh h letters ≡ total (length ws) (λ i. total (length ws) (λ k. weigh h (left i k))) + weigh h (flatten (map (λ w. w.kept) ws)) + weigh h (flatten (map (λ w. w.aside) ws))
+  pub letters_are : (h : Letter B → ℕ) → weigh h letters ≡ sum_below (length ws) (λ i. sum_below (length ws) (λ k. weigh h (left i k))) + weigh h (flatten (map (λ w. w.kept) ws)) + weigh h (flatten (map (λ w. w.aside) ws))
 
 -- the workers of the plan take the parts x to the parts z
 pub record Round {M S B U : Type 0} (model : Ghosts M S B U) (order : B → B → Ordering) (plan : Plan) (x z : Parts M S B U) (least : Time) : Type 0 where
@@ -73,7 +73,7 @@ pub record Round {M S B U : Type 0} (model : Ghosts M S B U) (order : B → B �
   pub initial_are : z.initial ≡ x.initial
   pub collected_is : z.collected ≡ x.collected
   pub processes_are : (q : Process) → slice_get z.processes.items q ≡ slice_get (last (q % plan.workers)).processes (q / plan.workers)
-  pub letters_are : (h : Letter B → ℕ) → weigh h z.letters.items ≡ total plan.workers (λ i. total plan.workers (λ k. weigh h (left i k))) + total plan.workers (λ i. weigh h (last i).kept + weigh h (last i).aside)
+  pub letters_are : (h : Letter B → ℕ) → weigh h z.letters.items ≡ sum_below plan.workers (λ i. sum_below plan.workers (λ k. weigh h (left i k))) + sum_below plan.workers (λ i. weigh h (last i).kept + weigh h (last i).aside)
 
 -- What contracts see of a run between two rounds: the world, how it is run, and what the last round gave as its floor
 pub record SimState (M S B : Type 0) : Type 0 where

@@ -13,7 +13,7 @@ use Rattle.rw_lp.specs.Sound.{HasCollected}
 use Rattle.rw_exchange.specs.Ports.{PortState, SamePort, IsWide, sent_to, received_from}
 use Rattle.rw_board.specs.Seats.{SeatState}
 use Rattle.rw_rounds.specs.declared.plan.Plan.{Plan}
-use Rattle.rw_rounds.specs.Bags.{weigh, only, Every, total}
+use Rattle.rw_rounds.specs.Bags.{weigh, only, Every, sum_below}
 use Rattle.rw_rounds.specs.Deeds.{Deed, Goes, IsFair, arrivals, executions}
 
 -- who the worker is, how it is to work, and the greatest time collected
@@ -95,14 +95,14 @@ pub record TookTurn {M S B : Type 0} (y : System S B) (a b : WorkerState M S B) 
   pub received_more : (k : Worker) → received_from b.port k ≡ received_from a.port k ++ received k
   pub noted_more : b.seat.noted ≡ a.seat.noted ++ noted
   -- each once: those of the inbox, those received that pass the test, and those given out to its own processes
-  pub arrived : (h : Letter B → ℕ) → weigh h (arrivals deeds) ≡ weigh h a.inbox + total a.role.plan.workers (λ k. weigh (only (passes y a.role) h) (received k)) + weigh (only (is_own a.role) h) given
+  pub arrived : (h : Letter B → ℕ) → weigh h (arrivals deeds) ≡ weigh h a.inbox + sum_below a.role.plan.workers (λ k. weigh (only (passes y a.role) h) (received k)) + weigh (only (is_own a.role) h) given
   -- a received letter is set aside exactly where it fails the test
-  pub set_aside : (h : Letter B → ℕ) → weigh h b.aside ≡ weigh h a.aside + total a.role.plan.workers (λ k. weigh (only (λ l. not (passes y a.role l)) h) (received k))
+  pub set_aside : (h : Letter B → ℕ) → weigh h b.aside ≡ weigh h a.aside + sum_below a.role.plan.workers (λ k. weigh (only (λ l. not (passes y a.role l)) h) (received k))
   -- what was kept and what was given out to others was sent, or is kept
-  pub passed_on : (h : Letter B → ℕ) → weigh h a.kept + weigh (only (λ l. not (is_own a.role l)) h) given ≡ total a.role.plan.workers (λ k. weigh h (sent k)) + weigh h b.kept
+  pub passed_on : (h : Letter B → ℕ) → weigh h a.kept + weigh (only (λ l. not (is_own a.role l)) h) given ≡ sum_below a.role.plan.workers (λ k. weigh h (sent k)) + weigh h b.kept
   pub on_its_ring : (k : Worker) → Every (λ l. owner a.role l ≡ k) (sent k)
   -- a time is noted for each letter sent
-  pub notes : (h : ℕ → ℕ) → weigh h noted ≡ total a.role.plan.workers (λ k. weigh (λ l. h l.event.time) (sent k))
+  pub notes : (h : ℕ → ℕ) → weigh h noted ≡ sum_below a.role.plan.workers (λ k. weigh (λ l. h l.event.time) (sent k))
   pub executed : executions deeds ≡ n
   pub within : n ≤ a.role.plan.batch
   -- where it did not use up its batch, all that is pending is held back by the last reading and the window

@@ -14,7 +14,7 @@ use Rattle.rw_lp.specs.Sound.{SoundAt}
 use Rattle.rw_lp.specs.declared.step.StepFault.TheVariants.{Straggler}
 use Rattle.rw_exchange.specs.Ports.{SamePort, sent_to, received_from}
 use Rattle.rw_rounds.specs.declared.desk.Desk.{Desk}
-use Rattle.rw_rounds.specs.Bags.{weigh, only, Every, total}
+use Rattle.rw_rounds.specs.Bags.{weigh, only, Every, sum_below}
 use Rattle.rw_rounds.specs.Deeds.{Deed, Goes, arrivals, executions}
 use Rattle.rw_rounds.specs.Turns.{Role, WorkerState, owner, is_own, passes, process_at, IsFit}
 
@@ -49,11 +49,11 @@ pub record Works {M S B : Type 0} (y : System S B) (r : Role) (a b : WorkerState
   pub sent_more : (k : Worker) → sent_to b.port k ≡ sent_to a.port k ++ sent k
   pub received_more : (k : Worker) → received_from b.port k ≡ received_from a.port k ++ received k
   pub noted_more : b.seat.noted ≡ a.seat.noted ++ noted
-  pub arrived : (h : Letter B → ℕ) → weigh h (arrivals deeds) + weigh (only (is_own r) h) rest ≡ weigh (only (is_own r) h) at_hand + total r.plan.workers (λ k. weigh (only (passes y r) h) (received k)) + weigh (only (is_own r) h) given
-  pub set_aside : (h : Letter B → ℕ) → weigh h b.aside ≡ weigh h a.aside + total r.plan.workers (λ k. weigh (only (λ l. not (passes y r l)) h) (received k))
-  pub passed_on : (h : Letter B → ℕ) → weigh h a.kept + weigh (only (λ l. not (is_own r l)) h) at_hand + weigh (only (λ l. not (is_own r l)) h) given ≡ total r.plan.workers (λ k. weigh h (sent k)) + weigh h b.kept + weigh (only (λ l. not (is_own r l)) h) rest
+  pub arrived : (h : Letter B → ℕ) → weigh h (arrivals deeds) + weigh (only (is_own r) h) rest ≡ weigh (only (is_own r) h) at_hand + sum_below r.plan.workers (λ k. weigh (only (passes y r) h) (received k)) + weigh (only (is_own r) h) given
+  pub set_aside : (h : Letter B → ℕ) → weigh h b.aside ≡ weigh h a.aside + sum_below r.plan.workers (λ k. weigh (only (λ l. not (passes y r l)) h) (received k))
+  pub passed_on : (h : Letter B → ℕ) → weigh h a.kept + weigh (only (λ l. not (is_own r l)) h) at_hand + weigh (only (λ l. not (is_own r l)) h) given ≡ sum_below r.plan.workers (λ k. weigh h (sent k)) + weigh h b.kept + weigh (only (λ l. not (is_own r l)) h) rest
   pub on_its_ring : (k : Worker) → Every (λ l. owner r l ≡ k) (sent k)
-  pub notes : (h : ℕ → ℕ) → weigh h noted ≡ total r.plan.workers (λ k. weigh (λ l. h l.event.time) (sent k))
+  pub notes : (h : ℕ → ℕ) → weigh h noted ≡ sum_below r.plan.workers (λ k. weigh (λ l. h l.event.time) (sent k))
   pub executed : executions deeds ≡ n
   -- each process stays that of its model and its number
   pub named : (place : Position) (l z : LogicalProcess M S B) → slice_get a.processes place ≡ Some l → slice_get b.processes place ≡ Some z → (z.model ≡ l.model) × (z.number ≡ l.number)

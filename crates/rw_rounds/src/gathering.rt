@@ -3,7 +3,7 @@ ghost use Rattle.std.specs.VecDeque.{deque_capacity};
 ghost use Rattle.rw_vt.specs.declared.event.Letter.{Letter};
 ghost use Rattle.rw_vt.specs.System.{flatten};
 ghost use Rattle.rw_exchange.specs.Ports.{entry, IsOpening};
-ghost use Rattle.rw_rounds.specs.Bags.{weigh, total};
+ghost use Rattle.rw_rounds.specs.Bags.{weigh, sum_below};
 ghost use Rattle.rw_rounds.specs.Gathering.{IsGathered};
 
 use crate::desk::Desk;
@@ -180,7 +180,7 @@ fn join_letters<B: Copy>(
     kept: &[Vec<Letter<B>>],
     aside: &[Vec<Letter<B>>],
 ) -> Result<Vec<Letter<B>>, NoMemory>
-    ensures all { IfOk result (λ all. (h : Letter B → ℕ) → weigh h all.items ≡ total (length left.now) (λ i. total (length left.now) (λ k. weigh h (entry left.now i k))) + weigh h (flatten (map (λ k. k.items) kept.now)) + weigh h (flatten (map (λ a. a.items) aside.now))) }
+    ensures all { IfOk result (λ all. (h : Letter B → ℕ) → weigh h all.items ≡ sum_below (length left.now) (λ i. sum_below (length left.now) (λ k. weigh h (entry left.now i k))) + weigh h (flatten (map (λ k. k.items) kept.now)) + weigh h (flatten (map (λ a. a.items) aside.now))) }
 {
     let mut letters = Vec::new(alloc);
     for from in 0..left.workers() {
@@ -207,7 +207,7 @@ fn add_sent<B: Copy>(
     left: &Left<B>,
     from: usize,
 ) -> Result<(), NoMemory>
-    ensures more { OnOk result ((h : Letter B → ℕ) → weigh h letters.new.items ≡ weigh h letters.old.items + total (length left.now) (λ k. weigh h (entry left.now from k))) }
+    ensures more { OnOk result ((h : Letter B → ℕ) → weigh h letters.new.items ≡ weigh h letters.old.items + sum_below (length left.now) (λ k. weigh h (entry left.now from k))) }
 {
     for to in 0..left.workers() {
         letters.extend_from_slice(left.between(from, to))?;

@@ -8,7 +8,7 @@ use Rattle.std.specs.List.{slice_get, slice_set, All}
 use Rattle.std.specs.List.Sorted.{IsPermutation}
 use Rattle.rw_vt.specs.declared.event.Event.{Event}
 use Rattle.rw_vt.specs.Valid.{IsInRange}
-use Rattle.rw_vt.specs.System.{System, after, map_from, flatten, below}
+use Rattle.rw_vt.specs.System.{System, after, map_from, flatten, journal_below}
 use Rattle.rw_vt.proofs.Runs.{none_sent_back}
 use Rattle.rw_serial.proofs.Lists.{at_list}
 use Rattle.rw_serial.proofs.Midrun.{IsMidrun, begins, same_counts, next_there, next_least, next_valid, next_well_formed, start_of, state_there, added, after_x, midrun_step, copies_to_come}
@@ -73,8 +73,8 @@ module _ {E : Type 0} {cmp : E → E → Ordering} (o : IsExactOrder cmp) where
       by_test : (z : E) (zs : List E) (b : Bool) → is_gt (cmp z x) ≡ b → AtMost cmp x z → copies cmp z (z ∷ zs) ≡ copies cmp z Q → copies cmp z Q ≤ copies cmp z whole
           → left_from cmp whole (z ∷ zs) < copies cmp x P + greater cmp x whole
       by_test z zs true above low counts fit = let all = all_above x z above low whole in omega arith
-      by_test z zs false below low counts fit =
-          let same : x ≡ z = at_most_both o x z low below in
+      by_test z zs false journal_below low counts fit =
+          let same : x ≡ z = at_most_both o x z low journal_below in
           let here = ap (λ w. copies cmp w Q) same in
           let others = ap (λ w. greater cmp w whole) same in
           omega arith
@@ -97,9 +97,9 @@ module _ {S B : Type 0} {y : System S B} {WellFormed : ℕ → S → Type 0} {ss
       → ((s : S) → slice_get ss x.to ≡ Some s → sent ≡ (y.step x.to s x).1)
       → IsPermutation (R ++ sent) Q
       → (t : ℕ) → ((e : Event B) → IsInRange (length y.starts) e → e.time < t)
-      → left y.order (flatten (map_from 0 (λ q _. below y t q) y.starts)) Q < left y.order (flatten (map_from 0 (λ q _. below y t q) y.starts)) P
+      → left y.order (flatten (map_from 0 (λ q _. journal_below y t q) y.starts)) Q < left y.order (flatten (map_from 0 (λ q _. journal_below y t q) y.starts)) P
   midrun_falls ss' js' sent Q states journals sends joined t times =
-      left_falls o (flatten (map_from 0 (λ q _. below y t q) y.starts)) P Q x (next_there run taken least) (next_least run taken least) later fewer room
+      left_falls o (flatten (map_from 0 (λ q _. journal_below y t q) y.starts)) P Q x (next_there run taken least) (next_least run taken least) later fewer room
     where
       o : IsExactOrder y.order
       o = run.law.exact
@@ -124,5 +124,5 @@ module _ {S B : Type 0} {y : System S B} {WellFormed : ℕ → S → Type 0} {ss
           let none = none_sent_back run.law x.to s x x (next_well_formed run taken least s there) (next_valid run taken least) refl (omega arith) in
           omega (arith, none, same_counts run taken least x, copies-head o x R, added run taken least s there ss' js' Q (states s there) journals goes_on x)
 
-      room : (z : Event B) → Has y.order Q z → ((b : Event B) → Has y.order Q b → AtMost y.order z b) → copies y.order z Q ≤ copies y.order z (flatten (map_from 0 (λ q _. below y t q) y.starts))
+      room : (z : Event B) → Has y.order Q z → ((b : Event B) → Has y.order Q b → AtMost y.order z b) → copies y.order z Q ≤ copies y.order z (flatten (map_from 0 (λ q _. journal_below y t q) y.starts))
       room z here first = copies_to_come next z here first t (times z (next.law.inside z (next.mid.sound z here)))

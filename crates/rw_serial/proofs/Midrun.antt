@@ -9,7 +9,7 @@ use Rattle.std.specs.List.Sorted.{IsPermutation}
 use Rattle.rw_vt.specs.declared.event.Event.{Event}
 use Rattle.rw_vt.specs.Valid.{IsInRange, IsSentBy}
 use Rattle.rw_vt.specs.Order.{AtMost, copies, Has, IsAscending}
-use Rattle.rw_vt.specs.System.{System, after, outs, map_from, flatten, all_sent, slice, below, IsOutcome, Meets}
+use Rattle.rw_vt.specs.System.{System, after, outs, map_from, flatten, all_sent, slice, journal_below, IsOutcome, Meets}
 use Rattle.rw_vt.proofs.Sorting.{IsExactOrder, IsAscending-append, IsAscending-in_order, copies-append, copies-filter, copies-in_order, absent, Has-append, Has-head, Has-cons, each_of_all, at_most_chain, at_most_both, at_most_itself}
 use Rattle.rw_vt.proofs.Runs.{IsLawful, Fits_at, earlier_at_most, outs-append, after-append, well_formed_after, copies_joined}
 use Rattle.rw_serial.proofs.Complete.{IsMidway, complete, below_more, Has-slice}
@@ -110,15 +110,15 @@ module _ {S B : Type 0} {y : System S B} {WellFormed : ℕ → S → Type 0} {ss
   early : (p : ℕ) (a : Event B) → Has y.order (at_list js p) a → a.time ≤ x.time
   early p a h = run.law.by_time a x (run.mid.ahead p a x h there)
 
-  so_far : (q : ℕ) → at_list js q ++ slice y P x.time q ≡ below y (suc x.time) q
+  so_far : (q : ℕ) → at_list js q ++ slice y P x.time q ≡ journal_below y (suc x.time) q
   so_far q = complete y run.law (at_list js) P run.mid x.time late early q
 
   -- what is to come at each process
-  to_come : (t : ℕ) → x.time < t → (q : ℕ) → (rest : List (Event B)) × (below y t q ≡ (at_list js q ++ slice y P x.time q) ++ rest)
+  to_come : (t : ℕ) → x.time < t → (q : ℕ) → (rest : List (Event B)) × (journal_below y t q ≡ (at_list js q ++ slice y P x.time q) ++ rest)
   to_come t l q =
       let more = below_more y run.law (suc x.time) (t - suc x.time) q in
       let e : t ≡ (t - suc x.time) + suc x.time = omega arith in
-      (more.0, ap (λ n. below y n q) e ∙ more.1 ∙ ap (λ l. l ++ more.0) (sym (so_far q)))
+      (more.0, ap (λ n. journal_below y n q) e ∙ more.1 ∙ ap (λ l. l ++ more.0) (sym (so_far q)))
 
   -- each copy of x that is pending is in its slice
   slice_copies : copies y.order x (slice y P x.time x.to) ≡ copies y.order x P
@@ -130,13 +130,13 @@ module _ {S B : Type 0} {y : System S B} {WellFormed : ℕ → S → Type 0} {ss
       both_hold a b n = grind (arith, nat_tests)
 
   -- and so among all events of the whole run
-  pub copies_to_come : (t : ℕ) → x.time < t → copies y.order x P ≤ copies y.order x (flatten (map_from 0 (λ q _. below y t q) y.starts))
+  pub copies_to_come : (t : ℕ) → x.time < t → copies y.order x P ≤ copies y.order x (flatten (map_from 0 (λ q _. journal_below y t q) y.starts))
   copies_to_come t l =
       let o = run.law.exact in
       let c = to_come t l x.to in
       let start = there_below y.starts x.to (run.law.inside x (run.mid.sound x there)).to in
-      let in_place : copies y.order x (below y t x.to) ≤ copies y.order x (flatten (map_from 0 (λ q _. below y t q) y.starts)) =
-      subst (λ n. copies y.order x (below y t n) ≤ copies y.order x (flatten (map_from 0 (λ q _. below y t q) y.starts))) (zero-add x.to) (copies_place o x 0 x.to (λ q _. below y t q) y.starts start.0 start.1) in
+      let in_place : copies y.order x (journal_below y t x.to) ≤ copies y.order x (flatten (map_from 0 (λ q _. journal_below y t q) y.starts)) =
+      subst (λ n. copies y.order x (journal_below y t n) ≤ copies y.order x (flatten (map_from 0 (λ q _. journal_below y t q) y.starts))) (zero-add x.to) (copies_place o x 0 x.to (λ q _. journal_below y t q) y.starts start.0 start.1) in
       let whole = ap (copies y.order x) c.1 in
       omega (arith, in_place, whole, slice_copies, copies-append o x (at_list js x.to ++ slice y P x.time x.to) c.0, copies-append o x (at_list js x.to) (slice y P x.time x.to))
 
@@ -310,13 +310,13 @@ module _ {S B : Type 0} {y : System S B} {WellFormed : ℕ → S → Type 0} {ss
 -- with nothing pending, the run is done
 module _ {S B : Type 0} {y : System S B} {WellFormed : ℕ → S → Type 0} {ss : List S} {js : List (List (Event B))} {P : List (Event B)} (run : IsMidrun y WellFormed ss js P) where
   pub midrun_done : (t u : ℕ) → t ≡ suc u → ((e : Event B) → IsInRange (length y.starts) e → e.time < t) → P ≡ [] → IsOutcome y t js ss
-  midrun_done t u t_is times none = record { journals_are = journals_are; states_are = run.states_are ∙ map_from_same 0 (λ q s. after (y.step q) s (at_list js q)) (λ q s. after (y.step q) s (below y t q)) y.starts (λ i j s m e. ap (after (y.step j) s) (whole j)) }
+  midrun_done t u t_is times none = record { journals_are = journals_are; states_are = run.states_are ∙ map_from_same 0 (λ q s. after (y.step q) s (at_list js q)) (λ q s. after (y.step q) s (journal_below y t q)) y.starts (λ i j s m e. ap (after (y.step j) s) (whole j)) }
     where
       early : (p : ℕ) (a : Event B) → Has y.order (at_list js p) a → a.time ≤ u
       early p a h = let l = times a (run.law.inside a (run.mid.story.fit p a h).1) in omega arith
 
-      whole : (q : ℕ) → at_list js q ≡ below y t q
-      whole q = sym (append-nil (at_list js q)) ∙ complete y run.law (at_list js) [] (subst (λ l. IsMidway y (at_list js) l) none run.mid) u (λ a h. absurd (omega arith)) early q ∙ ap (λ n. below y n q) (sym t_is)
+      whole : (q : ℕ) → at_list js q ≡ journal_below y t q
+      whole q = sym (append-nil (at_list js q)) ∙ complete y run.law (at_list js) [] (subst (λ l. IsMidway y (at_list js) l) none run.mid) u (λ a h. absurd (omega arith)) early q ∙ ap (λ n. journal_below y n q) (sym t_is)
 
-      journals_are : js ≡ map_from 0 (λ q _. below y t q) y.starts
-      journals_are = as_family 0 y.starts js (below y t) run.count (λ i. ap (below y t) (zero-add i) ∙ sym (whole i))
+      journals_are : js ≡ map_from 0 (λ q _. journal_below y t q) y.starts
+      journals_are = as_family 0 y.starts js (journal_below y t) run.count (λ i. ap (journal_below y t) (zero-add i) ∙ sym (whole i))

@@ -16,7 +16,7 @@ use Rattle.std.proofs.lemmas.List.MinMax.{ranks_by}
 use Rattle.std.proofs.lemmas.List.Sorted.{sorted_far, length_permutation, sum_by-IsPermutation, IsPermutation-trans, IsPermutation-append_right, IsPermutation-map, IsPermutation-middle}
 use Rattle.std.proofs.lemmas.List.Elements.{All-append, All-map, All-nil, All-weaker, All-from_recursion}
 use Rattle.std.proofs.lemmas.Option.{IfSome_then}
-use Rattle.rw_vt.specs.Order.{AtMost, one_if, copies}
+use Rattle.rw_vt.specs.Order.{AtMost, one_if_same, copies}
 
 not_below : (r : Ordering) → is_lt r ≡ false → is_gt (ordering_reverse r) ≡ false
 not_below Less h = absurd (true≢false h)
@@ -51,10 +51,10 @@ module _ {E : Type 0} {cmp : E → E → Ordering} (o : IsTotalOrder cmp) where
 
 -- counts do not depend on the order
 pub copies-IsPermutation : {E : Type 0} (cmp : E → E → Ordering) (e : E) (xs ys : List E) → IsPermutation xs ys → copies cmp e xs ≡ copies cmp e ys
-copies-IsPermutation {E} cmp e xs ys h = as_sum xs ∙ sym (sum_by-IsPermutation (one_if cmp e) xs ys h) ∙ sym (as_sum ys)
+copies-IsPermutation {E} cmp e xs ys h = as_sum xs ∙ sym (sum_by-IsPermutation (one_if_same cmp e) xs ys h) ∙ sym (as_sum ys)
   where
-    as_sum : (zs : List E) → copies cmp e zs ≡ sum_by (one_if cmp e) zs
-    as_sum zs = is_sum_by (copies cmp e) (one_if cmp e) refl (λ z zs. refl) zs
+    as_sum : (zs : List E) → copies cmp e zs ≡ sum_by (one_if_same cmp e) zs
+    as_sum zs = is_sum_by (copies cmp e) (one_if_same cmp e) refl (λ z zs. refl) zs
 
 -- What the first initial event and the top of the heap say of all that is pending
 

@@ -1,6 +1,6 @@
 // Insertions and promotions, as calls whose states, answers and marks are compared, and whose trails are rewound.
 ghost use Rattle.std.specs.Prelude.{◌≡◌, ◌≢◌, OnOk, IfOk, IfSome};
-ghost use Rattle.rw_blocks.specs.Loose.{IsWellFormed};
+ghost use Rattle.rw_blocks.specs.Loose.{IsWellFormedQueue};
 ghost use Rattle.rw_blocks.specs.State.{start_of};
 ghost use Rattle.rw_ripq.specs.Trail.{Leads};
 ghost use Rattle.rw_ripq.specs.declared.Policy.TheVariants.{Off};
@@ -45,10 +45,10 @@ fn make(
     policy: Policy,
     call: Call,
 ) -> Result<Option<(Trail, Answer)>, Refusal>
-    requires well_formed { IsWellFormed queue.old }
+    requires well_formed { IsWellFormedQueue queue.old }
     requires stores { policy ≢ Off }
     ensures leads { IfOk result (λ done. IfSome done (λ d. Leads d.0 queue.old queue.new)) }
-    ensures kept { OnOk result (IsWellFormed queue.new) }
+    ensures kept { OnOk result (IsWellFormedQueue queue.new) }
 {
     let (_, block, _) = queue.shape();
     match call {
@@ -80,10 +80,10 @@ fn follow<R: Abort>(
     policy: Policy,
     example: &Example,
 ) -> Result<Trail, Refusal>
-    requires well_formed { IsWellFormed queue.old }
+    requires well_formed { IsWellFormedQueue queue.old }
     requires stores { policy ≢ Off }
     ensures leads { IfOk result (λ trail. Leads trail queue.old queue.new) }
-    ensures kept { OnOk result (IsWellFormed queue.new) }
+    ensures kept { OnOk result (IsWellFormedQueue queue.new) }
 {
     let (trail, answer) = make(alloc, queue, policy, example.call)?.expect(
         rt,
@@ -107,7 +107,7 @@ fn replay<R: Abort>(
     before: &str,
     examples: &[Example],
 ) -> Result<(), Refusal>
-    requires well_formed { IsWellFormed queue.old }
+    requires well_formed { IsWellFormedQueue queue.old }
     requires stores { policy ≢ Off }
     ensures { OnOk result (queue.new ≡ queue.old) }
 {
@@ -129,9 +129,9 @@ fn forward<R: Abort>(
     policy: Policy,
     examples: &[Example],
 ) -> Result<(), Refusal>
-    requires well_formed { IsWellFormed queue.old }
+    requires well_formed { IsWellFormedQueue queue.old }
     requires stores { policy ≢ Off }
-    ensures { OnOk result (IsWellFormed queue.new) }
+    ensures { OnOk result (IsWellFormedQueue queue.new) }
 {
     for example in examples {
         make(alloc, queue, policy, example.call)?.expect(rt, "the condition holds");
@@ -328,7 +328,7 @@ const SPLIT: &str =
 const SEALED_BOTH: &str = "S0 {3, 2, [0d, 1v]}, 1 (6, 0, 1), 2 (4, 0, 0), next 4";
 
 fn opened(alloc: Global, sections: u64, blocks: u64) -> Result<Queue, Fail>
-    ensures { IfOk result (λ q. IsWellFormed q) }
+    ensures { IfOk result (λ q. IsWellFormedQueue q) }
 {
     let shape = Shape::new(sections, 10, blocks).ok_or("shape")?;
     Ok(Queue::new(alloc, shape)?)
@@ -336,7 +336,7 @@ fn opened(alloc: Global, sections: u64, blocks: u64) -> Result<Queue, Fail>
 
 /// The queue after the splits.
 fn split<R: Abort>(rt: &R, alloc: Global) -> Result<Queue, Fail>
-    ensures { IfOk result (λ q. IsWellFormed q) }
+    ensures { IfOk result (λ q. IsWellFormedQueue q) }
 {
     let mut queue = opened(alloc, 4, 8)?;
     forward(rt, alloc, &mut queue, Policy::Lru, &SPLITS)?;
@@ -345,9 +345,9 @@ fn split<R: Abort>(rt: &R, alloc: Global) -> Result<Queue, Fail>
 
 /// Makes a sealed virtual block behind a sealed device block, by primitives.
 fn seal_both(queue: &mut Queue) -> Result<(), NoMemory>
-    requires well_formed { IsWellFormed queue.old }
+    requires well_formed { IsWellFormedQueue queue.old }
     requires start { queue.old ≡ start_of (record { sections = 1; block = 10; blocks = 1 }) }
-    ensures { OnOk result (IsWellFormed queue.new) }
+    ensures { OnOk result (IsWellFormedQueue queue.new) }
 {
     queue.add(1, 6, 0)?;
     queue.replace(1, 0)?;
@@ -359,7 +359,7 @@ fn seal_both(queue: &mut Queue) -> Result<(), NoMemory>
 
 /// A queue of one section with them.
 fn with_sealed_virtual(alloc: Global) -> Result<Queue, Fail>
-    ensures { IfOk result (λ q. IsWellFormed q) }
+    ensures { IfOk result (λ q. IsWellFormedQueue q) }
 {
     let shape = Shape::new(1, 10, 1).ok_or("shape")?;
     let mut queue = Queue::new(alloc, shape)?;
@@ -376,7 +376,7 @@ fn to_and_fro<R: Abort>(
     examples: &[Example],
     queue: Queue,
 ) -> Result<(), Fail>
-    requires well_formed { IsWellFormed queue }
+    requires well_formed { IsWellFormedQueue queue }
     requires stores { policy ≢ Off }
 {
     let mut queue = queue;
@@ -441,7 +441,7 @@ fn segments_take_a_hit(rt: HostRuntime) -> Result<(), Fail> {
 
 /// The levels of objects 1 to 5.
 fn levels(queue: &Queue) -> [Option<u8>; 5]
-    requires { IsWellFormed queue.now }
+    requires { IsWellFormedQueue queue.now }
 {
     [
         level_of(queue, 1),
@@ -454,7 +454,7 @@ fn levels(queue: &Queue) -> [Option<u8>; 5]
 
 /// Where each level of segments goes, and where least recently used does.
 fn targets(queue: &Queue) -> [u32; 4]
-    requires { IsWellFormed queue.now }
+    requires { IsWellFormedQueue queue.now }
 {
     [
         target(queue, Policy::Slru3, 1),

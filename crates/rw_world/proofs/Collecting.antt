@@ -18,7 +18,7 @@ use Rattle.rw_lp.specs.Process.{ProcessState, done}
 use Rattle.rw_lp.specs.Sound.{SoundAt}
 use Rattle.rw_lp.proofs.Committing.{done_stays, collect_keeps}
 use Rattle.rw_world.specs.WorldState.{WorldState, floor}
-use Rattle.rw_world.specs.Steps.{refuse, collect}
+use Rattle.rw_world.specs.Steps.{refuse, collect_to}
 use Rattle.rw_world.specs.Sound.{held_in, Sound, IsQuiet, Balanced, part, done_of, pending_of, debts_of}
 use Rattle.rw_world.proofs.Outstanding.{quiet_to_floor}
 
@@ -86,7 +86,7 @@ module _ {S B : Type 0} (y : System S B) {WellFormed : ℕ → S → Type 0} (la
       balance = collected_balance;
     }
 
-  pub collect_sound : (w : WorldState S B) → Sound y w → Sound y (collect w t).0
+  pub collect_sound : (w : WorldState S B) → Sound y w → Sound y (collect_to w t).0
   collect_sound w sound = go (nat_le t (floor w)) refl
     where
       go : (b : Bool) → nat_le t (floor w) ≡ b → Sound y (cond {A = WorldState S B × Answer} b (record { processes = map (process.collect t) w.processes; letters = w.letters; collected = max w.collected t }, Done) (refuse w AboveFloor)).0

@@ -14,7 +14,7 @@ use Rattle.rw_lp.specs.Calls.{LogicalProcess}
 use Rattle.rw_world.specs.declared.parts.Parts.{Parts}
 use Rattle.rw_world.specs.declared.step.Step.TheVariants.{Collect}
 use Rattle.rw_world.specs.WorldState.{WorldState, floor}
-use Rattle.rw_world.specs.Steps.{collect}
+use Rattle.rw_world.specs.Steps.{collect_to}
 use Rattle.rw_world.specs.Sound.{IsQuiet, part}
 use Rattle.rw_world.specs.Calls.{collected, system_of, with_world, world_of, simulation_of, AreNumbered, IsWhole, Made}
 use Rattle.rw_world.proofs.Wholes.{Laws, law_of}
@@ -73,7 +73,7 @@ module _ {M S B U : Type 0} {model : Ghosts M S B U} {order : B → B → Orderi
       let test : nat_le t (floor (world_of x)) ≡ true = le-leb t (floor (world_of x)) h in
       let processes_are : map (λ l. l.process) z.processes.items ≡ map (process.collect t) (world_of x).processes = ap (map (λ l. l.process)) all ∙ same_processes t x.processes.items in
       let world_is : world_of z ≡ now = rw (processes_are, same_letters, later) refl in
-      let made : collect (world_of x) t ≡ (now, Done) = rw test refl in
+      let made : collect_to (world_of x) t ≡ (now, Done) = rw test refl in
       record {
         world = rw (same_model, same_starts, same_initial, world_is) (ap (λ r. with_world (simulation_of x) r.0) (sym made));
         answered = sym (ap (λ r. r.1) made);

@@ -3,7 +3,7 @@ use Rattle.std.proofs.Common.{◌≡◌, ℕ, ◌+◌, refl, arith, Option, Some
 use Rattle.std.specs.Prelude.{filter, nat_lt, slice_get}
 use Rattle.rw_vt.specs.Order.{copies, Each, IsAscending}
 use Rattle.rw_vt.specs.Letters.{messages, antis}
-use Rattle.rw_vt.specs.System.{System, below}
+use Rattle.rw_vt.specs.System.{System, journal_below}
 use Rattle.rw_vt.proofs.Bags.{none_if, Each-nil, Each-append}
 use Rattle.rw_vt.proofs.Runs.{IsLawful}
 use Rattle.rw_vt.proofs.Slices.{IsStory, IsExactBelow, agree_below}
@@ -40,5 +40,5 @@ module _ {S B : Type 0} (y : System S B) {WellFormed : ℕ → S → Type 0} (la
       omega (arith, sound.balance e)
 
   -- the done events of time below t are those of the run in time order
-  pub done_below : (t : ℕ) → IsQuiet y t w → (q : ℕ) → filter (λ e. nat_lt e.time t) (done_of w.processes q) ≡ below y t q
+  pub done_below : (t : ℕ) → IsQuiet y t w → (q : ℕ) → filter (λ e. nat_lt e.time t) (done_of w.processes q) ≡ journal_below y t q
   done_below t quiet q = agree_below y law (done_of w.processes) story t (exact t quiet) t (omega arith) q

@@ -16,7 +16,7 @@ use Rattle.rw_lp.specs.declared.step.Answer.TheVariants.{Done, Refused}
 use Rattle.rw_world.specs.declared.step.Step.{Step}
 use Rattle.rw_world.specs.declared.step.Step.TheVariants.{Execute, Undo, Deliver, Collect}
 use Rattle.rw_world.specs.WorldState.{WorldState, floor}
-use Rattle.rw_world.specs.Steps.{refuse, turned, turn, remove_at, deliver_to, deliver, apply}
+use Rattle.rw_world.specs.Steps.{refuse, turned, turn, remove_at, deliver_to, deliver_letter, apply}
 use Rattle.rw_world.specs.Faults.{Applies}
 
 absent : {A : Type 0} (xs : List A) (p : ℕ) → slice_get xs p ≡ None → length xs ≤ p
@@ -103,7 +103,7 @@ module _ {S B : Type 0} (y : System S B) (w : WorldState S B) where
         at_process l here None there e = let h = absent w.processes l.event.to there in let k = inside i l here in absurd (omega arith)
         at_process l here (Some x) there e = at_letter l x here there l.anti refl e
 
-        go : (o : Option (Letter B)) → slice_get w.letters i ≡ o → (deliver y w i o).1 ≡ Refused g → Applies y.order w (Deliver i) g
+        go : (o : Option (Letter B)) → slice_get w.letters i ≡ o → (deliver_letter y w i o).1 ≡ Refused g → Applies y.order w (Deliver i) g
         go None at e = same_fault (Deliver i) NoSuchLetter g e (record { number = i; step_is = refl; absent = absent w.letters i at })
         go (Some l) at e = at_process l at (slice_get w.processes l.event.to) refl e
 
@@ -123,7 +123,7 @@ module _ {S B : Type 0} (y : System S B) (w : WorldState S B) where
       go : (step ≡ Execute h.number) ⊎ (step ≡ Undo h.number) → (apply y w step).1 ≡ Refused NoSuchProcess
       go (inl is) = ap (λ s. (apply y w s).1) is ∙ ap (λ o. (turn w h.number (execute_next y h.number) o).1) none
       go (inr is) = ap (λ s. (apply y w s).1) is ∙ ap (λ o. (turn w h.number (undo_one y h.number) o).1) none
-  refuses step NoSuchLetter h = ap (λ s. (apply y w s).1) h.step_is ∙ ap (λ o. (deliver y w h.number o).1) (none_past w.letters h.number h.absent)
+  refuses step NoSuchLetter h = ap (λ s. (apply y w s).1) h.step_is ∙ ap (λ o. (deliver_letter y w h.number o).1) (none_past w.letters h.number h.absent)
   refuses step NothingPending h =
       ap (λ s. (apply y w s).1) h.step_is
       ∙ ap (λ o. (turn w h.number (execute_next y h.number) o).1) h.there
@@ -140,7 +140,7 @@ module _ {S B : Type 0} (y : System S B) (w : WorldState S B) where
   refuses step StillDone h =
       let owed : Turn S B = Turned (with_bags h.process h.process.pending (insert_in_order y.order h.letter.event h.process.debts) h.process.held) [] in
       ap (λ s. (apply y w s).1) h.step_is
-      ∙ ap (λ o. (deliver y w h.number o).1) h.letter_there
+      ∙ ap (λ o. (deliver_letter y w h.number o).1) h.letter_there
       ∙ ap (λ o. (deliver_to y w h.number h.letter o).1) h.there
       ∙ ap (λ b. (turned w h.letter.event.to (remove_at w.letters h.number) (cond b (deliver_anti y.order h.letter.event h.process) (deliver_message y.order h.letter.event h.process))).1) h.anti
       ∙ ap (λ b. (turned w h.letter.event.to (remove_at w.letters h.number) (cond b (annihilate y.order h.letter.event h.process) (cond (has y.order h.letter.event h.process.processed) (Stays StillDone) owed))).1) h.not_pending

@@ -5,7 +5,7 @@ use Rattle.std.specs.List.{list_any, filter}
 use Rattle.std.specs.Ordering.{nat_cmp, ordering_then}
 use Rattle.rw_vt.specs.declared.event.Event.{Event}
 use Rattle.rw_vt.specs.Order.{event_cmp}
-use Rattle.rw_vt.specs.System.{System, below}
+use Rattle.rw_vt.specs.System.{System, journal_below}
 use Rattle.rw_lp.specs.declared.step.StepFault.TheVariants.{Straggler, StillDone, AboveFloor, NothingToUndo}
 use Rattle.rw_lp.specs.declared.step.Answer.TheVariants.{Done, Refused}
 use Rattle.rw_world.specs.declared.step.Step.{Step}
@@ -79,6 +79,6 @@ answers_above_floor : answers one (opened one) (Collect 5 ∷ Collect 6 ∷ Exec
 answers_above_floor = refl
 
 -- the run in time order, to time 22
-below_in_time_order : below two 22 0 ≡ photo 5 0 0 0 0 7 ∷ photo 5 0 1 0 0 8 ∷ photo 21 2 0 0 2 7 ∷ photo 21 2 1 0 2 8 ∷ []
-unfolding below
+below_in_time_order : journal_below two 22 0 ≡ photo 5 0 0 0 0 7 ∷ photo 5 0 1 0 0 8 ∷ photo 21 2 0 0 2 7 ∷ photo 21 2 1 0 2 8 ∷ []
+unfolding journal_below
 below_in_time_order = refl

@@ -3,7 +3,7 @@ use Rattle.std.proofs.Common.{◌≡◌, ℕ, zero, suc, ◌+◌, ◌-◌, ◌�
 use Rattle.std.specs.Prelude.{slice_get, nat_le}
 use Rattle.rw_vt.specs.declared.event.Event.{Event}
 use Rattle.rw_vt.specs.declared.event.Letter.{Letter}
-use Rattle.rw_vt.specs.System.{System, all_sent, slice, below}
+use Rattle.rw_vt.specs.System.{System, all_sent, slice, journal_below}
 use Rattle.rw_vt.proofs.Runs.{IsLawful}
 use Rattle.rw_lp.specs.declared.step.Answer.{Answer}
 use Rattle.rw_lp.specs.declared.step.Answer.TheVariants.{Done}
@@ -13,26 +13,26 @@ use Rattle.rw_lp.specs.Process.{ProcessState, Turn, Turned, Stays, execute_next,
 use Rattle.rw_world.specs.declared.step.Step.{Step}
 use Rattle.rw_world.specs.declared.step.Step.TheVariants.{Execute, Undo, Deliver, Collect}
 use Rattle.rw_world.specs.WorldState.{WorldState, floor}
-use Rattle.rw_world.specs.Steps.{refuse, turned, turn, remove_at, deliver_to, deliver, apply}
+use Rattle.rw_world.specs.Steps.{refuse, turned, turn, remove_at, deliver_to, deliver_letter, apply}
 use Rattle.rw_world.specs.Sound.{Sound}
 use Rattle.rw_world.proofs.Outcomes.{in_order}
 use Rattle.rw_world.proofs.Schedules.{apply_sound}
 
 module _ {S B : Type 0} (y : System S B) where
-  below_more : (s k q : ℕ) → (rest : List (Event B)) × (below y s q ++ rest ≡ below y (s + k) q)
-  unfolding below
-  below_more s zero q = ([], append-nil (below y s q) ∙ ap (λ n. below y n q) (let e : s ≡ s + 0 = omega arith in e))
+  below_more : (s k q : ℕ) → (rest : List (Event B)) × (journal_below y s q ++ rest ≡ journal_below y (s + k) q)
+  unfolding journal_below
+  below_more s zero q = ([], append-nil (journal_below y s q) ∙ ap (λ n. journal_below y n q) (let e : s ≡ s + 0 = omega arith in e))
   below_more s (suc k) q =
       let r = below_more s k q in
-      let next = slice y (all_sent y (λ p. below y (s + k) p)) (s + k) q in
+      let next = slice y (all_sent y (λ p. journal_below y (s + k) p)) (s + k) q in
       let e : suc (s + k) ≡ s + suc k = omega arith in
-      (r.0 ++ next, sym (append_assoc (below y s q) r.0 next) ∙ ap (λ l. l ++ next) r.1 ∙ ap (λ n. below y n q) e)
+      (r.0 ++ next, sym (append_assoc (journal_below y s q) r.0 next) ∙ ap (λ l. l ++ next) r.1 ∙ ap (λ n. journal_below y n q) e)
 
-  pub below_prefix : (s t q : ℕ) → s ≤ t → (rest : List (Event B)) × (below y s q ++ rest ≡ below y t q)
+  pub below_prefix : (s t q : ℕ) → s ≤ t → (rest : List (Event B)) × (journal_below y s q ++ rest ≡ journal_below y t q)
   below_prefix s t q h =
       let r = below_more s (t - s) q in
       let e : s + (t - s) ≡ t = omega arith in
-      (r.0, r.1 ∙ ap (λ n. below y n q) e)
+      (r.0, r.1 ∙ ap (λ n. journal_below y n q) e)
 
   module _ (w : WorldState S B) where
     at_turned : (p : ℕ) (left : List (Letter B)) (t : Turn S B) → w.collected ≤ (turned w p left t).0.collected
@@ -47,7 +47,7 @@ module _ {S B : Type 0} (y : System S B) where
     at_place i l None = omega arith
     at_place i l (Some x) = at_turned l.event.to (remove_at w.letters i) (process.deliver y.order l x)
 
-    at_deliver : (i : ℕ) (o : Option (Letter B)) → w.collected ≤ (deliver y w i o).0.collected
+    at_deliver : (i : ℕ) (o : Option (Letter B)) → w.collected ≤ (deliver_letter y w i o).0.collected
     at_deliver i None = omega arith
     at_deliver i (Some l) = at_place i l (slice_get w.processes l.event.to)
 

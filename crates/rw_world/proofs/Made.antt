@@ -20,7 +20,7 @@ use Rattle.rw_world.specs.declared.parts.Parts.{Parts}
 use Rattle.rw_world.specs.declared.step.Step.{Step}
 use Rattle.rw_world.specs.declared.step.Step.TheVariants.{Execute, Undo, Deliver}
 use Rattle.rw_world.specs.WorldState.{WorldState}
-use Rattle.rw_world.specs.Steps.{turned, turn, remove_at, deliver_to, deliver, apply}
+use Rattle.rw_world.specs.Steps.{turned, turn, remove_at, deliver_to, deliver_letter, apply}
 use Rattle.rw_world.specs.Calls.{system_of, with_world, world_of, simulation_of, AreNumbered, IsWhole, Made, ExecutesAt}
 use Rattle.rw_world.proofs.Lookups.{get-set_same, get-set_other, set_there}
 
@@ -116,7 +116,7 @@ module _ {M S B U : Type 0} (model : Ghosts M S B U) (order : B → B → Orderi
     deliver_is : apply (system_of model order (simulation_of x)) (world_of x) (Deliver i) ≡ turned (world_of x) p (remove_at x.letters.items i) (process.deliver (event_cmp order) letter old.process)
     deliver_is =
         let y : System S B = system_of model order (simulation_of x) in
-        ap (deliver y (world_of x) i) letter_there
+        ap (deliver_letter y (world_of x) i) letter_there
         ∙ ap (λ q. deliver_to y (world_of x) i letter (slice_get (world_of x).processes q)) to
         ∙ ap (deliver_to y (world_of x) i letter) process_there
         ∙ ap (λ q. turned (world_of x) q (remove_at x.letters.items i) (process.deliver (event_cmp order) letter old.process)) to

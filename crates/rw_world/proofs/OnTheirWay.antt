@@ -3,7 +3,7 @@ use Rattle.std.proofs.Common.{◌≡◌, ℕ, zero, suc, ◌+◌, ◌<◌, cond,
 use Rattle.std.specs.Prelude.{slice_get}
 use Rattle.rw_vt.specs.declared.event.Event.{Event}
 use Rattle.rw_vt.specs.declared.event.Letter.{Letter}
-use Rattle.rw_vt.specs.Order.{one_if}
+use Rattle.rw_vt.specs.Order.{one_if_same}
 use Rattle.rw_vt.specs.Letters.{messages, antis}
 use Rattle.rw_vt.specs.System.{System}
 use Rattle.rw_vt.proofs.Bags.{one_if-itself}
@@ -13,14 +13,14 @@ use Rattle.rw_lp.specs.Sound.{SoundLetters}
 use Rattle.rw_world.specs.Steps.{remove_at}
 
 module _ {S B : Type 0} (y : System S B) where
-  pub messages-remove_at : (e : Event B) (ls : List (Letter B)) (i : ℕ) (l : Letter B) → slice_get ls i ≡ Some l → messages y.order e ls ≡ cond l.anti 0 (one_if y.order e l.event) + messages y.order e (remove_at ls i)
+  pub messages-remove_at : (e : Event B) (ls : List (Letter B)) (i : ℕ) (l : Letter B) → slice_get ls i ≡ Some l → messages y.order e ls ≡ cond l.anti 0 (one_if_same y.order e l.event) + messages y.order e (remove_at ls i)
   messages-remove_at e [] i l h = cc
-  messages-remove_at e (m ∷ ls) zero l h = let q : m ≡ l = cc in ap (λ k. cond k.anti 0 (one_if y.order e k.event) + messages y.order e ls) q
+  messages-remove_at e (m ∷ ls) zero l h = let q : m ≡ l = cc in ap (λ k. cond k.anti 0 (one_if_same y.order e k.event) + messages y.order e ls) q
   messages-remove_at e (m ∷ ls) (suc i) l h = omega (arith, messages-remove_at e ls i l h)
 
-  pub antis-remove_at : (e : Event B) (ls : List (Letter B)) (i : ℕ) (l : Letter B) → slice_get ls i ≡ Some l → antis y.order e ls ≡ cond l.anti (one_if y.order e l.event) 0 + antis y.order e (remove_at ls i)
+  pub antis-remove_at : (e : Event B) (ls : List (Letter B)) (i : ℕ) (l : Letter B) → slice_get ls i ≡ Some l → antis y.order e ls ≡ cond l.anti (one_if_same y.order e l.event) 0 + antis y.order e (remove_at ls i)
   antis-remove_at e [] i l h = cc
-  antis-remove_at e (m ∷ ls) zero l h = let q : m ≡ l = cc in ap (λ k. cond k.anti (one_if y.order e k.event) 0 + antis y.order e ls) q
+  antis-remove_at e (m ∷ ls) zero l h = let q : m ≡ l = cc in ap (λ k. cond k.anti (one_if_same y.order e k.event) 0 + antis y.order e ls) q
   antis-remove_at e (m ∷ ls) (suc i) l h = omega (arith, antis-remove_at e ls i l h)
 
   pub letters_fewer : (g : ℕ) (ls : List (Letter B)) (i : ℕ) (l : Letter B) → slice_get ls i ≡ Some l → SoundLetters y g ls → SoundLetters y g (remove_at ls i)
@@ -35,6 +35,6 @@ module _ {S B : Type 0} (y : System S B) where
     letter_counts [] i l h = cc
     letter_counts (m ∷ ls) zero l h =
         let q : m ≡ l = cc in
-        let one : one_if y.order l.event m.event ≡ 1 = ap (λ k. one_if y.order l.event k.event) q ∙ one_if-itself law.exact l.event in
+        let one : one_if_same y.order l.event m.event ≡ 1 = ap (λ k. one_if_same y.order l.event k.event) q ∙ one_if-itself law.exact l.event in
         omega (arith, count-letter y.order l.event m ls)
     letter_counts (m ∷ ls) (suc i) l h = omega (arith, letter_counts ls i l h, count-letter y.order l.event m ls)

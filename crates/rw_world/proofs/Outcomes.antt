@@ -5,7 +5,7 @@ use Rattle.std.proofs.lemmas.Bool.{lt-ltb, le-ltb}
 use Rattle.std.proofs.lemmas.List.Elements.{filter-append}
 use Rattle.rw_vt.specs.declared.event.Event.{Event}
 use Rattle.rw_vt.specs.Order.{Each}
-use Rattle.rw_vt.specs.System.{System, after, below, map_from, IsOutcome}
+use Rattle.rw_vt.specs.System.{System, after, journal_below, map_from, IsOutcome}
 use Rattle.rw_vt.proofs.Bags.{Each-append, filter_all, filter_none}
 use Rattle.rw_vt.proofs.Runs.{IsLawful}
 use Rattle.rw_lp.specs.Process.{ProcessState, done}
@@ -18,7 +18,7 @@ use Rattle.rw_world.proofs.Outstanding.{quiet_to_floor, quiet_when_finished, qui
 
 module _ {S B : Type 0} (y : System S B) {WellFormed : ℕ → S → Type 0} (law : IsLawful y WellFormed) (w : WorldState S B) (sound : Sound y w) where
   -- what is committed is the run in time order, up to the greatest time collected
-  committed_is : (q : ℕ) (x : ProcessState S B) → slice_get w.processes q ≡ Some x → x.committed ≡ below y w.collected q
+  committed_is : (q : ℕ) (x : ProcessState S B) → slice_get w.processes q ≡ Some x → x.committed ≡ journal_below y w.collected q
   committed_is q x h =
       let at : SoundAt y w.collected q x = sound.each q x h in
       let p : Event B → Bool = λ e. nat_lt e.time w.collected in
@@ -28,7 +28,7 @@ module _ {S B : Type 0} (y : System S B) {WellFormed : ℕ → S → Type 0} (la
       sym whole ∙ ap (λ o. filter p (part done o)) (sym h) ∙ done_below y law w sound w.collected (quiet_collected y law w sound) q
 
   -- in a finished world all is done
-  done_is : is_finished w ≡ true → (q : ℕ) (x : ProcessState S B) → slice_get w.processes q ≡ Some x → done x ≡ below y (2 ^ 40) q
+  done_is : is_finished w ≡ true → (q : ℕ) (x : ProcessState S B) → slice_get w.processes q ≡ Some x → done x ≡ journal_below y (2 ^ 40) q
   done_is finished q x h =
       let at : SoundAt y w.collected q x = sound.each q x h in
       let p : Event B → Bool = λ e. nat_lt e.time (2 ^ 40) in
@@ -39,14 +39,14 @@ module _ {S B : Type 0} (y : System S B) {WellFormed : ℕ → S → Type 0} (la
   -- a finished world is the outcome of the run in time order
   outcome_is : is_finished w ≡ true → IsOutcome y (2 ^ 40) (map done w.processes) (map (λ x. x.state) w.processes)
   outcome_is finished = record {
-    journals_are = map-places (λ x. x.start) done (λ q _. below y (2 ^ 40) q) 0 w.processes (λ i j x h q. done_is finished j x (at i j x h q)) ∙ ap (map_from 0 (λ q _. below y (2 ^ 40) q)) sound.starts;
-    states_are = map-places (λ x. x.start) (λ x. x.state) (λ q s. after (y.step q) s (below y (2 ^ 40) q)) 0 w.processes (λ i j x h q. state_is j x (at i j x h q)) ∙ ap (map_from 0 (λ q s. after (y.step q) s (below y (2 ^ 40) q))) sound.starts;
+    journals_are = map-places (λ x. x.start) done (λ q _. journal_below y (2 ^ 40) q) 0 w.processes (λ i j x h q. done_is finished j x (at i j x h q)) ∙ ap (map_from 0 (λ q _. journal_below y (2 ^ 40) q)) sound.starts;
+    states_are = map-places (λ x. x.start) (λ x. x.state) (λ q s. after (y.step q) s (journal_below y (2 ^ 40) q)) 0 w.processes (λ i j x h q. state_is j x (at i j x h q)) ∙ ap (map_from 0 (λ q s. after (y.step q) s (journal_below y (2 ^ 40) q))) sound.starts;
   }
     where
       at : (i j : ℕ) (x : ProcessState S B) → slice_get w.processes i ≡ Some x → j ≡ 0 + i → slice_get w.processes j ≡ Some x
       at i j x h q = let e : j ≡ i = omega arith in ap (slice_get w.processes) e ∙ h
 
-      state_is : (q : ℕ) (x : ProcessState S B) → slice_get w.processes q ≡ Some x → x.state ≡ after (y.step q) x.start (below y (2 ^ 40) q)
+      state_is : (q : ℕ) (x : ProcessState S B) → slice_get w.processes q ≡ Some x → x.state ≡ after (y.step q) x.start (journal_below y (2 ^ 40) q)
       state_is q x h = (sound.each q x h).state ∙ ap (after (y.step q) x.start) (done_is finished q x h)
 
   pub in_order : IsInOrder y w

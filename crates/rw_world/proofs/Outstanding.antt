@@ -18,12 +18,12 @@ use Rattle.rw_lp.specs.Process.{ProcessState}
 use Rattle.rw_lp.specs.Sound.{SoundAt}
 use Rattle.rw_lp.proofs.Holding.{held_from}
 use Rattle.rw_world.specs.WorldState.{WorldState, least_of_processes, least_of_letters, floor, is_empty, are_idle, is_finished}
-use Rattle.rw_lp.specs.Calls.{least}
+use Rattle.rw_lp.specs.Calls.{least_time}
 use Rattle.rw_world.specs.Sound.{held_in, Sound, IsQuiet, part, pending_of, debts_of}
 
 module _ {S B : Type 0} (y : System S B) where
   module _ {WellFormed : ℕ → S → Type 0} (law : IsLawful y WellFormed) (t : ℕ) where
-    within_least : (m : ℕ) (xs : List (Event B)) → t ≤ least m xs → (t ≤ m) × Each y.order (λ e. t ≤ e.time) xs
+    within_least : (m : ℕ) (xs : List (Event B)) → t ≤ least_time m xs → (t ≤ m) × Each y.order (λ e. t ≤ e.time) xs
     within_least m [] h = (h, λ e k. absurd (omega arith))
     within_least m (x ∷ xs) h =
         let ih : (t ≤ m) × Each y.order (λ e. t ≤ e.time) xs = within_least m xs (omega arith) in
@@ -33,8 +33,8 @@ module _ {S B : Type 0} (y : System S B) where
     within_processes m [] h = (h, (λ q e k. absurd (omega arith)), (λ q e k. absurd (omega arith)), λ e k. absurd (omega arith))
     within_processes m (x ∷ ps) h =
         let held = held_messages x.held in
-        let one : (t ≤ least (least (least_of_processes m ps) held) x.debts) × Each y.order (λ e. t ≤ e.time) x.pending = within_least (least (least (least_of_processes m ps) held) x.debts) x.pending h in
-        let two : (t ≤ least (least_of_processes m ps) held) × Each y.order (λ e. t ≤ e.time) x.debts = within_least (least (least_of_processes m ps) held) x.debts one.0 in
+        let one : (t ≤ least_time (least_time (least_of_processes m ps) held) x.debts) × Each y.order (λ e. t ≤ e.time) x.pending = within_least (least_time (least_time (least_of_processes m ps) held) x.debts) x.pending h in
+        let two : (t ≤ least_time (least_of_processes m ps) held) × Each y.order (λ e. t ≤ e.time) x.debts = within_least (least_time (least_of_processes m ps) held) x.debts one.0 in
         let three : (t ≤ least_of_processes m ps) × Each y.order (λ e. t ≤ e.time) held = within_least (least_of_processes m ps) held two.0 in
         let ih = within_processes m ps three.0 in
         (ih.0, at_pending one.1 ih.1, at_debts two.1 ih.2, Each-append law.exact (λ e. t ≤ e.time) held (held_in ps) three.1 ih.3)

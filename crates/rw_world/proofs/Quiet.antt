@@ -12,7 +12,7 @@ use Rattle.rw_vt.proofs.Letters.{count-letter}
 use Rattle.rw_vt.proofs.Runs.{IsLawful}
 use Rattle.rw_lp.specs.HeldMessages.{held_messages}
 use Rattle.rw_lp.specs.Process.{ProcessState}
-use Rattle.rw_lp.specs.Calls.{least}
+use Rattle.rw_lp.specs.Calls.{least_time}
 use Rattle.rw_world.specs.WorldState.{WorldState, least_of_processes, least_of_letters, floor}
 use Rattle.rw_world.specs.Sound.{IsQuiet, pending_of, debts_of, held_in}
 use Rattle.rw_world.proofs.Outstanding.{quiet_to_floor}
@@ -23,11 +23,11 @@ letters_below m [] = omega arith
 letters_below m (l ∷ ls) = omega (arith, letters_below m ls)
 
 module _ {S B : Type 0} (y : System S B) {WellFormed : ℕ → S → Type 0} (law : IsLawful y WellFormed) (t : ℕ) where
-  least_from : (m : ℕ) (es : List (Event B)) → t ≤ m → Each y.order (λ e. t ≤ e.time) es → t ≤ least m es
+  least_from : (m : ℕ) (es : List (Event B)) → t ≤ m → Each y.order (λ e. t ≤ e.time) es → t ≤ least_time m es
   least_from m [] h k = h
   least_from m (e ∷ es) h k =
       let here : t ≤ e.time = k e (Has-head law.exact e es) in
-      let rest : t ≤ least m es = least_from m es h (λ a there. k a (omega arith)) in
+      let rest : t ≤ least_time m es = least_from m es h (λ a there. k a (omega arith)) in
       omega arith
 
   processes_from : (m : ℕ) (ps : List (ProcessState S B)) → t ≤ m → ((q : ℕ) → Each y.order (λ e. t ≤ e.time) (pending_of ps q)) → ((q : ℕ) → Each y.order (λ e. t ≤ e.time) (debts_of ps q)) → Each y.order (λ e. t ≤ e.time) (held_in ps) → t ≤ least_of_processes m ps
@@ -35,8 +35,8 @@ module _ {S B : Type 0} (y : System S B) {WellFormed : ℕ → S → Type 0} (la
   processes_from m (x ∷ ps) h pending debts held =
       let both = λ (a : Event B). copies-append law.exact a (held_messages x.held) (held_in ps) in
       let rest : t ≤ least_of_processes m ps = processes_from m ps h (λ q. pending (suc q)) (λ q. debts (suc q)) (λ a there. held a (omega (arith, both a))) in
-      let with_held : t ≤ least (least_of_processes m ps) (held_messages x.held) = least_from (least_of_processes m ps) (held_messages x.held) rest (λ a there. held a (omega (arith, both a))) in
-      least_from (least (least (least_of_processes m ps) (held_messages x.held)) x.debts) x.pending (least_from (least (least_of_processes m ps) (held_messages x.held)) x.debts with_held (debts zero)) (pending zero)
+      let with_held : t ≤ least_time (least_of_processes m ps) (held_messages x.held) = least_from (least_of_processes m ps) (held_messages x.held) rest (λ a there. held a (omega (arith, both a))) in
+      least_from (least_time (least_time (least_of_processes m ps) (held_messages x.held)) x.debts) x.pending (least_from (least_time (least_of_processes m ps) (held_messages x.held)) x.debts with_held (debts zero)) (pending zero)
 
   letters_from : (m : ℕ) (ls : List (Letter B)) → t ≤ m → ((e : Event B) → 0 < messages y.order e ls + antis y.order e ls → t ≤ e.time) → t ≤ least_of_letters m ls
   letters_from m [] h k = h

@@ -12,7 +12,7 @@ use Rattle.rw_lp.specs.Process.{ProcessState, Turn, Turned, Stays, execute_next,
 use Rattle.rw_world.specs.declared.step.Step.{Step}
 use Rattle.rw_world.specs.declared.step.Step.TheVariants.{Execute, Undo, Deliver, Collect}
 use Rattle.rw_world.specs.WorldState.{WorldState, floor}
-use Rattle.rw_world.specs.Steps.{refuse, turned, turn, remove_at, deliver_to, deliver, apply}
+use Rattle.rw_world.specs.Steps.{refuse, turned, turn, remove_at, deliver_to, deliver_letter, apply}
 
 module _ {S B : Type 0} (y : System S B) (w : WorldState S B) where
   -- the answer is no and nothing changed, or the answer is yes
@@ -31,7 +31,7 @@ module _ {S B : Type 0} (y : System S B) (w : WorldState S B) where
   at_place i l None f q = refl
   at_place i l (Some x) f q = at_turned l.event.to (remove_at w.letters i) (process.deliver y.order l x) f q
 
-  at_deliver : (i : ℕ) (o : Option (Letter B)) → Same (deliver y w i o)
+  at_deliver : (i : ℕ) (o : Option (Letter B)) → Same (deliver_letter y w i o)
   at_deliver i None f q = refl
   at_deliver i (Some l) f q = at_place i l (slice_get w.processes l.event.to) f q
 

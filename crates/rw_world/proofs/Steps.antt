@@ -5,7 +5,7 @@ use Rattle.std.specs.Ordering.{is_eq}
 use Rattle.std.proofs.lemmas.Bool.{cases_Bool}
 use Rattle.rw_vt.specs.declared.event.Event.{Event}
 use Rattle.rw_vt.specs.declared.event.Letter.{Letter}
-use Rattle.rw_vt.specs.Order.{one_if}
+use Rattle.rw_vt.specs.Order.{one_if_same}
 use Rattle.rw_vt.specs.Letters.{messages, antis}
 use Rattle.rw_vt.specs.System.{System}
 use Rattle.rw_vt.proofs.Sorting.{tied}
@@ -17,7 +17,7 @@ use Rattle.rw_lp.specs.Process.{ProcessState, Turn}
 use Rattle.rw_lp.specs.Sound.{SoundAt, Keeps}
 use Rattle.rw_lp.proofs.Turns.{deliver_keeps}
 use Rattle.rw_world.specs.WorldState.{WorldState}
-use Rattle.rw_world.specs.Steps.{remove_at, turn, deliver_to, deliver}
+use Rattle.rw_world.specs.Steps.{remove_at, turn, deliver_to, deliver_letter}
 use Rattle.rw_world.specs.Sound.{Sound}
 use Rattle.rw_world.proofs.Starts.{start_is}
 use Rattle.rw_world.proofs.OnTheirWay.{messages-remove_at, antis-remove_at, letters_fewer, letter_counts}
@@ -47,11 +47,11 @@ module _ {S B : Type 0} (y : System S B) {WellFormed : ℕ → S → Type 0} (la
     come_here = λ e k. here e (omega (arith, count-letter y.order e l [])) (cases_Bool (is_eq (y.order e l.event)));
   }
     where
-      here : (e : Event B) → 0 < one_if y.order e l.event → (is_eq (y.order e l.event) ≡ true) ⊎ (is_eq (y.order e l.event) ≡ false) → e.to ≡ l.event.to
+      here : (e : Event B) → 0 < one_if_same y.order e l.event → (is_eq (y.order e l.event) ≡ true) ⊎ (is_eq (y.order e l.event) ≡ false) → e.to ≡ l.event.to
       here e k (inl q) = ap (λ e. e.to) (tied law.exact e l.event q)
       here e k (inr q) = let none = one_if-other law.exact e l.event q in absurd (omega arith)
 
-  pub deliver_sound : (i : ℕ) → Sound y (deliver y w i (slice_get w.letters i)).0
+  pub deliver_sound : (i : ℕ) → Sound y (deliver_letter y w i (slice_get w.letters i)).0
   deliver_sound i = find (slice_get w.letters i) refl
     where
       place : (l : Letter B) → slice_get w.letters i ≡ Some l → (o : Option (ProcessState S B)) → slice_get w.processes l.event.to ≡ o → Sound y (deliver_to y w i l o).0
@@ -63,6 +63,6 @@ module _ {S B : Type 0} (y : System S B) {WellFormed : ℕ → S → Type 0} (la
           (record { valid = sound.letters.valid l.event there; here = refl })
           (sound.letters.from l.event there))
 
-      find : (o : Option (Letter B)) → slice_get w.letters i ≡ o → Sound y (deliver y w i o).0
+      find : (o : Option (Letter B)) → slice_get w.letters i ≡ o → Sound y (deliver_letter y w i o).0
       find None h = sound
       find (Some l) h = place l h (slice_get w.processes l.event.to) refl

@@ -10,7 +10,7 @@ use Rattle.rw_vt.specs.declared.event.Event.{Event}
 use Rattle.rw_vt.specs.declared.event.Letter.{Letter}
 use Rattle.rw_vt.specs.declared.model.Model.{Ghosts}
 use Rattle.rw_vt.specs.Valid.{IsInRange, IsSentBy}
-use Rattle.rw_vt.specs.System.{IsReady, below}
+use Rattle.rw_vt.specs.System.{IsReady, journal_below}
 use Rattle.rw_vt.proofs.Runs.{IsLawful}
 use Rattle.rw_vt.proofs.Laws.{lawful}
 use Rattle.rw_world.specs.declared.parts.Parts.{Parts}
@@ -47,7 +47,7 @@ module _ {M S B U : Type 0} {model : Ghosts M S B U} {order : B → B → Orderi
     pub letters_inside : (i : ℕ) (l : Letter B) → slice_get (world_of x).letters i ≡ Some l → l.event.to < length (world_of x).processes
     letters_inside i l there = subst (λ n. l.event.to < n) (sym (length-map x.processes.items (λ a. a.process))) (letter_inside i l there).1
 
-    pub committed_is : (p : ℕ) → p < length x.processes.items → committed_of (world_of x).processes p ≡ below (system_of model order (simulation_of x)) x.collected p
+    pub committed_is : (p : ℕ) → p < length x.processes.items → committed_of (world_of x).processes p ≡ journal_below (system_of model order (simulation_of x)) x.collected p
     committed_is p within =
         let n : length (world_of x).processes ≡ length x.processes.items = length-map x.processes.items (λ l. l.process) in
         let there = some_at (world_of x).processes p (omega arith) in

@@ -5,7 +5,7 @@ use Rattle.rw_vt.specs.declared.event.Event.{Event}
 use Rattle.rw_vt.specs.declared.event.Letter.{Letter}
 use Rattle.rw_vt.specs.Order.{copies, Each}
 use Rattle.rw_vt.specs.Letters.{messages, antis}
-use Rattle.rw_vt.specs.System.{System, after, all_sent, below, IsOutcome}
+use Rattle.rw_vt.specs.System.{System, after, all_sent, journal_below, IsOutcome}
 use Rattle.rw_lp.specs.HeldMessages.{held_messages}
 use Rattle.rw_lp.specs.Process.{ProcessState, done}
 use Rattle.rw_lp.specs.Sound.{SoundAt, SoundLetters}
@@ -58,9 +58,9 @@ pub record IsQuiet {S B : Type 0} (y : System S B) (t : Time) (w : WorldState S 
 
 -- the committed events, the states that they leave, and all that is done before the floor, are those of executing all events in order of time, and a finished world is the outcome of that
 pub record IsInOrder {S B : Type 0} (y : System S B) (w : WorldState S B) : Type 0 where
-  pub committed : (q : Process) (x : ProcessState S B) → slice_get w.processes q ≡ Some x → x.committed ≡ below y w.collected q
-  pub left : (q : Process) (x : ProcessState S B) → slice_get w.processes q ≡ Some x → after (y.step q) x.start x.committed ≡ after (y.step q) x.start (below y w.collected q)
-  pub before_floor : (t : Time) (q : Process) → t ≤ floor w → filter (λ e. nat_lt e.time t) (done_of w.processes q) ≡ below y t q
+  pub committed : (q : Process) (x : ProcessState S B) → slice_get w.processes q ≡ Some x → x.committed ≡ journal_below y w.collected q
+  pub left : (q : Process) (x : ProcessState S B) → slice_get w.processes q ≡ Some x → after (y.step q) x.start x.committed ≡ after (y.step q) x.start (journal_below y w.collected q)
+  pub before_floor : (t : Time) (q : Process) → t ≤ floor w → filter (λ e. nat_lt e.time t) (done_of w.processes q) ≡ journal_below y t q
   pub finished : is_finished w ≡ true → IsOutcome y (2 ^ 40) (map done w.processes) (map (λ x. x.state) w.processes)
 
 -- a step keeps a sound world sound, a refused one leaves it as it was, and committed lists only grow

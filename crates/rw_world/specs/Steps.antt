@@ -37,12 +37,12 @@ abbrev pub deliver_to : {S B : Type 0} → System S B → WorldState S B → Cou
 deliver_to y w i l None = refuse w NoSuchProcess
 deliver_to y w i l (Some x) = turned w l.event.to (remove_at w.letters i) (process.deliver y.order l x)
 
-abbrev pub deliver : {S B : Type 0} → System S B → WorldState S B → Count → Option (Letter B) → WorldState S B × Answer
-deliver y w i None = refuse w NoSuchLetter
-deliver y w i (Some l) = deliver_to y w i l (slice_get w.processes l.event.to)
+abbrev pub deliver_letter : {S B : Type 0} → System S B → WorldState S B → Count → Option (Letter B) → WorldState S B × Answer
+deliver_letter y w i None = refuse w NoSuchLetter
+deliver_letter y w i (Some l) = deliver_to y w i l (slice_get w.processes l.event.to)
 
-abbrev pub collect : {S B : Type 0} → WorldState S B → Time → WorldState S B × Answer
-collect w t =
+abbrev pub collect_to : {S B : Type 0} → WorldState S B → Time → WorldState S B × Answer
+collect_to w t =
     cond (nat_le t (floor w))
     (record { processes = map (process.collect t) w.processes; letters = w.letters; collected = max w.collected t }, Done)
     (refuse w AboveFloor)
@@ -51,8 +51,8 @@ collect w t =
 abbrev pub apply : {S B : Type 0} → System S B → WorldState S B → Step → WorldState S B × Answer
 apply y w (Execute p) = turn w p (execute_next y p) (slice_get w.processes p)
 apply y w (Undo p) = turn w p (undo_one y p) (slice_get w.processes p)
-apply y w (Deliver i) = deliver y w i (slice_get w.letters i)
-apply y w (Collect t) = collect w t
+apply y w (Deliver i) = deliver_letter y w i (slice_get w.letters i)
+apply y w (Collect t) = collect_to w t
 
 -- a whole schedule: where it leads, and what its steps answer
 abbrev pub run : {S B : Type 0} → System S B → WorldState S B → List Step → WorldState S B

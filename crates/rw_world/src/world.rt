@@ -1,6 +1,6 @@
 ghost use Rattle.std.specs.Prelude.{◌≡◌, ◌↔◌, ◌<◌, ◌≤◌, ◌^◌, ℕ, true, IfOk, IfErr, map, filter, nat_lt, slice_get, Some};
 ghost use Rattle.rw_vt.specs.Order.{event_cmp};
-ghost use Rattle.rw_vt.specs.System.{after, below, system, IsOutcome, IsReady};
+ghost use Rattle.rw_vt.specs.System.{after, journal_below, system, IsOutcome, IsReady};
 ghost use Rattle.rw_vt.specs.declared.refusal.Refusal.TheVariants.{Memory};
 ghost use Rattle.rw_lp.specs.Process.{done};
 ghost use Rattle.rw_lp.specs.declared.step.Answer.TheVariants.{Refused};
@@ -120,7 +120,7 @@ impl<M: VtModel + Drop> World<M> {
     /// none: global virtual time (Jefferson 1985). What is done before it stays done. Takes no memory.
     pub fn floor(&self) -> u64
         ensures least { result ≡ floor self.now.world }
-        ensures before { (t q : ℕ) → t ≤ result → filter (λ e. nat_lt e.time t) (done_of self.now.world.processes q) ≡ below (system_of M.Model M.Body.cmp self.now) t q }
+        ensures before { (t q : ℕ) → t ≤ result → filter (λ e. nat_lt e.time t) (done_of self.now.world.processes q) ≡ journal_below (system_of M.Model M.Body.cmp self.now) t q }
     {
         self.parts.floor()
     }
@@ -139,7 +139,7 @@ impl<M: VtModel + Drop> World<M> {
     pub fn journal(&self, p: u32) -> &[Event<M::Body>]
         requires process { p < M.process_count self.now.model }
         ensures is { result.now ≡ committed_of self.now.world.processes p }
-        ensures in_order { result.now ≡ below (system_of M.Model M.Body.cmp self.now) self.now.world.collected p }
+        ensures in_order { result.now ≡ journal_below (system_of M.Model M.Body.cmp self.now) self.now.world.collected p }
     {
         self.parts.processes[p as usize].journal()
     }

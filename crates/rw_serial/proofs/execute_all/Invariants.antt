@@ -1,6 +1,6 @@
 use Rattle.std.proofs.Common.{◌^◌}
 use Rattle.rw_vt.specs.Order.{event_cmp}
-use Rattle.rw_vt.specs.System.{system, map_from, flatten, below}
+use Rattle.rw_vt.specs.System.{system, map_from, flatten, journal_below}
 use Rattle.rw_serial.proofs.Left.{left}
 use Rattle.rw_serial.proofs.Midrun.{IsMidrun}
 use Rattle.rw_serial.proofs.execute_all.Given as goal
@@ -13,4 +13,4 @@ invariant-loop-event g l =
 
 abbrev pub decreases-loop-event : goal.decreases-loop-event
 decreases-loop-event g l =
-    left (event_cmp g.M.Body.Ord.cmp) (flatten (map_from 0 (λ q _. below (system g.M.Model g.M.Body.Ord.cmp l.model l.fn.states.items l.fn.initial.items) (2 ^ 40) q) l.fn.states.items)) l.pending
+    left (event_cmp g.M.Body.Ord.cmp) (flatten (map_from 0 (λ q _. journal_below (system g.M.Model g.M.Body.Ord.cmp l.model l.fn.states.items l.fn.initial.items) (2 ^ 40) q) l.fn.states.items)) l.pending

@@ -1,6 +1,6 @@
 use Rattle.std.proofs.Common.{ℕ, ◌+◌, sym, ap, ◌∙◌, add_assoc, add-one}
 use Rattle.rw_exchange.specs.Ports.{entry}
-use Rattle.rw_rounds.specs.Bags.{weigh, total}
+use Rattle.rw_rounds.specs.Bags.{weigh, sum_below}
 use Rattle.rw_rounds.proofs.Sums.{weigh-append}
 use Rattle.rw_rounds.proofs.gathering.add_sent.Goals as goal
 
@@ -12,6 +12,6 @@ loop-to-preserved g c h =
     ap (weigh h) c.in_ok-extend_from_slice.ensures.items
     ∙ weigh-append h c.loop-to.letters.items more
     ∙ ap (λ w. w + weigh h more) (c.loop-to.invariant h)
-    ∙ ap (λ w. start + total c.loop-to.to f + w) (ap (weigh h) c.between.ensures.letters)
-    ∙ add_assoc start (total c.loop-to.to f) (f c.loop-to.to)
-    ∙ ap (λ n. start + total n f) (sym (add-one c.loop-to.to))
+    ∙ ap (λ w. start + sum_below c.loop-to.to f + w) (ap (weigh h) c.between.ensures.letters)
+    ∙ add_assoc start (sum_below c.loop-to.to f) (f c.loop-to.to)
+    ∙ ap (λ n. start + sum_below n f) (sym (add-one c.loop-to.to))

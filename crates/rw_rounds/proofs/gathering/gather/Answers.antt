@@ -3,7 +3,7 @@ use Rattle.std.proofs.lemmas.List.{length-map}
 use Rattle.rw_vt.specs.System.{flatten}
 use Rattle.rw_board.specs.Least.{least}
 use Rattle.rw_exchange.specs.Ports.{IsOpening, entry, sent_between, received_between}
-use Rattle.rw_rounds.specs.Bags.{weigh, total}
+use Rattle.rw_rounds.specs.Bags.{weigh, sum_below}
 use Rattle.rw_rounds.proofs.Gathered.{same_hands}
 use Rattle.rw_rounds.proofs.gathering.gather.Goals as goal
 
@@ -29,7 +29,7 @@ returns g c =
     let ports = c.in_ok-hands.field-0.ports in
     let left = c.in_ok-left.left in
     let many : vec_len ports ≡ length ws = ports.ok.0 ∙ (ap length c.in_ok-hands.ensures.ports ∙ length-map ws (λ w. w.port)) in
-    let rings : ℕ → (_ → ℕ) → ℕ = λ n h. total n (λ i. total n (λ k. weigh h (entry left i k))) in
+    let rings : ℕ → (_ → ℕ) → ℕ = λ n h. sum_below n (λ i. sum_below n (λ k. weigh h (entry left i k))) in
     record {
       count = c.in_ok-processes.ensures.count;
       processes = λ q within. c.in_ok-processes.ensures.each q within ∙ same_hands (λ h. h.items) (λ w. w.processes) c.in_ok-hands.field-0.hands.items ws c.in_ok-hands.ensures.hands q;

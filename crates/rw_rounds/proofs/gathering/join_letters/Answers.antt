@@ -1,14 +1,14 @@
 use Rattle.std.proofs.Common.{◌≡◌, ℕ, ◌+◌, ◌++◌, length, map, sym, ap, ◌∙◌, add-one, arith}
 use Rattle.rw_vt.specs.System.{flatten}
 use Rattle.rw_exchange.specs.Ports.{entry}
-use Rattle.rw_rounds.specs.Bags.{weigh, total}
+use Rattle.rw_rounds.specs.Bags.{weigh, sum_below}
 use Rattle.rw_rounds.proofs.Sums.{weigh-append}
 use Rattle.rw_rounds.proofs.gathering.join_letters.Goals as goal
 
 pub loop-from-preserved : goal.loop-from-preserved
 loop-from-preserved g c h =
-    let f : ℕ → ℕ = λ i. total (length c.args.left.now) (λ k. weigh h (entry c.args.left.now i k)) in
-    c.in_ok-add_sent.ensures.more h ∙ ap (λ w. w + f c.loop-from.from) (c.loop-from.invariant h) ∙ ap (λ n. total n f) (sym (add-one c.loop-from.from))
+    let f : ℕ → ℕ = λ i. sum_below (length c.args.left.now) (λ k. weigh h (entry c.args.left.now i k)) in
+    c.in_ok-add_sent.ensures.more h ∙ ap (λ w. w + f c.loop-from.from) (c.loop-from.invariant h) ∙ ap (λ n. sum_below n f) (sym (add-one c.loop-from.from))
 
 pub returns : goal.returns
 returns g c = record {
@@ -20,5 +20,5 @@ returns g c = record {
       ap (weigh h) (c.in_ok-add_all-2.ensures.more ∙ ap (λ ls. ls ++ aside) c.in_ok-add_all.ensures.more)
       ∙ weigh-append h (c.loop-from.letters.items ++ kept) aside
       ∙ ap (λ w. w + weigh h aside) (weigh-append h c.loop-from.letters.items kept)
-      ∙ ap (λ w. w + weigh h kept + weigh h aside) (c.loop-from.invariant h ∙ ap (λ m. total m (λ i. total n (λ k. weigh h (entry c.args.left.now i k)))) all);
+      ∙ ap (λ w. w + weigh h kept + weigh h aside) (c.loop-from.invariant h ∙ ap (λ m. sum_below m (λ i. sum_below n (λ k. weigh h (entry c.args.left.now i k)))) all);
 }

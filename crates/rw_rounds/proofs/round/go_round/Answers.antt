@@ -1,7 +1,7 @@
 use Rattle.std.proofs.Common.{◌≡◌, ℕ, ◌+◌, ◌<◌, length, map, refl, sym, ap, ◌∙◌, subst, arith, add_assoc, get_or}
 use denote.Param.Send.{param_send}
 use Rattle.rw_vt.specs.System.{flatten}
-use Rattle.rw_rounds.specs.Bags.{weigh, total}
+use Rattle.rw_rounds.specs.Bags.{weigh, sum_below}
 use Rattle.rw_rounds.specs.Rounds.{TookRound}
 use Rattle.rw_rounds.proofs.Governing.{Laws}
 use Rattle.rw_rounds.proofs.Gathered.{AllTook, set_up_from, some_of, pairs, all_seated, opening_after, seats_after, there_after, from_hands_after, begins_at, joined, settled, noted_after, kept_after}
@@ -103,7 +103,7 @@ returns-clause-round g c =
           let kept = weigh h (flatten (map (λ w. w.kept) ws')) in
           let aside = weigh h (flatten (map (λ w. w.aside) ws')) in
           got.letters.letters_are h
-          ∙ add_assoc (total (length ws') (λ i. total (length ws') (λ k. weigh h (left i k)))) kept aside
-          ∙ ap (λ n. total n (λ i. total n (λ k. weigh h (left i k))) + (kept + aside)) many
-          ∙ ap (λ w. total plan.workers (λ i. total plan.workers (λ k. weigh h (left i k))) + w) (kept_after (laws g) c.requires.plan c.requires.whole up took h (map (λ w. w.kept) ws') (map (λ w. w.aside) ws') d refl refl);
+          ∙ add_assoc (sum_below (length ws') (λ i. sum_below (length ws') (λ k. weigh h (left i k)))) kept aside
+          ∙ ap (λ n. sum_below n (λ i. sum_below n (λ k. weigh h (left i k))) + (kept + aside)) many
+          ∙ ap (λ w. sum_below plan.workers (λ i. sum_below plan.workers (λ k. weigh h (left i k))) + w) (kept_after (laws g) c.requires.plan c.requires.whole up took h (map (λ w. w.kept) ws') (map (λ w. w.aside) ws') d refl refl);
     }
