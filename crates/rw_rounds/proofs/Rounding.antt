@@ -42,7 +42,7 @@ pub record WorldLaws {M S B U : Type 0} (model : Ghosts M S B U) (order : B → 
 -- what is outstanding is not collected
 least_collected : {S B : Type 0} (t end : ℕ) (ps : List (ProcessState S B)) → least_of_processes end (map (process.collect t) ps) ≡ least_of_processes end ps
 least_collected t end [] = refl
-least_collected t end (u ∷ ps) = ap (λ k. lp.least (lp.least (lp.least k (held_messages u.held)) u.debts) u.pending) (least_collected t end ps)
+least_collected t end (u ∷ ps) = ap (λ k. lp.least_time (lp.least_time (lp.least_time k (held_messages u.held)) u.debts) u.pending) (least_collected t end ps)
 
 module _ {M S B U : Type 0} {model : Ghosts M S B U} {order : B → B → Ordering} (laws : Laws model order) (worlds : WorldLaws model order) (plan : Plan) (x z : Parts M S B U) (least : ℕ) (ranges : IsInRanges plan) (whole : IsWhole model order x) (round : Round model order plan x z least) where
   same_system : system_of model order (simulation_of z) ≡ system_of model order (simulation_of x)
