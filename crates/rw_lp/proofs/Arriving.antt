@@ -13,7 +13,8 @@ use Rattle.rw_vt.proofs.Bags.{Each-nil, Each-cons}
 use Rattle.rw_lp.specs.declared.step.StepFault.TheVariants.{StillDone}
 use Rattle.rw_lp.specs.declared.step.Answer.{Answer}
 use Rattle.rw_lp.specs.HeldMessages.{held_with, held_without}
-use Rattle.rw_lp.specs.Process.{ProcessState, Turn, Turned, Stays, split_last, is_less_than_last, undone, sends_of_last, undo_last, undo_one, with_bags, annihilate, deliver_anti, deliver_message, deliver}
+use Rattle.rw_lp.specs.Process.{ProcessState, Turn, Turned, Stays, split_last, is_less_than_last, undone, sends_of_last, undo_last, undo_one, annihilate, deliver_anti, deliver_message, deliver}
+use Rattle.rw_lp.proofs.WithBags.{with_bags}
 use Rattle.rw_lp.specs.Calls.{LogicalProcess, Took, IsTaken}
 use Rattle.rw_lp.specs.Arrival.{undo_times, and_undo, with_out, is_barred, Accepts, Arrived}
 use Rattle.rw_lp.proofs.Splits.{IsSplit, split_is}

@@ -14,7 +14,8 @@ use Rattle.rw_lp.specs.declared.step.Answer.TheVariants.{Done}
 use Rattle.rw_lp.specs.declared.step.StepFault.{StepFault}
 use Rattle.rw_lp.specs.declared.step.StepFault.TheVariants.{NothingToUndo}
 use Rattle.rw_lp.specs.HeldMessages.{held_messages}
-use Rattle.rw_lp.specs.Process.{ProcessState, done, Turn, Turned, Stays, split_last, executed, undone, undo_last, undo_one, sends_of_last, with_bags, deliver}
+use Rattle.rw_lp.specs.Process.{ProcessState, done, Turn, Turned, Stays, split_last, executed, undone, undo_last, undo_one, sends_of_last, deliver}
+use Rattle.rw_lp.proofs.WithBags.{with_bags}
 use Rattle.rw_lp.specs.Calls.{Took, IsTaken, came}
 use Rattle.rw_lp.specs.Arrival.{undo_times, and_undo, with_out}
 use Rattle.rw_lp.specs.Sound.{Change}

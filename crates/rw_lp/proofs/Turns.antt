@@ -14,7 +14,8 @@ use Rattle.rw_vt.proofs.Runs.{IsLawful, after-append, outs-append, well_formed_a
 use Rattle.rw_lp.specs.declared.held.Held.{Held}
 use Rattle.rw_lp.specs.declared.step.StepFault.TheVariants.{Straggler, StillDone}
 use Rattle.rw_lp.specs.HeldMessages.{held_messages, held_of, unheld, held_with, held_without}
-use Rattle.rw_lp.specs.Process.{ProcessState, done, Turned, Stays, split_last, is_less_than_last, executed, execute_event, execute_least, execute_next, undone, sends_of_last, undo_last, undo_one, undo_last_lazily, undo_lazily, with_bags, deliver_message, annihilate, deliver_anti, deliver}
+use Rattle.rw_lp.specs.Process.{ProcessState, done, Turned, Stays, split_last, is_less_than_last, executed, execute_event, execute_least, execute_next, undone, sends_of_last, undo_last, undo_one, undo_last_lazily, undo_lazily, deliver_message, annihilate, deliver_anti, deliver}
+use Rattle.rw_lp.proofs.WithBags.{with_bags}
 use Rattle.rw_lp.specs.Sound.{Stands, SoundAt, SoundLetters, Change, Kept, Keeps}
 use Rattle.rw_lp.proofs.Splits.{IsSplit, split_is}
 use Rattle.rw_lp.proofs.Holding.{AllHeld, count-held_append, count-held_of, count-held_parts, count-unheld, count-unheld_le, held_more, held_rest, held_append, held_unheld, held_fresh, held_valid, held_from}

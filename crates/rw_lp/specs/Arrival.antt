@@ -1,5 +1,5 @@
 -- The arrival of a letter: the fewest undoings after which it is accepted in time, and then its delivery.
-use Rattle.std.specs.Prelude.{◌≡◌, zero, suc, ◌<◌, Bool, false, cond, not, ◌&&◌, List, [], ◌++◌}
+use Rattle.std.specs.Prelude.{◌≡◌, zero, suc, ◌<◌, Bool, false, if◌then◌else◌, not, ◌&&◌, List, [], ◌++◌}
 use Rattle.std.specs.declared.cmp.Ordering.{Ordering}
 use Rattle.rw_vt.specs.Words.{Count, Process}
 use Rattle.rw_vt.specs.declared.event.Event.{Event}
@@ -9,22 +9,27 @@ use Rattle.rw_vt.specs.System.{System}
 use Rattle.rw_lp.specs.Process.{ProcessState, Turn, Turned, Stays, split_last, is_less_than_last, undo_one, deliver}
 use Rattle.rw_lp.specs.Calls.{IsTaken}
 
+-- a turn that gives these letters out first
 abbrev pub with_out : {S B : Type 0} → List (Letter B) → Turn S B → Turn S B
 with_out out (Stays fault) = Stays fault
 with_out out (Turned z more) = Turned z (out ++ more)
 
+-- a turn, and then the undoing of the last processed event
 abbrev pub and_undo : {S B : Type 0} → System S B → Process → Turn S B → Turn S B
 and_undo y p (Stays fault) = Stays fault
 and_undo y p (Turned z out) = with_out out (undo_one y p z)
 
--- n undoings, one after another
+-- n undoings, one after another: a turn of its own
 abbrev pub undo_times : {S B : Type 0} → System S B → Process → Count → ProcessState S B → Turn S B
 undo_times y p zero x = Turned x []
 undo_times y p (suc n) x = and_undo y p (undo_times y p n x)
 
 -- the letter cannot come before the last processed event is undone
 abbrev pub is_barred : {S B : Type 0} → (Event B → Event B → Ordering) → Letter B → ProcessState S B → Bool
-is_barred cmp l x = cond l.anti (has cmp l.event x.processed && not (has cmp l.event x.pending)) (is_less_than_last cmp l.event (split_last x.processed))
+is_barred cmp l x =
+    if l.anti
+    then has cmp l.event x.processed && not (has cmp l.event x.pending)
+    else is_less_than_last cmp l.event (split_last x.processed)
 
 -- process x accepts the letter, and a message is less than no processed event
 pub record Accepts {S B : Type 0} (cmp : Event B → Event B → Ordering) (l : Letter B) (x : ProcessState S B) : Type 0 where
@@ -33,7 +38,7 @@ pub record Accepts {S B : Type 0} (cmp : Event B → Event B → Ordering) (l : 
 
 -- the letter arrives at x, which leads to z and gives these letters out
 pub record Arrived {S B : Type 0} (y : System S B) (p : Process) (l : Letter B) (x z : ProcessState S B) (given : List (Letter B)) : Type 0 where
-  -- so many undoings lead to a process that accepts the letter
+  -- `count` undoings lead to a process that accepts the letter
   pub count : Count
   pub between : ProcessState S B
   pub unsent : List (Letter B)

@@ -1,5 +1,5 @@
 -- What contracts see of a logical process, and what a call on it answers against the turn that it is to take.
-use Rattle.std.specs.Prelude.{◌≡◌, min, Bool, true, false, List, [], ◌∷◌}
+use Rattle.std.specs.Prelude.{◌≡◌, min, Bool, true, false, List, [], ◌∷◌, ◌++◌}
 use Rattle.std.specs.declared.cmp.Ordering.{Ordering}
 use Rattle.rw_vt.specs.Words.{Process, Time}
 use Rattle.rw_vt.specs.declared.event.Event.{Event}
@@ -10,7 +10,9 @@ use Rattle.rw_vt.specs.Order.{in_order}
 use Rattle.rw_lp.specs.declared.step.Answer.{Answer}
 use Rattle.rw_lp.specs.declared.step.Answer.TheVariants.{Done, Refused}
 use Rattle.rw_lp.specs.Past.{Past}
-use Rattle.rw_lp.specs.Process.{ProcessState, done, Turn, Turned, Stays, is_less_than_last, split_last}
+use Rattle.rw_lp.specs.Process as process
+use Rattle.rw_lp.specs.Process.{ProcessState, done, Turn, Turned, Stays, is_less_than_last, split_last, execute_next, undo_one}
+use Rattle.rw_lp.specs.HeldMessages.{held_messages}
 
 -- a process, with the model that it runs and its number there
 pub record LogicalProcess (M S B : Type 0) : Type 0 where
@@ -35,10 +37,29 @@ rules model order m = system model order m [] []
 abbrev pub unstarted : {S B : Type 0} → (Event B → Event B → Ordering) → S → List (Event B) → ProcessState S B
 unstarted cmp start initial = record { start = start; committed = []; processed = []; pending = in_order cmp initial; debts = []; held = []; state = start }
 
+-- what process l does where it is to execute its least pending event, to undo its last processed one, or to take a letter up
+abbrev pub execution_by : {M S B U : Type 0} → Ghosts M S B U → (B → B → Ordering) → LogicalProcess M S B → Turn S B
+execution_by model order l = execute_next (rules model order l.model) l.number l.process
+
+abbrev pub undoing_by : {M S B U : Type 0} → Ghosts M S B U → (B → B → Ordering) → LogicalProcess M S B → Turn S B
+undoing_by model order l = undo_one (rules model order l.model) l.number l.process
+
+-- l and k are of one model, and have one number
+abbrev pub IsSameProcess : {M S B : Type 0} → LogicalProcess M S B → LogicalProcess M S B → Type 0
+IsSameProcess l k = (k.model ≡ l.model) × (k.number ≡ l.number)
+
+-- between these lists some letters were given out, of which P holds
+abbrev pub GivesOut : {B : Type 0} → List (Letter B) → List (Letter B) → (List (Letter B) → Type 0) → Type 0
+GivesOut {B} before after P = (given : List (Letter B)) × (after ≡ before ++ given) × P given
+
 -- from x the call came to z with this answer and gave these letters out, as the turn says
 abbrev pub Took : {S B : Type 0} → ProcessState S B → ProcessState S B → Answer → List (Letter B) → Turn S B → Type 0
 Took x z a given (Turned after out) = (z ≡ after) × (a ≡ Done) × (given ≡ out)
 Took x z a given (Stays fault) = (z ≡ x) × (a ≡ Refused fault) × (given ≡ [])
+
+-- letter l came to process x, which answered and became z
+abbrev pub IsDelivered : {M S B : Type 0} → (Event B → Event B → Ordering) → Letter B → Answer → LogicalProcess M S B → LogicalProcess M S B → Type 0
+IsDelivered cmp l answer x z = Took x.process z.process answer [] (process.deliver cmp l x.process)
 
 -- next, x would execute its least pending event, which is no straggler, in a state that passes the test
 pub record MeetsNext {S B : Type 0} (cmp : Event B → Event B → Ordering) (x : ProcessState S B) (test : S → Bool) : Type 0 where
@@ -62,3 +83,7 @@ IsTaken (Stays fault) = ⊥
 abbrev pub least_time : {B : Type 0} → Time → List (Event B) → Time
 least_time m [] = m
 least_time m (e ∷ es) = min e.time (least_time m es)
+
+-- the least of m and the times of all that is outstanding at a process: pending, owed or held
+abbrev pub least_outstanding : {S B : Type 0} → Time → ProcessState S B → Time
+least_outstanding m x = least_time (least_time (least_time m (held_messages x.held)) x.debts) x.pending

@@ -19,6 +19,18 @@ pub record Past (M S B : Type 0) : Type 0 where
   pub processed : List (Event B)
   pub state : S
 
+abbrev pub past : {M S B : Type 0} → M → Process → S → List (Event B) → List (Event B) → S → Past M S B
+past m p start committed processed state =
+    record { model = m; number = p; start = start; committed = committed; processed = processed; state = state }
+
+-- committed, then processed
+abbrev pub done_in : {M S B : Type 0} → Past M S B → List (Event B)
+done_in x = x.committed ++ x.processed
+
+-- the state is that after all that is done
+abbrev pub IsFolded : {M S B U : Type 0} → Ghosts M S B U → Past M S B → Type 0
+IsFolded model x = x.state ≡ after (model.step x.model x.number) x.start (done_in x)
+
 -- e is valid in the model m, and goes to process p
 abbrev pub IsFor : {M S B U : Type 0} → Ghosts M S B U → M → Process → Event B → Type 0
 IsFor model m p e = (model.is_valid m e ≡ true) × (e.to ≡ p)

@@ -1,7 +1,7 @@
 ghost use Rattle.std.specs.Prelude.{◌≡◌, ◌+◌, ◌∷◌, ◌^◌, List, [], length, reverse, IfOk, OnOk, OnErr, IfSome, MatchOption, is_some, false};
 ghost use Rattle.std.specs.List.{position_or_len};
 ghost use Rattle.std.specs.Ordering.{is_eq, is_le};
-ghost use Rattle.rw_vt.specs.Order.{event_cmp, in_order, insert_in_order, has, without, IsAscending};
+ghost use Rattle.rw_vt.specs.Order.{event_cmp, in_order, insert_in_order, has, without, IsAscending, IsFirst};
 ghost use Rattle.rw_vt.specs.declared.event.Event.{Event};
 ghost use Rattle.rw_lp.specs.Calls.{least_time};
 
@@ -48,7 +48,8 @@ impl<M: VtModel> Bag<M> {
 
     /// Puts one copy of the event in.
     pub fn put(&mut self, event: Event<M::Body>) -> Result<(), AllocError>
-        ensures ok { OnOk result (self.new ≡ insert_in_order (event_cmp M.Body.cmp) event self.old) }
+        ensures ok { OnOk result
+            (self.new ≡ insert_in_order (event_cmp M.Body.cmp) event self.old) }
         ensures err { OnErr result (self.new ≡ self.old) }
     {
         let place = self.place(event);
@@ -85,7 +86,7 @@ impl<M: VtModel> Bag<M> {
 
     /// The least event. Takes no memory.
     pub fn first(&self) -> Option<&Event<M::Body>>
-        ensures first { MatchOption result (self.now ≡ []) (λ e. (rest : List (Event M.Body)) × (self.now ≡ e.now ∷ rest)) }
+        ensures first { MatchOption result (self.now ≡ []) (λ e. IsFirst self.now e.now) }
         ensures order { IsAscending (event_cmp M.Body.cmp) self.now }
     {
         self.events.last()
@@ -103,7 +104,8 @@ impl<M: VtModel> Bag<M> {
 
     /// How many events are not less than this one. They stand first, and its place is behind them.
     fn place(&self, event: Event<M::Body>) -> usize
-        ensures { result + position_or_len (λ y. is_le (event_cmp M.Body.cmp event y)) self.now ≡ length self.now }
+        ensures { result + position_or_len (λ y. is_le (event_cmp M.Body.cmp event y)) self.now
+            ≡ length self.now }
     {
         self.events
             .partition_point(|other| event.cmp(other).is_le())
@@ -112,7 +114,9 @@ impl<M: VtModel> Bag<M> {
     /// Where the last copy of the event stands, if there is one.
     fn find(&self, event: Event<M::Body>) -> Option<usize>
         ensures there { is_some result ≡ has (event_cmp M.Body.cmp) event self.now }
-        ensures at { IfSome result (λ at. at + 1 + position_or_len (λ y. is_eq (event_cmp M.Body.cmp event y)) self.now ≡ length self.now) }
+        ensures at { IfSome result (λ at.
+            at + 1 + position_or_len (λ y. is_eq (event_cmp M.Body.cmp event y)) self.now
+            ≡ length self.now) }
     {
         let at = self.place(event).checked_sub(1)?;
         let other = &self.events[at];

@@ -6,7 +6,8 @@ ghost use Rattle.rw_vt.specs.System.{after};
 ghost use Rattle.rw_vt.specs.declared.event.Letter.{Letter};
 ghost use Rattle.rw_vt.specs.declared.refusal.Refusal.TheVariants.{Memory};
 ghost use Rattle.rw_lp.specs.Process.{is_less_than_last, split_last};
-ghost use Rattle.rw_lp.specs.Past.{Past, IsFor, IsLinked, TookBack};
+ghost use Rattle.rw_lp.specs.Past.{Past, IsFor, IsLinked, TookBack, IsFolded, done_in, past};
+ghost use Rattle.rw_lp.specs.Calls.{GivesOut};
 
 use crate::bags::holds;
 use crate::letters::give;
@@ -32,9 +33,12 @@ pub struct History<M: VtModel> {
 impl<M: VtModel> Model for History<M> {
     ghost Value = { Past M M.State M.Body };
 
-    ghost view = { λ x. record { model = x.model.value; number = x.number; start = x.start.value; committed = x.committed.items; processed = x.processed.items; state = x.state } };
+    ghost view = { λ x.
+        past x.model.value x.number x.start.value x.committed.items x.processed.items x.state };
 
-    ghost invariant = { λ x. IsLinked M.Model (event_cmp M.Body.cmp) (record { model = x.model.value; number = x.number; start = x.start.value; committed = x.committed.items; processed = x.processed.items; state = x.state }) x.records.items };
+    ghost invariant = { λ x. IsLinked M.Model (event_cmp M.Body.cmp)
+        (past x.model.value x.number x.start.value x.committed.items x.processed.items x.state)
+        x.records.items };
 }
 
 impl<M: VtModel> History<M> {
@@ -42,7 +46,7 @@ impl<M: VtModel> History<M> {
     pub fn new(alloc: Global, model: &M, number: u32, start: M::State) -> History<M>
         requires number { number < M.process_count model.now }
         requires start { M.IsWellFormed model.now number start }
-        ensures is { result ≡ record { model = model.now; number = number; start = start; committed = []; processed = []; state = start } }
+        ensures is { result ≡ past model.now number start [] [] start }
     {
         History {
             model: Snapshot::of(model),
@@ -57,7 +61,8 @@ impl<M: VtModel> History<M> {
 
     /// Whether the event is less than the last done one: a straggler.
     pub fn is_past(&self, event: &Event<M::Body>) -> bool
-        ensures { result ≡ is_less_than_last (event_cmp M.Body.cmp) event.now (split_last (self.now.committed ++ self.now.processed)) }
+        ensures { result ≡ is_less_than_last (event_cmp M.Body.cmp) event.now
+            (split_last (done_in self.now)) }
     {
         if let Some((last, _front)) = self.processed.split_last() {
             return last.cmp(event).is_gt();
@@ -79,11 +84,19 @@ impl<M: VtModel> History<M> {
         requires model { model.now ≡ self.model }
         requires valid { M.is_valid self.model event ≡ true }
         requires here { event.to ≡ self.number }
-        requires late { is_less_than_last (event_cmp M.Body.cmp) event (split_last (self.committed ++ self.processed)) ≡ false }
-        ensures after { IfOk result (λ h. h ≡ record self { processed = self.processed ++ event ∷ []; state = (M.step self.model self.number self.state event).0 }) }
-        ensures sent { OnOk result (out.new.items ≡ out.old.items ++ letters_of false (M.step self.model self.number self.state event).1) }
-        ensures exhausted { (result ≡ Err Refusal.Exhausted) ↔ (M.is_exhausted self.model self.state ≡ true) }
-        ensures fold { OnOk result (self.state ≡ after (M.step self.model self.number) self.start (self.committed ++ self.processed)) }
+        requires late { is_less_than_last (event_cmp M.Body.cmp) event (split_last (done_in self))
+            ≡ false }
+        ensures after { IfOk result (λ h.
+            h ≡ record self {
+              processed = self.processed ++ event ∷ [];
+              state = (M.step self.model self.number self.state event).0;
+            }) }
+        ensures sent { OnOk result
+            (out.new.items
+            ≡ out.old.items ++ letters_of false (M.step self.model self.number self.state event).1) }
+        ensures exhausted { (result ≡ Err Refusal.Exhausted)
+            ↔ (M.is_exhausted self.model self.state ≡ true) }
+        ensures fold { OnOk result (IsFolded M.Model self) }
     {
         let mut history = self;
         let mut sends = Vec::new(alloc);
@@ -109,7 +122,8 @@ impl<M: VtModel> History<M> {
         out: &mut Vec<Letter<M::Body>>,
     ) -> Result<(History<M>, Option<Event<M::Body>>), Refusal>
         requires model { model.now ≡ self.model }
-        ensures back { IfOk result (λ r. (given : List (Letter M.Body)) × (out.new.items ≡ out.old.items ++ given) × TookBack M.Model self r.0 r.1 given) }
+        ensures back { IfOk result (λ r.
+            GivesOut out.old.items out.new.items (TookBack M.Model self r.0 r.1)) }
         ensures memory { IfErr result (λ e. e ≡ Memory) }
     {
         let mut history = self;
@@ -126,8 +140,12 @@ impl<M: VtModel> History<M> {
 
     /// Commits the processed events of time below `time`, and drops the records that would take them back.
     pub fn commit(self, time: u64) -> Result<History<M>, Refusal>
-        ensures committed { IfOk result (λ h. h ≡ record self { committed = self.committed ++ filter (λ e. nat_lt e.time time) self.processed; processed = filter (λ e. nat_le time e.time) self.processed }) }
-        ensures done { IfOk result (λ h. h.committed ++ h.processed ≡ self.committed ++ self.processed) }
+        ensures committed { IfOk result (λ h.
+            h ≡ record self {
+              committed = self.committed ++ filter (λ e. nat_lt e.time time) self.processed;
+              processed = filter (λ e. nat_le time e.time) self.processed;
+            }) }
+        ensures done { IfOk result (λ h. done_in h ≡ done_in self) }
         ensures memory { IfErr result (λ e. e ≡ Memory) }
     {
         let mut history = self;
@@ -149,10 +167,12 @@ impl<M: VtModel> History<M> {
     /// What is done is in order and for the process, and leads to the state. This is a law of every history; the call itself
     /// does nothing.
     pub fn soundness(&self)
-        ensures order { IsAscending (event_cmp M.Body.cmp) (self.now.committed ++ self.now.processed) }
-        ensures committed { Each (event_cmp M.Body.cmp) (IsFor M.Model self.now.model self.now.number) self.now.committed }
-        ensures processed { Each (event_cmp M.Body.cmp) (IsFor M.Model self.now.model self.now.number) self.now.processed }
-        ensures fold { self.now.state ≡ after (M.step self.now.model self.now.number) self.now.start (self.now.committed ++ self.now.processed) }
+        ensures order { IsAscending (event_cmp M.Body.cmp) (done_in self.now) }
+        ensures committed { Each (event_cmp M.Body.cmp)
+            (IsFor M.Model self.now.model self.now.number) self.now.committed }
+        ensures processed { Each (event_cmp M.Body.cmp)
+            (IsFor M.Model self.now.model self.now.number) self.now.processed }
+        ensures fold { IsFolded M.Model self.now }
     {
         let _known = &self.state;
     }
@@ -175,7 +195,7 @@ impl<M: VtModel> History<M> {
     /// The state after all of them. Takes no memory.
     pub fn state(&self) -> &M::State
         ensures is { result.now ≡ self.now.state }
-        ensures fold { self.now.state ≡ after (M.step self.now.model self.now.number) self.now.start (self.now.committed ++ self.now.processed) }
+        ensures fold { IsFolded M.Model self.now }
     {
         &self.state
     }

@@ -7,11 +7,7 @@
 //!
 //! Worked examples: `rw_tests/src/edge_process.rt` and `station_process.rt`.
 
-ghost use Rattle.std.specs.Prelude.{◌≡◌, ℕ, List, slice_get, Some};
-ghost use Rattle.rw_vt.specs.declared.event.Event.{Event};
-ghost use Rattle.rw_vt.specs.System.{system, IsReady};
-ghost use Rattle.rw_lp.specs.Process.{ProcessState};
-ghost use Rattle.rw_lp.specs.Sound.{SoundAt, KeepsAll};
+ghost use Rattle.rw_lp.specs.Sound.{StepsKeepAll};
 
 mod bag;
 mod bags;
@@ -31,5 +27,5 @@ pub use step::{Answer, StepFault};
 /// the letter that came, and what its done events sent by exactly the letters that it gives out. This is the law of the
 /// definitions that the calls of [`Lp`] meet, for every model; the call itself does nothing.
 pub fn every_turn<M: Model>()
-    ensures { (m : M) (starts : List M.State) (initial : List (Event M.Body)) (g p : ℕ) (x : ProcessState M.State M.Body) → IsReady M.Model m starts initial → slice_get starts p ≡ Some x.start → SoundAt (system M.Model M.Body.cmp m starts initial) g p x → KeepsAll (system M.Model M.Body.cmp m starts initial) g p x }
+    ensures { StepsKeepAll M.Model M.Body.cmp }
 {}

@@ -1,14 +1,14 @@
 ghost use Rattle.std.specs.Prelude.{◌≡◌, ◌<◌, ◌≤◌, ◌++◌, ◌∷◌, ◌↔◌, ◌^◌, true, false, List, [], IfOk, IfErr, OnOk, MatchOption, All};
-ghost use Rattle.rw_vt.specs.Order.{event_cmp, AtMost, Each, Has, IsAscending};
+ghost use Rattle.rw_vt.specs.Order.{event_cmp, AtMost, Each, Has, IsAscending, IsFirst, IsLeast};
 ghost use Rattle.rw_vt.specs.System.{after};
 ghost use Rattle.rw_vt.specs.declared.event.Event.{Event};
 ghost use Rattle.rw_vt.specs.declared.event.Letter.{Letter};
 ghost use Rattle.rw_vt.specs.declared.refusal.Refusal.TheVariants.{Memory};
 ghost use Rattle.rw_lp.specs.HeldMessages.{held_messages};
 ghost use Rattle.rw_lp.specs.Process.{ProcessState, done, deliver, execute_next, undo_one, collect};
-ghost use Rattle.rw_lp.specs.Calls.{LogicalProcess, process_of, rules, unstarted, MeetsNext, Took, came, least_time};
+ghost use Rattle.rw_lp.specs.Calls.{LogicalProcess, process_of, rules, unstarted, MeetsNext, Took, came, least_time, IsSameProcess, GivesOut, execution_by, undoing_by, IsDelivered, least_outstanding};
 ghost use Rattle.rw_lp.specs.Past.{AreFor, IsFor};
-ghost use Rattle.rw_lp.specs.Sound.{Change, IsSoundOnceCollected};
+ghost use Rattle.rw_lp.specs.Sound.{Change, IsSoundOnceCollected, KeepsBalance};
 ghost use Rattle.rw_lp.specs.Arrival.{Arrived, is_barred};
 
 use crate::bag::Bag;
@@ -52,8 +52,13 @@ impl<M: VtModel> Lp<M> {
     ) -> Result<Lp<M>, Refusal>
         requires number { number < M.process_count model.now }
         requires start { M.IsWellFormed model.now number start }
-        requires initial { All (λ e. (M.is_valid model.now e ≡ true) × (e.to ≡ number)) initial.items }
-        ensures opened { IfOk result (λ lp. lp ≡ record { model = model.now; number = number; process = unstarted (event_cmp M.Body.cmp) start initial.items }) }
+        requires initial { All (λ e.
+            (M.is_valid model.now e ≡ true) × (e.to ≡ number)) initial.items }
+        ensures opened { IfOk result (λ lp. lp ≡ record {
+          model = model.now;
+          number = number;
+          process = unstarted (event_cmp M.Body.cmp) start initial.items;
+        }) }
         ensures memory { IfErr result (λ e. e ≡ Memory) }
     {
         let pending = Bag::from_events(initial)?;
@@ -72,9 +77,10 @@ impl<M: VtModel> Lp<M> {
     pub fn deliver(self, letter: Letter<M::Body>) -> Result<(Lp<M>, Answer), Refusal>
         requires valid { M.is_valid self.model letter.event ≡ true }
         requires here { letter.event.to ≡ self.number }
-        ensures same { IfOk result (λ r. (r.0.model ≡ self.model) × (r.0.number ≡ self.number)) }
-        ensures turn { IfOk result (λ r. Took self.process r.0.process r.1 [] (deliver (event_cmp M.Body.cmp) letter self.process)) }
-        ensures balance { IfOk result (λ r. Change (rules M.Model M.Body.cmp self.model) self.number self.process r.0.process (came r.1 letter) []) }
+        ensures same { IfOk result (λ r. IsSameProcess self r.0) }
+        ensures turn { IfOk result (λ r. IsDelivered (event_cmp M.Body.cmp) letter r.1 self r.0) }
+        ensures balance { IfOk result (λ r.
+            KeepsBalance M.Model M.Body.cmp self r.0 (came r.1 letter) []) }
         ensures memory { IfErr result (λ e. e ≡ Memory) }
     {
         let Lp {
@@ -103,10 +109,13 @@ impl<M: VtModel> Lp<M> {
         out: &mut Vec<Letter<M::Body>>,
     ) -> Result<(Lp<M>, Answer), Refusal>
         requires model { model.now ≡ self.model }
-        ensures same { IfOk result (λ r. (r.0.model ≡ self.model) × (r.0.number ≡ self.number)) }
-        ensures turn { IfOk result (λ r. (given : List (Letter M.Body)) × (out.new.items ≡ out.old.items ++ given) × Took self.process r.0.process r.1 given (execute_next (rules M.Model M.Body.cmp self.model) self.number self.process)) }
-        ensures balance { IfOk result (λ r. (given : List (Letter M.Body)) × (out.new.items ≡ out.old.items ++ given) × Change (rules M.Model M.Body.cmp self.model) self.number self.process r.0.process [] given) }
-        ensures exhausted { result ≡ Err Refusal.Exhausted → MeetsNext (event_cmp M.Body.cmp) self.process (M.is_exhausted self.model) }
+        ensures same { IfOk result (λ r. IsSameProcess self r.0) }
+        ensures turn { IfOk result (λ r. GivesOut out.old.items out.new.items (λ given.
+            Took self.process r.0.process r.1 given (execution_by M.Model M.Body.cmp self))) }
+        ensures balance { IfOk result (λ r. GivesOut out.old.items out.new.items
+            (KeepsBalance M.Model M.Body.cmp self r.0 [])) }
+        ensures exhausted { result ≡ Err Refusal.Exhausted
+            → MeetsNext (event_cmp M.Body.cmp) self.process (M.is_exhausted self.model) }
     {
         let Some(first) = self.pending.first() else {
             return Ok((self, Answer::Refused(StepFault::NothingPending)));
@@ -142,9 +151,11 @@ impl<M: VtModel> Lp<M> {
         out: &mut Vec<Letter<M::Body>>,
     ) -> Result<(Lp<M>, Answer), Refusal>
         requires model { model.now ≡ self.model }
-        ensures same { IfOk result (λ r. (r.0.model ≡ self.model) × (r.0.number ≡ self.number)) }
-        ensures turn { IfOk result (λ r. (given : List (Letter M.Body)) × (out.new.items ≡ out.old.items ++ given) × Took self.process r.0.process r.1 given (undo_one (rules M.Model M.Body.cmp self.model) self.number self.process)) }
-        ensures balance { IfOk result (λ r. (given : List (Letter M.Body)) × (out.new.items ≡ out.old.items ++ given) × Change (rules M.Model M.Body.cmp self.model) self.number self.process r.0.process [] given) }
+        ensures same { IfOk result (λ r. IsSameProcess self r.0) }
+        ensures turn { IfOk result (λ r. GivesOut out.old.items out.new.items (λ given.
+            Took self.process r.0.process r.1 given (undoing_by M.Model M.Body.cmp self))) }
+        ensures balance { IfOk result (λ r. GivesOut out.old.items out.new.items
+            (KeepsBalance M.Model M.Body.cmp self r.0 [])) }
         ensures memory { IfErr result (λ e. e ≡ Memory) }
     {
         let Lp {
@@ -183,9 +194,11 @@ impl<M: VtModel> Lp<M> {
         requires model { model.now ≡ self.model }
         requires valid { M.is_valid self.model letter.event ≡ true }
         requires here { letter.event.to ≡ self.number }
-        ensures same { IfOk result (λ lp. (lp.model ≡ self.model) × (lp.number ≡ self.number)) }
-        ensures arrived { IfOk result (λ lp. (given : List (Letter M.Body)) × (out.new.items ≡ out.old.items ++ given) × Arrived (rules M.Model M.Body.cmp self.model) self.number letter self.process lp.process given) }
-        ensures balance { IfOk result (λ lp. (given : List (Letter M.Body)) × (out.new.items ≡ out.old.items ++ given) × Change (rules M.Model M.Body.cmp self.model) self.number self.process lp.process (letter ∷ []) given) }
+        ensures same { IfOk result (IsSameProcess self) }
+        ensures arrived { IfOk result (λ lp. GivesOut out.old.items out.new.items
+            (Arrived (rules M.Model M.Body.cmp self.model) self.number letter self.process lp.process)) }
+        ensures balance { IfOk result (λ lp. GivesOut out.old.items out.new.items
+            (KeepsBalance M.Model M.Body.cmp self lp (letter ∷ []))) }
         ensures memory { IfErr result (λ e. e ≡ Memory) }
     {
         let mut lp = self;
@@ -215,7 +228,8 @@ impl<M: VtModel> Lp<M> {
     pub fn collect(self, time: u64) -> Result<Lp<M>, Refusal>
         requires pending { Each (event_cmp M.Body.cmp) (λ e. time ≤ e.time) self.process.pending }
         requires debts { Each (event_cmp M.Body.cmp) (λ e. time ≤ e.time) self.process.debts }
-        ensures collected { IfOk result (λ lp. lp ≡ record { model = self.model; number = self.number; process = collect time self.process }) }
+        ensures collected { IfOk result (λ lp.
+            lp ≡ record self { process = collect time self.process }) }
         ensures done { IfOk result (λ lp. done lp.process ≡ done self.process) }
         ensures memory { IfErr result (λ e. e ≡ Memory) }
     {
@@ -245,8 +259,9 @@ impl<M: VtModel> Lp<M> {
     /// The least time of pending events, debts and held messages, in ticks, or [`END`](rw_vt::END) if there is none. Takes no
     /// memory.
     pub fn least(&self) -> u64
-        ensures is { result ≡ least_time (least_time (least_time (2 ^ 40) (held_messages self.now.process.held)) self.now.process.debts) self.now.process.pending }
-        ensures pending { Each (event_cmp M.Body.cmp) (λ e. result ≤ e.time) self.now.process.pending }
+        ensures is { result ≡ least_outstanding (2 ^ 40) self.now.process }
+        ensures pending { Each (event_cmp M.Body.cmp) (λ e.
+            result ≤ e.time) self.now.process.pending }
         ensures debts { Each (event_cmp M.Body.cmp) (λ e. result ≤ e.time) self.now.process.debts }
     {
         self.pending.least().min(self.debts.least())
@@ -254,8 +269,10 @@ impl<M: VtModel> Lp<M> {
 
     /// The least pending event, which `execute_next` would execute. Takes no memory.
     pub fn next(&self) -> Option<&Event<M::Body>>
-        ensures first { MatchOption result (self.now.process.pending ≡ []) (λ e. (rest : List (Event M.Body)) × (self.now.process.pending ≡ e.now ∷ rest)) }
-        ensures least { MatchOption result (self.now.process.pending ≡ []) (λ e. Has (event_cmp M.Body.cmp) self.now.process.pending e.now × Each (event_cmp M.Body.cmp) (λ a. AtMost (event_cmp M.Body.cmp) e.now a) self.now.process.pending) }
+        ensures first { MatchOption result (self.now.process.pending ≡ [])
+            (λ e. IsFirst self.now.process.pending e.now) }
+        ensures least { MatchOption result (self.now.process.pending ≡ [])
+            (λ e. IsLeast (event_cmp M.Body.cmp) self.now.process.pending e.now) }
     {
         self.pending.first()
     }
@@ -277,7 +294,9 @@ impl<M: VtModel> Lp<M> {
     /// The state, which is the fold of the done events from the start. Takes no memory.
     pub fn state(&self) -> &M::State
         ensures is { result.now ≡ self.now.process.state }
-        ensures fold { self.now.process.state ≡ after (M.step self.now.model self.now.number) self.now.process.start (done self.now.process) }
+        ensures fold { self.now.process.state
+            ≡ after (M.step self.now.model self.now.number) self.now.process.start
+            (done self.now.process) }
     {
         self.history.state()
     }
@@ -305,9 +324,17 @@ fn meet<M: VtModel>(
 ) -> Result<Answer, AllocError>
     requires own { AreFor M.Model (event_cmp M.Body.cmp) history.now pending.old debts.old }
     requires here { IsFor M.Model history.now.model history.now.number letter.event }
-    ensures own { OnOk result (AreFor M.Model (event_cmp M.Body.cmp) history.now pending.new debts.new) }
-    ensures turn { IfOk result (λ a. Took (process_of history.now pending.old debts.old).process (process_of history.now pending.new debts.new).process a [] (deliver (event_cmp M.Body.cmp) letter (process_of history.now pending.old debts.old).process)) }
-    ensures balance { IfOk result (λ a. Change (rules M.Model M.Body.cmp history.now.model) history.now.number (process_of history.now pending.old debts.old).process (process_of history.now pending.new debts.new).process (came a letter) []) }
+    ensures own { OnOk result
+        (AreFor M.Model (event_cmp M.Body.cmp) history.now pending.new debts.new) }
+    ensures turn { IfOk result (λ a.
+        IsDelivered (event_cmp M.Body.cmp) letter a
+        (process_of history.now pending.old debts.old)
+        (process_of history.now pending.new debts.new)) }
+    ensures balance { IfOk result (λ a.
+        KeepsBalance M.Model M.Body.cmp
+        (process_of history.now pending.old debts.old)
+        (process_of history.now pending.new debts.new)
+        (came a letter) []) }
 {
     let event = letter.event;
     if letter.anti {

@@ -13,7 +13,8 @@ use Rattle.rw_vt.proofs.Runs.{outs-append}
 use Rattle.rw_lp.specs.declared.held.Held.{Held}
 use Rattle.rw_lp.specs.declared.step.StepFault.TheVariants.{StillDone}
 use Rattle.rw_lp.specs.HeldMessages.{held_with, held_without}
-use Rattle.rw_lp.specs.Process.{ProcessState, done, Turn, Turned, Stays, split_last, undo_last, undo_one, with_bags, annihilate, deliver_message, deliver_anti, deliver, execute_next, execute_least, execute_event, executed, is_less_than_last}
+use Rattle.rw_lp.specs.Process.{ProcessState, done, Turn, Turned, Stays, split_last, undo_last, undo_one, annihilate, deliver_message, deliver_anti, deliver, execute_next, execute_least, execute_event, executed, is_less_than_last}
+use Rattle.rw_lp.proofs.WithBags.{with_bags}
 use Rattle.rw_lp.specs.Calls.{LogicalProcess}
 use Rattle.rw_lp.specs.Arrival.{with_out, and_undo, undo_times, Arrived}
 use Rattle.rw_lp.proofs.Splits.{IsSplit, split_is}

@@ -3,9 +3,9 @@ use Rattle.std.specs.Prelude.{◌^◌, min, Bool, true, false, List, [], ◌∷�
 use Rattle.rw_vt.specs.Words.{Process, Time}
 use Rattle.rw_vt.specs.declared.event.Letter.{Letter}
 use Rattle.rw_vt.specs.System.{System, map_from}
-use Rattle.rw_lp.specs.HeldMessages.{held_messages}
+
 use Rattle.rw_lp.specs.Process.{ProcessState}
-use Rattle.rw_lp.specs.Calls.{unstarted, least_time}
+use Rattle.rw_lp.specs.Calls.{unstarted, least_outstanding}
 
 -- the processes, the letters on their way, and the greatest time collected
 pub record WorldState (S B : Type 0) : Type 0 where
@@ -25,7 +25,7 @@ opened y = record { processes = map_from 0 (opened_at y) y.starts; letters = [];
 
 abbrev pub least_of_processes : {S B : Type 0} → Time → List (ProcessState S B) → Time
 least_of_processes m [] = m
-least_of_processes m (x ∷ xs) = least_time (least_time (least_time (least_of_processes m xs) (held_messages x.held)) x.debts) x.pending
+least_of_processes m (x ∷ xs) = least_outstanding (least_of_processes m xs) x
 
 abbrev pub least_of_letters : {B : Type 0} → Time → List (Letter B) → Time
 least_of_letters m [] = m
