@@ -69,6 +69,7 @@ pub record IsAboveFloor {S B : Type 0} (w : WorldState S B) (step : Step) : Type
   pub step_is : step ≡ Collect time
   pub above : floor w < time
 
+-- the fault applies: the step cannot be made for this reason
 abbrev pub Applies : {S B : Type 0} → (Event B → Event B → Ordering) → WorldState S B → Step → StepFault → Type 0
 Applies cmp w step NoSuchProcess = NamesNoProcess w step
 Applies cmp w step NoSuchLetter = NamesNoLetter w step

@@ -5,3 +5,4 @@ pub mod Sound
 pub mod Rounds
 pub mod Calls
 pub mod Drawn
+pub mod Laws

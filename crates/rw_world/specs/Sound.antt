@@ -15,11 +15,13 @@ use Rattle.rw_world.specs.declared.step.Step.{Step}
 use Rattle.rw_world.specs.WorldState.{WorldState, floor, is_finished}
 use Rattle.rw_world.specs.Steps.{apply}
 
--- a list of a process, empty where there is none
+-- Lists of one process, empty where there is none, or of all
+
 abbrev pub part : {S B : Type 0} → (ProcessState S B → List (Event B)) → Option (ProcessState S B) → List (Event B)
 part f None = []
 part f (Some x) = f x
 
+-- what process q has committed, has done, is to execute, and owes
 abbrev pub committed_of : {S B : Type 0} → List (ProcessState S B) → Process → List (Event B)
 committed_of ps q = part (λ x. x.committed) (slice_get ps q)
 
@@ -43,6 +45,7 @@ Balanced y ps ls e =
     copies y.order e (all_sent y (done_of ps)) + copies y.order e (held_in ps) + copies y.order e (debts_of ps e.to) + antis y.order e ls
     ≡ copies y.order e (done_of ps e.to) + copies y.order e (pending_of ps e.to) + messages y.order e ls
 
+-- each process is sound, so are the letters, and all events are balanced
 pub record Sound {S B : Type 0} (y : System S B) (w : WorldState S B) : Type 0 where
   pub starts : map (λ x. x.start) w.processes ≡ y.starts
   pub each : (q : Process) (x : ProcessState S B) → slice_get w.processes q ≡ Some x → SoundAt y w.collected q x
@@ -56,14 +59,15 @@ pub record IsQuiet {S B : Type 0} (y : System S B) (t : Time) (w : WorldState S 
   pub letters : (e : Event B) → 0 < messages y.order e w.letters + antis y.order e w.letters → t ≤ e.time
   pub held : Each y.order (λ e. t ≤ e.time) (held_in w.processes)
 
--- the committed events, the states that they leave, and all that is done before the floor, are those of executing all events in order of time, and a finished world is the outcome of that
+-- the committed events, the states that they leave, and all that is done before the floor, are those of executing all events
+-- in order of time, and a finished world is the outcome of that
 pub record IsInOrder {S B : Type 0} (y : System S B) (w : WorldState S B) : Type 0 where
   pub committed : (q : Process) (x : ProcessState S B) → slice_get w.processes q ≡ Some x → x.committed ≡ journal_below y w.collected q
   pub left : (q : Process) (x : ProcessState S B) → slice_get w.processes q ≡ Some x → after (y.step q) x.start x.committed ≡ after (y.step q) x.start (journal_below y w.collected q)
   pub before_floor : (t : Time) (q : Process) → t ≤ floor w → filter (λ e. nat_lt e.time t) (done_of w.processes q) ≡ journal_below y t q
   pub finished : is_finished w ≡ true → IsOutcome y (2 ^ 40) (map done w.processes) (map (λ x. x.state) w.processes)
 
--- a step keeps a sound world sound, a refused one leaves it as it was, and committed lists only grow
+-- a step leads to a sound world, a refused one leaves the world as it was, and committed lists only grow
 pub record StepKept {S B : Type 0} (y : System S B) (w : WorldState S B) (step : Step) : Type 0 where
   pub sound : Sound y (apply y w step).0
   pub refused : (fault : StepFault) → (apply y w step).1 ≡ Refused fault → (apply y w step).0 ≡ w

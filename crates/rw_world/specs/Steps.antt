@@ -1,5 +1,5 @@
 -- The steps of a world, what each answers, and where a whole schedule leads.
-use Rattle.std.specs.Prelude.{zero, suc, max, cond, List, [], ◌∷◌, ◌++◌, map, nat_le, slice_get, slice_set, Option, Some, None}
+use Rattle.std.specs.Prelude.{zero, suc, max, if◌then◌else◌, List, [], ◌∷◌, ◌++◌, map, nat_le, slice_get, slice_set, Option, Some, None}
 use Rattle.rw_vt.specs.Words.{Count, Process, Time}
 use Rattle.rw_vt.specs.declared.event.Letter.{Letter}
 use Rattle.rw_vt.specs.System.{System}
@@ -13,13 +13,14 @@ use Rattle.rw_world.specs.declared.step.Step.{Step}
 use Rattle.rw_world.specs.declared.step.Step.TheVariants.{Execute, Undo, Deliver, Collect}
 use Rattle.rw_world.specs.WorldState.{WorldState, floor}
 
+-- the world as it is, with the fault for which a step does not apply
 abbrev pub refuse : {S B : Type 0} → WorldState S B → StepFault → WorldState S B × Answer
 refuse w fault = (w, Refused fault)
 
 -- process p took this turn, while these letters were left on their way
 abbrev pub turned : {S B : Type 0} → WorldState S B → Process → List (Letter B) → Turn S B → WorldState S B × Answer
 turned w p left (Stays fault) = refuse w fault
-turned w p left (Turned x out) = (record { processes = slice_set w.processes p x; letters = left ++ out; collected = w.collected }, Done)
+turned w p left (Turned x out) = (record w { processes = slice_set w.processes p x; letters = left ++ out }, Done)
 
 -- process p, if there is one, takes a turn
 abbrev pub turn : {S B : Type 0} → WorldState S B → Process → (ProcessState S B → Turn S B) → Option (ProcessState S B) → WorldState S B × Answer
@@ -37,15 +38,17 @@ abbrev pub deliver_to : {S B : Type 0} → System S B → WorldState S B → Cou
 deliver_to y w i l None = refuse w NoSuchProcess
 deliver_to y w i l (Some x) = turned w l.event.to (remove_at w.letters i) (process.deliver y.order l x)
 
+-- letter i, if there is one, comes to its process
 abbrev pub deliver_letter : {S B : Type 0} → System S B → WorldState S B → Count → Option (Letter B) → WorldState S B × Answer
 deliver_letter y w i None = refuse w NoSuchLetter
 deliver_letter y w i (Some l) = deliver_to y w i l (slice_get w.processes l.event.to)
 
+-- all processes collect up to time t, if nothing outstanding is before it
 abbrev pub collect_to : {S B : Type 0} → WorldState S B → Time → WorldState S B × Answer
 collect_to w t =
-    cond (nat_le t (floor w))
-    (record { processes = map (process.collect t) w.processes; letters = w.letters; collected = max w.collected t }, Done)
-    (refuse w AboveFloor)
+    if nat_le t (floor w)
+    then (record w { processes = map (process.collect t) w.processes; collected = max w.collected t }, Done)
+    else refuse w AboveFloor
 
 -- one step, and what it answers
 abbrev pub apply : {S B : Type 0} → System S B → WorldState S B → Step → WorldState S B × Answer

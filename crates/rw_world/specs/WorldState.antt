@@ -15,18 +15,22 @@ pub record WorldState (S B : Type 0) : Type 0 where
 
 -- Before any step: the initial events are pending where they go
 
+-- process q as it starts
 abbrev pub opened_at : {S B : Type 0} → System S B → Process → S → ProcessState S B
 opened_at y q s = unstarted y.order s (filter (λ e. e.to == q) y.initial)
 
+-- the world in which nothing is done
 abbrev pub opened : {S B : Type 0} → System S B → WorldState S B
 opened y = record { processes = map_from 0 (opened_at y) y.starts; letters = []; collected = 0 }
 
 -- What is outstanding
 
+-- the least of m and the times of all that is outstanding at these processes
 abbrev pub least_of_processes : {S B : Type 0} → Time → List (ProcessState S B) → Time
 least_of_processes m [] = m
 least_of_processes m (x ∷ xs) = least_outstanding (least_of_processes m xs) x
 
+-- the least of m and the times of these letters
 abbrev pub least_of_letters : {B : Type 0} → Time → List (Letter B) → Time
 least_of_letters m [] = m
 least_of_letters m (l ∷ ls) = min l.event.time (least_of_letters m ls)
@@ -39,6 +43,7 @@ abbrev pub is_empty : {A : Type 0} → List A → Bool
 is_empty [] = true
 is_empty (x ∷ xs) = false
 
+-- nothing is outstanding at these processes
 abbrev pub are_idle : {S B : Type 0} → List (ProcessState S B) → Bool
 are_idle [] = true
 are_idle (x ∷ xs) = is_empty x.pending && (is_empty x.debts && (is_empty x.held && are_idle xs))

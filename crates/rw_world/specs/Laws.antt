@@ -1,0 +1,40 @@
+-- What holds of every world, in every setting: the laws of these definitions.
+use Rattle.std.specs.Prelude.{◌≤◌, ◌^◌, ◌↔◌, ◌++◌, List}
+use Rattle.std.specs.declared.cmp.Ordering.{Ordering}
+use Rattle.rw_vt.specs.Words.{Process, Time}
+use Rattle.rw_vt.specs.declared.event.Letter.{Letter}
+use Rattle.rw_vt.specs.declared.model.Model.{Ghosts}
+use Rattle.rw_vt.specs.System.{Setting, System, system_in}
+use Rattle.rw_lp.specs.Process.{ProcessState}
+use Rattle.rw_lp.specs.Sound.{Kept}
+use Rattle.rw_world.specs.declared.step.Step.{Step}
+use Rattle.rw_world.specs.WorldState.{WorldState, floor}
+use Rattle.rw_world.specs.Sound.{Sound, IsInOrder, IsQuiet, StepKept}
+use Rattle.rw_world.specs.Rounds.{Exchanged}
+
+-- each step keeps a sound world sound, a refused one leaves it as it was, and no committed event is lost
+abbrev pub StepsKeepSound : {M S B U : Type 0} → Ghosts M S B U → (B → B → Ordering) → Type 0
+StepsKeepSound {M} {S} {B} model order =
+    (k : Setting model) (w : WorldState S B) (step : Step) → Sound (system_in order k) w → StepKept (system_in order k) w step
+
+-- a sound world is in order
+abbrev pub SoundIsInOrder : {M S B U : Type 0} → Ghosts M S B U → (B → B → Ordering) → Type 0
+SoundIsInOrder {M} {S} {B} model order =
+    (k : Setting model) (w : WorldState S B) → Sound (system_in order k) w → IsInOrder (system_in order k) w
+
+-- the floor is the greatest time, up to the end, before which nothing is outstanding
+abbrev pub FloorIsGreatest : {M S B U : Type 0} → Ghosts M S B U → (B → B → Ordering) → Type 0
+FloorIsGreatest {M} {S} {B} model order =
+    (k : Setting model) (w : WorldState S B) (t : Time) → (t ≤ floor w) ↔ ((t ≤ 2 ^ 40) × IsQuiet (system_in order k) t w)
+
+-- whatever all processes of a sound world do at once, each keeping its balance of letters, the world is sound afterwards
+abbrev pub ExchangesKeepSound : {M S B U : Type 0} → Ghosts M S B U → (B → B → Ordering) → Type 0
+ExchangesKeepSound {M} {S} {B} model order =
+    (k : Setting model) (w v : WorldState S B) (came out : Process → List (Letter B))
+    → Sound (system_in order k) w → Exchanged (system_in order k) w v came out → Sound (system_in order k) v
+
+-- what process p kept on the way from x to z, and from there to u, it kept on the whole way
+abbrev pub BalancesAddUp : (S B : Type 0) → Type 0
+BalancesAddUp S B =
+    (y : System S B) (g : Time) (p : Process) (x z u : ProcessState S B) (came more out rest : List (Letter B))
+    → Kept y g p x z came out → Kept y g p z u more rest → Kept y g p x u (came ++ more) (out ++ rest)
