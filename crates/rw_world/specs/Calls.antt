@@ -27,6 +27,14 @@ pub record Simulation (M S B : Type 0) : Type 0 where
 abbrev pub system_of : {M S B U : Type 0} → Ghosts M S B U → (B → B → Ordering) → Simulation M S B → System S B
 system_of model order x = system model order x.model x.starts x.initial
 
+-- its world is sound
+abbrev pub IsSound : {M S B U : Type 0} → Ghosts M S B U → (B → B → Ordering) → Simulation M S B → Type 0
+IsSound model order x = Sound (system_of model order x) x.world
+
+-- where a step leads from it, and what the step answers
+abbrev pub step_from : {M S B U : Type 0} → Ghosts M S B U → (B → B → Ordering) → Simulation M S B → Step → WorldState S B × Answer
+step_from model order x step = apply (system_of model order x) x.world step
+
 -- the same, in another world
 abbrev pub with_world : {M S B : Type 0} → Simulation M S B → WorldState S B → Simulation M S B
 with_world x w = record x { world = w }

@@ -3,7 +3,6 @@ use Rattle.std.specs.Prelude.{◌^◌, min, Bool, true, false, List, [], ◌∷�
 use Rattle.rw_vt.specs.Words.{Process, Time}
 use Rattle.rw_vt.specs.declared.event.Letter.{Letter}
 use Rattle.rw_vt.specs.System.{System, map_from}
-
 use Rattle.rw_lp.specs.Process.{ProcessState}
 use Rattle.rw_lp.specs.Calls.{unstarted, least_outstanding}
 

@@ -21,7 +21,7 @@ pub fn draw(alloc: Global, seed: u64, count: u64, processes: u32) -> Result<Vec<
     Ok(steps)
 }
 
-/// The number that the generator gives after this one.
+/// The number that the generator gives after `number`.
 fn next_number(number: u64) -> u64
     ensures { result ≡ next_number number }
 {

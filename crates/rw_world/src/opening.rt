@@ -7,8 +7,7 @@ use rw_lp::Lp;
 use rw_vt::{Event, Model as VtModel, Refusal};
 use std::alloc::{AllocError, Global};
 
-/// A process for each start, numbered from 0, with those of the initial events that go to it pending. Refused only as
-/// `Memory`.
+/// A process for each start, numbered from 0, with those of `events` pending that go to it. Refused only as `Memory`.
 pub fn open_processes<M: VtModel>(
     alloc: Global,
     model: &M,
@@ -16,7 +15,11 @@ pub fn open_processes<M: VtModel>(
     events: &[Event<M::Body>],
 ) -> Result<Vec<Lp<M>>, Refusal>
     requires ready { IsReady M.Model model.now starts.items events.now }
-    ensures opened { IfOk result (λ v. v.items ≡ map_from 0 (λ q s. record { model = model.now; number = q; process = opened_at (system M.Model M.Body.cmp model.now starts.items events.now) q s }) starts.items) }
+    ensures opened { IfOk result (λ v. v.items ≡ map_from 0 (λ q s. record {
+      model = model.now;
+      number = q;
+      process = opened_at (system M.Model M.Body.cmp model.now starts.items events.now) q s;
+    }) starts.items) }
     ensures memory { IfErr result (λ e. e ≡ Memory) }
 {
     let count = model.processes();
@@ -33,7 +36,7 @@ pub fn open_processes<M: VtModel>(
     Ok(processes)
 }
 
-/// The events that go to each of so many processes, in the order in which they stand.
+/// For each of `count` processes the events that go to it, in the order of `events`.
 fn by_destination<B: Copy>(
     alloc: Global,
     count: usize,
@@ -41,7 +44,9 @@ fn by_destination<B: Copy>(
 ) -> Result<Vec<Vec<Event<B>>>, AllocError>
     requires inside { All (λ e. e.to < count) events.now }
     ensures len { IfOk result (λ v. length v.items ≡ count) }
-    ensures each { IfOk result (λ v. (q : ℕ) → q < count → slice_index_or (map (λ l. l.items) v.items) q [] ≡ filter (λ e. e.to == q) events.now) }
+    ensures each { IfOk result (λ v. (q : ℕ) → q < count
+        → slice_index_or (map (λ l. l.items) v.items) q []
+        ≡ filter (λ e. e.to == q) events.now) }
 {
     let mut lists = empty_lists(alloc, count)?;
     for event in events {
@@ -50,7 +55,7 @@ fn by_destination<B: Copy>(
     Ok(lists)
 }
 
-/// As many empty lists.
+/// `count` empty lists.
 fn empty_lists<T: Drop>(alloc: Global, count: usize) -> Result<Vec<Vec<T>>, AllocError>
     ensures { IfOk result (λ v. map (λ l. l.items) v.items ≡ replicate count []) }
 {

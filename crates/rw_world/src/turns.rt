@@ -14,11 +14,13 @@ use rw_vt::{Model as VtModel, Refusal};
 use std::alloc::Global;
 
 impl<M: VtModel> Parts<M> {
-    /// Makes one step, or refuses it. After a refusal with a [`Refusal`] nothing is said of the parts.
+    /// Makes one step, or answers why it does not apply. On `Err` the parts are only good for dropping.
     pub(crate) fn make(&mut self, alloc: Global, step: Step) -> Result<Answer, Refusal>
         requires whole { IsWhole M.Model M.Body.cmp self.old }
         ensures made { IfOk result (λ a. Made M.Model M.Body.cmp self.old self.new step a) }
-        ensures exhausted { result ≡ Err Refusal.Exhausted → ExecutesAt (event_cmp M.Body.cmp) (world_of self.old) (M.is_exhausted self.old.model) step }
+        ensures exhausted { result ≡ Err Refusal.Exhausted
+            → ExecutesAt (event_cmp M.Body.cmp) (world_of self.old)
+            (M.is_exhausted self.old.model) step }
     {
         match step {
             Step::Execute(p) => self.execute(alloc, p),
@@ -28,11 +30,14 @@ impl<M: VtModel> Parts<M> {
         }
     }
 
-    /// Process `p` executes its least pending event. After a refusal nothing is said of the parts.
+    /// Process `p` executes its least pending event. On `Err` the parts are only good for dropping.
     fn execute(&mut self, alloc: Global, p: u32) -> Result<Answer, Refusal>
         requires whole { IsWhole M.Model M.Body.cmp self.old }
-        ensures made { IfOk result (λ a. Made M.Model M.Body.cmp self.old self.new (Step.Execute p) a) }
-        ensures exhausted { result ≡ Err Refusal.Exhausted → ExecutesAt (event_cmp M.Body.cmp) (world_of self.old) (M.is_exhausted self.old.model) (Step.Execute p) }
+        ensures made { IfOk result (λ a.
+            Made M.Model M.Body.cmp self.old self.new (Step.Execute p) a) }
+        ensures exhausted { result ≡ Err Refusal.Exhausted
+            → ExecutesAt (event_cmp M.Body.cmp) (world_of self.old) (M.is_exhausted self.old.model)
+            (Step.Execute p) }
     {
         let place = p as usize;
         if self.processes.len() <= place {
@@ -44,10 +49,11 @@ impl<M: VtModel> Parts<M> {
         Ok(answer)
     }
 
-    /// Process `p` takes its last processed event back. After a refusal nothing is said of the parts.
+    /// Process `p` takes its last processed event back. On `Err` the parts are only good for dropping.
     fn undo(&mut self, alloc: Global, p: u32) -> Result<Answer, Refusal>
         requires whole { IsWhole M.Model M.Body.cmp self.old }
-        ensures made { IfOk result (λ a. Made M.Model M.Body.cmp self.old self.new (Step.Undo p) a) }
+        ensures made { IfOk result (λ a.
+            Made M.Model M.Body.cmp self.old self.new (Step.Undo p) a) }
         ensures memory { IfErr result (λ e. e ≡ Memory) }
     {
         let place = p as usize;
@@ -60,10 +66,11 @@ impl<M: VtModel> Parts<M> {
         Ok(answer)
     }
 
-    /// Letter `number`, from 0, comes to its process. After a refusal nothing is said of the parts.
+    /// Letter `number`, from 0, comes to its process. On `Err` the parts are only good for dropping.
     fn deliver(&mut self, number: u64) -> Result<Answer, Refusal>
         requires whole { IsWhole M.Model M.Body.cmp self.old }
-        ensures made { IfOk result (λ a. Made M.Model M.Body.cmp self.old self.new (Step.Deliver number) a) }
+        ensures made { IfOk result (λ a.
+            Made M.Model M.Body.cmp self.old self.new (Step.Deliver number) a) }
         ensures memory { IfErr result (λ e. e ≡ Memory) }
     {
         if self.letters.len() as u64 <= number {
@@ -80,11 +87,12 @@ impl<M: VtModel> Parts<M> {
         Ok(answer)
     }
 
-    /// Commits what was done before `time`, in ticks, if nothing earlier is outstanding. After a refusal nothing is said of
-    /// the parts.
+    /// Commits what was done before `time`, in ticks, if nothing earlier is outstanding. On `Err` the parts are only good
+    /// for dropping.
     fn collect(&mut self, time: u64) -> Result<Answer, Refusal>
         requires whole { IsWhole M.Model M.Body.cmp self.old }
-        ensures made { IfOk result (λ a. Made M.Model M.Body.cmp self.old self.new (Step.Collect time) a) }
+        ensures made { IfOk result (λ a.
+            Made M.Model M.Body.cmp self.old self.new (Step.Collect time) a) }
         ensures memory { IfErr result (λ e. e ≡ Memory) }
     {
         if self.floor() < time {
@@ -104,10 +112,14 @@ impl<M: VtModel> Parts<M> {
 }
 
 /// Each process commits what it did before `time`, in ticks: nothing that is pending or owed is earlier. Refused only as
-/// `Memory`; nothing is then said of the processes.
+/// `Memory`; the processes are then only good for dropping.
 fn collect_all<M: VtModel>(processes: &mut Vec<Lp<M>>, time: u64) -> Result<(), Refusal>
-    requires quiet { (q : ℕ) (x : LogicalProcess M M.State M.Body) → slice_get processes.old.items q ≡ Some x → Each (event_cmp M.Body.cmp) (λ e. time ≤ e.time) x.process.pending × Each (event_cmp M.Body.cmp) (λ e. time ≤ e.time) x.process.debts }
-    ensures collected { OnOk result (processes.new.items ≡ map (collected time) processes.old.items) }
+    requires quiet { (q : ℕ) (x : LogicalProcess M M.State M.Body)
+        → slice_get processes.old.items q ≡ Some x
+        → Each (event_cmp M.Body.cmp) (λ e. time ≤ e.time) x.process.pending
+        × Each (event_cmp M.Body.cmp) (λ e. time ≤ e.time) x.process.debts }
+    ensures collected { OnOk result
+        (processes.new.items ≡ map (collected time) processes.old.items) }
     ensures memory { IfErr result (λ e. e ≡ Memory) }
 {
     for place in 0..processes.len() {

@@ -9,7 +9,7 @@ ghost use Rattle.rw_world.specs.WorldState.{opened, floor, is_finished};
 ghost use Rattle.rw_world.specs.Steps.{apply, run, answers};
 ghost use Rattle.rw_world.specs.Faults.{Applies};
 ghost use Rattle.rw_world.specs.Sound.{Sound, IsInOrder, committed_of, done_of};
-ghost use Rattle.rw_world.specs.Calls.{Simulation, system_of, with_world, simulation_of, IsWhole, ExecutesAt, MeetsAt};
+ghost use Rattle.rw_world.specs.Calls.{Simulation, system_of, with_world, simulation_of, IsWhole, ExecutesAt, MeetsAt, IsSound, step_from};
 
 use crate::opening::open_processes;
 use crate::parts::Parts;
@@ -50,8 +50,13 @@ impl<M: VtModel + Drop> World<M> {
         initial: Vec<Event<M::Body>>,
     ) -> Result<World<M>, Refusal>
         requires ready { IsReady M.Model model starts.items initial.items }
-        ensures opened { IfOk result (λ w. w ≡ record { model = model; starts = starts.items; initial = initial.items; world = opened (system M.Model M.Body.cmp model starts.items initial.items) }) }
-        ensures sound { IfOk result (λ w. Sound (system_of M.Model M.Body.cmp w) w.world) }
+        ensures opened { IfOk result (λ w. w ≡ record {
+          model = model;
+          starts = starts.items;
+          initial = initial.items;
+          world = opened (system M.Model M.Body.cmp model starts.items initial.items);
+        }) }
+        ensures sound { IfOk result (λ w. IsSound M.Model M.Body.cmp w) }
         ensures memory { IfErr result (λ e. e ≡ Memory) }
     {
         let named_starts = Snapshot::of(&starts);
@@ -68,27 +73,32 @@ impl<M: VtModel + Drop> World<M> {
         Ok(World { parts })
     }
 
-    /// Makes one step, or refuses it with the first [`StepFault`](crate::StepFault) that applies; a refused step leaves
-    /// the very world.
+    /// Makes `step`, or refuses it with the first [`StepFault`](crate::StepFault) that applies; a refused step leaves the
+    /// very world.
     ///
     /// # Errors
     ///
     /// `Exhausted` only where the step would execute an event, which is pending and no straggler, in a state that can take
     /// no further one, and `Memory` only where memory was refused.
     pub fn apply(self, alloc: Global, step: Step) -> Result<(World<M>, Answer), Refusal>
-        ensures world { IfOk result (λ r. r.0 ≡ with_world self (apply (system_of M.Model M.Body.cmp self) self.world step).0) }
-        ensures answer { IfOk result (λ r. r.1 ≡ (apply (system_of M.Model M.Body.cmp self) self.world step).1) }
-        ensures refused { IfOk result (λ r. (fault : StepFault) → r.1 ≡ Refused fault → r.0 ≡ self) }
-        ensures exactly { IfOk result (λ r. (fault : StepFault) → (r.1 ≡ Refused fault) ↔ Applies (event_cmp M.Body.cmp) self.world step fault) }
-        ensures sound { IfOk result (λ r. Sound (system_of M.Model M.Body.cmp r.0) r.0.world) }
-        ensures exhausted { result ≡ Err Refusal.Exhausted → ExecutesAt (event_cmp M.Body.cmp) self.world (M.is_exhausted self.model) step }
+        ensures world { IfOk result (λ r.
+            r.0 ≡ with_world self (step_from M.Model M.Body.cmp self step).0) }
+        ensures answer { IfOk result (λ r. r.1 ≡ (step_from M.Model M.Body.cmp self step).1) }
+        ensures refused { IfOk result (λ r.
+            (fault : StepFault) → r.1 ≡ Refused fault → r.0 ≡ self) }
+        ensures exactly { IfOk result (λ r.
+            (fault : StepFault)
+            → (r.1 ≡ Refused fault) ↔ Applies (event_cmp M.Body.cmp) self.world step fault) }
+        ensures sound { IfOk result (λ r. IsSound M.Model M.Body.cmp r.0) }
+        ensures exhausted { result ≡ Err Refusal.Exhausted
+            → ExecutesAt (event_cmp M.Body.cmp) self.world (M.is_exhausted self.model) step }
     {
         let mut parts = self.parts;
         let answer = parts.make(alloc, step)?;
         Ok((World { parts }, answer))
     }
 
-    /// Makes these steps one after another, refused ones included, and gives what each answered.
+    /// Makes `steps` one after another, refused ones included, and gives what each answered.
     ///
     /// Whatever the steps are, the world is sound after them, and all that is done before its floor is what executing all
     /// events in order of time would have done (Jefferson 1985).
@@ -102,11 +112,16 @@ impl<M: VtModel + Drop> World<M> {
         alloc: Global,
         steps: &[Step],
     ) -> Result<(World<M>, Vec<Answer>), Refusal>
-        ensures world { IfOk result (λ r. r.0 ≡ with_world self (run (system_of M.Model M.Body.cmp self) self.world steps.now)) }
-        ensures answers { IfOk result (λ r. r.1.items ≡ answers (system_of M.Model M.Body.cmp self) self.world steps.now) }
-        ensures sound { IfOk result (λ r. Sound (system_of M.Model M.Body.cmp r.0) r.0.world) }
-        ensures in_order { IfOk result (λ r. IsInOrder (system_of M.Model M.Body.cmp r.0) r.0.world) }
-        ensures exhausted { result ≡ Err Refusal.Exhausted → MeetsAt (system_of M.Model M.Body.cmp self) self.world (M.is_exhausted self.model) steps.now }
+        ensures world { IfOk result (λ r.
+            r.0 ≡ with_world self (run (system_of M.Model M.Body.cmp self) self.world steps.now)) }
+        ensures answers { IfOk result (λ r.
+            r.1.items ≡ answers (system_of M.Model M.Body.cmp self) self.world steps.now) }
+        ensures sound { IfOk result (λ r. IsSound M.Model M.Body.cmp r.0) }
+        ensures in_order { IfOk result (λ r.
+            IsInOrder (system_of M.Model M.Body.cmp r.0) r.0.world) }
+        ensures exhausted { result ≡ Err Refusal.Exhausted
+            → MeetsAt (system_of M.Model M.Body.cmp self) self.world
+            (M.is_exhausted self.model) steps.now }
     {
         let mut parts = self.parts;
         let mut answers = Vec::with_capacity(alloc, steps.len())?;
@@ -120,7 +135,9 @@ impl<M: VtModel + Drop> World<M> {
     /// none: global virtual time (Jefferson 1985). What is done before it stays done. Takes no memory.
     pub fn floor(&self) -> u64
         ensures least { result ≡ floor self.now.world }
-        ensures before { (t q : ℕ) → t ≤ result → filter (λ e. nat_lt e.time t) (done_of self.now.world.processes q) ≡ journal_below (system_of M.Model M.Body.cmp self.now) t q }
+        ensures before { (t q : ℕ) → t ≤ result
+            → filter (λ e. nat_lt e.time t) (done_of self.now.world.processes q)
+            ≡ journal_below (system_of M.Model M.Body.cmp self.now) t q }
     {
         self.parts.floor()
     }
@@ -129,7 +146,9 @@ impl<M: VtModel + Drop> World<M> {
     /// events in order of time. Takes no memory.
     pub fn finished(&self) -> bool
         ensures is { result ≡ is_finished self.now.world }
-        ensures outcome { result ≡ true → IsOutcome (system_of M.Model M.Body.cmp self.now) (2 ^ 40) (map done self.now.world.processes) (map (λ x. x.state) self.now.world.processes) }
+        ensures outcome { result ≡ true
+            → IsOutcome (system_of M.Model M.Body.cmp self.now) (2 ^ 40)
+            (map done self.now.world.processes) (map (λ x. x.state) self.now.world.processes) }
     {
         self.parts.floor() == END
     }
@@ -139,7 +158,8 @@ impl<M: VtModel + Drop> World<M> {
     pub fn journal(&self, p: u32) -> &[Event<M::Body>]
         requires process { p < M.process_count self.now.model }
         ensures is { result.now ≡ committed_of self.now.world.processes p }
-        ensures in_order { result.now ≡ journal_below (system_of M.Model M.Body.cmp self.now) self.now.world.collected p }
+        ensures in_order { result.now
+            ≡ journal_below (system_of M.Model M.Body.cmp self.now) self.now.world.collected p }
     {
         self.parts.processes[p as usize].journal()
     }
@@ -148,7 +168,9 @@ impl<M: VtModel + Drop> World<M> {
     pub fn state(&self, p: u32) -> &M::State
         requires process { p < M.process_count self.now.model }
         ensures is { slice_get (map (λ x. x.state) self.now.world.processes) p ≡ Some result.now }
-        ensures fold { (start : M.State) → slice_get self.now.starts p ≡ Some start → result.now ≡ after (M.step self.now.model p) start (done_of self.now.world.processes p) }
+        ensures fold { (start : M.State) → slice_get self.now.starts p ≡ Some start
+            → result.now ≡ after (M.step self.now.model p) start
+            (done_of self.now.world.processes p) }
     {
         self.parts.processes[p as usize].state()
     }
@@ -163,12 +185,12 @@ impl<M: VtModel + Drop> World<M> {
         parts
     }
 
-    /// The world of these parts. They make up a sound world of the model, the starts and the initial events that they name,
-    /// and their processes are numbered from 0. Takes no memory.
+    /// The world of `parts`, which make up a sound world of the model, the starts and the initial events that they name,
+    /// with processes numbered from 0. Takes no memory.
     pub fn put(parts: Parts<M>) -> World<M>
         requires whole { IsWhole M.Model M.Body.cmp parts }
         ensures is { result ≡ simulation_of parts }
-        ensures sound { Sound (system_of M.Model M.Body.cmp result) result.world }
+        ensures sound { IsSound M.Model M.Body.cmp result }
     {
         Self { parts }
     }
