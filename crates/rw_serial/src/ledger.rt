@@ -11,8 +11,11 @@ pub trait Ledger<B: Ord + Copy> {
 
     /// Enters an event that was executed at its process. Where memory is refused, nothing is said of the ledger.
     fn enter(&mut self, event: Event<B>) -> Result<(), AllocError>
-        requires { (journals : List (List (Event B))) × StandsFor self.old journals × (event.to < length journals) }
-        ensures { OnOk result ((journals : List (List (Event B))) → StandsFor self.old journals → StandsFor self.new (slice_set journals event.to (slice_index_or journals event.to [] ++ event ∷ []))) };
+        requires { (journals : List (List (Event B))) × StandsFor self.old journals
+            × (event.to < length journals) }
+        ensures { OnOk result ((journals : List (List (Event B))) → StandsFor self.old journals
+            → StandsFor self.new
+            (slice_set journals event.to (slice_index_or journals event.to [] ++ event ∷ []))) };
 }
 
 /// The journals whole.
@@ -20,8 +23,12 @@ impl<B: Ord + Copy> Ledger<B> for Vec<Vec<Event<B>>> {
     ghost StandsFor = { λ kept journals. map (λ j. j.items) kept.items ≡ journals };
 
     fn enter(&mut self, event: Event<B>) -> Result<(), AllocError>
-        requires { (journals : List (List (Event B))) × (map (λ j. j.items) self.old.items ≡ journals) × (event.to < length journals) }
-        ensures { OnOk result ((journals : List (List (Event B))) → map (λ j. j.items) self.old.items ≡ journals → map (λ j. j.items) self.new.items ≡ slice_set journals event.to (slice_index_or journals event.to [] ++ event ∷ [])) }
+        requires { (journals : List (List (Event B)))
+            × (map (λ j. j.items) self.old.items ≡ journals) × (event.to < length journals) }
+        ensures { OnOk result ((journals : List (List (Event B)))
+            → map (λ j. j.items) self.old.items ≡ journals
+            → map (λ j. j.items) self.new.items
+            ≡ slice_set journals event.to (slice_index_or journals event.to [] ++ event ∷ [])) }
     {
         self[event.to as usize].push(event)?;
         Ok(())

@@ -41,8 +41,12 @@ pub fn run<M: Model>(
     initial: Vec<Event<M::Body>>,
 ) -> Result<Outcome<M>, Refusal>
     requires ready { IsReady M.Model model.now starts.items initial.items }
-    ensures outcome { IfOk result (λ o. IsOutcome (system M.Model M.Body.cmp model.now starts.items initial.items) END (map (λ j. j.items) o.journals.items) o.states.items) }
-    ensures exhausted { IfErr result (λ r. r ≡ Refusal.Exhausted → Meets (system M.Model M.Body.cmp model.now starts.items initial.items) END (M.is_exhausted model.now)) }
+    ensures outcome { IfOk result (λ o.
+        IsOutcome (system M.Model M.Body.cmp model.now starts.items initial.items) END
+        (map (λ j. j.items) o.journals.items) o.states.items) }
+    ensures exhausted { IfErr result (λ r. r ≡ Refusal.Exhausted
+        → Meets (system M.Model M.Body.cmp model.now starts.items initial.items) END
+        (M.is_exhausted model.now)) }
 {
     let mut journals = empty_journals::<M>(alloc, starts.len())?;
     let mut states = starts;
@@ -61,15 +65,19 @@ pub fn last_states<M: Model>(
     initial: Vec<Event<M::Body>>,
 ) -> Result<Vec<M::State>, Refusal>
     requires ready { IsReady M.Model model.now starts.items initial.items }
-    ensures outcome { IfOk result (λ states. (journals : List (List (Event M.Body))) × IsOutcome (system M.Model M.Body.cmp model.now starts.items initial.items) END journals states.items) }
-    ensures exhausted { IfErr result (λ r. r ≡ Refusal.Exhausted → Meets (system M.Model M.Body.cmp model.now starts.items initial.items) END (M.is_exhausted model.now)) }
+    ensures outcome { IfOk result (λ states. (journals : List (List (Event M.Body)))
+        × IsOutcome (system M.Model M.Body.cmp model.now starts.items initial.items) END
+        journals states.items) }
+    ensures exhausted { IfErr result (λ r. r ≡ Refusal.Exhausted
+        → Meets (system M.Model M.Body.cmp model.now starts.items initial.items) END
+        (M.is_exhausted model.now)) }
 {
     let mut states = starts;
     execute_all(alloc, model, &mut states, &mut NoJournals, initial)?;
     Ok(states)
 }
 
-/// Executes all events in order, from these states, and enters each in the ledger.
+/// Executes all events in order, from the states given, and enters each in `ledger`.
 ///
 /// After a refusal nothing is said of `states` and `ledger`.
 fn execute_all<M: Model, L: Ledger<M::Body>>(
@@ -81,8 +89,14 @@ fn execute_all<M: Model, L: Ledger<M::Body>>(
 ) -> Result<(), Refusal>
     requires ready { IsReady M.Model model.now states.old.items initial.items }
     requires none { L.StandsFor ledger.old (replicate (length states.old.items) []) }
-    ensures outcome { OnOk result ((journals : List (List (Event M.Body))) × L.StandsFor ledger.new journals × IsOutcome (system M.Model M.Body.cmp model.now states.old.items initial.items) END journals states.new.items) }
-    ensures exhausted { IfErr result (λ r. r ≡ Refusal.Exhausted → Meets (system M.Model M.Body.cmp model.now states.old.items initial.items) END (M.is_exhausted model.now)) }
+    ensures outcome { OnOk result ((journals : List (List (Event M.Body)))
+        × L.StandsFor ledger.new journals
+        × IsOutcome (system M.Model M.Body.cmp model.now states.old.items initial.items) END
+        journals states.new.items) }
+    ensures exhausted { IfErr result (λ r.
+        r ≡ Refusal.Exhausted
+        → Meets (system M.Model M.Body.cmp model.now states.old.items initial.items) END
+        (M.is_exhausted model.now)) }
 {
     let mut pending = Pending::new(alloc, initial)?;
     let mut sent = Vec::new(alloc);
@@ -94,7 +108,7 @@ fn execute_all<M: Model, L: Ledger<M::Body>>(
     Ok(())
 }
 
-/// As many empty journals.
+/// `count` empty journals.
 fn empty_journals<M: Model>(
     alloc: Global,
     count: usize,
@@ -120,11 +134,17 @@ fn execute<M: Model>(
 ) -> Result<(), Refusal>
     requires process { event.now.to < M.process_count model.now }
     requires enough { length states.old.items ≡ M.process_count model.now }
-    requires well_formed { (s : M.State) → slice_get states.old.items event.now.to ≡ Some s → M.IsWellFormed model.now event.now.to s }
+    requires well_formed { (s : M.State) → slice_get states.old.items event.now.to ≡ Some s
+        → M.IsWellFormed model.now event.now.to s }
     requires valid { M.is_valid model.now event.now ≡ true }
-    ensures states { OnOk result ((s : M.State) → slice_get states.old.items event.now.to ≡ Some s → states.new.items ≡ slice_set states.old.items event.now.to (M.step model.now event.now.to s event.now).0) }
-    ensures sends { OnOk result ((s : M.State) → slice_get states.old.items event.now.to ≡ Some s → sent.new.items ≡ (M.step model.now event.now.to s event.now).1) }
-    ensures exhausted { IfErr result (λ r. r ≡ Refusal.Exhausted → (s : M.State) → slice_get states.old.items event.now.to ≡ Some s → M.is_exhausted model.now s ≡ true) }
+    ensures states { OnOk result ((s : M.State) → slice_get states.old.items event.now.to ≡ Some s
+        → states.new.items ≡ slice_set states.old.items event.now.to
+        (M.step model.now event.now.to s event.now).0) }
+    ensures sends { OnOk result ((s : M.State) → slice_get states.old.items event.now.to ≡ Some s
+        → sent.new.items ≡ (M.step model.now event.now.to s event.now).1) }
+    ensures exhausted { IfErr result (λ r. r ≡ Refusal.Exhausted
+        → (s : M.State) → slice_get states.old.items event.now.to ≡ Some s
+        → M.is_exhausted model.now s ≡ true) }
 {
     sent.clear();
     model.execute(alloc, event.to, &mut states[event.to as usize], event, sent)?;

@@ -74,8 +74,10 @@ fn is_initial_next<B: Ord + Copy>(
 ) -> bool
     ensures some { IsTrue result → IsSome initial.entry }
     ensures only { IsNone sent.entry → IsSome initial.entry → IsTrue result }
-    ensures lesser { IfSome initial.entry (λ i. IfSome sent.entry (λ s. IsTrue result → AtMost (event_cmp B.cmp) i.now s.now.0)) }
-    ensures greater { IfSome initial.entry (λ i. IfSome sent.entry (λ s. result ≡ false → AtMost (event_cmp B.cmp) s.now.0 i.now)) }
+    ensures lesser { IfSome initial.entry
+        (λ i. IfSome sent.entry (λ s. IsTrue result → AtMost (event_cmp B.cmp) i.now s.now.0)) }
+    ensures greater { IfSome initial.entry
+        (λ i. IfSome sent.entry (λ s. result ≡ false → AtMost (event_cmp B.cmp) s.now.0 i.now)) }
 {
     match (initial, sent) {
         (Some(initial), Some(Reverse(sent))) => initial <= sent,

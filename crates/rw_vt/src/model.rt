@@ -79,9 +79,12 @@ pub trait Model {
         requires valid { is_valid self.now event.now ≡ true }
         requires here { event.now.to ≡ process }
         ensures state { OnOk result (state.new ≡ (step self.now process state.old event.now).0) }
-        ensures sends { OnOk result (out.new.items ≡ out.old.items ++ (step self.now process state.old event.now).1) }
-        ensures links { IfOk result (λ undo. Links self.now process state.old event.now undo state.new) }
-        ensures exhausted { (result ≡ Err Refusal.Exhausted) ↔ (is_exhausted self.now state.old ≡ true) };
+        ensures sends { OnOk result
+            (out.new.items ≡ out.old.items ++ (step self.now process state.old event.now).1) }
+        ensures links { IfOk result (λ undo.
+            Links self.now process state.old event.now undo state.new) }
+        ensures exhausted { (result ≡ Err Refusal.Exhausted)
+            ↔ (is_exhausted self.now state.old ≡ true) };
 
     /// Takes an execution back: given the state after it, the event and its undo record, gives the very state before.
     ///
@@ -95,25 +98,34 @@ pub trait Model {
         undo: Self::Undo,
     ) -> Result<(), NoMemory>
         requires process { process < process_count self.now }
-        requires linked { (before : Self.State) × IsWellFormed self.now process before × Links self.now process before event.now undo state.old }
+        requires linked { (before : Self.State) × IsWellFormed self.now process before
+            × Links self.now process before event.now undo state.old }
         requires valid { is_valid self.now event.now ≡ true }
         requires here { event.now.to ≡ process }
-        ensures before { OnOk result ((before : Self.State) → IsWellFormed self.now process before → Links self.now process before event.now undo state.old → state.new ≡ before) };
+        ensures before { OnOk result ((before : Self.State) → IsWellFormed self.now process before
+            → Links self.now process before event.now undo state.old → state.new ≡ before) };
 
     /// A valid event's fields are in their ranges, its time is before the end, and it goes to a process.
-    ghost ranges: { (m : Self) (e : Event Self.Body) → is_valid m e ≡ true → IsInRange (process_count m) e };
+    ghost ranges: { (m : Self) (e : Event Self.Body) → is_valid m e ≡ true
+        → IsInRange (process_count m) e };
 
     /// A step keeps a state well formed.
-    ghost keeps: { (m : Self) (p : ℕ) (s : Self.State) (e : Event Self.Body) → IsWellFormed m p s → is_valid m e ≡ true → e.to ≡ p → IsWellFormed m p (step m p s e).0 };
+    ghost keeps: { (m : Self) (p : ℕ) (s : Self.State) (e : Event Self.Body)
+        → IsWellFormed m p s → is_valid m e ≡ true → e.to ≡ p
+        → IsWellFormed m p (step m p s e).0 };
 
     /// Each send is valid, comes from the process, and is strictly later.
-    ghost future: { (m : Self) (p : ℕ) (s : Self.State) (e : Event Self.Body) → IsWellFormed m p s → is_valid m e ≡ true → e.to ≡ p → All (λ f. IsSentBy p e f × (is_valid m f ≡ true)) (step m p s e).1 };
+    ghost future: { (m : Self) (p : ℕ) (s : Self.State) (e : Event Self.Body)
+        → IsWellFormed m p s → is_valid m e ≡ true → e.to ≡ p
+        → All (λ f. IsSentBy p e f × (is_valid m f ≡ true)) (step m p s e).1 };
 
     /// Bodies that compare as equal are the same.
     ghost same: { (a b : Self.Body) → Self.Body.cmp a b ≡ Equal → a ≡ b };
 
     /// An undo record that links has no more entries than its bound.
-    ghost light: { (m : Self) (p : ℕ) (before after : Self.State) (e : Event Self.Body) (undo : Self.Undo) → Links m p before e undo after → weight undo ≤ weight_bound m p before after };
+    ghost light: { (m : Self) (p : ℕ) (before after : Self.State) (e : Event Self.Body) (u : Self.Undo)
+        → Links m p before e u after
+        → weight u ≤ weight_bound m p before after };
 }
 
 /// Executes an event at the process that it names, and takes that back: the state is the very one from before. So it is for
@@ -134,7 +146,8 @@ pub fn execute_and_reverse<M: Model>(
     requires valid { M.is_valid model.now event.now ≡ true }
     requires here { event.now.to ≡ process }
     ensures exact { OnOk result (state.new ≡ state.old) }
-    ensures sends { IfOk result (λ sent. sent.items ≡ (M.step model.now process state.old event.now).1) }
+    ensures sends { IfOk result (λ sent.
+        sent.items ≡ (M.step model.now process state.old event.now).1) }
     ensures exhausted { result ≡ Err Refusal.Exhausted → M.is_exhausted model.now state.old ≡ true }
 {
     let mut sent = Vec::new(alloc);
