@@ -4,3 +4,4 @@ pub mod Faults
 pub mod Simulate
 pub mod Schedule
 pub mod Journal
+pub mod Headline

@@ -1,5 +1,5 @@
 -- From the bytes of a trace to the bytes of its report, or of its journal.
-use Rattle.std.specs.Prelude.{◌≡◌, ℕ, ◌^◌, List, map, Ok}
+use Rattle.std.specs.Prelude.{◌≡◌, ℕ, ◌^◌, List, map, Ok, Err}
 use Rattle.rw_vt.specs.declared.event.Event.{Event}
 use Rattle.rw_vt.specs.System.{IsOutcome, IsReady, Meets}
 use Rattle.rw_trace.specs.declared.Row.{Row}
@@ -18,6 +18,8 @@ use Rattle.rw_rounds.specs.declared.traffic.Traffic.{Traffic}
 use Rattle.rw_rounds.specs.Plans.{IsInRanges}
 use Rattle.rw_ripqwarp.specs.Report.{report_text}
 use Rattle.rw_ripqwarp.specs.Journal.{journal_text}
+use Rattle.rw_ripqwarp.specs.declared.sim_fault.SimFault.{SimFault}
+use Rattle.rw_ripqwarp.specs.declared.sim_fault.SimFault.TheVariants as sim
 use Rattle.rw_ripqwarp.specs.declared.mode.Mode.{Mode}
 use Rattle.rw_ripqwarp.specs.declared.mode.Mode.TheVariants.{Serial, Warp, Journal}
 
@@ -77,6 +79,21 @@ IsWarp _ = ⊥
 abbrev pub HasBadPlan : Mode → Type 0
 HasBadPlan (Warp plan) = IsInRanges plan → ⊥
 HasBadPlan _ = ⊥
+
+-- a run in this mode gets past its plan
+abbrev pub HasGoodPlan : Mode → Type 0
+HasGoodPlan mode = HasBadPlan mode → ⊥
+
+-- why a run of the trace in these bytes has no report or journal, or could not write it. The trace is tested before the plan, and
+-- want of memory may come anywhere
+abbrev pub IsFaultOf : Mode → Config → List ℕ → SimFault → Type 0
+IsFaultOf mode c bytes (sim.Trace f) = trace_of c.edges (2 ^ 24) (records_of bytes) ≡ Err f
+IsFaultOf mode c bytes sim.Plan = IsWarp mode × IsAccepted c bytes × HasBadPlan mode
+IsFaultOf mode c bytes sim.Exhausted = IsExhausting mode c bytes × HasGoodPlan mode
+IsFaultOf mode c bytes sim.Rounds = IsWarp mode × IsAccepted c bytes × HasGoodPlan mode
+IsFaultOf mode c bytes sim.NoThread = IsWarp mode × IsAccepted c bytes × HasGoodPlan mode
+IsFaultOf mode c bytes sim.Output = HasGoodPlan mode
+IsFaultOf mode c bytes sim.Memory = Unit {0}
 
 -- no round was run
 abbrev pub no_traffic : Traffic

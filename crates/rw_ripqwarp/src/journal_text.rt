@@ -43,7 +43,8 @@ fn finished_line(finished: bool) -> &'static [u8]
 
 /// A line for each refused step, by its number.
 fn write_answers(text: &mut Vec<u8>, answers: &[Answer]) -> Result<(), NoMemory>
-    ensures { OnOk result (text.new.items ≡ text.old.items ++ flatten (map_from 0 answer_line answers.now)) }
+    ensures { OnOk result
+        (text.new.items ≡ text.old.items ++ flatten (map_from 0 answer_line answers.now)) }
 {
     for (step, answer) in answers.iter().enumerate() {
         write_answer(text, step as u64, *answer)?;
@@ -84,7 +85,9 @@ fn fault_words(fault: StepFault) -> &'static [u8]
 fn write_processes(text: &mut Vec<u8>, world: &World<Photo>, processes: u32) -> Result<(), NoMemory>
     requires processes { length world.now.world.processes ≡ processes }
     requires caches { world.now.model.config.edges + world.now.model.config.origins ≡ processes }
-    ensures { OnOk result (text.new.items ≡ text.old.items ++ flatten (map_from 0 (λ p x. event_lines p x.committed) world.now.world.processes)) }
+    ensures { OnOk result
+        (text.new.items ≡ text.old.items
+        ++ flatten (map_from 0 (λ p x. event_lines p x.committed) world.now.world.processes)) }
 {
     for process in 0..processes {
         write_events(text, process, world.journal(process))?;
@@ -132,7 +135,9 @@ fn write_body(text: &mut Vec<u8>, body: Body) -> Result<(), NoMemory>
 
 /// A word, an object and its size.
 fn write_object(text: &mut Vec<u8>, word: &[u8], object: u64, size: u64) -> Result<(), NoMemory>
-    ensures { OnOk result (text.new.items ≡ text.old.items ++ word.now ++ decimal object ++ codes " " ++ decimal size) }
+    ensures { OnOk result
+        (text.new.items ≡ text.old.items ++ word.now ++ decimal object ++ codes " "
+        ++ decimal size) }
 {
     write_count(text, word, object)?;
     write_count(text, b" ", size)

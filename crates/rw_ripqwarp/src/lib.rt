@@ -1,12 +1,12 @@
 #![tactic(auto)]
 //! The program as a library: from the bytes of a trace to the bytes of a report, or of a journal under a schedule.
 //!
+//! What is proved of the whole stands in `specs/Headline.antt`, a definition for each sentence; [`execute_and_reverse`],
+//! [`run_schedule`], [`simulate`] and [`one_report`] carry them.
+//!
 //! Worked examples: `rw_tests/src/reports.rt`, and the cases of `rw_cases`.
 
-ghost use Rattle.std.specs.Prelude.{◌≡◌, ℕ, List};
-ghost use Rattle.rw_photo.specs.declared.config.Config.{Config};
-ghost use Rattle.rw_ripqwarp.specs.Simulate.{IsReportOf};
-
+mod headline;
 mod journal_text;
 mod mode;
 mod output;
@@ -15,6 +15,7 @@ mod sim_fault;
 mod simulation;
 mod text;
 
+pub use headline::{execute_and_reverse, one_report, run_schedule};
 pub use mode::Mode;
 pub use output::Out;
 pub use rw_photo::{Body, CacheState, Config, Photo, Policy, Shape};
@@ -26,10 +27,3 @@ pub use schedule_text::{ScheduleFault, schedule};
 pub use sim_fault::SimFault;
 pub use simulation::{beginning, simulate};
 pub use text::report;
-
-/// A trace has one report under a configuration. So a run in rounds, however many workers it has and whatever they take
-/// back, writes byte for byte what the run on one thread writes. This is a law of the definitions; the call itself does
-/// nothing.
-pub fn one_report()
-    ensures { (c : Config) (bytes a b : List ℕ) → IsReportOf c bytes a → IsReportOf c bytes b → a ≡ b }
-{}

@@ -57,9 +57,13 @@ impl<W: Write> Out<W> {
     /// Writes a text by a loop over `write` and then flushes the writer, up to the first failure; whether there was none. Takes
     /// no memory.
     pub fn write_text(&mut self, text: &[u8]) -> bool
-        ensures failures { MatchBool result (self.new.failures ≡ self.old.failures) (self.new.failures ≡ one_more self.old.failures) }
-        ensures whole { MatchBool result (Appends (W.contents self.old.writer) (W.contents self.new.writer) text.now) (Unit {0}) }
-        ensures beginning { AppendsBeginning (W.contents self.old.writer) (W.contents self.new.writer) text.now }
+        ensures failures { MatchBool result (self.new.failures ≡ self.old.failures)
+            (self.new.failures ≡ one_more self.old.failures) }
+        ensures whole { MatchBool result
+            (Appends (W.contents self.old.writer) (W.contents self.new.writer) text.now)
+            (Unit {0}) }
+        ensures beginning { AppendsBeginning (W.contents self.old.writer)
+            (W.contents self.new.writer) text.now }
     {
         let whole = write_whole(&mut self.writer, text) && self.writer.flush().is_ok();
         if !whole {
@@ -72,7 +76,8 @@ impl<W: Write> Out<W> {
 
 /// Writes a text by a loop over `write`, up to the first failure; whether there was none.
 fn write_whole<W: Write>(writer: &mut W, text: &[u8]) -> bool
-    ensures whole { MatchBool result (Appends (W.contents writer.old) (W.contents writer.new) text.now) (Unit {0}) }
+    ensures whole { MatchBool result
+        (Appends (W.contents writer.old) (W.contents writer.new) text.now) (Unit {0}) }
     ensures beginning { AppendsBeginning (W.contents writer.old) (W.contents writer.new) text.now }
 {
     let mut written = 0;

@@ -51,7 +51,8 @@ pub fn schedule(alloc: Global, text: &str) -> Result<Vec<Step>, ScheduleFault>
 
 /// The first word of a text, and what is behind the blank that ends it, if one does.
 fn first_word(text: &[u8]) -> (&[u8], Option<&[u8]>)
-    ensures words { MatchOption result.1 (words_of text.now ≡ result.0.now ∷ []) (λ rest. words_of text.now ≡ result.0.now ∷ words_of rest.now) }
+    ensures words { MatchOption result.1 (words_of text.now ≡ result.0.now ∷ [])
+        (λ rest. words_of text.now ≡ result.0.now ∷ words_of rest.now) }
     ensures shorter { IfSome result.1 (λ rest. length rest.now < length text.now) }
 {
     match first_blank(text) {

@@ -7,7 +7,8 @@ ghost use Rattle.rw_photo.specs.Cache.{Cache, IsWellFormed};
 ghost use Rattle.rw_photo.specs.Simulation.{starts_of};
 ghost use Rattle.rw_ripqwarp.specs.Faults.{IsOfBeginning, IsOfRounds, IsUpToPlan};
 ghost use Rattle.rw_ripqwarp.specs.Sink.{AppendsBeginning};
-ghost use Rattle.rw_ripqwarp.specs.Simulate.{HasBadPlan, IsAccepted, IsBeginningOf, IsExhausting, IsTextOf, IsWarp, no_traffic};
+ghost use Rattle.rw_ripqwarp.specs.Simulate.{HasBadPlan, IsAccepted, IsBeginningOf, IsExhausting, IsTextOf, IsWarp, no_traffic, HasGoodPlan, IsFaultOf};
+ghost use Rattle.rw_ripqwarp.specs.Headline.{HasWritten, HasWrittenBeginning};
 
 use crate::journal_text::journal;
 use crate::mode::Mode;
@@ -41,16 +42,15 @@ pub fn simulate<W: Write, R: Threads + Wait + Sync>(
     mode: Mode,
     out: &mut Out<W>,
 ) -> Result<Traffic, SimFault>
-    ensures report { OnOk result ((text : List ℕ) × IsTextOf mode config.now bytes.now text × Appends (W.contents out.old.writer) (W.contents out.new.writer) text) }
+    ensures report { OnOk result (HasWritten mode config.now bytes.now
+        (W.contents out.old.writer) (W.contents out.new.writer)) }
     ensures still { IfOk result (λ traffic. (IsWarp mode → ⊥) → traffic ≡ no_traffic) }
-    ensures in_range { OnOk result (HasBadPlan mode → ⊥) }
-    ensures trace { IfErr result (λ e. (f : TraceFault) → e ≡ SimFault.Trace f → trace_of config.now.edges (2 ^ 24) (records_of bytes.now) ≡ Err f) }
-    ensures exhausted { IfErr result (λ e. e ≡ SimFault.Exhausted → IsExhausting mode config.now bytes.now) }
-    ensures plan { IfErr result (λ e. e ≡ SimFault.Plan → HasBadPlan mode) }
-    ensures bad_plan { IfErr result (λ e. HasBadPlan mode → IsUpToPlan e) }
-    ensures rounds { IfErr result (λ e. IsOfRounds e → IsWarp mode × IsAccepted config.now bytes.now) }
+    ensures in_range { OnOk result (HasGoodPlan mode) }
+    ensures fault { IfErr result (IsFaultOf mode config.now bytes.now) }
     ensures output { (result ≡ Err SimFault.Output) ↔ (out.new.failures ≢ out.old.failures) }
-    ensures cut_off { result ≡ Err SimFault.Output → (text : List ℕ) × IsTextOf mode config.now bytes.now text × AppendsBeginning (W.contents out.old.writer) (W.contents out.new.writer) text }
+    ensures cut_off { result ≡ Err SimFault.Output
+        → HasWrittenBeginning mode config.now bytes.now
+            (W.contents out.old.writer) (W.contents out.new.writer) }
     ensures nothing { IfErr result (λ e. e ≢ SimFault.Output → out.new ≡ out.old) }
 {
     let (text, traffic) = text_of(rt, alloc, bytes, config, mode)?;
@@ -71,12 +71,15 @@ fn text_of<R: Threads + Wait + Sync>(
 ) -> Result<(Vec<u8>, Traffic), SimFault>
     ensures text { IfOk result (λ r. IsTextOf mode config.now bytes.now r.0.items) }
     ensures still { IfOk result (λ r. (IsWarp mode → ⊥) → r.1 ≡ no_traffic) }
-    ensures in_range { OnOk result (HasBadPlan mode → ⊥) }
-    ensures trace { IfErr result (λ e. (f : TraceFault) → e ≡ SimFault.Trace f → trace_of config.now.edges (2 ^ 24) (records_of bytes.now) ≡ Err f) }
-    ensures exhausted { IfErr result (λ e. e ≡ SimFault.Exhausted → IsExhausting mode config.now bytes.now) }
+    ensures in_range { OnOk result (HasGoodPlan mode) }
+    ensures trace { IfErr result (λ e. (f : TraceFault) → e ≡ SimFault.Trace f
+        → trace_of config.now.edges (2 ^ 24) (records_of bytes.now) ≡ Err f) }
+    ensures exhausted { IfErr result (λ e.
+        e ≡ SimFault.Exhausted → IsExhausting mode config.now bytes.now) }
     ensures plan { IfErr result (λ e. e ≡ SimFault.Plan → HasBadPlan mode) }
     ensures bad_plan { IfErr result (λ e. HasBadPlan mode → IsUpToPlan e) }
-    ensures rounds { IfErr result (λ e. IsOfRounds e → IsWarp mode × IsAccepted config.now bytes.now) }
+    ensures rounds { IfErr result (λ e.
+        IsOfRounds e → IsWarp mode × IsAccepted config.now bytes.now) }
     ensures unwritten { IfErr result (λ e. e ≢ SimFault.Output) }
 {
     let (starts, initial) = beginning(alloc, bytes, config)?;
@@ -108,7 +111,8 @@ pub fn beginning(
     config: &Config,
 ) -> Result<(Vec<CacheState>, Vec<Event<Body>>), SimFault>
     ensures beginning { IfOk result (λ r. IsBeginningOf config.now bytes.now r.0.items r.1.items) }
-    ensures trace { IfErr result (λ e. (f : TraceFault) → e ≡ SimFault.Trace f → trace_of config.now.edges (2 ^ 24) (records_of bytes.now) ≡ Err f) }
+    ensures trace { IfErr result (λ e. (f : TraceFault) → e ≡ SimFault.Trace f
+        → trace_of config.now.edges (2 ^ 24) (records_of bytes.now) ≡ Err f) }
     ensures others { IfErr result IsOfBeginning }
 {
     let rows = read(alloc, bytes, config.edges())?;
@@ -120,7 +124,9 @@ pub fn beginning(
 /// Each cache as it starts.
 fn starts(alloc: Global, photo: &Photo) -> Result<Vec<CacheState>, NoMemory>
     ensures states { IfOk result (λ states. states.items ≡ starts_of photo.now.config) }
-    ensures well_formed { IfOk result (λ states. (p : ℕ) (s : Cache) → slice_get states.items p ≡ Some s → IsWellFormed photo.now.config p s) }
+    ensures well_formed { IfOk result (λ states.
+        (p : ℕ) (s : Cache) → slice_get states.items p ≡ Some s
+        → IsWellFormed photo.now.config p s) }
 {
     let count = photo.processes();
     let mut states = Vec::with_capacity(alloc, count as usize)?;

@@ -12,7 +12,8 @@ use std::alloc::Global;
 /// end. Totals are modulo 2^64.
 pub fn report(alloc: Global, config: &Config, outcome: &Outcome<Photo>) -> Result<Vec<u8>, NoMemory>
     requires { length outcome.now.states.items ≡ config.now.edges + config.now.origins }
-    ensures { IfOk result (λ text. text.items ≡ report_text config.now (map (λ s. s.counters) outcome.now.states.items)) }
+    ensures { IfOk result (λ text.
+        text.items ≡ report_text config.now (map (λ s. s.counters) outcome.now.states.items)) }
 {
     report_of_states(alloc, config, outcome.states.as_slice())
 }
@@ -24,7 +25,8 @@ pub(crate) fn report_of_states(
     states: &[CacheState],
 ) -> Result<Vec<u8>, NoMemory>
     requires { length states.now ≡ config.now.edges + config.now.origins }
-    ensures { IfOk result (λ text. text.items ≡ report_text config.now (map (λ s. s.counters) states.now)) }
+    ensures { IfOk result (λ text.
+        text.items ≡ report_text config.now (map (λ s. s.counters) states.now)) }
 {
     let mut text = Vec::new(alloc);
     let mut total = Counters::default();

@@ -8,7 +8,7 @@ use Rattle.std.proofs.lemmas.Option.{slice_get-map}
 use Rattle.rw_vt.specs.declared.event.Event.{Event}
 use Rattle.rw_vt.specs.declared.event.Letter.{Letter}
 use Rattle.rw_vt.specs.declared.model.Model.{Ghosts}
-use Rattle.rw_vt.specs.System.{system, journal_below, IsReady}
+use Rattle.rw_vt.specs.System.{Setting, system, journal_below, IsReady}
 use Rattle.rw_lp.specs.declared.step.Answer.TheVariants.{Done}
 use Rattle.rw_lp.specs.HeldMessages.{held_messages}
 use Rattle.rw_lp.specs.Process as process
@@ -20,8 +20,8 @@ use Rattle.rw_world.specs.declared.step.Step.{Step}
 use Rattle.rw_world.specs.declared.step.Step.TheVariants.{Collect}
 use Rattle.rw_world.specs.WorldState.{WorldState, least_of_processes, least_of_letters, floor}
 use Rattle.rw_world.specs.Steps.{apply}
-use Rattle.rw_world.specs.Sound.{Sound, IsQuiet, IsInOrder, StepKept}
-use Rattle.rw_world.specs.Rounds.{Exchanged}
+use Rattle.rw_world.specs.Sound.{Sound, StepKept}
+use Rattle.rw_world.specs.Laws.{ExchangesKeepSound, FloorIsGreatest, SoundIsInOrder, StepsKeepSound}
 use Rattle.rw_world.specs.Calls.{Simulation, system_of, simulation_of, with_world, world_of, AreNumbered, IsWhole}
 use Rattle.rw_rounds.specs.declared.plan.Plan.{Plan}
 use Rattle.rw_rounds.specs.Plans.{IsInRanges}
@@ -34,10 +34,14 @@ use Rattle.rw_rounds.proofs.Outstanding.{quiet_after}
 
 -- what is promised of every world of the model
 pub record WorldLaws {M S B U : Type 0} (model : Ghosts M S B U) (order : B → B → Ordering) : Type 0 where
-  pub every_exchange : (m : M) (starts : List S) (initial : List (Event B)) (w v : WorldState S B) (came out : ℕ → List (Letter B)) → IsReady model m starts initial → Sound (system model order m starts initial) w → Exchanged (system model order m starts initial) w v came out → Sound (system model order m starts initial) v
-  pub every_floor : (m : M) (starts : List S) (initial : List (Event B)) (w : WorldState S B) (t : ℕ) → IsReady model m starts initial → (t ≤ floor w) ↔ ((t ≤ 2 ^ 40) × IsQuiet (system model order m starts initial) t w)
-  pub every_sound_world : (m : M) (starts : List S) (initial : List (Event B)) (w : WorldState S B) → IsReady model m starts initial → Sound (system model order m starts initial) w → IsInOrder (system model order m starts initial) w
-  pub every_step : (m : M) (starts : List S) (initial : List (Event B)) (w : WorldState S B) (step : Step) → IsReady model m starts initial → Sound (system model order m starts initial) w → StepKept (system model order m starts initial) w step
+  pub every_exchange : ExchangesKeepSound model order
+  pub every_floor : FloorIsGreatest model order
+  pub every_sound_world : SoundIsInOrder model order
+  pub every_step : StepsKeepSound model order
+
+-- what the parts are set up with
+abbrev pub setting_of : {M S B U : Type 0} {model : Ghosts M S B U} (x : Parts M S B U) → IsReady model x.model x.starts.value.items x.initial.value.items → Setting model
+setting_of x ready = record { its_model = x.model; starts = x.starts.value.items; initial = x.initial.value.items; ready = ready }
 
 -- what is outstanding is not collected
 least_collected : {S B : Type 0} (t end : ℕ) (ps : List (ProcessState S B)) → least_of_processes end (map (process.collect t) ps) ≡ least_of_processes end ps
@@ -70,11 +74,11 @@ module _ {M S B U : Type 0} {model : Ghosts M S B U} {order : B → B → Orderi
   pub whole_after : IsWhole model order z
   whole_after =
       let e = workers_exchanged laws plan x z least ranges whole round in
-      let sound = worlds.every_exchange x.model x.starts.value.items x.initial.value.items (world_of x) (world_of z) e.0 e.1 whole.ready whole.sound e.2 in
+      let sound = worlds.every_exchange (setting_of x whole.ready) (world_of x) (world_of z) e.0 e.1 whole.sound e.2 in
       record { ready = ready_after; numbered = numbered_after; sound = subst (λ y. Sound y (world_of z)) (sym same_system) sound }
 
   pub floor_after : least ≤ floor (world_of z)
-  floor_after = (worlds.every_floor x.model x.starts.value.items x.initial.value.items (world_of z) least whole.ready).1 (round.least_end, quiet_after laws plan x z least ranges whole round)
+  floor_after = (worlds.every_floor (setting_of x whole.ready) (world_of z) least).1 (round.least_end, quiet_after laws plan x z least ranges whole round)
 
   -- a round keeps the parts whole, and nothing outstanding is before what the board gave
   pub round_keeps : IsWhole model order z × (least ≤ floor (world_of z))
@@ -92,7 +96,7 @@ module _ {M S B U : Type 0} {model : Ghosts M S B U} {order : B → B → Orderi
   collecting_is_done = ap (λ a. a.1) collects
 
   step_kept : StepKept (system_of model order (simulation_of z)) (world_of z) (Collect least)
-  step_kept = worlds.every_step z.model z.starts.value.items z.initial.value.items (world_of z) (Collect least) whole_after.ready whole_after.sound
+  step_kept = worlds.every_step (setting_of z whole_after.ready) (world_of z) (Collect least) whole_after.sound
 
   floor_stays : floor (apply (system_of model order (simulation_of z)) (world_of z) (Collect least)).0 ≡ floor (world_of z)
   floor_stays = ap (λ a. floor a.0) collects ∙ ap (λ k. least_of_letters k z.letters.items) (least_collected least (2 ^ 40) (world_of z).processes)
@@ -100,8 +104,8 @@ module _ {M S B U : Type 0} {model : Ghosts M S B U} {order : B → B → Orderi
   -- joining the workers commits nothing
   same_committed : (q : ℕ) (a c : ProcessState S B) → slice_get (world_of x).processes q ≡ Some a → slice_get (world_of z).processes q ≡ Some c → a.committed ≡ c.committed
   same_committed q a c was is =
-      let before = (worlds.every_sound_world x.model x.starts.value.items x.initial.value.items (world_of x) whole.ready whole.sound).committed q a was in
-      let after = (worlds.every_sound_world z.model z.starts.value.items z.initial.value.items (world_of z) whole_after.ready whole_after.sound).committed q c is in
+      let before = (worlds.every_sound_world (setting_of x whole.ready) (world_of x) whole.sound).committed q a was in
+      let after = (worlds.every_sound_world (setting_of z whole_after.ready) (world_of z) whole_after.sound).committed q c is in
       before ∙ ap (λ y. journal_below y x.collected q) (sym same_system) ∙ ap (λ g. journal_below (system_of model order (simulation_of z)) g q) (sym round.collected_is) ∙ sym after
 
   -- no committed event is lost

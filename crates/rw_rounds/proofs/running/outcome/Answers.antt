@@ -6,6 +6,7 @@ use Rattle.rw_world.specs.WorldState.{floor}
 use Rattle.rw_world.specs.Calls.{system_of, simulation_of}
 use Rattle.rw_rounds.proofs.Governing.{Laws}
 use Rattle.rw_rounds.proofs.Ending.{ending}
+use Rattle.rw_rounds.proofs.Rounding.{setting_of}
 use Rattle.rw_rounds.proofs.running.outcome.Goals as goal
 
 pub returns : goal.returns
@@ -13,7 +14,7 @@ returns g c =
     let laws : Laws g.M.Model g.M.Body.Ord.cmp = record { total = g.met.M.Body.Ord.total; same = g.met.M.Model.same; keeps = g.met.M.Model.keeps; future = g.met.M.Model.future; ranges = g.met.M.Model.ranges } in
     let x = c.take-parts.result in
     let whole = c.take-parts.ensures.whole in
-    let ordered = c.every_sound_world.ensures x.model x.starts.value.items x.initial.value.items (simulation_of x).world whole.ready whole.sound in
+    let ordered = c.every_sound_world.ensures (setting_of x whole.ready) (simulation_of x).world whole.sound in
     let floored = subst (λ v. 2 ^ 40 ≤ floor v.world) (sym c.take-parts.ensures.is) c.requires.floor in
     let collected = subst (λ v. 2 ^ 40 ≤ v.world.collected) (sym c.take-parts.ensures.is) c.requires.collected in
     let left = ending laws (simulation_of x) whole.ready whole.sound ordered floored collected in
