@@ -25,13 +25,7 @@ sim_stop_of stop.RoundsUsed = sim.Rounds
 sim_stop_of stop.BadPlan = sim.Plan
 sim_stop_of stop.NoThread = sim.NoThread
 
--- the faults that a run has before its first event
-abbrev pub IsOfBeginning : SimFault → Type 0
-IsOfBeginning (sim.Trace f) = Unit {0}
-IsOfBeginning sim.Memory = Unit {0}
-IsOfBeginning _ = ⊥
-
--- those, and the one of the plan, which is tested next
+-- For private clauses: the faults that a run has before its first event, and the one of the plan, which is tested next
 abbrev pub IsUpToPlan : SimFault → Type 0
 IsUpToPlan (sim.Trace f) = Unit {0}
 IsUpToPlan sim.Memory = Unit {0}

@@ -84,6 +84,12 @@ HasBadPlan _ = ⊥
 abbrev pub HasGoodPlan : Mode → Type 0
 HasGoodPlan mode = HasBadPlan mode → ⊥
 
+-- why a run of the trace in these bytes cannot begin
+abbrev pub IsFaultOfBeginning : Config → List ℕ → SimFault → Type 0
+IsFaultOfBeginning c bytes (sim.Trace f) = trace_of c.edges (2 ^ 24) (records_of bytes) ≡ Err f
+IsFaultOfBeginning c bytes sim.Memory = Unit {0}
+IsFaultOfBeginning c bytes _ = ⊥
+
 -- why a run of the trace in these bytes has no report or journal, or could not write it. The trace is tested before the plan, and
 -- want of memory may come anywhere
 abbrev pub IsFaultOf : Mode → Config → List ℕ → SimFault → Type 0

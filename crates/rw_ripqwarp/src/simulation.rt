@@ -5,9 +5,9 @@ ghost use Rattle.rw_trace.specs.Trace.{trace_of};
 ghost use Rattle.rw_trace.specs.Unread.{records_of};
 ghost use Rattle.rw_photo.specs.Cache.{Cache, IsWellFormed};
 ghost use Rattle.rw_photo.specs.Simulation.{starts_of};
-ghost use Rattle.rw_ripqwarp.specs.Faults.{IsOfBeginning, IsOfRounds, IsUpToPlan};
+ghost use Rattle.rw_ripqwarp.specs.Faults.{IsOfRounds, IsUpToPlan};
 ghost use Rattle.rw_ripqwarp.specs.Sink.{AppendsBeginning};
-ghost use Rattle.rw_ripqwarp.specs.Simulate.{HasBadPlan, IsAccepted, IsBeginningOf, IsExhausting, IsTextOf, IsWarp, no_traffic, HasGoodPlan, IsFaultOf};
+ghost use Rattle.rw_ripqwarp.specs.Simulate.{HasBadPlan, IsAccepted, IsBeginningOf, IsExhausting, IsTextOf, IsWarp, no_traffic, HasGoodPlan, IsFaultOf, IsFaultOfBeginning};
 ghost use Rattle.rw_ripqwarp.specs.Headline.{HasWritten, HasWrittenBeginning};
 
 use crate::journal_text::journal;
@@ -111,9 +111,7 @@ pub fn beginning(
     config: &Config,
 ) -> Result<(Vec<CacheState>, Vec<Event<Body>>), SimFault>
     ensures beginning { IfOk result (λ r. IsBeginningOf config.now bytes.now r.0.items r.1.items) }
-    ensures trace { IfErr result (λ e. (f : TraceFault) → e ≡ SimFault.Trace f
-        → trace_of config.now.edges (2 ^ 24) (records_of bytes.now) ≡ Err f) }
-    ensures others { IfErr result IsOfBeginning }
+    ensures fault { IfErr result (IsFaultOfBeginning config.now bytes.now) }
 {
     let rows = read(alloc, bytes, config.edges())?;
     let initial = requests(alloc, rows.as_slice())?;
