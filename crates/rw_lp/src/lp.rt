@@ -1,5 +1,5 @@
 ghost use Rattle.std.specs.Prelude.{◌≡◌, ◌<◌, ◌≤◌, ◌++◌, ◌∷◌, ◌↔◌, ◌^◌, true, false, List, [], IfOk, IfErr, OnOk, MatchOption, All};
-ghost use Rattle.rw_vt.specs.Order.{event_cmp, AtMost, Each, Has, IsAscending, IsFirst, IsLeast};
+ghost use Rattle.rw_vt.specs.Order.{event_cmp, AtMost, Each, Has, IsAscending, IsFirst, IsLeastOf};
 ghost use Rattle.rw_vt.specs.System.{after};
 ghost use Rattle.rw_vt.specs.declared.event.Event.{Event};
 ghost use Rattle.rw_vt.specs.declared.event.Letter.{Letter};
@@ -272,7 +272,7 @@ impl<M: VtModel> Lp<M> {
         ensures first { MatchOption result (self.now.process.pending ≡ [])
             (λ e. IsFirst self.now.process.pending e.now) }
         ensures least { MatchOption result (self.now.process.pending ≡ [])
-            (λ e. IsLeast (event_cmp M.Body.cmp) self.now.process.pending e.now) }
+            (λ e. IsLeastOf (event_cmp M.Body.cmp) self.now.process.pending e.now) }
     {
         self.pending.first()
     }

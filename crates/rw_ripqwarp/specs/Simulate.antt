@@ -85,21 +85,21 @@ abbrev pub HasGoodPlan : Mode → Type 0
 HasGoodPlan mode = HasBadPlan mode → ⊥
 
 -- why a run of the trace in these bytes cannot begin
-abbrev pub IsFaultOfBeginning : Config → List ℕ → SimFault → Type 0
-IsFaultOfBeginning c bytes (sim.Trace f) = trace_of c.edges (2 ^ 24) (records_of bytes) ≡ Err f
-IsFaultOfBeginning c bytes sim.Memory = Unit {0}
-IsFaultOfBeginning c bytes _ = ⊥
+abbrev pub IsBeginningFault : Config → List ℕ → SimFault → Type 0
+IsBeginningFault c bytes (sim.Trace f) = trace_of c.edges (2 ^ 24) (records_of bytes) ≡ Err f
+IsBeginningFault c bytes sim.Memory = Unit {0}
+IsBeginningFault c bytes _ = ⊥
 
 -- why a run of the trace in these bytes has no report or journal, or could not write it. The trace is tested before the plan, and
 -- want of memory may come anywhere
-abbrev pub IsFaultOf : Mode → Config → List ℕ → SimFault → Type 0
-IsFaultOf mode c bytes (sim.Trace f) = trace_of c.edges (2 ^ 24) (records_of bytes) ≡ Err f
-IsFaultOf mode c bytes sim.Plan = IsWarp mode × IsAccepted c bytes × HasBadPlan mode
-IsFaultOf mode c bytes sim.Exhausted = IsExhausting mode c bytes × HasGoodPlan mode
-IsFaultOf mode c bytes sim.Rounds = IsWarp mode × IsAccepted c bytes × HasGoodPlan mode
-IsFaultOf mode c bytes sim.NoThread = IsWarp mode × IsAccepted c bytes × HasGoodPlan mode
-IsFaultOf mode c bytes sim.Output = HasGoodPlan mode
-IsFaultOf mode c bytes sim.Memory = Unit {0}
+abbrev pub IsRunFault : Mode → Config → List ℕ → SimFault → Type 0
+IsRunFault mode c bytes (sim.Trace f) = trace_of c.edges (2 ^ 24) (records_of bytes) ≡ Err f
+IsRunFault mode c bytes sim.Plan = IsWarp mode × IsAccepted c bytes × HasBadPlan mode
+IsRunFault mode c bytes sim.Exhausted = IsExhausting mode c bytes × HasGoodPlan mode
+IsRunFault mode c bytes sim.Rounds = IsWarp mode × IsAccepted c bytes × HasGoodPlan mode
+IsRunFault mode c bytes sim.NoThread = IsWarp mode × IsAccepted c bytes × HasGoodPlan mode
+IsRunFault mode c bytes sim.Output = HasGoodPlan mode
+IsRunFault mode c bytes sim.Memory = Unit {0}
 
 -- no round was run
 abbrev pub no_traffic : Traffic

@@ -7,7 +7,7 @@ ghost use Rattle.rw_photo.specs.Cache.{Cache, IsWellFormed};
 ghost use Rattle.rw_photo.specs.Simulation.{starts_of};
 ghost use Rattle.rw_ripqwarp.specs.Faults.{IsOfRounds, IsUpToPlan};
 ghost use Rattle.rw_ripqwarp.specs.Sink.{AppendsBeginning};
-ghost use Rattle.rw_ripqwarp.specs.Simulate.{HasBadPlan, IsAccepted, IsBeginningOf, IsExhausting, IsTextOf, IsWarp, no_traffic, HasGoodPlan, IsFaultOf, IsFaultOfBeginning};
+ghost use Rattle.rw_ripqwarp.specs.Simulate.{HasBadPlan, IsAccepted, IsBeginningOf, IsExhausting, IsTextOf, IsWarp, no_traffic, HasGoodPlan, IsRunFault, IsBeginningFault};
 ghost use Rattle.rw_ripqwarp.specs.Headline.{HasWritten, HasWrittenBeginning};
 
 use crate::journal_text::journal;
@@ -46,7 +46,7 @@ pub fn simulate<W: Write, R: Threads + Wait + Sync>(
         (W.contents out.old.writer) (W.contents out.new.writer)) }
     ensures still { IfOk result (λ traffic. (IsWarp mode → ⊥) → traffic ≡ no_traffic) }
     ensures in_range { OnOk result (HasGoodPlan mode) }
-    ensures fault { IfErr result (IsFaultOf mode config.now bytes.now) }
+    ensures fault { IfErr result (IsRunFault mode config.now bytes.now) }
     ensures output { (result ≡ Err SimFault.Output) ↔ (out.new.failures ≢ out.old.failures) }
     ensures cut_off { result ≡ Err SimFault.Output
         → HasWrittenBeginning mode config.now bytes.now
@@ -111,7 +111,7 @@ pub fn beginning(
     config: &Config,
 ) -> Result<(Vec<CacheState>, Vec<Event<Body>>), SimFault>
     ensures beginning { IfOk result (λ r. IsBeginningOf config.now bytes.now r.0.items r.1.items) }
-    ensures fault { IfErr result (IsFaultOfBeginning config.now bytes.now) }
+    ensures fault { IfErr result (IsBeginningFault config.now bytes.now) }
 {
     let rows = read(alloc, bytes, config.edges())?;
     let initial = requests(alloc, rows.as_slice())?;
