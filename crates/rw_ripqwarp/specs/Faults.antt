@@ -24,17 +24,3 @@ sim_stop_of stop.Exhausted = sim.Exhausted
 sim_stop_of stop.RoundsUsed = sim.Rounds
 sim_stop_of stop.BadPlan = sim.Plan
 sim_stop_of stop.NoThread = sim.NoThread
-
--- For private clauses: the faults that a run has before its first event, and the one of the plan, which is tested next
-abbrev pub IsUpToPlan : SimFault → Type 0
-IsUpToPlan (sim.Trace f) = Unit {0}
-IsUpToPlan sim.Memory = Unit {0}
-IsUpToPlan sim.Plan = Unit {0}
-IsUpToPlan _ = ⊥
-
--- the faults that only a run in rounds has
-abbrev pub IsOfRounds : SimFault → Type 0
-IsOfRounds sim.Plan = Unit {0}
-IsOfRounds sim.Rounds = Unit {0}
-IsOfRounds sim.NoThread = Unit {0}
-IsOfRounds _ = ⊥

@@ -1,13 +1,9 @@
 ghost use Rattle.std.specs.Prelude.{◌≡◌, ◌≢◌, ◌^◌, ◌↔◌, ℕ, List, Err, Some, IfOk, IfErr, OnOk, slice_get};
 ghost use Rattle.std.specs.Io.KnownBytes.{Appends};
-ghost use Rattle.rw_trace.specs.declared.TraceFault.{TraceFault};
-ghost use Rattle.rw_trace.specs.Trace.{trace_of};
-ghost use Rattle.rw_trace.specs.Unread.{records_of};
 ghost use Rattle.rw_photo.specs.Cache.{Cache, IsWellFormed};
 ghost use Rattle.rw_photo.specs.Simulation.{starts_of};
-ghost use Rattle.rw_ripqwarp.specs.Faults.{IsOfRounds, IsUpToPlan};
 ghost use Rattle.rw_ripqwarp.specs.Sink.{AppendsBeginning};
-ghost use Rattle.rw_ripqwarp.specs.Simulate.{HasBadPlan, IsAccepted, IsBeginningOf, IsExhausting, IsTextOf, IsWarp, no_traffic, HasGoodPlan, IsRunFault, IsBeginningFault};
+ghost use Rattle.rw_ripqwarp.specs.Simulate.{IsBeginningOf, IsTextOf, IsWarp, no_traffic, HasGoodPlan, IsRunFault, IsBeginningFault};
 ghost use Rattle.rw_ripqwarp.specs.Headline.{HasWritten, HasWrittenBeginning};
 
 use crate::journal_text::journal;
@@ -72,14 +68,7 @@ fn text_of<R: Threads + Wait + Sync>(
     ensures text { IfOk result (λ r. IsTextOf mode config.now bytes.now r.0.items) }
     ensures still { IfOk result (λ r. (IsWarp mode → ⊥) → r.1 ≡ no_traffic) }
     ensures in_range { OnOk result (HasGoodPlan mode) }
-    ensures trace { IfErr result (λ e. (f : TraceFault) → e ≡ SimFault.Trace f
-        → trace_of config.now.edges (2 ^ 24) (records_of bytes.now) ≡ Err f) }
-    ensures exhausted { IfErr result (λ e.
-        e ≡ SimFault.Exhausted → IsExhausting mode config.now bytes.now) }
-    ensures plan { IfErr result (λ e. e ≡ SimFault.Plan → HasBadPlan mode) }
-    ensures bad_plan { IfErr result (λ e. HasBadPlan mode → IsUpToPlan e) }
-    ensures rounds { IfErr result (λ e.
-        IsOfRounds e → IsWarp mode × IsAccepted config.now bytes.now) }
+    ensures fault { IfErr result (IsRunFault mode config.now bytes.now) }
     ensures unwritten { IfErr result (λ e. e ≢ SimFault.Output) }
 {
     let (starts, initial) = beginning(alloc, bytes, config)?;

@@ -1,5 +1,6 @@
 use Rattle.std.proofs.Common.{◌≡◌, ◌+◌, ◌^◌, ℕ, List, Err, sym, ◌∙◌, ap, subst, length, map}
 use Rattle.std.proofs.lemmas.List.FromFn.{length-map-range_with_len}
+use Rattle.std.specs.Result.{IfErr}
 use Rattle.rw_vt.specs.declared.event.Event.{Event}
 use Rattle.rw_vt.specs.System.{System, IsOutcome, Meets}
 use Rattle.rw_photo.specs.declared.body.Body.{Body}
@@ -12,8 +13,8 @@ use Rattle.rw_world.specs.Calls.{Simulation}
 use Rattle.rw_ripqwarp.specs.Journal.{journal_text}
 use Rattle.rw_ripqwarp.specs.Report.{report_text}
 use Rattle.rw_ripqwarp.specs.declared.mode.Mode.{Mode}
-use Rattle.rw_ripqwarp.specs.Simulate.{HasBadPlan, IsExhausting, IsExhaustingBySteps, IsExhaustingInOrder, IsJournalOf, IsReportOf, IsTextOf}
-use Rattle.rw_ripqwarp.proofs.Runs.{err-exhausted, err-plan, err-up-to-plan, length-states, ready-at, simulates}
+use Rattle.rw_ripqwarp.specs.Simulate.{HasBadPlan, HasGoodPlan, IsAccepted, IsRunFault, IsExhausting, IsExhaustingBySteps, IsExhaustingInOrder, IsJournalOf, IsReportOf, IsTextOf}
+use Rattle.rw_ripqwarp.proofs.Runs.{length-states, ready-at, refusal-is-fault, simulates, stop-is-fault}
 use Rattle.rw_ripqwarp.proofs.Schedules.{length-opened, length-processes, met, opened-simulates, same-model, told}
 use Rattle.rw_ripqwarp.proofs.simulation.text_of.Goals as goal
 
@@ -57,15 +58,15 @@ returns-in_ok-text-in-Serial-clause-text g c =
     } in
     subst (λ (mode : Mode). IsTextOf mode config bytes text) (sym c.in-Serial.is) is
 
-pub returns-in_err-states-in-Serial-clause-exhausted : goal.returns-in_err-states-in-Serial-clause-exhausted
-returns-in_err-states-in-Serial-clause-exhausted g c =
+pub returns-in_err-states-in-Serial-clause-fault : goal.returns-in_err-states-in-Serial-clause-fault
+returns-in_err-states-in-Serial-clause-fault g c =
     let config : Config = c.args.config.now in
     let bytes : List ℕ = c.args.bytes.now in
     let starts : List Cache = c.in_ok-starts.starts.items in
     let initial : List (Event Body) = c.in_ok-starts.initial.items in
     let beginning = c.in_ok-starts.ensures.beginning in
     let same = simulates config c.new-photo.result bytes starts initial c.new-photo.ensures beginning in
-    err-exhausted c.from_residual-in_err-states-in-Serial.result c.in_err-states-in-Serial.field-0.0 (IsExhausting c.args.mode config bytes) c.from_residual-in_err-states-in-Serial.ensures.1
+    refusal-is-fault c.from_residual-in_err-states-in-Serial.result c.in_err-states-in-Serial.field-0.0 c.args.mode config bytes c.from_residual-in_err-states-in-Serial.ensures.1
     (λ exhausted.
     let is : IsExhaustingInOrder config bytes =
     record {
@@ -73,7 +74,7 @@ returns-in_err-states-in-Serial-clause-exhausted g c =
       accepted = beginning.accepted;
       met = subst (λ (y : System Cache Body). Meets y (2 ^ 40) is_exhausted) same (c.in_err-states-in-Serial.ensures.exhausted exhausted);
     } in
-    subst (λ (mode : Mode). IsExhausting mode config bytes) (sym c.in-Serial.is) is)
+    subst (λ (mode : Mode). IsExhausting mode config bytes × HasGoodPlan mode) (sym c.in-Serial.is) (is, λ bad. bad))
 
 pub report-requires : goal.report-requires
 report-requires g c =
@@ -109,15 +110,16 @@ returns-in_ok-report-in-Warp-clause-text g c =
 pub returns-in_ok-report-in-Warp-clause-in_range : goal.returns-in_ok-report-in-Warp-clause-in_range
 returns-in_ok-report-in-Warp-clause-in_range g c = λ bad. let stopped = c.run.ensures.plan.1 (subst HasBadPlan c.in-Warp.is bad) in cc stopped
 
-pub returns-in_err-outcome-in-Warp-clause-plan : goal.returns-in_err-outcome-in-Warp-clause-plan
-returns-in_err-outcome-in-Warp-clause-plan g c =
-    err-plan c.from_residual-in_err-outcome-in-Warp.result c.in_err-outcome-in-Warp.field-0.0 (HasBadPlan c.args.mode) c.from_residual-in_err-outcome-in-Warp.ensures.1
-    (λ stop. subst HasBadPlan (sym c.in-Warp.is) (c.in_err-outcome-in-Warp.ensures.plan.0 (ap Err stop)))
-
-pub returns-in_err-outcome-in-Warp-clause-bad_plan : goal.returns-in_err-outcome-in-Warp-clause-bad_plan
-returns-in_err-outcome-in-Warp-clause-bad_plan g c =
-    err-up-to-plan c.from_residual-in_err-outcome-in-Warp.result c.in_err-outcome-in-Warp.field-0.0 (HasBadPlan c.args.mode) c.from_residual-in_err-outcome-in-Warp.ensures.1
-    (λ bad. let stopped = c.in_err-outcome-in-Warp.ensures.plan.1 (subst HasBadPlan c.in-Warp.is bad) in cc stopped)
+pub returns-in_err-outcome-in-Warp-clause-fault : goal.returns-in_err-outcome-in-Warp-clause-fault
+returns-in_err-outcome-in-Warp-clause-fault g c =
+    let config : Config = c.args.config.now in
+    let bytes : List ℕ = c.args.bytes.now in
+    let beginning = c.in_ok-starts.ensures.beginning in
+    let accepted : IsAccepted config bytes = record { rows = beginning.rows; accepted = beginning.accepted } in
+    let stop = c.in_err-outcome-in-Warp.field-0.0 in
+    subst (λ (mode : Mode). IfErr c.from_residual-in_err-outcome-in-Warp.result (IsRunFault mode config bytes)) (sym c.in-Warp.is)
+    (stop-is-fault c.from_residual-in_err-outcome-in-Warp.result stop c.in-Warp.plan config bytes c.from_residual-in_err-outcome-in-Warp.ensures.1 accepted
+    (λ same. c.in_err-outcome-in-Warp.ensures.plan.0 (ap Err same), λ bad. let same = c.in_err-outcome-in-Warp.ensures.plan.1 bad in cc))
 
 pub journal-requires : goal.journal-requires
 journal-requires g c =
@@ -163,15 +165,15 @@ returns-in_ok-text-in-Journal-clause-text g c =
     let is : IsJournalOf c.in-Journal.steps.items config bytes text = subst (λ ss. IsJournalOf ss config bytes text) c.as_slice-in-Journal.ensures.value by in
     subst (λ (mode : Mode). IsTextOf mode config bytes text) (sym c.in-Journal.is) is
 
-pub returns-in_err-world-in-Journal-2-clause-exhausted : goal.returns-in_err-world-in-Journal-2-clause-exhausted
-returns-in_err-world-in-Journal-2-clause-exhausted g c =
+pub returns-in_err-world-in-Journal-2-clause-fault : goal.returns-in_err-world-in-Journal-2-clause-fault
+returns-in_err-world-in-Journal-2-clause-fault g c =
     let config : Config = c.args.config.now in
     let bytes : List ℕ = c.args.bytes.now in
     let starts : List Cache = c.in_ok-starts.starts.items in
     let initial : List (Event Body) = c.in_ok-starts.initial.items in
     let steps : List Step = c.as_slice-in-Journal.result.now in
     let beginning = c.in_ok-starts.ensures.beginning in
-    err-exhausted c.from_residual-in_err-world-in-Journal-2.result c.in_err-world-in-Journal-2.field-0.0 (IsExhausting c.args.mode config bytes) c.from_residual-in_err-world-in-Journal-2.ensures.1
+    refusal-is-fault c.from_residual-in_err-world-in-Journal-2.result c.in_err-world-in-Journal-2.field-0.0 c.args.mode config bytes c.from_residual-in_err-world-in-Journal-2.ensures.1
     (λ exhausted.
     let by : IsExhaustingBySteps steps config bytes =
     record {
@@ -181,4 +183,4 @@ returns-in_err-world-in-Journal-2-clause-exhausted g c =
           (c.in_err-world-in-Journal-2.ensures.exhausted (ap Err exhausted));
     } in
     let is : IsExhaustingBySteps c.in-Journal.steps.items config bytes = subst (λ ss. IsExhaustingBySteps ss config bytes) c.as_slice-in-Journal.ensures.value by in
-    subst (λ (mode : Mode). IsExhausting mode config bytes) (sym c.in-Journal.is) is)
+    subst (λ (mode : Mode). IsExhausting mode config bytes × HasGoodPlan mode) (sym c.in-Journal.is) (is, λ bad. bad))
