@@ -1,6 +1,6 @@
 -- An event and then its undoing give back the cache.
 use Rattle.std.proofs.Common.{◌≡◌, ℕ, ◌^◌, ◌<◌, Bool, true, false, List, Option, Some, None, refl, sym, ◌∙◌, ap, subst, arith, length}
-use Rattle.std.specs.Prelude.{is_some, unwrap_or}
+use Rattle.std.specs.Prelude.{is_some}
 use Rattle.std.specs.List.Sorted.{IsStrictlySortedBy}
 use Rattle.std.specs.Map.{keys_of, lookup, remove_entry}
 use Rattle.std.specs.BTreeMap.{is_at}
@@ -18,7 +18,7 @@ use Rattle.rw_photo.specs.Counts.{AreCounts, added, minus, plus, taken_off}
 use Rattle.rw_photo.specs.Cache.{Cache, waiting, with_waiting}
 use Rattle.rw_photo.specs.Events.{Happening, cache_after, object_of}
 use Rattle.rw_photo.specs.Deeds.{HasDone, list_of}
-use Rattle.rw_photo.specs.Undoing.{TakesBack, cache_before, some_if, waiting_before}
+use Rattle.rw_photo.specs.Undoing.{TakesBack, cache_before}
 
 minus-plus : (n k : ℕ) → n < 2 ^ 64 → k < 2 ^ 64 → minus (plus n k) k ≡ n
 minus-plus n k a b = omega arith
@@ -49,10 +49,6 @@ waiting-back m o (Some n) None up is = insert_entry-remove_entry m o n up is
 waiting-back m o None (Some k) up is = remove_entry-insert_entry m o k is
 waiting-back m o None None up is = ap (remove_entry (is_at (nat_cmp o))) (remove_entry-none m o is) ∙ remove_entry-none m o is
 
-pub some_if-of : (w : Option ℕ) → some_if (is_some w) (unwrap_or w 0) ≡ w
-some_if-of (Some n) = refl
-some_if-of None = refl
-
 one-sent : {A : Type 0} (o : Option A) → length (list_of o) ≡ one_if (is_some o)
 one-sent (Some x) = refl
 one-sent None = refl
@@ -63,7 +59,7 @@ waiting-same m o None up is = remove_entry-none m o is
 
 -- a deed that leaves alone who waits
 pub queue_deed : (h : Happening) (s now : Cache) (o : ℕ) (d : Deed) → IsStrictlySortedBy nat_cmp (keys_of s.awaited) → h.waiting ≡ waiting s o
-    → now ≡ record s { queue = h.queue } → d.counted ≡ h.counts → list_of d.send ≡ h.sent → Leads d.trail s.queue now.queue → IsShort d.trail s.queue now.queue
+    → now ≡ record s { queue = h.queue } → d.change.counts ≡ h.counts → list_of d.send ≡ h.sent → Leads d.change.trail s.queue now.queue → IsShort d.change.trail s.queue now.queue
     → HasDone h s o d now
 queue_deed h s now o d up wait is counted sent leads short =
     record {
@@ -79,15 +75,15 @@ made s t q a b c i = record { queue = q i; awaited = a i; sends = b i; counters 
 
 -- a deed, once it is counted, is taken back by its record
 pub takes_back : (h : Happening) (s mid now : Cache) (e : Event Body) (d : Deed) (u : Undo)
-    → IsStrictlySortedBy nat_cmp (keys_of s.awaited) → s.sends < 2 ^ 64 → AreCounts s.counters → AreCounts d.counted
+    → IsStrictlySortedBy nat_cmp (keys_of s.awaited) → s.sends < 2 ^ 64 → AreCounts s.counters → AreCounts d.change.counts
     → HasDone h s (object_of e.body) d mid → now ≡ cache_after s (object_of e.body) h
-    → u.trail ≡ d.trail → u.counted ≡ d.counted → u.sent ≡ is_some d.send → waiting_before u ≡ waiting s (object_of e.body)
+    → u.change.trail ≡ d.change.trail → u.change.counts ≡ d.change.counts → u.sent ≡ is_some d.send → u.waiting ≡ waiting s (object_of e.body)
     → TakesBack s e u now
 takes_back h s mid now e d u up sends counters counts done is trail counted sent wait =
     record {
       back = made (cache_before o u now) s queue awaited sent_back counters_back;
-      leads = subst (λ ms. Leads ms s.queue now.queue) (sym trail) (subst (Leads d.trail s.queue) queue_is done.leads);
-      short = subst (λ ms. IsShort ms s.queue now.queue) (sym trail) (subst (IsShort d.trail s.queue) queue_is done.short);
+      leads = subst (λ ms. Leads ms s.queue now.queue) (sym trail) (subst (Leads d.change.trail s.queue) queue_is done.leads);
+      short = subst (λ ms. IsShort ms s.queue now.queue) (sym trail) (subst (IsShort d.change.trail s.queue) queue_is done.short);
     }
   where
     o : ℕ
@@ -96,12 +92,12 @@ takes_back h s mid now e d u up sends counters counts done is trail counted sent
     queue_is : mid.queue ≡ now.queue
     queue_is = ap (λ (w : Cache). w.queue) done.changed ∙ sym (ap (λ (w : Cache). w.queue) is)
 
-    queue : rewind_of u.trail now.queue ≡ s.queue
-    queue = ap (λ ms. rewind_of ms now.queue) trail ∙ (ap (rewind_of d.trail) (sym queue_is) ∙ done.leads.back)
+    queue : rewind_of u.change.trail now.queue ≡ s.queue
+    queue = ap (λ ms. rewind_of ms now.queue) trail ∙ (ap (rewind_of d.change.trail) (sym queue_is) ∙ done.leads.back)
 
-    awaited : with_waiting now.awaited o (waiting_before u) ≡ s.awaited
+    awaited : with_waiting now.awaited o u.waiting ≡ s.awaited
     awaited =
-        ap (λ (w : Cache). with_waiting w.awaited o (waiting_before u)) is
+        ap (λ (w : Cache). with_waiting w.awaited o u.waiting) is
         ∙ (ap (with_waiting (with_waiting s.awaited o h.waiting) o) wait ∙ waiting-back s.awaited o (waiting s o) h.waiting up refl)
 
     one : one_if u.sent ≡ length h.sent
@@ -119,8 +115,8 @@ takes_back h s mid now e d u up sends counters counts done is trail counted sent
         ap (λ (w : Cache). minus w.sends (one_if u.sent)) is
         ∙ (ap (λ n. minus (plus s.sends n) (one_if u.sent)) (sym one) ∙ minus-plus s.sends (one_if u.sent) sends few)
 
-    counters_back : taken_off now.counters u.counted ≡ s.counters
+    counters_back : taken_off now.counters u.change.counts ≡ s.counters
     counters_back =
-        ap (λ (w : Cache). taken_off w.counters u.counted) is
-        ∙ (ap (λ k. taken_off (added s.counters k) u.counted) (sym done.counted)
-        ∙ (ap (taken_off (added s.counters d.counted)) counted ∙ taken_off-added s.counters d.counted counters counts))
+        ap (λ (w : Cache). taken_off w.counters u.change.counts) is
+        ∙ (ap (λ k. taken_off (added s.counters k) u.change.counts) (sym done.counted)
+        ∙ (ap (taken_off (added s.counters d.change.counts)) counted ∙ taken_off-added s.counters d.change.counts counters counts))

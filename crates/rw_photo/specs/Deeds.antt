@@ -14,7 +14,7 @@ list_of None = []
 -- of what happens to object o the queue and the waiting requests are changed, and the deed has the rest
 pub record HasDone (h : Happening) (old : Cache) (o : Object) (deed : Deed) (now : Cache) : Type 0 where
   pub changed : now ≡ record old { queue = h.queue; awaited = with_waiting old.awaited o h.waiting }
-  pub counted : deed.counted ≡ h.counts
+  pub counted : deed.change.counts ≡ h.counts
   pub sent : list_of deed.send ≡ h.sent
-  pub leads : Leads deed.trail old.queue now.queue
-  pub short : IsShort deed.trail old.queue now.queue
+  pub leads : Leads deed.change.trail old.queue now.queue
+  pub short : IsShort deed.change.trail old.queue now.queue

@@ -11,8 +11,8 @@ ghost use Rattle.rw_photo.specs.Storing.{hit, stored};
 
 use crate::body::Body;
 use crate::counters::Counters;
-use rw_ripq::{Place, Policy, Queue, Shape, Trail};
-use rw_vt::{Event, NoMemory};
+use rw_ripq::{Change, Place, Policy, Queue, Shape, Trail};
+use rw_vt::{Event, NoMemory, Refusal};
 use std::alloc::Global;
 use std::collections::BTreeMap;
 use std::marker::Model;
@@ -114,21 +114,24 @@ impl CacheState {
         policy: Policy,
         object: u64,
         row: Place,
-    ) -> Result<(Trail, Counters), NoMemory>
+    ) -> Result<Change<Counters>, NoMemory>
         requires well_formed { IsWellFormedQueue self.old.queue }
         requires stores { policy ≢ Policy.Off }
         requires row { row_at self.old.queue object ≡ Some row }
         requires fresh { self.old.queue.next < 2 ^ 62 }
         ensures queue { OnOk result (self.new ≡ record self.old { queue = (hit policy self.old.queue object).queue }) }
-        ensures counts { IfOk result (λ r. r.1 ≡ (hit policy self.old.queue object).counts) }
-        ensures leads { IfOk result (λ r. Leads r.0 self.old.queue self.new.queue) }
-        ensures short { IfOk result (λ r. IsShort r.0 self.old.queue self.new.queue) }
+        ensures counts { IfOk result (λ change. change.counts ≡ (hit policy self.old.queue object).counts) }
+        ensures leads { IfOk result (λ change. Leads change.trail self.old.queue self.new.queue) }
+        ensures short { IfOk result (λ change. IsShort change.trail self.old.queue self.new.queue) }
     {
-        let Ok((trail, moved)) = rw_ripq::promote_row(alloc, &mut self.queue, policy, object, row)
-        else {
-            return Err(NoMemory);
+        let promoted = rw_ripq::promote_row(alloc, &mut self.queue, policy, object, row);
+        let (trail, moved) = match promoted {
+            Ok(done) => done,
+            Err(Refusal::Memory) => return Err(NoMemory),
+            Err(Refusal::Exhausted) => unreachable!(),
         };
-        Ok((trail, Counters::of_hit(moved)))
+        let counts = Counters::of_hit(moved);
+        Ok(Change { trail, counts })
     }
 
     /// Stores an object that is not stored, if it fits a block and anything is stored at all. Hands back what takes that
@@ -140,28 +143,31 @@ impl CacheState {
         policy: Policy,
         object: u64,
         size: u64,
-    ) -> Result<(Trail, Counters), NoMemory>
+    ) -> Result<Change<Counters>, NoMemory>
         requires well_formed { IsWellFormedQueue self.old.queue }
         requires new { is_stored self.old object ≡ false }
         requires some { 1 ≤ size }
         requires fresh { self.old.queue.next < 2 ^ 62 }
         ensures queue { OnOk result (self.new ≡ record self.old { queue = (stored policy self.old.queue object size).queue }) }
-        ensures counts { IfOk result (λ r. r.1 ≡ (stored policy self.old.queue object size).counts) }
-        ensures leads { IfOk result (λ r. Leads r.0 self.old.queue self.new.queue) }
-        ensures short { IfOk result (λ r. IsShort r.0 self.old.queue self.new.queue) }
+        ensures counts { IfOk result (λ change. change.counts ≡ (stored policy self.old.queue object size).counts) }
+        ensures leads { IfOk result (λ change. Leads change.trail self.old.queue self.new.queue) }
+        ensures short { IfOk result (λ change. IsShort change.trail self.old.queue self.new.queue) }
     {
         if policy == Policy::Off {
-            return Ok((Trail::new(alloc), Counters::default()));
+            return Ok(Change::new(alloc, Counters::default()));
         }
         let (_, block, _) = self.queue.shape();
         if size > block {
-            return Ok((Trail::new(alloc), Counters::of_bypass()));
+            return Ok(Change::new(alloc, Counters::of_bypass()));
         }
-        let Ok((trail, tally)) = rw_ripq::insert(alloc, &mut self.queue, policy, object, size, 1)
-        else {
-            return Err(NoMemory);
+        let inserted = rw_ripq::insert(alloc, &mut self.queue, policy, object, size, 1);
+        let (trail, tally) = match inserted {
+            Ok(done) => done,
+            Err(Refusal::Memory) => return Err(NoMemory),
+            Err(Refusal::Exhausted) => unreachable!(),
         };
-        Ok((trail, Counters::of_insertion(tally)))
+        let counts = Counters::of_insertion(tally);
+        Ok(Change { trail, counts })
     }
 
     /// Takes back what happened to the queue.

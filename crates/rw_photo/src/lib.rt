@@ -24,7 +24,7 @@ pub use config::Config;
 pub use counters::Counters;
 pub use photo::Photo;
 pub use rows::requests;
-pub use rw_ripq::{Policy, Shape, Trail};
+pub use rw_ripq::{Change, Policy, Shape, Trail};
 pub use rw_trace::Row;
 pub use rw_vt::{Event, NoMemory, Refusal};
 pub use undo::Undo;

@@ -8,7 +8,7 @@ use crate::cache::CacheState;
 use crate::config::Config;
 use crate::counters::Counters;
 use crate::undo::Undo;
-use rw_ripq::Trail;
+use rw_ripq::Change;
 use rw_vt::{Event, Model as VtModel, NoMemory, Refusal};
 use std::alloc::Global;
 
@@ -19,12 +19,10 @@ pub struct Photo {
     pub config: Config,
 }
 
-/// What an event did to a cache, beside the change of its queue and of the requests that wait.
+/// What an event did to a cache, beside who waits for its object then.
 struct Deed {
-    /// What takes the change of the queue back.
-    trail: Trail,
-    /// What it counts.
-    counted: Counters,
+    /// What it did to the queue, and what it counts.
+    change: Change<Counters>,
     /// What it sends.
     send: Option<Event<Body>>,
 }
@@ -124,19 +122,15 @@ impl Photo {
         ensures { IfOk result (λ deed. HasDone (requested self.now.config process state.old time object size (is_stored state.old object)) state.old object deed state.new) }
     {
         if let Some(row) = state.row(object) {
-            let (trail, counted) = state.hit(alloc, self.config.policy, object, row)?;
             return Ok(Deed {
-                trail,
-                counted,
+                change: state.hit(alloc, self.config.policy, object, row)?,
                 send: None,
             });
         }
-        let trail = Trail::new(alloc);
         if let Some(others) = state.waiting(object) {
             state.set_waiting(object, Some(others.wrapping_add(1)))?;
             return Ok(Deed {
-                trail,
-                counted: Counters::of_coalesced(),
+                change: Change::new(alloc, Counters::of_coalesced()),
                 send: None,
             });
         }
@@ -148,8 +142,7 @@ impl Photo {
         };
         let origin = self.origin_of(object);
         Ok(Deed {
-            trail,
-            counted: Counters::default().with_miss(),
+            change: Change::new(alloc, Counters::default().with_miss()),
             send: Some(state.sending(process, time + self.config.up, origin, question)),
         })
     }
@@ -181,17 +174,18 @@ impl Photo {
         } = self.config;
         let answer = Body::Fill { object, size };
         if let Some(row) = state.row(object) {
-            let (trail, counted) = state.hit(alloc, policy, object, row)?;
+            let change = state.hit(alloc, policy, object, row)?;
             return Ok(Deed {
-                trail,
-                counted,
+                change,
                 send: Some(state.sending(process, time + down, edge, answer)),
             });
         }
-        let (trail, counted) = state.store(alloc, policy, object, size)?;
+        let Change { trail, counts } = state.store(alloc, policy, object, size)?;
         Ok(Deed {
-            trail,
-            counted: counted.with_miss(),
+            change: Change {
+                trail,
+                counts: counts.with_miss(),
+            },
             send: Some(state.sending(process, time + down + back, edge, answer)),
         })
     }
@@ -211,15 +205,17 @@ impl Photo {
         ensures { IfOk result (λ deed. HasDone (filled self.now.config state.old object size (is_stored state.old object)) state.old object deed state.new) }
     {
         let answered = state.waiting(object).unwrap_or(0);
-        let (trail, counted) = if state.is_stored(object) {
-            (Trail::new(alloc), Counters::default())
+        let Change { trail, counts } = if state.is_stored(object) {
+            Change::new(alloc, Counters::default())
         } else {
             state.store(alloc, self.config.policy, object, size)?
         };
         state.set_waiting(object, None)?;
         Ok(Deed {
-            trail,
-            counted: counted.with_late(answered),
+            change: Change {
+                trail,
+                counts: counts.with_late(answered),
+            },
             send: None,
         })
     }
@@ -258,7 +254,7 @@ impl VtModel for Photo {
 
     ghost Links = { λ _ _ before e undo after. TakesBack before e undo after };
 
-    ghost weight = { λ undo. length undo.trail };
+    ghost weight = { λ undo. length undo.change.trail };
 
     ghost weight_bound = { λ _ _ before after. 8 + 4 * moved_rows before.queue after.queue + gone_blocks before.queue after.queue };
 
@@ -295,24 +291,18 @@ impl VtModel for Photo {
         if self.exhausted(state) {
             return Err(Refusal::Exhausted);
         }
-        let before = state.waiting(event.body.object());
-        let Deed {
-            trail,
-            counted,
-            send,
-        } = self.happen(alloc, process, state, event)?;
+        let waiting = state.waiting(event.body.object());
+        let Deed { change, send } = self.happen(alloc, process, state, event)?;
         let sent = send.is_some();
-        state.count(&counted);
+        state.count(&change.counts);
         state.count_send(sent);
         if let Some(event) = send {
             out.push(event)?;
         }
         Ok(Undo {
-            trail,
-            counted,
+            change,
             sent,
-            awaited: before.is_some(),
-            waiting: before.unwrap_or(0),
+            waiting,
         })
     }
 
@@ -325,17 +315,14 @@ impl VtModel for Photo {
         undo: Undo,
     ) -> Result<(), NoMemory> {
         let Undo {
-            trail,
-            counted,
+            change: Change { trail, counts },
             sent,
-            awaited,
             waiting,
         } = undo;
         state.rewind(trail)?;
-        state.take_off(&counted);
+        state.take_off(&counts);
         state.take_send_back(sent);
-        let before = if awaited { Some(waiting) } else { None };
-        state.set_waiting(event.body.object(), before)
+        state.set_waiting(event.body.object(), waiting)
     }
 
     ghost ranges = { λ m. valid_ranges m.config };

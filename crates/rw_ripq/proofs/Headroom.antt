@@ -12,8 +12,9 @@ use Rattle.rw_blocks.specs.Sums.{total}
 use Rattle.rw_blocks.specs.Loose.{IsLoose, IsSized}
 use Rattle.rw_blocks.specs.Primitives.{after_remove}
 use Rattle.rw_blocks.proofs.Kept.{of_row}
+use Rattle.rw_ripq.specs.Sealed.{section_with}
 use Rattle.rw_ripq.specs.Work.{Work, one_if}
-use Rattle.rw_ripq.specs.Evict.{evict, objects_homed, reinsert, section_with}
+use Rattle.rw_ripq.specs.Evict.{evict, objects_homed, reinsert}
 use Rattle.rw_ripq.specs.Put.{is_room}
 use Rattle.rw_blocks.specs.declared.Kind.TheVariants.{Device}
 use Rattle.rw_ripq.specs.Victim.{IsVictim}

@@ -11,14 +11,15 @@ use Rattle.rw_blocks.specs.State.{QueueState, SectionState, no_section, section_
 use Rattle.rw_blocks.specs.Sums.{bytes_held, has_block, has_serial, rows_placed}
 use Rattle.rw_blocks.specs.declared.Kind.{Kind}
 use Rattle.rw_blocks.specs.declared.Kind.TheVariants.{Device, Virtual}
+use Rattle.rw_ripq.proofs.Cases.{seal_unless, without_block_if}
 use Rattle.rw_ripq.proofs.Basics.{by_bool}
 use Rattle.rw_ripq.proofs.Behinds.{behind-device, behind-set, passes-after_remove, passes-sealed}
 use Rattle.rw_ripq.proofs.Joins.{Stays, behind-join, behind-split}
 use Rattle.rw_ripq.proofs.Measures.{any-counts, sealed-there, sealed-virtual-there}
 use Rattle.rw_ripq.proofs.Turns.{counts-all, either-kind, sum-above}
 use Rattle.rw_ripq.specs.Order.{Behind}
-use Rattle.rw_ripq.specs.Put.{is_room, seal_unless, with_room}
-use Rattle.rw_ripq.specs.Sealed.{cleared, has_sealed, sealed_position, sealed_section, without_block, without_block_if}
+use Rattle.rw_ripq.specs.Put.{is_room, with_room}
+use Rattle.rw_ripq.specs.Sealed.{cleared, has_sealed, sealed_position, sealed_section, without_block}
 
 -- no block has the serial, and none will
 abbrev pub Gone : ℕ → QueueState → Type 0

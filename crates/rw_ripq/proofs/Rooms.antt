@@ -8,7 +8,8 @@ use Rattle.rw_blocks.specs.State.{QueueState, SectionState, active_of, no_sectio
 use Rattle.rw_blocks.specs.Sums.{bytes_held}
 use Rattle.rw_blocks.specs.declared.Kind.{Kind}
 use Rattle.rw_blocks.specs.declared.Kind.TheVariants.{Device, Virtual}
-use Rattle.rw_ripq.specs.Put.{is_room, seal_unless, with_room}
+use Rattle.rw_ripq.proofs.Cases.{seal_unless}
+use Rattle.rw_ripq.specs.Put.{is_room, with_room}
 
 active-fresh : (K : Kind) (n : ℕ) (s : SectionState) → active_of K (section_sealing K n s) ≡ n
 active-fresh Device n s = refl

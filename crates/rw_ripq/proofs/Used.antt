@@ -19,13 +19,14 @@ use Rattle.rw_blocks.specs.Sums.{bytes_held, is_block, rows_placed, size_of}
 use Rattle.rw_blocks.specs.declared.Kind.{Kind}
 use Rattle.rw_blocks.specs.declared.Kind.TheVariants.{Device, Virtual}
 use Rattle.rw_blocks.specs.declared.Place.{Place}
+use Rattle.rw_ripq.proofs.Cases.{seal_unless, without_block_if}
 use Rattle.rw_ripq.proofs.Basics.{by_bool, clash}
 use Rattle.rw_ripq.proofs.Falls.{sum-le}
 use Rattle.rw_ripq.proofs.Leaving.{without_block-gone}
 use Rattle.rw_ripq.proofs.Measures.{any-counts, sealed-there, sealed-virtual-there}
 use Rattle.rw_ripq.proofs.Orders.{Gone}
-use Rattle.rw_ripq.specs.Put.{is_room, seal_unless, with_room}
-use Rattle.rw_ripq.specs.Sealed.{cleared, is_emptied, is_sealed, sealed_position, sealed_section, without_block, without_block_if}
+use Rattle.rw_ripq.specs.Put.{is_room, with_room}
+use Rattle.rw_ripq.specs.Sealed.{cleared, is_emptied, is_sealed, sealed_position, sealed_section, without_block}
 
 -- ---- how many sealed virtual blocks have the serial
 abbrev pub virtuals_in : ℕ → SectionState → ℕ

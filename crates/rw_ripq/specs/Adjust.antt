@@ -1,5 +1,5 @@
 -- Adjust: evict, at most one merge of sections with few bytes, evict, and at most one split of a section with many.
-use Rattle.std.specs.Prelude.{◌+◌, ◌-◌, ◌*◌, ◌/◌, Bool, true, false, ◌&&◌, not, length, Option, Some, None, nat_eq, nat_lt, nat_le, find}
+use Rattle.std.specs.Prelude.{◌+◌, ◌-◌, ◌*◌, ◌/◌, Bool, if◌then◌else◌, ◌&&◌, not, length, Option, Some, None, nat_eq, nat_lt, nat_le, find}
 use Rattle.std.specs.List.{range_with_len}
 use Rattle.rw_blocks.specs.Words.{Section}
 use Rattle.rw_blocks.specs.declared.Kind.TheVariants.{Device}
@@ -57,13 +57,10 @@ abbrev pub split_at : Option Section → Work → Work
 split_at None w = w
 split_at (Some i) w = split w i
 
-abbrev pub split_if : Bool → Work → Work
-split_if true w = split_at (heavy_section w.queue) w
-split_if false w = w
-
 -- only where there are fewer sections than the shape allows
 abbrev pub split_once : Work → Work
-split_once w = split_if (nat_lt (length w.queue.sections) w.queue.shape.sections) w
+split_once w = if nat_lt (length w.queue.sections) w.queue.shape.sections then split_at (heavy_section w.queue) w else w
 
+-- ---- the whole
 abbrev pub adjust : Work → Work
 adjust w = split_once (merge_once (evict w))

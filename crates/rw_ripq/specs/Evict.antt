@@ -1,17 +1,17 @@
 -- Evict: while too many device blocks are sealed, the last sealed block goes.
-use Rattle.std.specs.Prelude.{zero, suc, ◌+◌, Bool, true, false, not, List, length, Option, Some, None, nat_eq, nat_lt, filter, fold, unwrap_or, count_by}
+use Rattle.std.specs.Prelude.{zero, suc, ◌+◌, Bool, true, false, not, List, length, Option, Some, None, nat_eq, nat_lt, filter, fold, count_by}
 use Rattle.std.specs.Map.{values_of, keys_of}
 use Rattle.rw_vt.specs.Words.{Count}
-use Rattle.rw_blocks.specs.Words.{Object, Section, Serial}
+use Rattle.rw_blocks.specs.Words.{Object, Serial}
 use Rattle.rw_blocks.specs.declared.Kind.{Kind}
 use Rattle.rw_blocks.specs.declared.Kind.TheVariants.{Device, Virtual}
 use Rattle.rw_blocks.specs.State.{QueueState, row_or}
 use Rattle.rw_blocks.specs.Primitives.{after_remove}
 use Rattle.rw_blocks.specs.Loose.{sealed_devices}
-use Rattle.rw_blocks.specs.Questions.{section_of, last_block}
+use Rattle.rw_blocks.specs.Questions.{last_block}
 use Rattle.rw_ripq.specs.Work.{Work, one_if}
 use Rattle.rw_ripq.specs.Put.{is_room, put_again}
-use Rattle.rw_ripq.specs.Sealed.{without_block, cleared, sealed_blocks}
+use Rattle.rw_ripq.specs.Sealed.{without_block, cleared, sealed_blocks, section_with}
 
 -- ---- rows that leave
 -- the objects whose place, or whose home, the block is, in rising order
@@ -27,25 +27,16 @@ without_rows q os = fold after_remove q os
 abbrev pub leave : Work → List Object → Work
 leave w os = record { queue = without_rows w.queue os; tally = record w.tally { evicted = w.tally.evicted + length os } }
 
--- ---- rows that are put again
--- the section that has the block, the head where there is none
-abbrev pub section_with : QueueState → Serial → Section
-section_with q b = unwrap_or (section_of q b) 0
-
--- an object is put again into the section that holds its place, which is taken out where it is emptied
-abbrev pub reinserted_from : QueueState → Object → Serial → QueueState
-reinserted_from q o place = cleared (put_again q o (section_with q place)) place
-
-abbrev pub reinserted : QueueState → Object → QueueState
-reinserted q o = reinserted_from q o (row_or q o).place
-
+-- ---- a row that is put again
+-- into the section that holds the object's place, which is taken out where that empties it
 abbrev pub reinsert : Work → Object → Work
 reinsert w o =
     let q = w.queue in
     let row = row_or q o in
-    let full = not (is_room q Device (section_with q row.place) row.size) in
+    let i = section_with q row.place in
+    let full = not (is_room q Device i row.size) in
     record {
-      queue = reinserted q o;
+      queue = cleared (put_again q o i) row.place;
       tally = record w.tally { reinserted = w.tally.reinserted + 1; writes = w.tally.writes + one_if full };
     }
 
@@ -72,6 +63,7 @@ evict_last w = evict_if_some (last_block w.queue) w
 abbrev pub is_over : QueueState → Bool
 is_over q = nat_lt q.shape.blocks (sealed_devices q)
 
+-- by `elim`, which computes only the branch that is taken: `if` would compute all n turns
 abbrev pub evict_within : Count → Work → Work
 evict_within zero w = w
 evict_within (suc n) w = elim (is_over w.queue) [

@@ -8,7 +8,7 @@ use Rattle.rw_blocks.specs.State.{QueueState, row_at, row_or}
 use Rattle.rw_blocks.specs.Sums.{total, bytes, below}
 use Rattle.rw_ripq.specs.declared.Policy.{Policy}
 use Rattle.rw_ripq.specs.declared.Policy.TheVariants.{Off, Lru, Slru3}
-use Rattle.rw_ripq.specs.Evict.{section_with}
+use Rattle.rw_ripq.specs.Sealed.{section_with}
 
 -- 1 to 3: in which third of all bytes, counted from the tail, the section begins
 abbrev pub level_of_section : QueueState → Section → Level

@@ -1,5 +1,5 @@
 -- Put: an object comes into a section's active device block, which is sealed first where the size does not fit.
-use Rattle.std.specs.Prelude.{◌+◌, Bool, true, false, nat_le}
+use Rattle.std.specs.Prelude.{◌+◌, Bool, if◌then◌else◌, nat_le}
 use Rattle.rw_blocks.specs.Words.{Object, Section, Size}
 use Rattle.rw_blocks.specs.declared.Kind.{Kind}
 use Rattle.rw_blocks.specs.declared.Kind.TheVariants.{Device}
@@ -11,13 +11,9 @@ use Rattle.rw_blocks.specs.Primitives.{after_add, after_rehome, after_seal}
 abbrev pub is_room : QueueState → Kind → Section → Size → Bool
 is_room q kind i z = nat_le (bytes_held kind q (active_of kind (section_at q i)) + z) q.shape.block
 
-abbrev pub seal_unless : Bool → QueueState → Section → Kind → QueueState
-seal_unless true q i kind = q
-seal_unless false q i kind = after_seal q i kind
-
--- an active block in which the size fits
+-- the section's active block of the kind is sealed where the size does not fit it
 abbrev pub with_room : QueueState → Kind → Section → Size → QueueState
-with_room q kind i z = seal_unless (is_room q kind i z) q i kind
+with_room q kind i z = if is_room q kind i z then q else after_seal q i kind
 
 -- an object that is not stored
 abbrev pub put_new : QueueState → Object → Size → Section → QueueState

@@ -3,10 +3,11 @@ ghost use Rattle.std.specs.Prelude.{◌≡◌, ◌<◌, ◌+◌, ◌^◌, length
 ghost use Rattle.rw_blocks.specs.Loose.{IsLoose};
 ghost use Rattle.rw_ripq.specs.Work.{work_of};
 ghost use Rattle.rw_ripq.specs.Adjust.{is_light, light_pair, is_heavy, heavy_section, merge_once, split_once, adjust};
-ghost use Rattle.rw_ripq.specs.Record.{Recorded, HasHeadroom};
+ghost use Rattle.rw_ripq.specs.Record.{Extends, HasHeadroom};
 
 use crate::eviction::evict;
-use crate::putting::{Log, count_write};
+use crate::putting::count_write;
+use crate::{Change, Tally};
 use rw_blocks::{Kind, Queue};
 use rw_vt::NoMemory;
 
@@ -47,12 +48,13 @@ fn heavy_section(queue: &Queue) -> Option<usize>
 }
 
 /// Merges the first two neighbours with few bytes, if any, and evicts.
-fn merge_once(queue: &mut Queue, log: &mut Log) -> Result<(), NoMemory>
+fn merge_once(queue: &mut Queue, change: &mut Change<Tally>) -> Result<(), NoMemory>
     requires loose { IsLoose queue.old }
-    requires headroom { HasHeadroom (work_of queue.old log.old.tally) }
-    requires first { log.old.tally.merges ≡ 0 }
-    ensures effect { OnOk result (work_of queue.new log.new.tally ≡ merge_once (work_of queue.old log.old.tally)) }
-    ensures trail { OnOk result (Recorded log.old.trail (work_of queue.old log.old.tally) log.new.trail (work_of queue.new log.new.tally)) }
+    requires headroom { HasHeadroom (work_of queue.old change.old.counts) }
+    requires first { change.old.counts.merges ≡ 0 }
+    ensures effect { OnOk result (work_of queue.new change.new.counts
+        ≡ merge_once (work_of queue.old change.old.counts)) }
+    ensures trail { OnOk result (Extends queue.old change.old queue.new change.new) }
     ensures kept { OnOk result (IsLoose queue.new) }
 {
     let Some(section) = light_pair(queue) else {
@@ -60,20 +62,21 @@ fn merge_once(queue: &mut Queue, log: &mut Log) -> Result<(), NoMemory>
     };
     let written = queue.fill(queue.active(section + 1, Kind::Device)) > 0;
     let mark = queue.merge(section)?;
-    log.trail.push(mark)?;
-    log.tally.merges += 1;
-    count_write(&mut log.tally, written);
-    evict(queue, log)?;
+    change.trail.push(mark)?;
+    change.counts.merges += 1;
+    count_write(&mut change.counts, written);
+    evict(queue, change)?;
     Ok(())
 }
 
 /// Splits the first section with many bytes, if any and if there are fewer sections than the shape allows.
-fn split_once(queue: &mut Queue, log: &mut Log) -> Result<(), NoMemory>
+fn split_once(queue: &mut Queue, change: &mut Change<Tally>) -> Result<(), NoMemory>
     requires loose { IsLoose queue.old }
     requires fresh { queue.old.next + 1 < 2 ^ 63 }
-    requires first { log.old.tally.splits ≡ 0 }
-    ensures effect { OnOk result (work_of queue.new log.new.tally ≡ split_once (work_of queue.old log.old.tally)) }
-    ensures trail { OnOk result (Recorded log.old.trail (work_of queue.old log.old.tally) log.new.trail (work_of queue.new log.new.tally)) }
+    requires first { change.old.counts.splits ≡ 0 }
+    ensures effect { OnOk result (work_of queue.new change.new.counts
+        ≡ split_once (work_of queue.old change.old.counts)) }
+    ensures trail { OnOk result (Extends queue.old change.old queue.new change.new) }
     ensures kept { OnOk result (IsLoose queue.new) }
 {
     let (sections, _, _) = queue.shape();
@@ -84,23 +87,24 @@ fn split_once(queue: &mut Queue, log: &mut Log) -> Result<(), NoMemory>
         return Ok(());
     };
     let mark = queue.split(section, queue.sealed(section).div_ceil(2))?;
-    log.trail.push(mark)?;
-    log.tally.splits += 1;
+    change.trail.push(mark)?;
+    change.counts.splits += 1;
     Ok(())
 }
 
 /// What follows a put that sealed a device block.
-pub fn adjust(queue: &mut Queue, log: &mut Log) -> Result<(), NoMemory>
+pub fn adjust(queue: &mut Queue, change: &mut Change<Tally>) -> Result<(), NoMemory>
     requires loose { IsLoose queue.old }
-    requires headroom { HasHeadroom (work_of queue.old log.old.tally) }
-    requires merges { log.old.tally.merges ≡ 0 }
-    requires splits { log.old.tally.splits ≡ 0 }
-    ensures effect { OnOk result (work_of queue.new log.new.tally ≡ adjust (work_of queue.old log.old.tally)) }
-    ensures trail { OnOk result (Recorded log.old.trail (work_of queue.old log.old.tally) log.new.trail (work_of queue.new log.new.tally)) }
+    requires headroom { HasHeadroom (work_of queue.old change.old.counts) }
+    requires merges { change.old.counts.merges ≡ 0 }
+    requires splits { change.old.counts.splits ≡ 0 }
+    ensures effect { OnOk result (work_of queue.new change.new.counts
+        ≡ adjust (work_of queue.old change.old.counts)) }
+    ensures trail { OnOk result (Extends queue.old change.old queue.new change.new) }
     ensures kept { OnOk result (IsLoose queue.new) }
 {
-    evict(queue, log)?;
-    merge_once(queue, log)?;
-    split_once(queue, log)?;
+    evict(queue, change)?;
+    merge_once(queue, change)?;
+    split_once(queue, change)?;
     Ok(())
 }

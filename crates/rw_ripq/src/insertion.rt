@@ -13,8 +13,8 @@ ghost use Rattle.rw_ripq.specs.Weight.{Spends, IsShort};
 
 use crate::adjusting::adjust;
 use crate::levels::target;
-use crate::putting::{Log, make_room};
-use crate::{Policy, Tally, Trail};
+use crate::putting::make_room;
+use crate::{Change, Policy, Tally, Trail};
 use rw_blocks::{Kind, Queue};
 use rw_vt::{NoMemory, Refusal};
 use std::alloc::Global;
@@ -62,15 +62,16 @@ pub fn insert(
         return Err(Refusal::Exhausted);
     }
     let section = target(queue, policy, level) as usize;
-    let mut log = Log::new(alloc);
-    insert_at(queue, &mut log, object, size, section)?;
-    Ok((log.trail, log.tally))
+    let mut change = Change::new(alloc, Tally::default());
+    insert_at(queue, &mut change, object, size, section)?;
+    let Change { trail, counts } = change;
+    Ok((trail, counts))
 }
 
 /// Puts a new object into the section, and adjusts where that sealed a device block.
 fn insert_at(
     queue: &mut Queue,
-    log: &mut Log,
+    change: &mut Change<Tally>,
     object: u64,
     size: u64,
     section: usize,
@@ -78,17 +79,17 @@ fn insert_at(
     requires insertable { IsInsertable queue.old object size }
     requires there { section < length queue.old.sections }
     requires fresh { queue.old.next < 2 ^ 62 }
-    requires none { log.old.tally ≡ no_tally }
-    ensures effect { OnOk result (work_of queue.new log.new.tally ≡ insert_at queue.old object size section) }
-    ensures leads { OnOk result ((start : QueueState) → Leads log.old.trail start queue.old → Leads log.new.trail start queue.new) }
-    ensures spends { OnOk result (Spends (length log.old.trail + 1) (untouched queue.old) (length log.new.trail) (work_of queue.new log.new.tally)) }
+    requires none { change.old.counts ≡ no_tally }
+    ensures effect { OnOk result (work_of queue.new change.new.counts ≡ insert_at queue.old object size section) }
+    ensures leads { OnOk result ((start : QueueState) → Leads change.old.trail start queue.old → Leads change.new.trail start queue.new) }
+    ensures spends { OnOk result (Spends (length change.old.trail + 1) (untouched queue.old) (length change.new.trail) (work_of queue.new change.new.counts)) }
 {
-    let full = make_room(queue, &mut log.trail, section, Kind::Device, size)?;
+    let full = make_room(queue, &mut change.trail, section, Kind::Device, size)?;
     let mark = queue.add(object, size, section)?;
-    log.trail.push(mark)?;
+    change.trail.push(mark)?;
     if full {
-        log.tally.writes += 1;
-        adjust(queue, log)?;
+        change.counts.writes += 1;
+        adjust(queue, change)?;
     }
     Ok(())
 }

@@ -1,40 +1,13 @@
-// What an operation keeps of its doing, and room for an object in an active block.
-ghost use Rattle.std.specs.Prelude.{◌≡◌, ◌≤◌, ◌<◌, ◌+◌, ◌^◌, [], length, not, OnOk, IfOk};
+// Room for an object in an active block.
+ghost use Rattle.std.specs.Prelude.{◌≡◌, ◌≤◌, ◌<◌, ◌+◌, ◌^◌, length, not, OnOk, IfOk};
 ghost use Rattle.rw_blocks.specs.Loose.{IsLoose};
-ghost use Rattle.rw_ripq.specs.Work.{untouched, one_if, no_tally};
+ghost use Rattle.rw_ripq.specs.Work.{untouched, one_if};
 ghost use Rattle.rw_ripq.specs.Put.{is_room, with_room};
 ghost use Rattle.rw_ripq.specs.Record.{Recorded};
 
 use crate::{Tally, Trail};
 use rw_blocks::{Kind, Queue};
 use rw_vt::NoMemory;
-use std::alloc::Global;
-
-/// What an operation did so far.
-#[derive(Drop)]
-pub struct Log {
-    pub trail: Trail,
-    pub tally: Tally,
-}
-
-impl Log {
-    /// Nothing done yet.
-    pub fn new(alloc: Global) -> Log
-        ensures trail { result.trail ≡ [] }
-        ensures tally { result.tally ≡ no_tally }
-    {
-        Log {
-            trail: Trail::new(alloc),
-            tally: Tally {
-                evicted: 0,
-                reinserted: 0,
-                writes: 0,
-                splits: 0,
-                merges: 0,
-            },
-        }
-    }
-}
 
 /// Counts a block write, where there was one.
 pub fn count_write(tally: &mut Tally, written: bool)
