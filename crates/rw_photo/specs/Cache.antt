@@ -1,5 +1,5 @@
 -- What a cache keeps.
-use Rattle.std.specs.Prelude.{◌≡◌, List, [], Bool, Option, Some, None, ◌<◌, ◌^◌, nat_lt, nat_le, ◌||◌, All, is_some, cond}
+use Rattle.std.specs.Prelude.{◌≡◌, List, [], Bool, Option, Some, None, ◌<◌, ◌^◌, nat_lt, nat_le, ◌||◌, All, is_some, if◌then◌else◌}
 use Rattle.std.specs.List.Sorted.{IsStrictlySortedBy}
 use Rattle.std.specs.Map.{lookup, remove_entry, keys_of, values_of}
 use Rattle.std.specs.BTreeMap.{insert_entry, is_at}
@@ -27,7 +27,7 @@ is_edge c p = nat_lt p c.edges
 
 -- the shape of the queue at process p
 abbrev pub shape_at : Config → Process → Limits
-shape_at c p = cond (is_edge c p) c.edge_shape c.origin_shape
+shape_at c p = if is_edge c p then c.edge_shape else c.origin_shape
 
 -- a cache to which nothing has happened, with a queue of this shape; so process p starts
 abbrev pub start_in : Limits → Cache

@@ -1,5 +1,5 @@
 -- The events of caches: which are valid, and what each does.
-use Rattle.std.specs.Prelude.{◌+◌, ◌%◌, ◌^◌, Bool, true, false, nat_lt, nat_le, ◌&&◌, List, [], ◌∷◌, length, Option, Some, None, unwrap_or}
+use Rattle.std.specs.Prelude.{◌+◌, ◌%◌, ◌^◌, Bool, if◌then◌else◌, nat_lt, nat_le, ◌&&◌, List, [], ◌∷◌, length, Option, Some, None, unwrap_or}
 use Rattle.rw_vt.specs.Words.{Count, Process, Time}
 use Rattle.rw_blocks.specs.Words.{Object, Size}
 use Rattle.rw_vt.specs.declared.event.Event.{Event}
@@ -11,7 +11,7 @@ use Rattle.rw_photo.specs.declared.config.Config.{Config}
 use Rattle.rw_photo.specs.declared.counters.Counters.{Counters}
 use Rattle.rw_photo.specs.Counts.{plus, added, no_counts, one_miss, one_coalesced, with_late}
 use Rattle.rw_photo.specs.Cache.{Cache, is_edge, is_stored, waiting, with_waiting}
-use Rattle.rw_photo.specs.Storing.{hit, stored}
+use Rattle.rw_photo.specs.Storing.{Stored, hit, stored, unchanged}
 
 -- Valid events
 
@@ -56,37 +56,48 @@ origin_of c o = c.edges + o % c.origins
 
 -- a request that misses waits for its object, with those that wait for it already; the first asks the origin
 abbrev pub missed : Config → Process → Cache → Time → Object → Size → Option Count → Happening
-missed c p s t o z (Some n) = record { queue = s.queue; waiting = Some (plus n 1); counts = one_coalesced; sent = [] }
+missed c p s t o z (Some n) =
+    record { queue = s.queue; waiting = Some (plus n 1); counts = one_coalesced; sent = [] }
 missed c p s t o z None =
-    record { queue = s.queue; waiting = Some 1; counts = one_miss no_counts; sent = sending p s (t + c.up) (origin_of c o) (Miss o z p) ∷ [] }
+    record {
+      queue = s.queue;
+      waiting = Some 1;
+      counts = one_miss no_counts;
+      sent = sending p s (t + c.up) (origin_of c o) (Miss o z p) ∷ [];
+    }
+
+-- what a hit or a store makes of the queue; who waits for the object goes on waiting
+abbrev pub served : Cache → Object → Stored → List (Event Body) → Happening
+served s o k sent = record { queue = k.queue; waiting = waiting s o; counts = k.counts; sent = sent }
 
 -- a request at an edge
-abbrev pub requested : Config → Process → Cache → Time → Object → Size → Bool → Happening
-requested c p s t o z true =
-    let h = hit c.policy s.queue o in record { queue = h.queue; waiting = waiting s o; counts = h.counts; sent = [] }
-requested c p s t o z false = missed c p s t o z (waiting s o)
+abbrev pub requested : Config → Process → Cache → Time → Object → Size → Happening
+requested c p s t o z =
+    if is_stored s o then served s o (hit c.policy s.queue o) [] else missed c p s t o z (waiting s o)
 
--- a miss at an origin, which fetches what it lacks from the backend and stores it; the edge is sent a fill
-abbrev pub asked : Config → Process → Cache → Time → Object → Size → Process → Bool → Happening
-asked c p s t o z g true =
-    let h = hit c.policy s.queue o in
-    record { queue = h.queue; waiting = waiting s o; counts = h.counts; sent = sending p s (t + c.down) g (Fill o z) ∷ [] }
-asked c p s t o z g false =
-    let k = stored c.policy s.queue o z in
-    record { queue = k.queue; waiting = waiting s o; counts = one_miss k.counts; sent = sending p s (t + c.down + c.back) g (Fill o z) ∷ [] }
+-- what a miss at an origin stores of what the backend gave
+abbrev pub fetched : Config → Cache → Object → Size → Stored
+fetched c s o z = let k = stored c.policy s.queue o z in record k { counts = one_miss k.counts }
+
+-- a miss at an origin, which fetches what it lacks from the backend and stores it; edge g is sent a fill
+abbrev pub asked : Config → Process → Cache → Time → Object → Size → Process → Happening
+asked c p s t o z g =
+    if is_stored s o
+    then served s o (hit c.policy s.queue o) (sending p s (t + c.down) g (Fill o z) ∷ [])
+    else served s o (fetched c s o z) (sending p s (t + c.down + c.back) g (Fill o z) ∷ [])
 
 -- a fill at an edge, which answers the requests that wait for it, if any, and stores what the edge lacks
-abbrev pub filled : Config → Cache → Object → Size → Bool → Happening
-filled c s o z true = record { queue = s.queue; waiting = None; counts = with_late (unwrap_or (waiting s o) 0) no_counts; sent = [] }
-filled c s o z false =
-    let k = stored c.policy s.queue o z in
-    record { queue = k.queue; waiting = None; counts = with_late (unwrap_or (waiting s o) 0) k.counts; sent = [] }
+abbrev pub filled : Config → Cache → Object → Size → Happening
+filled c s o z =
+    let k : Stored = if is_stored s o then unchanged s.queue no_counts else stored c.policy s.queue o z in
+    let late = unwrap_or (waiting s o) 0 in
+    record { queue = k.queue; waiting = None; counts = with_late late k.counts; sent = [] }
 
 -- what happens at process p at time t
 abbrev pub happening : Config → Process → Cache → Time → Body → Happening
-happening c p s t (Request o z) = requested c p s t o z (is_stored s o)
-happening c p s t (Miss o z g) = asked c p s t o z g (is_stored s o)
-happening c p s t (Fill o z) = filled c s o z (is_stored s o)
+happening c p s t (Request o z) = requested c p s t o z
+happening c p s t (Miss o z g) = asked c p s t o z g
+happening c p s t (Fill o z) = filled c s o z
 
 -- the cache after it, which concerned object o
 abbrev pub cache_after : Cache → Object → Happening → Cache

@@ -1,5 +1,5 @@
 ghost use Rattle.std.specs.Prelude.{◌≡◌, ◌≤◌, IfOk, true, ◌<◌, ◌+◌, ◌^◌, ◌&&◌, nat_le, nat_lt};
-ghost use Rattle.rw_photo.specs.Cache.{IsWellFormed, is_edge, is_stored, shape_at, start};
+ghost use Rattle.rw_photo.specs.Cache.{IsWellFormed, is_edge, shape_at, start};
 ghost use Rattle.rw_photo.specs.Deeds.{HasDone};
 ghost use Rattle.rw_photo.specs.Events.{asked, filled, happening, is_origin, is_valid, object_of, origin_of, requested};
 
@@ -119,7 +119,7 @@ impl Photo {
         requires fresh { state.old.queue.next < 2 ^ 62 }
         requires early { time < 2 ^ 40 }
         requires process { process < self.now.config.edges }
-        ensures { IfOk result (λ deed. HasDone (requested self.now.config process state.old time object size (is_stored state.old object)) state.old object deed state.new) }
+        ensures { IfOk result (λ deed. HasDone (requested self.now.config process state.old time object size) state.old object deed state.new) }
     {
         if let Some(row) = state.row(object) {
             return Ok(Deed {
@@ -164,7 +164,7 @@ impl Photo {
         requires early { time < 2 ^ 40 }
         requires process { process < self.now.config.edges + self.now.config.origins }
         requires some { 1 ≤ size }
-        ensures { IfOk result (λ deed. HasDone (asked self.now.config process state.old time object size edge (is_stored state.old object)) state.old object deed state.new) }
+        ensures { IfOk result (λ deed. HasDone (asked self.now.config process state.old time object size edge) state.old object deed state.new) }
     {
         let Config {
             policy,
@@ -202,7 +202,7 @@ impl Photo {
         requires well_formed { IsWellFormed self.now.config process state.old }
         requires fresh { state.old.queue.next < 2 ^ 62 }
         requires some { 1 ≤ size }
-        ensures { IfOk result (λ deed. HasDone (filled self.now.config state.old object size (is_stored state.old object)) state.old object deed state.new) }
+        ensures { IfOk result (λ deed. HasDone (filled self.now.config state.old object size) state.old object deed state.new) }
     {
         let answered = state.waiting(object).unwrap_or(0);
         let Change { trail, counts } = if state.is_stored(object) {
