@@ -4,8 +4,7 @@ use Rattle.std.specs.Prelude.{Option, Some, None, nat_lt}
 use Rattle.std.proofs.lemmas.Bool.{ltb-true}
 use Rattle.std.specs.Ordering.{nat_cmp}
 use Rattle.std.specs.BTreeMap.{insert_entry}
-use Rattle.rw_blocks.proofs.Kept.{IsLoose-after_add}
-use Rattle.rw_blocks.proofs.Moved.{IsLoose-after_merge, IsLoose-after_split}
+use Rattle.rw_blocks.proofs.Cited.{IsLoose-after_add, IsLoose-after_merge, IsLoose-after_split}
 use Rattle.rw_blocks.specs.Loose.{IsLoose}
 use Rattle.rw_blocks.specs.State.{QueueState, active_of, section_at}
 use Rattle.rw_blocks.specs.Sums.{bytes_held, total}

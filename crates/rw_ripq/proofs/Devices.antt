@@ -3,7 +3,7 @@ use Rattle.std.proofs.Common.{◌≡◌, ℕ, ◌+◌, ◌/◌, ◌≤◌, ◌<�
 use Rattle.std.specs.Prelude.{Option, Some, None, nat_lt, remove}
 use Rattle.std.proofs.lemmas.Bool.{ltb-true, ltb-false, and_parts}
 use Rattle.std.proofs.lemmas.List.Sums.{sum_by-cons, sum_by-set, sum_by-insert, sum_by-remove, sum_by-take-drop, count_by-le-length}
-use Rattle.rw_blocks.proofs.Moved.{IsLoose-after_merge}
+use Rattle.rw_blocks.proofs.Cited.{IsLoose-after_merge}
 use Rattle.rw_blocks.specs.Loose.{IsLoose, devices_in, is_sealed_virtual, sealed_devices}
 use Rattle.rw_blocks.specs.Primitives.{after_replace, after_split, section_sealing}
 use Rattle.rw_blocks.specs.State.{QueueState, SectionState, no_section, row_or, section_at}

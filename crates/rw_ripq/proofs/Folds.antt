@@ -6,7 +6,7 @@ use Rattle.std.specs.Map.{values_of}
 use Rattle.std.proofs.lemmas.Bool.{ne_eqb, eqb-true, and_parts}
 use Rattle.std.proofs.lemmas.Map.Views.{All-values-insert_entry}
 use Rattle.std.specs.BTreeMap.{insert_entry}
-use Rattle.rw_blocks.proofs.Kept.{of_row}
+use Rattle.rw_blocks.proofs.Cited.{of_row}
 use Rattle.rw_blocks.specs.Loose.{IsLoose, IsPlaced, count, is_sealed_virtual}
 use Rattle.rw_blocks.specs.State.{QueueState, no_place, row_at, row_or, section_at}
 use Rattle.rw_blocks.specs.Sums.{rows_placed}

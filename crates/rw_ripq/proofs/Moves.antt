@@ -9,7 +9,7 @@ use Rattle.std.proofs.lemmas.List.Sums.{position_or_len_is}
 use Rattle.rw_blocks.specs.declared.Kind.{Kind}
 use Rattle.rw_blocks.specs.declared.Kind.TheVariants.{Device, Virtual}
 use Rattle.rw_blocks.specs.declared.Place.{Place}
-use Rattle.rw_blocks.proofs.Kept.{of_row}
+use Rattle.rw_blocks.proofs.Cited.{of_row}
 use Rattle.rw_ripq.proofs.Rooms.{fits-with_room, shape-with_room}
 use Rattle.rw_ripq.proofs.Reputs.{row-with_room, free-virtual, section_of-there, section_with-is, section-there}
 use Rattle.std.proofs.lemmas.List.Quantifiers.{position-Some}

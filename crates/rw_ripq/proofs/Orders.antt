@@ -3,8 +3,7 @@ use Rattle.std.proofs.Common.{◌≡◌, ℕ, ◌+◌, ◌≤◌, ◌<◌, List,
 use Rattle.std.specs.Prelude.{◌&&◌, insert, remove}
 use Rattle.std.specs.List.{list_any}
 use Rattle.std.proofs.lemmas.Bool.{eq-eqb, eqb-true, eqb-false, and_parts, cases_lt}
-use Rattle.rw_blocks.proofs.Grown.{at_block, count-after_seal, one, one-other}
-use Rattle.rw_blocks.proofs.Moved.{count-after_merge, count-after_split, count-after_take_out}
+use Rattle.rw_blocks.proofs.Cited.{at_block, count-after_merge, count-after_seal, count-after_split, count-after_take_out, one, one-other}
 use Rattle.rw_blocks.specs.Loose.{IsLoose, count, count_in, is_sealed_virtual}
 use Rattle.rw_blocks.specs.Primitives.{after_merge, after_seal, after_split, after_take_out, section_joining, section_sealing}
 use Rattle.rw_blocks.specs.State.{QueueState, SectionState, no_section, section_at}

@@ -4,7 +4,7 @@ use Rattle.std.specs.Prelude.{Some, None, unwrap_or}
 use Rattle.std.specs.Ordering.{nat_cmp}
 use Rattle.std.specs.BTreeMap.{insert_entry}
 use Rattle.std.proofs.lemmas.Bool.{eq-eqb, ne_eqb, cases_eq}
-use Rattle.rw_blocks.proofs.Kept.{IsLoose-after_replace, of_row}
+use Rattle.rw_blocks.proofs.Cited.{IsLoose-after_replace, of_row}
 use Rattle.rw_blocks.specs.Loose.{IsLoose, IsSized, count}
 use Rattle.rw_blocks.specs.Primitives.{after_replace, section_sealing}
 use Rattle.rw_blocks.specs.State.{QueueState, SectionState, active_of, no_place, no_section, row_at, row_or, section_at}

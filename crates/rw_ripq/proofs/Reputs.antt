@@ -7,9 +7,7 @@ use Rattle.std.specs.Map.{values_of, lookup}
 use Rattle.std.specs.BTreeMap.{is_at as is_key}
 use Rattle.std.proofs.lemmas.Bool.{eq-eqb, eqb-true, and_parts, cases_Bool, lt-ltb}
 use Rattle.std.proofs.lemmas.List.Sums.{sum_by-cons, get_or-le-sum_by, length-filter, fails_before_first}
-use Rattle.rw_blocks.proofs.Grown.{IsLoose-after_seal, at_block}
-use Rattle.rw_blocks.proofs.Kept.{IsLoose-after_rehome, of_row}
-use Rattle.rw_blocks.proofs.Moved.{IsLoose-after_take_out}
+use Rattle.rw_blocks.proofs.Cited.{IsLoose-after_rehome, IsLoose-after_seal, IsLoose-after_take_out, at_block, of_row}
 use Rattle.rw_blocks.specs.Loose.{IsFree, IsLoose, IsSized, count, count_in, is_sealed_virtual}
 use Rattle.rw_blocks.specs.Primitives.{after_rehome}
 use Rattle.rw_blocks.specs.Questions.{section_of}

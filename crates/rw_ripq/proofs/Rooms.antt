@@ -1,7 +1,7 @@
 -- After room is made the size fits.
 use Rattle.std.proofs.Common.{◌≡◌, ℕ, ◌+◌, ◌≤◌, ◌<◌, List, refl, ap, ◌∙◌, arith, Bool, true, false, length, set, get_or, length-set, get_or-set_same}
 use Rattle.std.proofs.lemmas.Bool.{leb-true}
-use Rattle.rw_blocks.proofs.Grown.{bytes_held-blocks, bytes_held-nowhere}
+use Rattle.rw_blocks.proofs.Cited.{bytes_held-blocks, bytes_held-nowhere}
 use Rattle.rw_blocks.specs.Loose.{IsLoose}
 use Rattle.rw_blocks.specs.Primitives.{after_seal, section_sealing}
 use Rattle.rw_blocks.specs.State.{QueueState, SectionState, active_of, no_section, section_at}

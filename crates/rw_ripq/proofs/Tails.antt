@@ -5,8 +5,7 @@ use Rattle.std.specs.List.{list_any}
 use Rattle.std.specs.Ordering.{nat_cmp}
 use Rattle.std.specs.Map.{lookup}
 use Rattle.std.specs.BTreeMap.{insert_entry, is_at as is_key}
-use Rattle.rw_blocks.proofs.Kept.{of_row}
-use Rattle.rw_blocks.proofs.Moved.{IsLoose-after_merge, IsLoose-after_split}
+use Rattle.rw_blocks.proofs.Cited.{IsLoose-after_merge, IsLoose-after_split, of_row}
 use Rattle.rw_blocks.specs.Loose.{IsFree, IsHomed, IsLoose, IsPlaced, count}
 use Rattle.rw_blocks.specs.Primitives.{after_merge, after_split}
 use Rattle.rw_blocks.specs.Questions.{last_block}

@@ -10,8 +10,7 @@ use Rattle.std.proofs.lemmas.Bool.{ne_eqb, eqb-false, cases_eq, cases_lt, leb-fa
 use Rattle.std.proofs.lemmas.List.Edits.{length-remove, get_or-remove_below}
 use Rattle.std.proofs.lemmas.List.Sums.{sum_by-cons, sum_by-append, sum_by-set, sum_by-insert, sum_by-remove, sum_by-take-drop, length-filter}
 use Rattle.std.proofs.lemmas.Map.Entries.{sum_by-insert_entry, sum_by-remove_entry}
-use Rattle.rw_blocks.proofs.Grown.{at_block, count_in-cons, one}
-use Rattle.rw_blocks.proofs.Moved.{one-kind}
+use Rattle.rw_blocks.proofs.Cited.{at_block, count_in-cons, one, one-kind}
 use Rattle.rw_blocks.specs.Loose.{IsLoose, count, count_in, is_sealed_virtual}
 use Rattle.rw_blocks.specs.Primitives.{after_merge, after_remove, after_seal, after_split, block_unless, section_joining, section_sealing}
 use Rattle.rw_blocks.specs.State.{QueueState, SectionState, no_section, row_at, section_at}

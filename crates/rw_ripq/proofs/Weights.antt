@@ -7,7 +7,7 @@ use Rattle.std.specs.Map.{values_of}
 use Rattle.std.specs.BTreeMap.{insert_entry}
 use Rattle.std.proofs.lemmas.Bool.{eq-eqb}
 use Rattle.std.proofs.lemmas.Map.Entries.{sum_by-insert_entry}
-use Rattle.rw_blocks.proofs.Moved.{IsLoose-after_merge}
+use Rattle.rw_blocks.proofs.Cited.{IsLoose-after_merge}
 use Rattle.rw_blocks.specs.Loose.{IsLoose}
 use Rattle.rw_blocks.specs.State.{QueueState, row_at}
 use Rattle.rw_blocks.specs.declared.Kind.TheVariants.{Device}

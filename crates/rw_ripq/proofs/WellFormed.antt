@@ -1,7 +1,7 @@
 -- An insertion and a promotion leave a well-formed queue.
 use Rattle.std.proofs.Common.{◌≡◌, ℕ, ◌+◌, ◌/◌, ◌≤◌, ◌<◌, refl, sym, ap, subst, ◌∙◌, arith, Bool, true, false, length, inl, inr}
 use Rattle.std.specs.Prelude.{Some, unwrap_or}
-use Rattle.rw_blocks.proofs.Kept.{of_row}
+use Rattle.rw_blocks.proofs.Cited.{of_row}
 use Rattle.rw_blocks.specs.Loose.{IsLoose, IsPlaced, IsSized, IsWellFormedQueue, count, is_sealed_virtual}
 use Rattle.rw_blocks.specs.Primitives.{after_replace}
 use Rattle.rw_blocks.specs.State.{Limits, QueueState, no_place, row_at, row_or, section_at}
