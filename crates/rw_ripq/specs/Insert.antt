@@ -14,8 +14,10 @@ use Rattle.rw_ripq.specs.Adjust.{adjust}
 abbrev pub insert_at : QueueState → Object → Size → Section → Work
 insert_at q o z i =
     let put = put_new q o z i in
-    if is_room q Device i z then untouched put else adjust (work_of put (record no_tally { writes = 1 }))
+    if is_room q Device i z
+    then untouched put
+    else adjust (work_of put (record no_tally { writes = 1 }))
 
 -- as one of level l
 abbrev pub insert : Policy → QueueState → Object → Size → Level → Work
-insert p q o z l = insert_at q o z (target p q l)
+insert policy q o z l = insert_at q o z (target policy q l)

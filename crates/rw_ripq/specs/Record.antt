@@ -1,4 +1,4 @@
--- A trail that grows with the work, and the room that the work's numbers need.
+-- For the contracts inside the crate: a trail that grows with the work, and the room that the work's numbers need.
 use Rattle.std.specs.Prelude.{◌≡◌, None, ◌+◌, ◌≤◌, ◌^◌, List, length}
 use Rattle.rw_blocks.specs.Words.{Object, Size}
 use Rattle.rw_blocks.specs.declared.Mark.{Mark}

@@ -86,7 +86,8 @@ fn evict_last(queue: &mut Queue, change: &mut Change<Tally>, block: u64) -> Resu
 /// The last sealed block, where more device blocks are sealed than the shape allows.
 fn victim(queue: &Queue) -> Option<u64>
     requires { IsLoose queue.now }
-    ensures some { IfSome result (λ block. (is_over queue.now ≡ true) × (option_map (λ b. b.0) (last_block queue.now) ≡ Some block)) }
+    ensures some { IfSome result (λ block. (is_over queue.now ≡ true)
+        × (option_map (λ b. b.0) (last_block queue.now) ≡ Some block)) }
     ensures none { IsNone result → is_over queue.now ≡ false }
 {
     let (_, _, blocks) = queue.shape();

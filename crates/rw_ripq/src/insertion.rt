@@ -47,13 +47,15 @@ pub fn insert(
     requires to_three { level ≤ 3 }
     ensures exhausted { (result ≡ Err Refusal.Exhausted) ↔ (2 ^ 62 ≤ queue.old.next) }
     ensures effect { OnOk result (queue.new ≡ (insert policy queue.old object size level).queue) }
-    ensures tally { IfOk result (λ done. done.1 ≡ (insert policy queue.old object size level).tally) }
+    ensures tally { IfOk result (λ done.
+        done.1 ≡ (insert policy queue.old object size level).tally) }
     ensures leads { IfOk result (λ done. Leads done.0 queue.old queue.new) }
     ensures short { IfOk result (λ done. IsShort done.0 queue.old queue.new) }
     ensures kept { OnOk result (IsWellFormedQueue queue.new) }
     ensures sizes { OnOk result (KeepsSizes queue.old queue.new) }
     ensures adds { OnOk result (AddsOnly queue.old object size queue.new) }
-    ensures rows { IfOk result (λ done. length queue.new.rows + done.1.evicted ≡ length queue.old.rows + 1) }
+    ensures rows { IfOk result (λ done.
+        length queue.new.rows + done.1.evicted ≡ length queue.old.rows + 1) }
     ensures order { OnOk result (KeepsOrder queue.old queue.new) }
     ensures leaves { OnOk result (LeavesWithBlock queue.old queue.new) }
     ensures tail { OnOk result (LeavesFromTail queue.old queue.new) }
@@ -80,9 +82,12 @@ fn insert_at(
     requires there { section < length queue.old.sections }
     requires fresh { queue.old.next < 2 ^ 62 }
     requires none { change.old.counts ≡ no_tally }
-    ensures effect { OnOk result (work_of queue.new change.new.counts ≡ insert_at queue.old object size section) }
-    ensures leads { OnOk result ((start : QueueState) → Leads change.old.trail start queue.old → Leads change.new.trail start queue.new) }
-    ensures spends { OnOk result (Spends (length change.old.trail + 1) (untouched queue.old) (length change.new.trail) (work_of queue.new change.new.counts)) }
+    ensures effect { OnOk result (work_of queue.new change.new.counts
+        ≡ insert_at queue.old object size section) }
+    ensures leads { OnOk result ((start : QueueState)
+        → Leads change.old.trail start queue.old → Leads change.new.trail start queue.new) }
+    ensures spends { OnOk result (Spends (length change.old.trail + 1) (untouched queue.old)
+        (length change.new.trail) (work_of queue.new change.new.counts)) }
 {
     let full = make_room(queue, &mut change.trail, section, Kind::Device, size)?;
     let mark = queue.add(object, size, section)?;

@@ -52,7 +52,8 @@ pub fn promote(
     requires stores { policy ≢ Policy.Off }
     ensures exhausted { (result ≡ Err Refusal.Exhausted) ↔ (2 ^ 62 ≤ queue.old.next) }
     ensures effect { OnOk result (queue.new ≡ promote policy queue.old object) }
-    ensures changed { IfOk result (λ done. done.1 ≡ not (nat_eq (row_or queue.new object).place (row_or queue.old object).place)) }
+    ensures changed { IfOk result (λ done.
+        done.1 ≡ not (nat_eq (row_or queue.new object).place (row_or queue.old object).place)) }
     ensures leads { IfOk result (λ done. Leads done.0 queue.old queue.new) }
     ensures short { IfOk result (λ done. IsShort done.0 queue.old queue.new) }
     ensures kept { OnOk result (IsWellFormedQueue queue.new) }
@@ -79,7 +80,8 @@ pub fn promote_row(
     requires stores { policy ≢ Policy.Off }
     ensures exhausted { (result ≡ Err Refusal.Exhausted) ↔ (2 ^ 62 ≤ queue.old.next) }
     ensures effect { OnOk result (queue.new ≡ promote policy queue.old object) }
-    ensures changed { IfOk result (λ done. done.1 ≡ not (nat_eq (row_or queue.new object).place (row_or queue.old object).place)) }
+    ensures changed { IfOk result (λ done.
+        done.1 ≡ not (nat_eq (row_or queue.new object).place (row_or queue.old object).place)) }
     ensures leads { IfOk result (λ done. Leads done.0 queue.old queue.new) }
     ensures short { IfOk result (λ done. IsShort done.0 queue.old queue.new) }
     ensures kept { OnOk result (IsWellFormedQueue queue.new) }
@@ -112,8 +114,10 @@ fn promote_to(
     requires there { section < length queue.old.sections }
     requires fresh { queue.old.next < 2 ^ 63 }
     ensures effect { OnOk result (queue.new ≡ promote_to queue.old object section) }
-    ensures changed { IfOk result (λ changed. changed ≡ not (is_active_in queue.old (row_or queue.old object).place section)) }
-    ensures leads { OnOk result ((start : QueueState) → Leads trail.old start queue.old → Leads trail.new start queue.new) }
+    ensures changed { IfOk result (λ changed.
+        changed ≡ not (is_active_in queue.old (row_or queue.old object).place section)) }
+    ensures leads { OnOk result ((start : QueueState)
+        → Leads trail.old start queue.old → Leads trail.new start queue.new) }
     ensures marks { OnOk result (length trail.new ≤ length trail.old + 3) }
 {
     if row.place == queue.active(section, Kind::Device)

@@ -33,7 +33,8 @@ pub fn make_room(
     requires fresh { queue.old.next < 2 ^ 63 }
     ensures full { IfOk result (λ full. full ≡ not (is_room queue.old kind section size)) }
     ensures effect { OnOk result (queue.new ≡ with_room queue.old kind section size) }
-    ensures trail { OnOk result (Recorded trail.old (untouched queue.old) trail.new (untouched queue.new)) }
+    ensures trail { OnOk result (Recorded trail.old (untouched queue.old)
+        trail.new (untouched queue.new)) }
     ensures marks { OnOk result (length trail.new ≤ length trail.old + 1) }
     ensures kept { OnOk result (IsLoose queue.new) }
 {

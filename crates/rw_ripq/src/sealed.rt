@@ -16,7 +16,8 @@ use rw_vt::NoMemory;
 fn is_last(queue: &Queue, section: usize, block: u64) -> bool
     requires { section < length queue.now.sections }
     ensures some { IsTrue result → 0 < length (section_at queue.now section).sealed }
-    ensures last { IsTrue result → (slice_index_or (section_at queue.now section).sealed (length (section_at queue.now section).sealed - 1) (0, Kind.Device)).0 ≡ block }
+    ensures last { IsTrue result → (slice_index_or (section_at queue.now section).sealed
+        (length (section_at queue.now section).sealed - 1) (0, Kind.Device)).0 ≡ block }
 {
     let sealed = queue.sealed(section);
     if sealed == 0 {
@@ -53,7 +54,8 @@ fn guess(queue: &Queue, section: usize, block: u64) -> usize
 fn position_near(queue: &Queue, section: usize, block: u64, near: usize) -> Option<usize>
     requires { section < length queue.now.sections }
     ensures within { IfSome result (λ p. p < length (section_at queue.now section).sealed) }
-    ensures here { IfSome result (λ p. (slice_index_or (section_at queue.now section).sealed p (0, Kind.Device)).0 ≡ block) }
+    ensures here { IfSome result (λ p.
+        (slice_index_or (section_at queue.now section).sealed p (0, Kind.Device)).0 ≡ block) }
 {
     let end = queue.sealed(section).min(near.saturating_add(REACH));
     for position in near.saturating_sub(REACH)..end {
@@ -111,7 +113,8 @@ pub fn take_out(queue: &mut Queue, trail: &mut Trail, block: u64) -> Result<(), 
     requires sealed { is_sealed queue.old block ≡ true }
     requires free { IsFree queue.old block }
     ensures effect { OnOk result (queue.new ≡ without_block queue.old block) }
-    ensures trail { OnOk result (Recorded trail.old (untouched queue.old) trail.new (untouched queue.new)) }
+    ensures trail { OnOk result (Recorded trail.old (untouched queue.old)
+        trail.new (untouched queue.new)) }
     ensures marks { OnOk result (length trail.new ≤ length trail.old + 1) }
     ensures kept { OnOk result (IsLoose queue.new) }
 {
@@ -153,7 +156,8 @@ fn is_emptied(queue: &Queue, block: u64) -> bool
 pub fn clear(queue: &mut Queue, trail: &mut Trail, block: u64) -> Result<(), NoMemory>
     requires { IsLoose queue.old }
     ensures effect { OnOk result (queue.new ≡ cleared queue.old block) }
-    ensures trail { OnOk result (Recorded trail.old (untouched queue.old) trail.new (untouched queue.new)) }
+    ensures trail { OnOk result (Recorded trail.old (untouched queue.old)
+        trail.new (untouched queue.new)) }
     ensures marks { OnOk result (length trail.new ≤ length trail.old + 1) }
     ensures kept { OnOk result (IsLoose queue.new) }
 {

@@ -66,7 +66,8 @@ impl Trail {
 pub fn rewind(queue: &mut Queue, trail: Trail) -> Result<(), NoMemory>
     requires { IsRewindable trail queue.old }
     ensures effect { OnOk result (queue.new ≡ rewind_of trail queue.old) }
-    ensures restores { OnOk result ((before : QueueState) → Leads trail before queue.old → queue.new ≡ before) }
+    ensures restores { OnOk result ((before : QueueState)
+        → Leads trail before queue.old → queue.new ≡ before) }
 {
     let mut trail = trail;
     while let Some(mark) = trail.pop() {
