@@ -1,5 +1,5 @@
 -- An event and then its undoing give back the cache.
-use Rattle.std.proofs.Common.{◌≡◌, ℕ, ◌^◌, ◌<◌, Bool, true, false, List, Option, Some, None, refl, sym, ◌∙◌, ap, subst, arith, length}
+use Rattle.std.proofs.Common.{◌≡◌, ℕ, ◌^◌, ◌%◌, ◌<◌, Bool, true, false, List, Option, Some, None, refl, sym, ◌∙◌, ap, subst, arith, length}
 use Rattle.std.specs.Prelude.{is_some}
 use Rattle.std.specs.List.Sorted.{IsStrictlySortedBy}
 use Rattle.std.specs.Map.{keys_of, lookup, remove_entry}
@@ -14,7 +14,7 @@ use Rattle.rw_photo.specs.declared.counters.Counters.{Counters}
 use Rattle.rw_photo.specs.declared.photo.Deed.{Deed}
 use Rattle.rw_photo.specs.declared.undo.Undo.{Undo}
 use Rattle.rw_ripq.specs.Work.{one_if}
-use Rattle.rw_photo.specs.Counts.{AreCounts, added, minus, plus, taken_off}
+use Rattle.rw_photo.specs.Counts.{AreCounts, added, counters_by, minus, plus, taken_off}
 use Rattle.rw_photo.specs.Cache.{Cache, waiting, with_waiting}
 use Rattle.rw_photo.specs.Events.{Happening, cache_after, object_of}
 use Rattle.rw_photo.specs.Deeds.{HasDone, list_of}
@@ -23,23 +23,17 @@ use Rattle.rw_photo.specs.Undoing.{TakesBack, cache_before}
 minus-plus : (n k : ℕ) → n < 2 ^ 64 → k < 2 ^ 64 → minus (plus n k) k ≡ n
 minus-plus n k a b = omega arith
 
+-- counts that were read modulo 2 ^ 64 are given back
+minus-wrapped : (n k : ℕ) → minus (plus (n % 2 ^ 64) (k % 2 ^ 64)) (k % 2 ^ 64) ≡ n % 2 ^ 64
+minus-wrapped n k = omega arith
+
+taken_off-wrapped : (k d : Counters) → taken_off (added (counters_by (λ which. which k % 2 ^ 64)) (counters_by (λ which. which d % 2 ^ 64))) (counters_by (λ which. which d % 2 ^ 64)) ≡ counters_by (λ which. which k % 2 ^ 64)
+taken_off-wrapped k d i = counters_by (λ which. minus-wrapped (which k) (which d) i)
+
 taken_off-added : (k d : Counters) → AreCounts k → AreCounts d → taken_off (added k d) d ≡ k
-taken_off-added k d a b i =
-    record {
-      requests = minus-plus k.requests d.requests a.requests b.requests i;
-      hits = minus-plus k.hits d.hits a.hits b.hits i;
-      misses = minus-plus k.misses d.misses a.misses b.misses i;
-      coalesced = minus-plus k.coalesced d.coalesced a.coalesced b.coalesced i;
-      late = minus-plus k.late d.late a.late b.late i;
-      bypassed = minus-plus k.bypassed d.bypassed a.bypassed b.bypassed i;
-      inserted = minus-plus k.inserted d.inserted a.inserted b.inserted i;
-      evicted = minus-plus k.evicted d.evicted a.evicted b.evicted i;
-      reinserted = minus-plus k.reinserted d.reinserted a.reinserted b.reinserted i;
-      promoted = minus-plus k.promoted d.promoted a.promoted b.promoted i;
-      writes = minus-plus k.writes d.writes a.writes b.writes i;
-      splits = minus-plus k.splits d.splits a.splits b.splits i;
-      merges = minus-plus k.merges d.merges a.merges b.merges i;
-    }
+taken_off-added k d a b =
+    subst (λ x. taken_off (added x d) d ≡ x) a
+    (subst (λ x. taken_off (added (counters_by (λ which. which k % 2 ^ 64)) x) x ≡ counters_by (λ which. which k % 2 ^ 64)) b (taken_off-wrapped k d))
 
 -- whatever the object's requests became, they wait again as they did
 waiting-back : (m : List (ℕ × ℕ)) (o : ℕ) (old now : Option ℕ) → IsStrictlySortedBy nat_cmp (keys_of m) → lookup (is_at (nat_cmp o)) m ≡ old
@@ -68,6 +62,43 @@ queue_deed h s now o d up wait is counted sent leads short =
       sent = sent;
       leads = leads;
       short = short;
+    }
+
+-- numbers that fit their type are counts
+pub record AreSmall (k : Counters) : Type 0 where
+  pub requests : k.requests < 2 ^ 64
+  pub hits : k.hits < 2 ^ 64
+  pub misses : k.misses < 2 ^ 64
+  pub coalesced : k.coalesced < 2 ^ 64
+  pub late : k.late < 2 ^ 64
+  pub bypassed : k.bypassed < 2 ^ 64
+  pub inserted : k.inserted < 2 ^ 64
+  pub evicted : k.evicted < 2 ^ 64
+  pub reinserted : k.reinserted < 2 ^ 64
+  pub promoted : k.promoted < 2 ^ 64
+  pub writes : k.writes < 2 ^ 64
+  pub splits : k.splits < 2 ^ 64
+  pub merges : k.merges < 2 ^ 64
+
+wrapped-small : (n : ℕ) → n < 2 ^ 64 → n % 2 ^ 64 ≡ n
+wrapped-small n small = omega arith
+
+pub small-counts : (k : Counters) → AreSmall k → AreCounts k
+small-counts k small i =
+    record {
+      requests = wrapped-small k.requests small.requests i;
+      hits = wrapped-small k.hits small.hits i;
+      misses = wrapped-small k.misses small.misses i;
+      coalesced = wrapped-small k.coalesced small.coalesced i;
+      late = wrapped-small k.late small.late i;
+      bypassed = wrapped-small k.bypassed small.bypassed i;
+      inserted = wrapped-small k.inserted small.inserted i;
+      evicted = wrapped-small k.evicted small.evicted i;
+      reinserted = wrapped-small k.reinserted small.reinserted i;
+      promoted = wrapped-small k.promoted small.promoted i;
+      writes = wrapped-small k.writes small.writes i;
+      splits = wrapped-small k.splits small.splits i;
+      merges = wrapped-small k.merges small.merges i;
     }
 
 made : (s t : Cache) → s.queue ≡ t.queue → s.awaited ≡ t.awaited → s.sends ≡ t.sends → s.counters ≡ t.counters → s ≡ t

@@ -29,10 +29,11 @@ is_edge c p = nat_lt p c.edges
 abbrev pub shape_at : Config → Process → Limits
 shape_at c p = if is_edge c p then c.edge_shape else c.origin_shape
 
--- a cache to which nothing has happened, with a queue of this shape; so process p starts
+-- a cache to which nothing has happened, with a queue of this shape
 abbrev pub start_in : Limits → Cache
 start_in shape = record { queue = start_of shape; awaited = []; sends = 0; counters = no_counts }
 
+-- process p as it starts
 abbrev pub start : Config → Process → Cache
 start c p = start_in (shape_at c p)
 
@@ -44,10 +45,10 @@ is_stored s o = is_some (row_at s.queue o)
 abbrev pub waiting : Cache → Object → Option Count
 waiting s o = lookup (is_at (nat_cmp o)) s.awaited
 
--- so many requests wait for the object, or it is not awaited
+-- the awaited objects once n requests wait for object o, or once it is awaited no more
 abbrev pub with_waiting : List (Object × Count) → Object → Option Count → List (Object × Count)
-with_waiting m o (Some n) = insert_entry nat_cmp m o n
-with_waiting m o None = remove_entry (is_at (nat_cmp o)) m
+with_waiting awaited o (Some n) = insert_entry nat_cmp awaited o n
+with_waiting awaited o None = remove_entry (is_at (nat_cmp o)) awaited
 
 -- a cache that can take no further event: it has sent, or its queue has numbered, too much
 abbrev pub is_exhausted : Cache → Bool

@@ -15,6 +15,7 @@ use Rattle.rw_photo.specs.Storing.{Stored, hit, stored, unchanged}
 
 -- Valid events
 
+-- origins come behind the edges
 abbrev pub is_origin : Config → Process → Bool
 is_origin c p = nat_le c.edges p && nat_lt p (c.edges + c.origins)
 
@@ -25,14 +26,19 @@ is_object o z = nat_lt o (2 ^ 64) && nat_le 1 z && nat_lt z (2 ^ 32)
 -- what may happen at process p at time t: requests up to time 2 ^ 39, and what may follow from them
 abbrev pub may_happen : Config → Time → Process → Body → Bool
 may_happen c t p (Request o z) = is_edge c p && nat_le t (2 ^ 39) && is_object o z
-may_happen c t p (Miss o z g) = is_origin c p && is_edge c g && nat_le t (2 ^ 39 + c.up) && is_object o z
-may_happen c t p (Fill o z) = is_edge c p && nat_le t (2 ^ 39 + c.up + c.down + c.back) && is_object o z
+may_happen c t p (Miss o z g) =
+    is_origin c p && is_edge c g && nat_le t (2 ^ 39 + c.up) && is_object o z
+may_happen c t p (Fill o z) =
+    is_edge c p && nat_le t (2 ^ 39 + c.up + c.down + c.back) && is_object o z
 
+-- an event in the ranges of its numbers, that may happen
 abbrev pub is_valid : Config → Event Body → Bool
-is_valid c e = nat_lt e.source (2 ^ 32) && nat_lt e.number (2 ^ 64) && may_happen c e.time e.to e.body
+is_valid c e =
+    nat_lt e.source (2 ^ 32) && nat_lt e.number (2 ^ 64) && may_happen c e.time e.to e.body
 
 -- What each does
 
+-- the object that an event is about
 abbrev pub object_of : Body → Object
 object_of (Request o z) = o
 object_of (Miss o z g) = o
@@ -46,9 +52,10 @@ pub record Happening : Type 0 where
   pub counts : Counters
   pub sent : List (Event Body)
 
--- process p sends an event
+-- an event that process p sends, numbered by how many it has sent before
 abbrev pub sending : Process → Cache → Time → Process → Body → Event Body
-sending p s time to body = record { time = time; source = p + 1; number = s.sends; to = to; body = body }
+sending p s time to body =
+    record { time = time; source = p + 1; number = s.sends; to = to; body = body }
 
 -- the origin that is asked for an object
 abbrev pub origin_of : Config → Object → Process
@@ -68,16 +75,21 @@ missed c p s t o z None =
 
 -- what a hit or a store makes of the queue; who waits for the object goes on waiting
 abbrev pub served : Cache → Object → Stored → List (Event Body) → Happening
-served s o k sent = record { queue = k.queue; waiting = waiting s o; counts = k.counts; sent = sent }
+served s o made sent =
+    record { queue = made.queue; waiting = waiting s o; counts = made.counts; sent = sent }
 
 -- a request at an edge
 abbrev pub requested : Config → Process → Cache → Time → Object → Size → Happening
 requested c p s t o z =
-    if is_stored s o then served s o (hit c.policy s.queue o) [] else missed c p s t o z (waiting s o)
+    if is_stored s o
+    then served s o (hit c.policy s.queue o) []
+    else missed c p s t o z (waiting s o)
 
 -- what a miss at an origin stores of what the backend gave
 abbrev pub fetched : Config → Cache → Object → Size → Stored
-fetched c s o z = let k = stored c.policy s.queue o z in record k { counts = one_miss k.counts }
+fetched c s o z =
+    let made = stored c.policy s.queue o z in
+    record made { counts = one_miss made.counts }
 
 -- a miss at an origin, which fetches what it lacks from the backend and stores it; edge g is sent a fill
 abbrev pub asked : Config → Process → Cache → Time → Object → Size → Process → Happening
@@ -89,9 +101,10 @@ asked c p s t o z g =
 -- a fill at an edge, which answers the requests that wait for it, if any, and stores what the edge lacks
 abbrev pub filled : Config → Cache → Object → Size → Happening
 filled c s o z =
-    let k : Stored = if is_stored s o then unchanged s.queue no_counts else stored c.policy s.queue o z in
     let late = unwrap_or (waiting s o) 0 in
-    record { queue = k.queue; waiting = None; counts = with_late late k.counts; sent = [] }
+    let made : Stored =
+    if is_stored s o then unchanged s.queue no_counts else stored c.policy s.queue o z in
+    record { queue = made.queue; waiting = None; counts = with_late late made.counts; sent = [] }
 
 -- what happens at process p at time t
 abbrev pub happening : Config → Process → Cache → Time → Body → Happening
@@ -99,7 +112,7 @@ happening c p s t (Request o z) = requested c p s t o z
 happening c p s t (Miss o z g) = asked c p s t o z g
 happening c p s t (Fill o z) = filled c s o z
 
--- the cache after it, which concerned object o
+-- the cache after what happens to object o
 abbrev pub cache_after : Cache → Object → Happening → Cache
 cache_after s o h =
     record {
@@ -109,11 +122,15 @@ cache_after s o h =
       counters = added s.counters h.counts;
     }
 
+-- the cache after an event, and what the cache sends
 abbrev pub step : Config → Process → Cache → Event Body → Cache × List (Event Body)
-step c p s e = let h = happening c p s e.time e.body in (cache_after s (object_of e.body) h, h.sent)
+step c p s e =
+    let h = happening c p s e.time e.body in
+    (cache_after s (object_of e.body) h, h.sent)
 
 -- From a trace
 
 -- row n of a trace, as an event
 abbrev pub request_of : Count → Row → Event Body
-request_of n r = record { time = r.time; source = 0; number = n; to = r.edge; body = Request r.object r.size }
+request_of n r =
+    record { time = r.time; source = 0; number = n; to = r.edge; body = Request r.object r.size }

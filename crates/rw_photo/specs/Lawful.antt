@@ -1,5 +1,5 @@
 -- Why the laws of specs/Laws.antt hold. These lemmas stand in specs/ since the laws cite them, and specs/ sees no proofs/.
-use Rattle.std.specs.Prelude.{◌≡◌, ℕ, ◌+◌, ◌^◌, ◌<◌, ◌≤◌, Bool, true, false, ◌&&◌, if◌then◌else◌, nat_lt, List, [], ◌∷◌, Option, Some, None, All, refl, is_some, unwrap_or}
+use Rattle.std.specs.Prelude.{◌≡◌, ℕ, ◌+◌, ◌^◌, ◌%◌, ◌<◌, ◌≤◌, Bool, true, false, ◌&&◌, if◌then◌else◌, nat_lt, List, [], ◌∷◌, Option, Some, None, All, refl, is_some, unwrap_or}
 use Rattle.std.specs.declared.cmp.Ordering.{Ordering}
 use Rattle.std.specs.declared.cmp.Ordering.TheVariants.{Less, Equal, Greater}
 use Rattle.std.specs.List.Sorted.{IsStrictlySortedBy}
@@ -25,7 +25,7 @@ use Rattle.rw_photo.specs.declared.body.Body.{Body}
 use Rattle.rw_photo.specs.declared.body.Body.TheVariants.{Request, Miss, Fill}
 use Rattle.rw_photo.specs.declared.config.Config.{Config}
 use Rattle.rw_photo.specs.declared.counters.Counters.{Counters}
-use Rattle.rw_photo.specs.Counts.{AreCounts, added, no_counts, one_bypassed, with_late}
+use Rattle.rw_photo.specs.Counts.{AreCounts, added, counters_by, no_counts, one_bypassed, with_late}
 use Rattle.rw_photo.specs.Cache.{Cache, IsWellFormed, is_stored, shape_at, waiting, with_waiting}
 use Rattle.rw_photo.specs.Storing.{Stored, hit, inserted, stored, unchanged}
 use Rattle.rw_photo.specs.Events.{Happening, fetched, happening, is_valid, may_happen, missed, origin_of, sending, served}
@@ -187,23 +187,11 @@ pub few-with : (m : List (ℕ × ℕ)) (o : ℕ) (w : Option ℕ) → All (λ n.
 few-with m o (Some n) all few = values-insert_entry (λ n. n < 2 ^ 64) m o n all few
 few-with m o None all few = values-remove_entry (λ n. n < 2 ^ 64) m o all
 
+wrapped-once : (n : ℕ) → n % 2 ^ 64 % 2 ^ 64 ≡ n % 2 ^ 64
+wrapped-once n = omega arith
+
 pub added-counts : (k d : Counters) → AreCounts (added k d)
-added-counts k d =
-    record {
-      requests = omega arith;
-      hits = omega arith;
-      misses = omega arith;
-      coalesced = omega arith;
-      late = omega arith;
-      bypassed = omega arith;
-      inserted = omega arith;
-      evicted = omega arith;
-      reinserted = omega arith;
-      promoted = omega arith;
-      writes = omega arith;
-      splits = omega arith;
-      merges = omega arith;
-    }
+added-counts k d i = counters_by (λ which. wrapped-once (which k + which d) i)
 
 -- ---- bodies that compare as equal are the same
 pub both_equal : (r s : Ordering) → ordering_then r s ≡ Equal → (r ≡ Equal) × (s ≡ Equal)

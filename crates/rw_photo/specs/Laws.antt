@@ -72,4 +72,3 @@ bodies_same (Miss a b e) (Request c d) h = let k : Greater ≡ Equal = h in cc
 bodies_same (Miss a b e) (Fill c d) h = let k : Less ≡ Equal = h in cc
 bodies_same (Fill a b) (Request c d) h = let k : Greater ≡ Equal = h in cc
 bodies_same (Fill a b) (Miss c d f) h = let k : Greater ≡ Equal = h in cc
-

@@ -11,7 +11,7 @@ use Rattle.rw_photo.specs.Counts.{minus, taken_off}
 use Rattle.rw_photo.specs.Cache.{Cache, with_waiting}
 use Rattle.rw_photo.specs.Events.{object_of}
 
--- the cache before what happened to object o, by its undo record
+-- the cache before an event of object o, which the undo record u makes of the cache s after it
 abbrev pub cache_before : Object → Undo → Cache → Cache
 cache_before o u s =
     record {
@@ -21,9 +21,8 @@ cache_before o u s =
       counters = taken_off s.counters u.change.counts;
     }
 
--- the undo record takes the cache after the event back to the one before; its trail leads the queue back, and is no longer
--- than what the event changed there
-pub record TakesBack (old : Cache) (e : Event Body) (u : Undo) (now : Cache) : Type 0 where
-  pub back : cache_before (object_of e.body) u now ≡ old
-  pub leads : Leads u.change.trail old.queue now.queue
-  pub short : IsShort u.change.trail old.queue now.queue
+-- the undo record takes the cache after the event back to the one before; its trail leads the queue back, and is short
+pub record TakesBack (before : Cache) (e : Event Body) (u : Undo) (after : Cache) : Type 0 where
+  pub back : cache_before (object_of e.body) u after ≡ before
+  pub leads : Leads u.change.trail before.queue after.queue
+  pub short : IsShort u.change.trail before.queue after.queue

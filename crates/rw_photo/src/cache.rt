@@ -34,7 +34,12 @@ impl Model for CacheState {
 
     ghost Value = { Cache };
 
-    ghost view = { λ s. record { queue = s.queue; awaited = s.awaited.entries; sends = s.sends; counters = s.counters } };
+    ghost view = { λ s. record {
+      queue = s.queue;
+      awaited = s.awaited.entries;
+      sends = s.sends;
+      counters = s.counters;
+    } };
 }
 
 impl CacheState {
@@ -94,7 +99,8 @@ impl CacheState {
 
     /// So many requests wait for the object, or it is not awaited.
     pub(crate) fn set_waiting(&mut self, object: u64, waiting: Option<u64>) -> Result<(), NoMemory>
-        ensures { OnOk result (self.new ≡ record self.old { awaited = with_waiting self.old.awaited object waiting }) }
+        ensures { OnOk result (self.new
+            ≡ record self.old { awaited = with_waiting self.old.awaited object waiting }) }
     {
         match waiting {
             Some(count) => {
@@ -119,8 +125,10 @@ impl CacheState {
         requires stores { policy ≢ Policy.Off }
         requires row { row_at self.old.queue object ≡ Some row }
         requires fresh { self.old.queue.next < 2 ^ 62 }
-        ensures queue { OnOk result (self.new ≡ record self.old { queue = (hit policy self.old.queue object).queue }) }
-        ensures counts { IfOk result (λ change. change.counts ≡ (hit policy self.old.queue object).counts) }
+        ensures queue { OnOk result (self.new
+            ≡ record self.old { queue = (hit policy self.old.queue object).queue }) }
+        ensures counts { IfOk result (λ change.
+            change.counts ≡ (hit policy self.old.queue object).counts) }
         ensures leads { IfOk result (λ change. Leads change.trail self.old.queue self.new.queue) }
         ensures short { IfOk result (λ change. IsShort change.trail self.old.queue self.new.queue) }
     {
@@ -148,8 +156,10 @@ impl CacheState {
         requires new { is_stored self.old object ≡ false }
         requires some { 1 ≤ size }
         requires fresh { self.old.queue.next < 2 ^ 62 }
-        ensures queue { OnOk result (self.new ≡ record self.old { queue = (stored policy self.old.queue object size).queue }) }
-        ensures counts { IfOk result (λ change. change.counts ≡ (stored policy self.old.queue object size).counts) }
+        ensures queue { OnOk result (self.new
+            ≡ record self.old { queue = (stored policy self.old.queue object size).queue }) }
+        ensures counts { IfOk result (λ change.
+            change.counts ≡ (stored policy self.old.queue object size).counts) }
         ensures leads { IfOk result (λ change. Leads change.trail self.old.queue self.new.queue) }
         ensures short { IfOk result (λ change. IsShort change.trail self.old.queue self.new.queue) }
     {
@@ -173,7 +183,8 @@ impl CacheState {
     /// Takes back what happened to the queue.
     pub(crate) fn rewind(&mut self, trail: Trail) -> Result<(), NoMemory>
         requires { IsRewindable trail self.old.queue }
-        ensures { OnOk result (self.new ≡ record self.old { queue = rewind_of trail self.old.queue }) }
+        ensures { OnOk result (self.new
+            ≡ record self.old { queue = rewind_of trail self.old.queue }) }
     {
         rw_ripq::rewind(&mut self.queue, trail)
     }
@@ -187,7 +198,8 @@ impl CacheState {
 
     /// Takes off what was counted.
     pub(crate) fn take_off(&mut self, counted: &Counters)
-        ensures { self.new ≡ record self.old { counters = taken_off self.old.counters counted.now } }
+        ensures { self.new
+            ≡ record self.old { counters = taken_off self.old.counters counted.now } }
     {
         self.counters.take_off(counted);
     }

@@ -91,7 +91,9 @@ impl Photo {
         requires fresh { state.old.queue.next < 2 ^ 62 }
         requires valid { is_valid self.now.config event.now ≡ true }
         requires here { event.now.to ≡ process }
-        ensures { IfOk result (λ deed. HasDone (happening self.now.config process state.old event.now.time event.now.body) state.old (object_of event.now.body) deed state.new) }
+        ensures { IfOk result (λ deed. HasDone
+            (happening self.now.config process state.old event.now.time event.now.body)
+            state.old (object_of event.now.body) deed state.new) }
     {
         let time = event.time;
         match event.body {
@@ -119,7 +121,8 @@ impl Photo {
         requires fresh { state.old.queue.next < 2 ^ 62 }
         requires early { time < 2 ^ 40 }
         requires process { process < self.now.config.edges }
-        ensures { IfOk result (λ deed. HasDone (requested self.now.config process state.old time object size) state.old object deed state.new) }
+        ensures { IfOk result (λ deed. HasDone
+            (requested self.now.config process state.old time object size) state.old object deed state.new) }
     {
         if let Some(row) = state.row(object) {
             return Ok(Deed {
@@ -164,7 +167,8 @@ impl Photo {
         requires early { time < 2 ^ 40 }
         requires process { process < self.now.config.edges + self.now.config.origins }
         requires some { 1 ≤ size }
-        ensures { IfOk result (λ deed. HasDone (asked self.now.config process state.old time object size edge) state.old object deed state.new) }
+        ensures { IfOk result (λ deed. HasDone
+            (asked self.now.config process state.old time object size edge) state.old object deed state.new) }
     {
         let Config {
             policy,
@@ -202,7 +206,8 @@ impl Photo {
         requires well_formed { IsWellFormed self.now.config process state.old }
         requires fresh { state.old.queue.next < 2 ^ 62 }
         requires some { 1 ≤ size }
-        ensures { IfOk result (λ deed. HasDone (filled self.now.config state.old object size) state.old object deed state.new) }
+        ensures { IfOk result (λ deed. HasDone
+            (filled self.now.config state.old object size) state.old object deed state.new) }
     {
         let answered = state.waiting(object).unwrap_or(0);
         let Change { trail, counts } = if state.is_stored(object) {
@@ -256,7 +261,8 @@ impl VtModel for Photo {
 
     ghost weight = { λ undo. length undo.change.trail };
 
-    ghost weight_bound = { λ _ _ before after. 8 + 4 * moved_rows before.queue after.queue + gone_blocks before.queue after.queue };
+    ghost weight_bound = { λ _ _ before after.
+        8 + 4 * moved_rows before.queue after.queue + gone_blocks before.queue after.queue };
 
     fn processes(&self) -> u32 {
         self.config.edges + self.config.origins

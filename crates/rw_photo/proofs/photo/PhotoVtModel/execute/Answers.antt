@@ -3,7 +3,7 @@ use Rattle.rw_photo.specs.declared.photo.Deed.{Deed}
 use Rattle.rw_photo.specs.Counts.{AreCounts}
 use Rattle.rw_photo.specs.Cache.{waiting}
 use Rattle.rw_photo.specs.Events.{happening}
-use Rattle.rw_photo.proofs.Reversing.{takes_back}
+use Rattle.rw_photo.proofs.Reversing.{AreSmall, small-counts, takes_back}
 use Rattle.rw_photo.proofs.photo.PhotoVtModel.execute.Goals as goal
 
 pub returns-clause-links : goal.returns-clause-links
@@ -11,7 +11,8 @@ returns-clause-links c =
     let s = c.args.state.now in
     let e = c.args.event.now in
     let d : Deed = c.in_ok-change.field-0 in
-    let counts : AreCounts d.change.counts = search rules in
+    let small : AreSmall d.change.counts = search rules in
+    let counts : AreCounts d.change.counts = small-counts d.change.counts small in
     takes_back (happening c.args.self.now.config c.args.process s e.time e.body) s c.happen.new.state c.count_send.new.self e d _
     c.requires.well_formed.ascending c.requires.well_formed.sends c.requires.well_formed.counters counts
     (search rules) (search rules)
