@@ -13,8 +13,8 @@ use Rattle.rw_photo.specs.declared.config.Config.{Config}
 use Rattle.rw_photo.specs.declared.counters.Counters.{Counters}
 use Rattle.rw_photo.specs.Counts.{AreCounts, no_counts}
 
--- a cache: its queue on flash; for each object on its way how many requests wait for it, by rising object; how many events
--- it has sent; what it has counted
+-- a cache: its queue on flash; for each object on its way how many requests wait for it, by rising object; how many
+-- events it has sent; what it has counted
 pub record Cache : Type 0 where
   pub queue : QueueState
   pub awaited : List (Object × Count)
@@ -54,8 +54,8 @@ with_waiting awaited o None = remove_entry (is_at (nat_cmp o)) awaited
 abbrev pub is_exhausted : Cache → Bool
 is_exhausted s = nat_le (2 ^ 62) s.sends || nat_le (2 ^ 62) s.queue.next
 
--- the queue is well formed, in the shape of its kind, and empty where nothing is stored; awaited objects ascend, and all
--- counts fit their types: nothing else is asked
+-- the queue is well formed, in the shape of its kind, and empty where nothing is stored; awaited objects ascend, and
+-- all counts fit their types: nothing else is asked
 pub record IsWellFormed (c : Config) (p : Process) (s : Cache) : Type 0 where
   pub queue : IsWellFormedQueue s.queue
   pub shape : s.queue.shape ≡ shape_at c p

@@ -44,8 +44,8 @@ object_of (Request o z) = o
 object_of (Miss o z g) = o
 object_of (Fill o z) = o
 
--- what an event does at a cache: the queue after it, how many requests then wait for its object, what it counts, and what it
--- sends
+-- what an event does at a cache: the queue after it, how many requests then wait for its object, what it counts, and
+-- what it sends
 pub record Happening : Type 0 where
   pub queue : QueueState
   pub waiting : Option Count
@@ -102,8 +102,8 @@ asked c p s t o z g =
 abbrev pub filled : Config → Cache → Object → Size → Happening
 filled c s o z =
     let late = unwrap_or (waiting s o) 0 in
-    let made : Stored =
-    if is_stored s o then unchanged s.queue no_counts else stored c.policy s.queue o z in
+    let there = is_stored s o in
+    let made = if there then unchanged s.queue no_counts else stored c.policy s.queue o z in
     record { queue = made.queue; waiting = None; counts = with_late late made.counts; sent = [] }
 
 -- what happens at process p at time t

@@ -1,6 +1,6 @@
--- The laws that the trait `Model` asks of the caches: valid events are in their ranges, a step keeps a cache well formed,
--- sends are valid and later, and bodies that compare as equal are the same. They stand in specs/ with their proofs since the
--- implementation hands them to the trait as ghost members, which see no proofs/.
+-- The laws that the trait `Model` asks of the caches: valid events are in their ranges, a step keeps a cache well
+-- formed, sends are valid and later, and bodies that compare as equal are the same. They stand in specs/ with their
+-- proofs since the implementation hands them to the trait as ghost members, which see no proofs/.
 use Rattle.std.specs.Prelude.{◌≡◌, ℕ, ◌+◌, ◌^◌, true, ◌&&◌, nat_lt, All, refl}
 use Rattle.std.specs.declared.cmp.Ordering.TheVariants.{Less, Equal, Greater}
 use Rattle.std.specs.declared.cmp.Ordering.{Ordering}
@@ -18,13 +18,21 @@ use Rattle.rw_photo.specs.Cache.{Cache, IsWellFormed}
 use Rattle.rw_photo.specs.Events.{Happening, happening, is_valid, may_happen, object_of, step}
 use Rattle.rw_photo.specs.Lawful.{Follows, IsFine, added-counts, ascending-with, both, both_equal, early, event-fine, few-with, same_number}
 
-pub valid_ranges : (c : Config) (e : Event Body) → is_valid c e ≡ true → IsInRange (c.edges + c.origins) e
+pub valid_ranges : (c : Config) (e : Event Body) → is_valid c e ≡ true
+    → IsInRange (c.edges + c.origins) e
 valid_ranges c e v =
-    let parts = both (nat_lt e.source (2 ^ 32) && nat_lt e.number (2 ^ 64)) (may_happen c e.time e.to e.body) v in
+    let numbers = nat_lt e.source (2 ^ 32) && nat_lt e.number (2 ^ 64) in
+    let parts = both numbers (may_happen c e.time e.to e.body) v in
     let r = early c e.time e.to e.body parts.1 in
-    record { time = r.0; source = grind (arith, nat_tests); number = grind (arith, nat_tests); to = r.1 }
+    record {
+      time = r.0;
+      source = grind (arith, nat_tests);
+      number = grind (arith, nat_tests);
+      to = r.1;
+    }
 
-pub step_keeps : (c : Config) (p : ℕ) (s : Cache) (e : Event Body) → IsWellFormed c p s → is_valid c e ≡ true → e.to ≡ p → IsWellFormed c p (step c p s e).0
+pub step_keeps : (c : Config) (p : ℕ) (s : Cache) (e : Event Body) → IsWellFormed c p s
+    → is_valid c e ≡ true → e.to ≡ p → IsWellFormed c p (step c p s e).0
 step_keeps c p s e w v at =
     let h : Happening = happening c p s e.time e.body in
     let fine : IsFine c p e.time h = event-fine c p s e w v at in
@@ -38,7 +46,9 @@ step_keeps c p s e w v at =
       counters = added-counts s.counters h.counts;
     }
 
-pub step_future : (c : Config) (p : ℕ) (s : Cache) (e : Event Body) → IsWellFormed c p s → is_valid c e ≡ true → e.to ≡ p → All (λ f. IsSentBy p e f × (is_valid c f ≡ true)) (step c p s e).1
+pub step_future : (c : Config) (p : ℕ) (s : Cache) (e : Event Body) → IsWellFormed c p s
+    → is_valid c e ≡ true → e.to ≡ p
+    → All (λ f. IsSentBy p e f × (is_valid c f ≡ true)) (step c p s e).1
 step_future c p s e w v at =
     All-weaker (Follows c p e.time) (λ f. IsSentBy p e f × (is_valid c f ≡ true))
     (λ f h. (record { source = h.0; later = h.1 }, h.2))

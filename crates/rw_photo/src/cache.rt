@@ -17,8 +17,8 @@ use std::alloc::Global;
 use std::collections::BTreeMap;
 use std::marker::Model;
 
-/// What one cache keeps: its queue on flash, which objects are on their way to it and how many requests wait for each, how
-/// many events it has sent, and what it has counted.
+/// What one cache keeps: its queue on flash, which objects are on their way to it and how many requests wait for
+/// each, how many events it has sent, and what it has counted.
 ///
 /// Contracts see it as `Cache` of `specs/Cache.antt`.
 #[derive(Drop)]
@@ -97,7 +97,7 @@ impl CacheState {
         self.awaited.get(&object).copied()
     }
 
-    /// So many requests wait for the object, or it is not awaited.
+    /// Sets how many requests wait for an object; `None`: it is not awaited.
     pub(crate) fn set_waiting(&mut self, object: u64, waiting: Option<u64>) -> Result<(), NoMemory>
         ensures { OnOk result (self.new
             ≡ record self.old { awaited = with_waiting self.old.awaited object waiting }) }
@@ -113,7 +113,7 @@ impl CacheState {
         Ok(())
     }
 
-    /// A hit of an object that is stored, in this row: it is promoted. Hands back what takes that back, and what it counts.
+    /// A hit of an object that is stored, and whose row is `row`: it is promoted. Hands back what that did and counts.
     pub(crate) fn hit(
         &mut self,
         alloc: Global,
@@ -142,8 +142,8 @@ impl CacheState {
         Ok(Change { trail, counts })
     }
 
-    /// Stores an object that is not stored, if it fits a block and anything is stored at all. Hands back what takes that
-    /// back, and what it counts.
+    /// Stores an object of `size` bytes that is not stored, where it fits a block and the policy is not `Off`. Hands
+    /// back what that did and counts.
     #[tactic(auto, using(crate::proofs::Stores::store_laws))]
     pub(crate) fn store(
         &mut self,
@@ -180,7 +180,7 @@ impl CacheState {
         Ok(Change { trail, counts })
     }
 
-    /// Takes back what happened to the queue.
+    /// Takes back what happened to the queue, by its trail.
     pub(crate) fn rewind(&mut self, trail: Trail) -> Result<(), NoMemory>
         requires { IsRewindable trail self.old.queue }
         ensures { OnOk result (self.new
@@ -189,14 +189,14 @@ impl CacheState {
         rw_ripq::rewind(&mut self.queue, trail)
     }
 
-    /// Counts.
+    /// Adds what an event counted.
     pub(crate) fn count(&mut self, counted: &Counters)
         ensures { self.new ≡ record self.old { counters = added self.old.counters counted.now } }
     {
         self.counters.add(counted);
     }
 
-    /// Takes off what was counted.
+    /// Takes off what an event counted: undoes [`CacheState::count`].
     pub(crate) fn take_off(&mut self, counted: &Counters)
         ensures { self.new
             ≡ record self.old { counters = taken_off self.old.counters counted.now } }
@@ -204,7 +204,7 @@ impl CacheState {
         self.counters.take_off(counted);
     }
 
-    /// Numbers an event that process `process` is to send.
+    /// The event that process `process` is to send, with the number of events that it has sent before.
     pub(crate) fn sending(&self, process: u32, time: u64, to: u32, body: Body) -> Event<Body>
         requires { process + 1 < 2 ^ 32 }
         ensures { result ≡ sending process self.now time to body }
@@ -218,14 +218,14 @@ impl CacheState {
         }
     }
 
-    /// One event more was sent, if any was.
+    /// Counts one event more as sent, where `sent`.
     pub(crate) fn count_send(&mut self, sent: bool)
         ensures { self.new ≡ record self.old { sends = plus self.old.sends (one_if sent) } }
     {
         self.sends = self.sends.wrapping_add(u64::from(sent));
     }
 
-    /// The event that was sent, if any was, was not.
+    /// Undoes [`CacheState::count_send`].
     pub(crate) fn take_send_back(&mut self, sent: bool)
         ensures { self.new ≡ record self.old { sends = minus self.old.sends (one_if sent) } }
     {

@@ -34,7 +34,7 @@ pub struct Counters {
     pub merges: u64,
 }
 
-/// Counters of which each count is made of the two that stand there, by a method of `u64`.
+/// The counters of which each count is made, by a method of `u64`, of that count on the left and on the right.
 macro_rules! each_count {
     ($left:expr, $method:ident, $right:expr) => {
         Counters {

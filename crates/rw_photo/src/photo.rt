@@ -19,7 +19,7 @@ pub struct Photo {
     pub config: Config,
 }
 
-/// What an event did to a cache, beside who waits for its object then.
+/// What an event did to a cache, beside changing how many requests wait for its object.
 struct Deed {
     /// What it did to the queue, and what it counts.
     change: Change<Counters>,
@@ -44,8 +44,12 @@ impl Photo {
         Photo { config }
     }
 
-    /// The state in which process `process` starts: an empty queue in the shape of its kind, nothing awaited, nothing sent,
-    /// nothing counted.
+    /// The state in which process `process` starts: an empty queue in the shape of its kind, nothing awaited, nothing
+    /// sent, nothing counted.
+    ///
+    /// # Errors
+    ///
+    /// `NoMemory` only where memory was refused.
     pub fn start(&self, alloc: Global, process: u32) -> Result<CacheState, NoMemory>
         requires { process < self.now.config.edges + self.now.config.origins }
         ensures state { IfOk result (λ s. s ≡ start self.now.config process) }
@@ -59,18 +63,21 @@ impl Photo {
         CacheState::new(alloc, shape)
     }
 
+    /// Whether a process is an edge.
     fn is_edge(&self, process: u32) -> bool
         ensures { result ≡ is_edge self.now.config process }
     {
         process < self.config.edges
     }
 
+    /// Whether a process is an origin.
     fn is_origin(&self, process: u32) -> bool
         ensures { result ≡ is_origin self.now.config process }
     {
         self.config.edges <= process && process < self.config.edges + self.config.origins
     }
 
+    /// The origin that is asked for an object.
     fn origin_of(&self, object: u64) -> u32
         ensures { result ≡ origin_of self.now.config object }
     {
@@ -78,8 +85,9 @@ impl Photo {
     }
 }
 
-/// What each event does to the cache that it goes to, beside counting; the event is valid there.
+/// What each event does to the cache that it goes to, but for what is counted and sent. The event is valid there.
 impl Photo {
+    /// Does what the event does, by its kind.
     fn happen(
         &self,
         alloc: Global,
@@ -122,7 +130,8 @@ impl Photo {
         requires early { time < 2 ^ 40 }
         requires process { process < self.now.config.edges }
         ensures { IfOk result (λ deed. HasDone
-            (requested self.now.config process state.old time object size) state.old object deed state.new) }
+            (requested self.now.config process state.old time object size)
+            state.old object deed state.new) }
     {
         if let Some(row) = state.row(object) {
             return Ok(Deed {
@@ -150,8 +159,8 @@ impl Photo {
         })
     }
 
-    /// A miss at an origin. A hit promotes its object; what the origin lacks is fetched from the backend and stored. The
-    /// edge is sent a fill.
+    /// A miss at an origin. A hit promotes its object; what the origin lacks is fetched from the backend and stored.
+    /// The edge is sent a fill.
     fn miss(
         &self,
         alloc: Global,
@@ -168,7 +177,8 @@ impl Photo {
         requires process { process < self.now.config.edges + self.now.config.origins }
         requires some { 1 ≤ size }
         ensures { IfOk result (λ deed. HasDone
-            (asked self.now.config process state.old time object size edge) state.old object deed state.new) }
+            (asked self.now.config process state.old time object size edge)
+            state.old object deed state.new) }
     {
         let Config {
             policy,
@@ -207,7 +217,8 @@ impl Photo {
         requires fresh { state.old.queue.next < 2 ^ 62 }
         requires some { 1 ≤ size }
         ensures { IfOk result (λ deed. HasDone
-            (filled self.now.config state.old object size) state.old object deed state.new) }
+            (filled self.now.config state.old object size)
+            state.old object deed state.new) }
     {
         let answered = state.waiting(object).unwrap_or(0);
         let Change { trail, counts } = if state.is_stored(object) {

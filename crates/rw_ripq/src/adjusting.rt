@@ -11,7 +11,8 @@ use crate::{Change, Tally};
 use rw_blocks::{Kind, Queue};
 use rw_vt::NoMemory;
 
-/// Whether the section and the next one towards the tail hold few bytes.
+/// Whether the section and the next one towards the tail together hold less than one share of all bytes, of which there
+/// are as many as there may be sections.
 fn is_light(queue: &Queue, section: usize) -> bool
     requires loose { IsLoose queue.now }
     requires there { section + 1 < length queue.now.sections }
@@ -21,7 +22,7 @@ fn is_light(queue: &Queue, section: usize) -> bool
     (queue.bytes(section) + queue.bytes(section + 1)) * sections < queue.total()
 }
 
-/// The first such pair from the head.
+/// The first such pair, counted from the head, by its upper section.
 fn light_pair(queue: &Queue) -> Option<usize>
     requires { IsLoose queue.now }
     ensures { result ≡ light_pair queue.now }
@@ -29,7 +30,7 @@ fn light_pair(queue: &Queue) -> Option<usize>
     (0..queue.sections() - 1).find(|section| is_light(queue, *section))
 }
 
-/// Whether the section holds many bytes, and at least two sealed blocks.
+/// Whether the section holds more than two shares of all bytes, and at least two sealed blocks.
 fn is_heavy(queue: &Queue, section: usize) -> bool
     requires loose { IsLoose queue.now }
     requires there { section < length queue.now.sections }
@@ -39,7 +40,7 @@ fn is_heavy(queue: &Queue, section: usize) -> bool
     2 * queue.total() < queue.bytes(section) * sections && queue.sealed(section) >= 2
 }
 
-/// The first such section from the head.
+/// The first such section, counted from the head.
 fn heavy_section(queue: &Queue) -> Option<usize>
     requires { IsLoose queue.now }
     ensures { result ≡ heavy_section queue.now }
@@ -47,7 +48,7 @@ fn heavy_section(queue: &Queue) -> Option<usize>
     (0..queue.sections()).find(|section| is_heavy(queue, *section))
 }
 
-/// Merges the first two neighbours with few bytes, if any, and evicts.
+/// Merges the first pair of neighbours with few bytes, if there is one, and evicts.
 fn merge_once(queue: &mut Queue, change: &mut Change<Tally>) -> Result<(), NoMemory>
     requires loose { IsLoose queue.old }
     requires headroom { HasHeadroom (work_of queue.old change.old.counts) }
@@ -69,7 +70,7 @@ fn merge_once(queue: &mut Queue, change: &mut Change<Tally>) -> Result<(), NoMem
     Ok(())
 }
 
-/// Splits the first section with many bytes, if any and if there are fewer sections than the shape allows.
+/// Splits the first section with many bytes, if there is one and the shape allows one section more.
 fn split_once(queue: &mut Queue, change: &mut Change<Tally>) -> Result<(), NoMemory>
     requires loose { IsLoose queue.old }
     requires fresh { queue.old.next + 1 < 2 ^ 63 }
@@ -92,7 +93,8 @@ fn split_once(queue: &mut Queue, change: &mut Change<Tally>) -> Result<(), NoMem
     Ok(())
 }
 
-/// What follows a put that sealed a device block.
+/// Adjusts the queue after a put that sealed a device block: evicts, merges at most one pair of sections, evicts
+/// again, and splits at most one section.
 pub fn adjust(queue: &mut Queue, change: &mut Change<Tally>) -> Result<(), NoMemory>
     requires loose { IsLoose queue.old }
     requires headroom { HasHeadroom (work_of queue.old change.old.counts) }

@@ -4,18 +4,18 @@ ghost use Rattle.std.specs.Prelude.{◌≡◌, []};
 use crate::Trail;
 use std::alloc::Global;
 
-/// What an operation did to a queue: the marks that take it back, and what it counted. One shape holds it from the
-/// queue's operations up to the record by which a simulator undoes an event.
+/// What an operation did to a queue: the marks that take it back, and its counts. An insertion has a [`crate::Tally`]
+/// of counts; a model that keeps a queue has counts of its own, and keeps the change in its undo record.
 #[derive(Drop)]
 pub struct Change<C> {
-    /// The marks of its primitives, by which the queue is led back.
+    /// The marks of its primitives, which take it back.
     pub trail: Trail,
-    /// What it counted.
+    /// Its counts.
     pub counts: C,
 }
 
 impl<C> Change<C> {
-    /// A change that left the queue alone, with these counts. Takes no memory.
+    /// The change of an operation that left the queue alone and counted `counts`. Takes no memory.
     pub fn new(alloc: Global, counts: C) -> Change<C>
         ensures trail { result.trail ≡ [] }
         ensures counts { result.counts ≡ counts }

@@ -15,7 +15,7 @@ use crate::{Change, Tally};
 use rw_blocks::{Kind, Queue};
 use rw_vt::NoMemory;
 
-/// Lets the objects go whose place is the block.
+/// Removes the objects whose place is the block, and counts them as evicted.
 fn leave(queue: &mut Queue, change: &mut Change<Tally>, block: u64) -> Result<(), NoMemory>
     requires loose { IsLoose queue.old }
     requires headroom { HasHeadroom (work_of queue.old change.old.counts) }
@@ -31,7 +31,7 @@ fn leave(queue: &mut Queue, change: &mut Change<Tally>, block: u64) -> Result<()
     Ok(())
 }
 
-/// Writes an object again, into the section that holds its place; its old place is taken out where that empties it.
+/// Writes an object again, into the section that holds its place; its place before is taken out where that empties it.
 fn reinsert(queue: &mut Queue, change: &mut Change<Tally>, object: u64) -> Result<(), NoMemory>
     requires loose { IsLoose queue.old }
     requires resident { IsSome (row_at queue.old object) }
@@ -53,7 +53,7 @@ fn reinsert(queue: &mut Queue, change: &mut Change<Tally>, object: u64) -> Resul
     Ok(())
 }
 
-/// Writes the objects again whose home is the victim.
+/// Writes the objects again whose home is the block.
 fn reinsert_all(queue: &mut Queue, change: &mut Change<Tally>, block: u64) -> Result<(), NoMemory>
     requires victim { IsVictim block queue.old }
     requires headroom { HasHeadroom (work_of queue.old change.old.counts) }

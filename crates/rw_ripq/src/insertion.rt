@@ -19,17 +19,20 @@ use rw_blocks::{Kind, Queue};
 use rw_vt::{NoMemory, Refusal};
 use std::alloc::Global;
 
-/// Stores an object of `size` bytes, a miss: it is put into the target section of the level, whose active device block
-/// is sealed first where the size does not fit. Where that sealed a block the queue is adjusted: from the tail blocks
-/// are evicted while more device blocks are sealed than the shape allows, and at most one pair of sections is merged and
-/// at most one section split.
+/// Stores an object of `size` bytes, a miss: it is put into the target section of the level, whose active device
+/// block is sealed first where the size does not fit. Where that sealed a block the queue is adjusted: from the tail
+/// blocks are evicted while more device blocks are sealed than the shape allows, and at most one pair of sections is
+/// merged and at most one section split.
 ///
-/// Hands back the trail that takes it back, and the counts. With r the rows of the old queue that left or have another
-/// home, and m the sealed blocks of the old queue that are gone, the trail has at most 8 + 4r + m marks.
+/// Hands back the trail that takes it back, and the counts. Where r rows left or have another home now, and m sealed
+/// blocks are gone, the trail has at most 8 + 4r + m marks.
 ///
 /// The policy is not `Off`, the object is not stored, the size is 1 to the block size, and the level 1 to 3.
-/// `Exhausted` exactly where the next serial is 2^62 or more, which is tested first. After a refusal nothing is said of
-/// the queue: it is only dropped.
+///
+/// # Errors
+///
+/// `Exhausted` exactly where the next serial is 2^62 or more, which is tested first, and `Memory` only where memory was
+/// refused. Nothing is said of the queue then: it is only dropped.
 pub fn insert(
     alloc: Global,
     queue: &mut Queue,

@@ -9,7 +9,7 @@ use crate::{Tally, Trail};
 use rw_blocks::{Kind, Queue};
 use rw_vt::NoMemory;
 
-/// Counts a block write, where there was one.
+/// Counts one block write more, where `written`.
 pub fn count_write(tally: &mut Tally, written: bool)
     requires { tally.old.writes < 2 ^ 63 }
     ensures { tally.new ≡ record tally.old { writes = tally.old.writes + one_if written } }
@@ -19,7 +19,7 @@ pub fn count_write(tally: &mut Tally, written: bool)
     }
 }
 
-/// Seals the section's active block of the kind where the size does not fit, and says whether it did.
+/// Seals the section's active block of the kind where `size` bytes do not fit it. Answers whether it was sealed.
 pub fn make_room(
     queue: &mut Queue,
     trail: &mut Trail,

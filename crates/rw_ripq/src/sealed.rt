@@ -27,11 +27,11 @@ fn is_last(queue: &Queue, section: usize, block: u64) -> bool
     serial == block
 }
 
-/// How far around a guessed position a block is looked for.
+/// How many positions before and behind a guess a block is looked for.
 const REACH: usize = 16;
 
-/// About where the block stands in the section's sealed list, if it does: what was sealed later stands nearer the front,
-/// and mostly has a greater serial.
+/// About where the block stands in the section's sealed list, if it does: what was sealed later stands nearer the
+/// front, and mostly has a greater serial.
 fn guess(queue: &Queue, section: usize, block: u64) -> usize
     requires { section < length queue.now.sections }
     ensures { result ≤ length (section_at queue.now section).sealed }
@@ -50,7 +50,7 @@ fn guess(queue: &Queue, section: usize, block: u64) -> usize
     from
 }
 
-/// Where the block stands, if it is one of the few around this position in the section's sealed list.
+/// Where the block stands in the section's sealed list, if that is near the position `near`.
 fn position_near(queue: &Queue, section: usize, block: u64, near: usize) -> Option<usize>
     requires { section < length queue.now.sections }
     ensures within { IfSome result (λ p. p < length (section_at queue.now section).sealed) }
@@ -107,7 +107,7 @@ fn find_sealed(queue: &Queue, block: u64) -> Option<(usize, usize)>
     Some((section, position))
 }
 
-/// Takes a sealed block out of its list.
+/// Takes a sealed block out of its list. It is no row's home or place.
 pub fn take_out(queue: &mut Queue, trail: &mut Trail, block: u64) -> Result<(), NoMemory>
     requires loose { IsLoose queue.old }
     requires sealed { is_sealed queue.old block ≡ true }
@@ -124,6 +124,7 @@ pub fn take_out(queue: &mut Queue, trail: &mut Trail, block: u64) -> Result<(), 
     Ok(())
 }
 
+/// Whether the kind is virtual.
 fn is_virtual(kind: Kind) -> bool
     ensures { result ≡ is_virtual kind }
 {
