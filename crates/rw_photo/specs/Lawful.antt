@@ -20,8 +20,7 @@ use Rattle.rw_blocks.specs.declared.Place.{Place}
 use Rattle.rw_ripq.specs.declared.Policy.{Policy}
 use Rattle.rw_ripq.specs.declared.Policy.TheVariants.{Off, Lru, Slru3}
 use Rattle.rw_ripq.specs.Insert.{insert}
-use Rattle.rw_ripq.specs.Promote.{promote}
-use Rattle.rw_ripq.proofs.Laws.{InsertLaws, PromoteLaws, insert-laws, promote-laws}
+use Rattle.rw_ripq.proofs.Laws.{insert-laws, promote-laws}
 use Rattle.rw_photo.specs.declared.body.Body.{Body}
 use Rattle.rw_photo.specs.declared.body.Body.TheVariants.{Request, Miss, Fill}
 use Rattle.rw_photo.specs.declared.config.Config.{Config}

@@ -1,9 +1,8 @@
 -- The laws that the trait `Model` asks of the caches: valid events are in their ranges, a step keeps a cache well
 -- formed, sends are valid and later, and bodies that compare as equal are the same. They stand in specs/ with their
 -- proofs since the implementation hands them to the trait as ghost members, which see no proofs/.
-use Rattle.std.specs.Prelude.{◌≡◌, ℕ, ◌+◌, ◌^◌, true, ◌&&◌, nat_lt, All, refl}
+use Rattle.std.specs.Prelude.{◌≡◌, ℕ, ◌+◌, ◌^◌, true, ◌&&◌, nat_lt, All}
 use Rattle.std.specs.declared.cmp.Ordering.TheVariants.{Less, Equal, Greater}
-use Rattle.std.specs.declared.cmp.Ordering.{Ordering}
 use Rattle.std.specs.Ordering.{nat_cmp, ordering_then}
 use Rattle.std.proofs.Common.{arith}
 use Rattle.std.proofs.lemmas.Bool.Decides.{nat_tests}
