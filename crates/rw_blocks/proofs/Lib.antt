@@ -18,3 +18,4 @@ pub mod Starts
 pub mod Tails
 pub mod Firsts
 pub mod ByObject
+pub mod Cited

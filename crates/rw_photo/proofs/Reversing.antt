@@ -1,6 +1,6 @@
 -- An event and then its undoing give back the cache.
-use Rattle.std.proofs.Common.{◌≡◌, ℕ, ◌^◌, ◌<◌, Bool, true, false, List, Option, Some, None, refl, sym, ◌∙◌, ap, subst, arith, length}
-use Rattle.std.specs.Prelude.{is_some, unwrap_or}
+use Rattle.std.proofs.Common.{◌≡◌, ℕ, ◌^◌, ◌%◌, ◌<◌, Bool, true, false, List, Option, Some, None, refl, sym, ◌∙◌, ap, subst, arith, length}
+use Rattle.std.specs.Prelude.{is_some}
 use Rattle.std.specs.List.Sorted.{IsStrictlySortedBy}
 use Rattle.std.specs.Map.{keys_of, lookup, remove_entry}
 use Rattle.std.specs.BTreeMap.{is_at}
@@ -14,32 +14,26 @@ use Rattle.rw_photo.specs.declared.counters.Counters.{Counters}
 use Rattle.rw_photo.specs.declared.photo.Deed.{Deed}
 use Rattle.rw_photo.specs.declared.undo.Undo.{Undo}
 use Rattle.rw_ripq.specs.Work.{one_if}
-use Rattle.rw_photo.specs.Counts.{AreCounts, added, minus, plus, taken_off}
+use Rattle.rw_photo.specs.Counts.{AreCounts, added, counters_by, minus, plus, taken_off}
 use Rattle.rw_photo.specs.Cache.{Cache, waiting, with_waiting}
 use Rattle.rw_photo.specs.Events.{Happening, cache_after, object_of}
 use Rattle.rw_photo.specs.Deeds.{HasDone, list_of}
-use Rattle.rw_photo.specs.Undoing.{TakesBack, cache_before, some_if, waiting_before}
+use Rattle.rw_photo.specs.Undoing.{TakesBack, cache_before}
 
 minus-plus : (n k : ℕ) → n < 2 ^ 64 → k < 2 ^ 64 → minus (plus n k) k ≡ n
 minus-plus n k a b = omega arith
 
+-- counts that were read modulo 2 ^ 64 are given back
+minus-wrapped : (n k : ℕ) → minus (plus (n % 2 ^ 64) (k % 2 ^ 64)) (k % 2 ^ 64) ≡ n % 2 ^ 64
+minus-wrapped n k = omega arith
+
+taken_off-wrapped : (k d : Counters) → taken_off (added (counters_by (λ which. which k % 2 ^ 64)) (counters_by (λ which. which d % 2 ^ 64))) (counters_by (λ which. which d % 2 ^ 64)) ≡ counters_by (λ which. which k % 2 ^ 64)
+taken_off-wrapped k d i = counters_by (λ which. minus-wrapped (which k) (which d) i)
+
 taken_off-added : (k d : Counters) → AreCounts k → AreCounts d → taken_off (added k d) d ≡ k
-taken_off-added k d a b i =
-    record {
-      requests = minus-plus k.requests d.requests a.requests b.requests i;
-      hits = minus-plus k.hits d.hits a.hits b.hits i;
-      misses = minus-plus k.misses d.misses a.misses b.misses i;
-      coalesced = minus-plus k.coalesced d.coalesced a.coalesced b.coalesced i;
-      late = minus-plus k.late d.late a.late b.late i;
-      bypassed = minus-plus k.bypassed d.bypassed a.bypassed b.bypassed i;
-      inserted = minus-plus k.inserted d.inserted a.inserted b.inserted i;
-      evicted = minus-plus k.evicted d.evicted a.evicted b.evicted i;
-      reinserted = minus-plus k.reinserted d.reinserted a.reinserted b.reinserted i;
-      promoted = minus-plus k.promoted d.promoted a.promoted b.promoted i;
-      writes = minus-plus k.writes d.writes a.writes b.writes i;
-      splits = minus-plus k.splits d.splits a.splits b.splits i;
-      merges = minus-plus k.merges d.merges a.merges b.merges i;
-    }
+taken_off-added k d a b =
+    subst (λ x. taken_off (added x d) d ≡ x) a
+    (subst (λ x. taken_off (added (counters_by (λ which. which k % 2 ^ 64)) x) x ≡ counters_by (λ which. which k % 2 ^ 64)) b (taken_off-wrapped k d))
 
 -- whatever the object's requests became, they wait again as they did
 waiting-back : (m : List (ℕ × ℕ)) (o : ℕ) (old now : Option ℕ) → IsStrictlySortedBy nat_cmp (keys_of m) → lookup (is_at (nat_cmp o)) m ≡ old
@@ -48,10 +42,6 @@ waiting-back m o (Some n) (Some k) up is = insert_entry-insert_entry m o k n ∙
 waiting-back m o (Some n) None up is = insert_entry-remove_entry m o n up is
 waiting-back m o None (Some k) up is = remove_entry-insert_entry m o k is
 waiting-back m o None None up is = ap (remove_entry (is_at (nat_cmp o))) (remove_entry-none m o is) ∙ remove_entry-none m o is
-
-pub some_if-of : (w : Option ℕ) → some_if (is_some w) (unwrap_or w 0) ≡ w
-some_if-of (Some n) = refl
-some_if-of None = refl
 
 one-sent : {A : Type 0} (o : Option A) → length (list_of o) ≡ one_if (is_some o)
 one-sent (Some x) = refl
@@ -63,7 +53,7 @@ waiting-same m o None up is = remove_entry-none m o is
 
 -- a deed that leaves alone who waits
 pub queue_deed : (h : Happening) (s now : Cache) (o : ℕ) (d : Deed) → IsStrictlySortedBy nat_cmp (keys_of s.awaited) → h.waiting ≡ waiting s o
-    → now ≡ record s { queue = h.queue } → d.counted ≡ h.counts → list_of d.send ≡ h.sent → Leads d.trail s.queue now.queue → IsShort d.trail s.queue now.queue
+    → now ≡ record s { queue = h.queue } → d.change.counts ≡ h.counts → list_of d.send ≡ h.sent → Leads d.change.trail s.queue now.queue → IsShort d.change.trail s.queue now.queue
     → HasDone h s o d now
 queue_deed h s now o d up wait is counted sent leads short =
     record {
@@ -74,20 +64,57 @@ queue_deed h s now o d up wait is counted sent leads short =
       short = short;
     }
 
+-- numbers that fit their type are counts
+pub record AreSmall (k : Counters) : Type 0 where
+  pub requests : k.requests < 2 ^ 64
+  pub hits : k.hits < 2 ^ 64
+  pub misses : k.misses < 2 ^ 64
+  pub coalesced : k.coalesced < 2 ^ 64
+  pub late : k.late < 2 ^ 64
+  pub bypassed : k.bypassed < 2 ^ 64
+  pub inserted : k.inserted < 2 ^ 64
+  pub evicted : k.evicted < 2 ^ 64
+  pub reinserted : k.reinserted < 2 ^ 64
+  pub promoted : k.promoted < 2 ^ 64
+  pub writes : k.writes < 2 ^ 64
+  pub splits : k.splits < 2 ^ 64
+  pub merges : k.merges < 2 ^ 64
+
+wrapped-small : (n : ℕ) → n < 2 ^ 64 → n % 2 ^ 64 ≡ n
+wrapped-small n small = omega arith
+
+pub small-counts : (k : Counters) → AreSmall k → AreCounts k
+small-counts k small i =
+    record {
+      requests = wrapped-small k.requests small.requests i;
+      hits = wrapped-small k.hits small.hits i;
+      misses = wrapped-small k.misses small.misses i;
+      coalesced = wrapped-small k.coalesced small.coalesced i;
+      late = wrapped-small k.late small.late i;
+      bypassed = wrapped-small k.bypassed small.bypassed i;
+      inserted = wrapped-small k.inserted small.inserted i;
+      evicted = wrapped-small k.evicted small.evicted i;
+      reinserted = wrapped-small k.reinserted small.reinserted i;
+      promoted = wrapped-small k.promoted small.promoted i;
+      writes = wrapped-small k.writes small.writes i;
+      splits = wrapped-small k.splits small.splits i;
+      merges = wrapped-small k.merges small.merges i;
+    }
+
 made : (s t : Cache) → s.queue ≡ t.queue → s.awaited ≡ t.awaited → s.sends ≡ t.sends → s.counters ≡ t.counters → s ≡ t
 made s t q a b c i = record { queue = q i; awaited = a i; sends = b i; counters = c i }
 
 -- a deed, once it is counted, is taken back by its record
 pub takes_back : (h : Happening) (s mid now : Cache) (e : Event Body) (d : Deed) (u : Undo)
-    → IsStrictlySortedBy nat_cmp (keys_of s.awaited) → s.sends < 2 ^ 64 → AreCounts s.counters → AreCounts d.counted
+    → IsStrictlySortedBy nat_cmp (keys_of s.awaited) → s.sends < 2 ^ 64 → AreCounts s.counters → AreCounts d.change.counts
     → HasDone h s (object_of e.body) d mid → now ≡ cache_after s (object_of e.body) h
-    → u.trail ≡ d.trail → u.counted ≡ d.counted → u.sent ≡ is_some d.send → waiting_before u ≡ waiting s (object_of e.body)
+    → u.change.trail ≡ d.change.trail → u.change.counts ≡ d.change.counts → u.sent ≡ is_some d.send → u.waiting ≡ waiting s (object_of e.body)
     → TakesBack s e u now
 takes_back h s mid now e d u up sends counters counts done is trail counted sent wait =
     record {
       back = made (cache_before o u now) s queue awaited sent_back counters_back;
-      leads = subst (λ ms. Leads ms s.queue now.queue) (sym trail) (subst (Leads d.trail s.queue) queue_is done.leads);
-      short = subst (λ ms. IsShort ms s.queue now.queue) (sym trail) (subst (IsShort d.trail s.queue) queue_is done.short);
+      leads = subst (λ ms. Leads ms s.queue now.queue) (sym trail) (subst (Leads d.change.trail s.queue) queue_is done.leads);
+      short = subst (λ ms. IsShort ms s.queue now.queue) (sym trail) (subst (IsShort d.change.trail s.queue) queue_is done.short);
     }
   where
     o : ℕ
@@ -96,12 +123,12 @@ takes_back h s mid now e d u up sends counters counts done is trail counted sent
     queue_is : mid.queue ≡ now.queue
     queue_is = ap (λ (w : Cache). w.queue) done.changed ∙ sym (ap (λ (w : Cache). w.queue) is)
 
-    queue : rewind_of u.trail now.queue ≡ s.queue
-    queue = ap (λ ms. rewind_of ms now.queue) trail ∙ (ap (rewind_of d.trail) (sym queue_is) ∙ done.leads.back)
+    queue : rewind_of u.change.trail now.queue ≡ s.queue
+    queue = ap (λ ms. rewind_of ms now.queue) trail ∙ (ap (rewind_of d.change.trail) (sym queue_is) ∙ done.leads.back)
 
-    awaited : with_waiting now.awaited o (waiting_before u) ≡ s.awaited
+    awaited : with_waiting now.awaited o u.waiting ≡ s.awaited
     awaited =
-        ap (λ (w : Cache). with_waiting w.awaited o (waiting_before u)) is
+        ap (λ (w : Cache). with_waiting w.awaited o u.waiting) is
         ∙ (ap (with_waiting (with_waiting s.awaited o h.waiting) o) wait ∙ waiting-back s.awaited o (waiting s o) h.waiting up refl)
 
     one : one_if u.sent ≡ length h.sent
@@ -119,8 +146,8 @@ takes_back h s mid now e d u up sends counters counts done is trail counted sent
         ap (λ (w : Cache). minus w.sends (one_if u.sent)) is
         ∙ (ap (λ n. minus (plus s.sends n) (one_if u.sent)) (sym one) ∙ minus-plus s.sends (one_if u.sent) sends few)
 
-    counters_back : taken_off now.counters u.counted ≡ s.counters
+    counters_back : taken_off now.counters u.change.counts ≡ s.counters
     counters_back =
-        ap (λ (w : Cache). taken_off w.counters u.counted) is
-        ∙ (ap (λ k. taken_off (added s.counters k) u.counted) (sym done.counted)
-        ∙ (ap (taken_off (added s.counters d.counted)) counted ∙ taken_off-added s.counters d.counted counters counts))
+        ap (λ (w : Cache). taken_off w.counters u.change.counts) is
+        ∙ (ap (λ k. taken_off (added s.counters k) u.change.counts) (sym done.counted)
+        ∙ (ap (taken_off (added s.counters d.change.counts)) counted ∙ taken_off-added s.counters d.change.counts counters counts))

@@ -7,7 +7,8 @@ use Rattle.rw_ripq.specs.declared.Policy.{Policy}
 use Rattle.rw_ripq.specs.declared.Policy.TheVariants.{Off, Lru, Slru3}
 use Rattle.rw_ripq.specs.Insert.{insert}
 use Rattle.rw_photo.specs.Counts.{one_bypassed}
-use Rattle.rw_photo.specs.Storing.{inserted, placed, stored}
+use Rattle.rw_photo.specs.Storing.{inserted, stored}
+use Rattle.rw_photo.specs.Lawful.{placed}
 
 stored-placed : (k : Policy) (q : QueueState) (o z : ℕ) → k ≢ Off → stored k q o z ≡ placed k q o z
 stored-placed Off q o z stores = absurd (stores refl)

@@ -1,5 +1,5 @@
 -- What a cache keeps.
-use Rattle.std.specs.Prelude.{◌≡◌, List, [], Bool, Option, Some, None, ◌<◌, ◌^◌, nat_lt, nat_le, ◌||◌, All, is_some, cond}
+use Rattle.std.specs.Prelude.{◌≡◌, List, [], Bool, Option, Some, None, ◌<◌, ◌^◌, nat_lt, nat_le, ◌||◌, All, is_some, if◌then◌else◌}
 use Rattle.std.specs.List.Sorted.{IsStrictlySortedBy}
 use Rattle.std.specs.Map.{lookup, remove_entry, keys_of, values_of}
 use Rattle.std.specs.BTreeMap.{insert_entry, is_at}
@@ -13,8 +13,8 @@ use Rattle.rw_photo.specs.declared.config.Config.{Config}
 use Rattle.rw_photo.specs.declared.counters.Counters.{Counters}
 use Rattle.rw_photo.specs.Counts.{AreCounts, no_counts}
 
--- a cache: its queue on flash; for each object on its way how many requests wait for it, by rising object; how many events
--- it has sent; what it has counted
+-- a cache: its queue on flash; for each object on its way how many requests wait for it, by rising object; how many
+-- events it has sent; what it has counted
 pub record Cache : Type 0 where
   pub queue : QueueState
   pub awaited : List (Object × Count)
@@ -27,12 +27,13 @@ is_edge c p = nat_lt p c.edges
 
 -- the shape of the queue at process p
 abbrev pub shape_at : Config → Process → Limits
-shape_at c p = cond (is_edge c p) c.edge_shape c.origin_shape
+shape_at c p = if is_edge c p then c.edge_shape else c.origin_shape
 
--- a cache to which nothing has happened, with a queue of this shape; so process p starts
+-- a cache to which nothing has happened, with a queue of this shape
 abbrev pub start_in : Limits → Cache
 start_in shape = record { queue = start_of shape; awaited = []; sends = 0; counters = no_counts }
 
+-- process p as it starts
 abbrev pub start : Config → Process → Cache
 start c p = start_in (shape_at c p)
 
@@ -44,17 +45,17 @@ is_stored s o = is_some (row_at s.queue o)
 abbrev pub waiting : Cache → Object → Option Count
 waiting s o = lookup (is_at (nat_cmp o)) s.awaited
 
--- so many requests wait for the object, or it is not awaited
+-- the awaited objects once n requests wait for object o, or once it is awaited no more
 abbrev pub with_waiting : List (Object × Count) → Object → Option Count → List (Object × Count)
-with_waiting m o (Some n) = insert_entry nat_cmp m o n
-with_waiting m o None = remove_entry (is_at (nat_cmp o)) m
+with_waiting awaited o (Some n) = insert_entry nat_cmp awaited o n
+with_waiting awaited o None = remove_entry (is_at (nat_cmp o)) awaited
 
 -- a cache that can take no further event: it has sent, or its queue has numbered, too much
 abbrev pub is_exhausted : Cache → Bool
 is_exhausted s = nat_le (2 ^ 62) s.sends || nat_le (2 ^ 62) s.queue.next
 
--- the queue is well formed, in the shape of its kind, and empty where nothing is stored; awaited objects ascend, and all
--- counts fit their types: nothing else is asked
+-- the queue is well formed, in the shape of its kind, and empty where nothing is stored; awaited objects ascend, and
+-- all counts fit their types: nothing else is asked
 pub record IsWellFormed (c : Config) (p : Process) (s : Cache) : Type 0 where
   pub queue : IsWellFormedQueue s.queue
   pub shape : s.queue.shape ≡ shape_at c p

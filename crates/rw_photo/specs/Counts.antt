@@ -1,5 +1,5 @@
 -- What caches count, modulo 2 ^ 64.
-use Rattle.std.specs.Prelude.{◌+◌, ◌-◌, ◌%◌, ◌^◌, ◌<◌, Bool, true, false}
+use Rattle.std.specs.Prelude.{◌≡◌, ◌+◌, ◌-◌, ◌%◌, ◌^◌, Bool}
 use Rattle.rw_vt.specs.Words.{Count}
 use Rattle.rw_ripq.specs.Work.{one_if}
 use Rattle.rw_ripq.specs.declared.Tally.{Tally}
@@ -13,63 +13,40 @@ plus n k = (n + k) % 2 ^ 64
 abbrev pub minus : Count → Count → Count
 minus n k = (n + (2 ^ 64 - k)) % 2 ^ 64
 
+-- the counters of which each is what the function says of it; the function is told which one by how that is read
+abbrev pub counters_by : ((Counters → Count) → Count) → Counters
+counters_by count =
+    record {
+      requests = count (λ k. k.requests);
+      hits = count (λ k. k.hits);
+      misses = count (λ k. k.misses);
+      coalesced = count (λ k. k.coalesced);
+      late = count (λ k. k.late);
+      bypassed = count (λ k. k.bypassed);
+      inserted = count (λ k. k.inserted);
+      evicted = count (λ k. k.evicted);
+      reinserted = count (λ k. k.reinserted);
+      promoted = count (λ k. k.promoted);
+      writes = count (λ k. k.writes);
+      splits = count (λ k. k.splits);
+      merges = count (λ k. k.merges);
+    }
+
 -- all counts are 0
 abbrev pub no_counts : Counters
-no_counts = record { requests = 0; hits = 0; misses = 0; coalesced = 0; late = 0; bypassed = 0; inserted = 0; evicted = 0; reinserted = 0; promoted = 0; writes = 0; splits = 0; merges = 0 }
+no_counts = counters_by (λ which. 0)
 
 -- each count of k grows by that of d
 abbrev pub added : Counters → Counters → Counters
-added k d =
-    record {
-      requests = plus k.requests d.requests;
-      hits = plus k.hits d.hits;
-      misses = plus k.misses d.misses;
-      coalesced = plus k.coalesced d.coalesced;
-      late = plus k.late d.late;
-      bypassed = plus k.bypassed d.bypassed;
-      inserted = plus k.inserted d.inserted;
-      evicted = plus k.evicted d.evicted;
-      reinserted = plus k.reinserted d.reinserted;
-      promoted = plus k.promoted d.promoted;
-      writes = plus k.writes d.writes;
-      splits = plus k.splits d.splits;
-      merges = plus k.merges d.merges;
-    }
+added k d = counters_by (λ which. plus (which k) (which d))
 
 -- each count of k falls by that of d
 abbrev pub taken_off : Counters → Counters → Counters
-taken_off k d =
-    record {
-      requests = minus k.requests d.requests;
-      hits = minus k.hits d.hits;
-      misses = minus k.misses d.misses;
-      coalesced = minus k.coalesced d.coalesced;
-      late = minus k.late d.late;
-      bypassed = minus k.bypassed d.bypassed;
-      inserted = minus k.inserted d.inserted;
-      evicted = minus k.evicted d.evicted;
-      reinserted = minus k.reinserted d.reinserted;
-      promoted = minus k.promoted d.promoted;
-      writes = minus k.writes d.writes;
-      splits = minus k.splits d.splits;
-      merges = minus k.merges d.merges;
-    }
+taken_off k d = counters_by (λ which. minus (which k) (which d))
 
--- the counts fit their type
-pub record AreCounts (k : Counters) : Type 0 where
-  pub requests : k.requests < 2 ^ 64
-  pub hits : k.hits < 2 ^ 64
-  pub misses : k.misses < 2 ^ 64
-  pub coalesced : k.coalesced < 2 ^ 64
-  pub late : k.late < 2 ^ 64
-  pub bypassed : k.bypassed < 2 ^ 64
-  pub inserted : k.inserted < 2 ^ 64
-  pub evicted : k.evicted < 2 ^ 64
-  pub reinserted : k.reinserted < 2 ^ 64
-  pub promoted : k.promoted < 2 ^ 64
-  pub writes : k.writes < 2 ^ 64
-  pub splits : k.splits < 2 ^ 64
-  pub merges : k.merges < 2 ^ 64
+-- the counts fit their type: each is what it is modulo 2 ^ 64
+abbrev pub AreCounts : Counters → Type 0
+AreCounts k = counters_by (λ which. which k % 2 ^ 64) ≡ k
 
 -- What one event counts
 
@@ -77,7 +54,7 @@ pub record AreCounts (k : Counters) : Type 0 where
 abbrev pub one_hit : Bool → Counters
 one_hit moved = record no_counts { requests = 1; hits = 1; promoted = one_if moved }
 
--- a miss, beside what storing its object counts
+-- a miss, added to what storing its object counts
 abbrev pub one_miss : Counters → Counters
 one_miss k = record k { requests = 1; misses = 1 }
 
@@ -85,7 +62,7 @@ one_miss k = record k { requests = 1; misses = 1 }
 abbrev pub one_coalesced : Counters
 one_coalesced = record (one_miss no_counts) { coalesced = 1 }
 
--- a fill that answers n requests, beside what storing its object counts
+-- a fill that answers n requests, added to what storing its object counts
 abbrev pub with_late : Count → Counters → Counters
 with_late n k = record k { late = n }
 
@@ -95,4 +72,12 @@ one_bypassed = record no_counts { bypassed = 1 }
 
 -- an object that is stored
 abbrev pub one_inserted : Tally → Counters
-one_inserted t = record no_counts { inserted = 1; evicted = t.evicted; reinserted = t.reinserted; writes = t.writes; splits = t.splits; merges = t.merges }
+one_inserted t =
+    record no_counts {
+      inserted = 1;
+      evicted = t.evicted;
+      reinserted = t.reinserted;
+      writes = t.writes;
+      splits = t.splits;
+      merges = t.merges;
+    }

@@ -1,5 +1,5 @@
 -- The events of caches: which are valid, and what each does.
-use Rattle.std.specs.Prelude.{◌+◌, ◌%◌, ◌^◌, Bool, true, false, nat_lt, nat_le, ◌&&◌, List, [], ◌∷◌, length, Option, Some, None, unwrap_or}
+use Rattle.std.specs.Prelude.{◌+◌, ◌%◌, ◌^◌, Bool, if◌then◌else◌, nat_lt, nat_le, ◌&&◌, List, [], ◌∷◌, length, Option, Some, None, unwrap_or}
 use Rattle.rw_vt.specs.Words.{Count, Process, Time}
 use Rattle.rw_blocks.specs.Words.{Object, Size}
 use Rattle.rw_vt.specs.declared.event.Event.{Event}
@@ -11,10 +11,11 @@ use Rattle.rw_photo.specs.declared.config.Config.{Config}
 use Rattle.rw_photo.specs.declared.counters.Counters.{Counters}
 use Rattle.rw_photo.specs.Counts.{plus, added, no_counts, one_miss, one_coalesced, with_late}
 use Rattle.rw_photo.specs.Cache.{Cache, is_edge, is_stored, waiting, with_waiting}
-use Rattle.rw_photo.specs.Storing.{hit, stored}
+use Rattle.rw_photo.specs.Storing.{Stored, hit, stored, unchanged}
 
 -- Valid events
 
+-- origins come behind the edges
 abbrev pub is_origin : Config → Process → Bool
 is_origin c p = nat_le c.edges p && nat_lt p (c.edges + c.origins)
 
@@ -25,30 +26,36 @@ is_object o z = nat_lt o (2 ^ 64) && nat_le 1 z && nat_lt z (2 ^ 32)
 -- what may happen at process p at time t: requests up to time 2 ^ 39, and what may follow from them
 abbrev pub may_happen : Config → Time → Process → Body → Bool
 may_happen c t p (Request o z) = is_edge c p && nat_le t (2 ^ 39) && is_object o z
-may_happen c t p (Miss o z g) = is_origin c p && is_edge c g && nat_le t (2 ^ 39 + c.up) && is_object o z
-may_happen c t p (Fill o z) = is_edge c p && nat_le t (2 ^ 39 + c.up + c.down + c.back) && is_object o z
+may_happen c t p (Miss o z g) =
+    is_origin c p && is_edge c g && nat_le t (2 ^ 39 + c.up) && is_object o z
+may_happen c t p (Fill o z) =
+    is_edge c p && nat_le t (2 ^ 39 + c.up + c.down + c.back) && is_object o z
 
+-- an event in the ranges of its numbers, that may happen
 abbrev pub is_valid : Config → Event Body → Bool
-is_valid c e = nat_lt e.source (2 ^ 32) && nat_lt e.number (2 ^ 64) && may_happen c e.time e.to e.body
+is_valid c e =
+    nat_lt e.source (2 ^ 32) && nat_lt e.number (2 ^ 64) && may_happen c e.time e.to e.body
 
 -- What each does
 
+-- the object that an event is about
 abbrev pub object_of : Body → Object
 object_of (Request o z) = o
 object_of (Miss o z g) = o
 object_of (Fill o z) = o
 
--- what an event does at a cache: the queue after it, how many requests then wait for its object, what it counts, and what it
--- sends
+-- what an event does at a cache: the queue after it, how many requests then wait for its object, what it counts, and
+-- what it sends
 pub record Happening : Type 0 where
   pub queue : QueueState
   pub waiting : Option Count
   pub counts : Counters
   pub sent : List (Event Body)
 
--- process p sends an event
+-- an event that process p sends, numbered by how many it has sent before
 abbrev pub sending : Process → Cache → Time → Process → Body → Event Body
-sending p s time to body = record { time = time; source = p + 1; number = s.sends; to = to; body = body }
+sending p s time to body =
+    record { time = time; source = p + 1; number = s.sends; to = to; body = body }
 
 -- the origin that is asked for an object
 abbrev pub origin_of : Config → Object → Process
@@ -56,39 +63,56 @@ origin_of c o = c.edges + o % c.origins
 
 -- a request that misses waits for its object, with those that wait for it already; the first asks the origin
 abbrev pub missed : Config → Process → Cache → Time → Object → Size → Option Count → Happening
-missed c p s t o z (Some n) = record { queue = s.queue; waiting = Some (plus n 1); counts = one_coalesced; sent = [] }
+missed c p s t o z (Some n) =
+    record { queue = s.queue; waiting = Some (plus n 1); counts = one_coalesced; sent = [] }
 missed c p s t o z None =
-    record { queue = s.queue; waiting = Some 1; counts = one_miss no_counts; sent = sending p s (t + c.up) (origin_of c o) (Miss o z p) ∷ [] }
+    record {
+      queue = s.queue;
+      waiting = Some 1;
+      counts = one_miss no_counts;
+      sent = sending p s (t + c.up) (origin_of c o) (Miss o z p) ∷ [];
+    }
+
+-- what a hit or a store makes of the queue; who waits for the object goes on waiting
+abbrev pub served : Cache → Object → Stored → List (Event Body) → Happening
+served s o made sent =
+    record { queue = made.queue; waiting = waiting s o; counts = made.counts; sent = sent }
 
 -- a request at an edge
-abbrev pub requested : Config → Process → Cache → Time → Object → Size → Bool → Happening
-requested c p s t o z true =
-    let h = hit c.policy s.queue o in record { queue = h.queue; waiting = waiting s o; counts = h.counts; sent = [] }
-requested c p s t o z false = missed c p s t o z (waiting s o)
+abbrev pub requested : Config → Process → Cache → Time → Object → Size → Happening
+requested c p s t o z =
+    if is_stored s o
+    then served s o (hit c.policy s.queue o) []
+    else missed c p s t o z (waiting s o)
 
--- a miss at an origin, which fetches what it lacks from the backend and stores it; the edge is sent a fill
-abbrev pub asked : Config → Process → Cache → Time → Object → Size → Process → Bool → Happening
-asked c p s t o z g true =
-    let h = hit c.policy s.queue o in
-    record { queue = h.queue; waiting = waiting s o; counts = h.counts; sent = sending p s (t + c.down) g (Fill o z) ∷ [] }
-asked c p s t o z g false =
-    let k = stored c.policy s.queue o z in
-    record { queue = k.queue; waiting = waiting s o; counts = one_miss k.counts; sent = sending p s (t + c.down + c.back) g (Fill o z) ∷ [] }
+-- what a miss at an origin stores of what the backend gave
+abbrev pub fetched : Config → Cache → Object → Size → Stored
+fetched c s o z =
+    let made = stored c.policy s.queue o z in
+    record made { counts = one_miss made.counts }
+
+-- a miss at an origin, which fetches what it lacks from the backend and stores it; edge g is sent a fill
+abbrev pub asked : Config → Process → Cache → Time → Object → Size → Process → Happening
+asked c p s t o z g =
+    if is_stored s o
+    then served s o (hit c.policy s.queue o) (sending p s (t + c.down) g (Fill o z) ∷ [])
+    else served s o (fetched c s o z) (sending p s (t + c.down + c.back) g (Fill o z) ∷ [])
 
 -- a fill at an edge, which answers the requests that wait for it, if any, and stores what the edge lacks
-abbrev pub filled : Config → Cache → Object → Size → Bool → Happening
-filled c s o z true = record { queue = s.queue; waiting = None; counts = with_late (unwrap_or (waiting s o) 0) no_counts; sent = [] }
-filled c s o z false =
-    let k = stored c.policy s.queue o z in
-    record { queue = k.queue; waiting = None; counts = with_late (unwrap_or (waiting s o) 0) k.counts; sent = [] }
+abbrev pub filled : Config → Cache → Object → Size → Happening
+filled c s o z =
+    let late = unwrap_or (waiting s o) 0 in
+    let there = is_stored s o in
+    let made = if there then unchanged s.queue no_counts else stored c.policy s.queue o z in
+    record { queue = made.queue; waiting = None; counts = with_late late made.counts; sent = [] }
 
 -- what happens at process p at time t
 abbrev pub happening : Config → Process → Cache → Time → Body → Happening
-happening c p s t (Request o z) = requested c p s t o z (is_stored s o)
-happening c p s t (Miss o z g) = asked c p s t o z g (is_stored s o)
-happening c p s t (Fill o z) = filled c s o z (is_stored s o)
+happening c p s t (Request o z) = requested c p s t o z
+happening c p s t (Miss o z g) = asked c p s t o z g
+happening c p s t (Fill o z) = filled c s o z
 
--- the cache after it, which concerned object o
+-- the cache after what happens to object o
 abbrev pub cache_after : Cache → Object → Happening → Cache
 cache_after s o h =
     record {
@@ -98,11 +122,15 @@ cache_after s o h =
       counters = added s.counters h.counts;
     }
 
+-- the cache after an event, and what the cache sends
 abbrev pub step : Config → Process → Cache → Event Body → Cache × List (Event Body)
-step c p s e = let h = happening c p s e.time e.body in (cache_after s (object_of e.body) h, h.sent)
+step c p s e =
+    let h = happening c p s e.time e.body in
+    (cache_after s (object_of e.body) h, h.sent)
 
 -- From a trace
 
 -- row n of a trace, as an event
 abbrev pub request_of : Count → Row → Event Body
-request_of n r = record { time = r.time; source = 0; number = n; to = r.edge; body = Request r.object r.size }
+request_of n r =
+    record { time = r.time; source = 0; number = n; to = r.edge; body = Request r.object r.size }

@@ -1,199 +1,37 @@
--- The laws of the model: valid events are in their ranges, a step keeps a cache well formed, sends are valid and later,
--- and bodies that compare as equal are the same.
-use Rattle.std.specs.Prelude.{◌≡◌, ℕ, ◌+◌, ◌^◌, ◌<◌, ◌≤◌, Bool, true, false, ◌&&◌, nat_lt, List, [], ◌∷◌, Option, Some, None, All, refl, is_some}
-use Rattle.std.specs.declared.cmp.Ordering.{Ordering}
+-- The laws that the trait `Model` asks of the caches: valid events are in their ranges, a step keeps a cache well
+-- formed, sends are valid and later, and bodies that compare as equal are the same. They stand in specs/ with their
+-- proofs since the implementation hands them to the trait as ghost members, which see no proofs/.
+use Rattle.std.specs.Prelude.{◌≡◌, ℕ, ◌+◌, ◌^◌, true, ◌&&◌, nat_lt, All}
 use Rattle.std.specs.declared.cmp.Ordering.TheVariants.{Less, Equal, Greater}
-use Rattle.std.specs.List.Sorted.{IsStrictlySortedBy}
-use Rattle.std.specs.Map.{keys_of, values_of}
 use Rattle.std.specs.Ordering.{nat_cmp, ordering_then}
-use Rattle.std.proofs.Common.{arith, sym, ◌∙◌, ap, true≢false}
+use Rattle.std.proofs.Common.{arith}
 use Rattle.std.proofs.lemmas.Bool.Decides.{nat_tests}
-use Rattle.std.proofs.lemmas.Cmp.{ranked, by_ranked}
-use Rattle.std.proofs.lemmas.List.Elements.{All-cons, All-nil, All-weaker}
+use Rattle.std.proofs.lemmas.List.Elements.{All-weaker}
 use Rattle.rw_vt.specs.declared.event.Event.{Event}
 use Rattle.rw_vt.specs.Valid.{IsInRange, IsSentBy}
-use Rattle.rw_vt.proofs.Entries.{found-value, sorted-insert_entry, sorted-remove_entry, values-insert_entry, values-remove_entry}
-use Rattle.rw_blocks.specs.State.{QueueState, row_at}
-use Rattle.rw_blocks.specs.Loose.{IsWellFormedQueue}
-use Rattle.rw_blocks.specs.declared.Place.{Place}
-use Rattle.rw_ripq.specs.declared.Policy.{Policy}
-use Rattle.rw_ripq.specs.declared.Policy.TheVariants.{Off, Lru, Slru3}
-use Rattle.rw_ripq.specs.Insert.{insert}
-use Rattle.rw_ripq.specs.Promote.{promote}
-use Rattle.rw_ripq.proofs.Laws.{InsertLaws, PromoteLaws, insert-laws, promote-laws}
 use Rattle.rw_photo.specs.declared.body.Body.{Body}
 use Rattle.rw_photo.specs.declared.body.Body.TheVariants.{Request, Miss, Fill}
 use Rattle.rw_photo.specs.contracts.body.BodyOrd.TheImpl as order
 use Rattle.rw_photo.specs.declared.config.Config.{Config}
-use Rattle.rw_photo.specs.declared.counters.Counters.{Counters}
-use Rattle.rw_photo.specs.Counts.{AreCounts, added}
-use Rattle.rw_photo.specs.Cache.{Cache, IsWellFormed, is_stored, shape_at, waiting, with_waiting}
-use Rattle.rw_photo.specs.Storing.{hit, placed, stored}
-use Rattle.rw_photo.specs.Events.{Happening, asked, filled, happening, is_valid, may_happen, missed, object_of, origin_of, requested, sending, step}
+use Rattle.rw_photo.specs.Cache.{Cache, IsWellFormed}
+use Rattle.rw_photo.specs.Events.{Happening, happening, is_valid, may_happen, object_of, step}
+use Rattle.rw_photo.specs.Lawful.{Follows, IsFine, added-counts, ascending-with, both, both_equal, early, event-fine, few-with, same_number}
 
-both : (a b : Bool) → (a && b) ≡ true → (a ≡ true) × (b ≡ true)
-both true b h = (refl, h)
-both false b h = cc
-
--- Valid events are in their ranges
-
-early : (c : Config) (t p : ℕ) (b : Body) → may_happen c t p b ≡ true → (t < 2 ^ 40) × (p < c.edges + c.origins)
-early c t p (Request o z) v = let r = c.in_range in (grind (arith, nat_tests), grind (arith, nat_tests))
-early c t p (Miss o z g) v = let r = c.in_range in (grind (arith, nat_tests), grind (arith, nat_tests))
-early c t p (Fill o z) v = let r = c.in_range in (grind (arith, nat_tests), grind (arith, nat_tests))
-
-pub valid_ranges : (c : Config) (e : Event Body) → is_valid c e ≡ true → IsInRange (c.edges + c.origins) e
+pub valid_ranges : (c : Config) (e : Event Body) → is_valid c e ≡ true
+    → IsInRange (c.edges + c.origins) e
 valid_ranges c e v =
-    let parts = both (nat_lt e.source (2 ^ 32) && nat_lt e.number (2 ^ 64)) (may_happen c e.time e.to e.body) v in
+    let numbers = nat_lt e.source (2 ^ 32) && nat_lt e.number (2 ^ 64) in
+    let parts = both numbers (may_happen c e.time e.to e.body) v in
     let r = early c e.time e.to e.body parts.1 in
-    record { time = r.0; source = grind (arith, nat_tests); number = grind (arith, nat_tests); to = r.1 }
-
--- A step keeps a cache well formed, and its sends are valid, from the process, and strictly later
-
--- the queue of process p
-record IsQueueAt (c : Config) (p : ℕ) (q : QueueState) : Type 0 where
-  well_formed : IsWellFormedQueue q
-  shape : q.shape ≡ shape_at c p
-  empty : c.policy ≡ Off → q.rows ≡ []
-
-queue-at : (c : Config) (p : ℕ) (s : Cache) → IsWellFormed c p s → IsQueueAt c p s.queue
-queue-at c p s w = record { well_formed = w.queue; shape = w.shape; empty = w.empty }
-
--- an empty queue has no row
-none-stored : (q : QueueState) (o : ℕ) → q.rows ≡ [] → is_some (row_at q o) ≡ true → ⊥
-none-stored q o none there = let row : row_at q o ≡ None = rw none refl in absurd (true≢false (sym there ∙ ap is_some row))
-
-some-stored : (o : Option Place) → is_some o ≡ true → (r : Place) × (o ≡ Some r)
-some-stored (Some r) there = (r, refl)
-some-stored None there = cc
-
-none-found : (o : Option Place) → is_some o ≡ false → o ≡ None
-none-found (Some r) there = cc
-none-found None there = refl
-
-hit-at : (c : Config) (p : ℕ) (q : QueueState) (o : ℕ) → IsQueueAt c p q → is_some (row_at q o) ≡ true → IsQueueAt c p (hit c.policy q o).queue
-hit-at c p q o at there =
-    let found = some-stored (row_at q o) there in
-    let laws : PromoteLaws q o (promote c.policy q o) = promote-laws c.policy q o found.0 at.well_formed found.1 in
-    record { well_formed = laws.well_formed; shape = laws.shape ∙ at.shape; empty = λ off. absurd (none-stored q o (at.empty off) there) }
-
-placed-at : (c : Config) (p : ℕ) (k : Policy) (q : QueueState) (o z : ℕ) → (c.policy ≡ Off → ⊥) → IsQueueAt c p q → row_at q o ≡ None → 1 ≤ z → IsQueueAt c p (placed k q o z).queue
-placed-at c p k q o z stores at new some = go (nat_lt q.shape.block z) refl
-  where
-    go : (b : Bool) → nat_lt q.shape.block z ≡ b → IsQueueAt c p (placed k q o z).queue
-    go true large = rw large at
-    go false small =
-        let laws : InsertLaws q o z (insert k q o z 1) = insert-laws k q o z 1 at.well_formed new some (grind (arith, nat_tests)) in
-        rw small (record { well_formed = laws.well_formed; shape = laws.shape ∙ at.shape; empty = λ off. absurd (stores off) })
-
-stored-at : (c : Config) (p : ℕ) (k : Policy) (q : QueueState) (o z : ℕ) → c.policy ≡ k → IsQueueAt c p q → row_at q o ≡ None → 1 ≤ z → IsQueueAt c p (stored k q o z).queue
-stored-at c p Off q o z is at new some = at
-stored-at c p Lru q o z is at new some = placed-at c p Lru q o z (λ off. let h : Lru ≡ Off = sym is ∙ off in cc) at new some
-stored-at c p Slru3 q o z is at new some = placed-at c p Slru3 q o z (λ off. let h : Slru3 ≡ Off = sym is ∙ off in cc) at new some
-
--- so many requests may wait
-abbrev WaitFew : Option ℕ → Type 0
-WaitFew (Some n) = n < 2 ^ 64
-WaitFew None = Unit {0}
-
-found-few : (s : Cache) (o : ℕ) (w : Option ℕ) → All (λ n. n < 2 ^ 64) (values_of s.awaited) → waiting s o ≡ w → WaitFew w
-found-few s o (Some n) all is = found-value (λ m. m < 2 ^ 64) s.awaited o n all is
-found-few s o None all is = tt
-
--- what is said of one send
-abbrev Follows : Config → ℕ → ℕ → Event Body → Type 0
-Follows c p t f = (f.source ≡ p + 1) × (t < f.time) × (is_valid c f ≡ true)
-
--- what is said of what happens at process p at time t
-record IsFine (c : Config) (p t : ℕ) (h : Happening) : Type 0 where
-  queue : IsQueueAt c p h.queue
-  waiting : WaitFew h.waiting
-  follow : All (Follows c p t) h.sent
-
-one : (P : Event Body → Type 0) (f : Event Body) → P f → All P (f ∷ [])
-one P f h = All-cons P f [] h (All-nil P)
-
--- an origin is asked by a valid miss
-asks : (c : Config) (p : ℕ) (s : Cache) (t o z : ℕ) → s.sends < 2 ^ 64 → may_happen c t p (Request o z) ≡ true → Follows c p t (sending p s (t + c.up) (origin_of c o) (Miss o z p))
-asks c p s t o z n v = let r = c.in_range in (refl, omega arith, grind (arith, nat_tests))
-
--- an edge is answered by a valid fill, at once or after the backend
-answers-at_once : (c : Config) (p : ℕ) (s : Cache) (t o z g : ℕ) → s.sends < 2 ^ 64 → may_happen c t p (Miss o z g) ≡ true → Follows c p t (sending p s (t + c.down) g (Fill o z))
-answers-at_once c p s t o z g n v = let r = c.in_range in (refl, omega arith, grind (arith, nat_tests))
-
-answers-later : (c : Config) (p : ℕ) (s : Cache) (t o z g : ℕ) → s.sends < 2 ^ 64 → may_happen c t p (Miss o z g) ≡ true → Follows c p t (sending p s (t + c.down + c.back) g (Fill o z))
-answers-later c p s t o z g n v = let r = c.in_range in (refl, omega arith, grind (arith, nat_tests))
-
-missed-fine : (c : Config) (p : ℕ) (s : Cache) (t o z : ℕ) (w : Option ℕ) → IsWellFormed c p s → may_happen c t p (Request o z) ≡ true → IsFine c p t (missed c p s t o z w)
-missed-fine c p s t o z (Some n) w v = record { queue = queue-at c p s w; waiting = omega arith; follow = All-nil (Follows c p t) }
-missed-fine c p s t o z None w v =
-    record { queue = queue-at c p s w; waiting = omega arith; follow = one (Follows c p t) (sending p s (t + c.up) (origin_of c o) (Miss o z p)) (asks c p s t o z w.sends v) }
-
-requested-fine : (c : Config) (p : ℕ) (s : Cache) (t o z : ℕ) (b : Bool) → is_stored s o ≡ b → IsWellFormed c p s → may_happen c t p (Request o z) ≡ true → IsFine c p t (requested c p s t o z b)
-requested-fine c p s t o z true is w v =
-    record { queue = hit-at c p s.queue o (queue-at c p s w) is; waiting = found-few s o (waiting s o) w.waiting refl; follow = All-nil (Follows c p t) }
-requested-fine c p s t o z false is w v = missed-fine c p s t o z (waiting s o) w v
-
-asked-fine : (c : Config) (p : ℕ) (s : Cache) (t o z g : ℕ) (b : Bool) → is_stored s o ≡ b → IsWellFormed c p s → may_happen c t p (Miss o z g) ≡ true → IsFine c p t (asked c p s t o z g b)
-asked-fine c p s t o z g true is w v =
     record {
-      queue = hit-at c p s.queue o (queue-at c p s w) is;
-      waiting = found-few s o (waiting s o) w.waiting refl;
-      follow = one (Follows c p t) (sending p s (t + c.down) g (Fill o z)) (answers-at_once c p s t o z g w.sends v);
-    }
-asked-fine c p s t o z g false is w v =
-    record {
-      queue = stored-at c p c.policy s.queue o z refl (queue-at c p s w) (none-found (row_at s.queue o) is) (grind (arith, nat_tests));
-      waiting = found-few s o (waiting s o) w.waiting refl;
-      follow = one (Follows c p t) (sending p s (t + c.down + c.back) g (Fill o z)) (answers-later c p s t o z g w.sends v);
+      time = r.0;
+      source = grind (arith, nat_tests);
+      number = grind (arith, nat_tests);
+      to = r.1;
     }
 
-filled-fine : (c : Config) (p : ℕ) (s : Cache) (t o z : ℕ) (b : Bool) → is_stored s o ≡ b → IsWellFormed c p s → may_happen c t p (Fill o z) ≡ true → IsFine c p t (filled c s o z b)
-filled-fine c p s t o z true is w v = record { queue = queue-at c p s w; waiting = tt; follow = All-nil (Follows c p t) }
-filled-fine c p s t o z false is w v =
-    record {
-      queue = stored-at c p c.policy s.queue o z refl (queue-at c p s w) (none-found (row_at s.queue o) is) (grind (arith, nat_tests));
-      waiting = tt;
-      follow = All-nil (Follows c p t);
-    }
-
-happening-fine : (c : Config) (p : ℕ) (s : Cache) (t : ℕ) (b : Body) → IsWellFormed c p s → may_happen c t p b ≡ true → IsFine c p t (happening c p s t b)
-happening-fine c p s t (Request o z) w v = requested-fine c p s t o z (is_stored s o) refl w v
-happening-fine c p s t (Miss o z g) w v = asked-fine c p s t o z g (is_stored s o) refl w v
-happening-fine c p s t (Fill o z) w v = filled-fine c p s t o z (is_stored s o) refl w v
-
-event-fine : (c : Config) (p : ℕ) (s : Cache) (e : Event Body) → IsWellFormed c p s → is_valid c e ≡ true → e.to ≡ p → IsFine c p e.time (happening c p s e.time e.body)
-event-fine c p s e w v at =
-    let parts = both (nat_lt e.source (2 ^ 32) && nat_lt e.number (2 ^ 64)) (may_happen c e.time e.to e.body) v in
-    happening-fine c p s e.time e.body w (ap (λ q. may_happen c e.time q e.body) (sym at) ∙ parts.1)
-
-ascending-with : (m : List (ℕ × ℕ)) (o : ℕ) (w : Option ℕ) → IsStrictlySortedBy nat_cmp (keys_of m) → IsStrictlySortedBy nat_cmp (keys_of (with_waiting m o w))
-ascending-with m o (Some n) up = sorted-insert_entry m o n up
-ascending-with m o None up = sorted-remove_entry m o up
-
-few-with : (m : List (ℕ × ℕ)) (o : ℕ) (w : Option ℕ) → All (λ n. n < 2 ^ 64) (values_of m) → WaitFew w → All (λ n. n < 2 ^ 64) (values_of (with_waiting m o w))
-few-with m o (Some n) all few = values-insert_entry (λ n. n < 2 ^ 64) m o n all few
-few-with m o None all few = values-remove_entry (λ n. n < 2 ^ 64) m o all
-
-added-counts : (k d : Counters) → AreCounts (added k d)
-added-counts k d =
-    record {
-      requests = omega arith;
-      hits = omega arith;
-      misses = omega arith;
-      coalesced = omega arith;
-      late = omega arith;
-      bypassed = omega arith;
-      inserted = omega arith;
-      evicted = omega arith;
-      reinserted = omega arith;
-      promoted = omega arith;
-      writes = omega arith;
-      splits = omega arith;
-      merges = omega arith;
-    }
-
-pub step_keeps : (c : Config) (p : ℕ) (s : Cache) (e : Event Body) → IsWellFormed c p s → is_valid c e ≡ true → e.to ≡ p → IsWellFormed c p (step c p s e).0
+pub step_keeps : (c : Config) (p : ℕ) (s : Cache) (e : Event Body) → IsWellFormed c p s
+    → is_valid c e ≡ true → e.to ≡ p → IsWellFormed c p (step c p s e).0
 step_keeps c p s e w v at =
     let h : Happening = happening c p s e.time e.body in
     let fine : IsFine c p e.time h = event-fine c p s e w v at in
@@ -207,22 +45,14 @@ step_keeps c p s e w v at =
       counters = added-counts s.counters h.counts;
     }
 
-pub step_future : (c : Config) (p : ℕ) (s : Cache) (e : Event Body) → IsWellFormed c p s → is_valid c e ≡ true → e.to ≡ p → All (λ f. IsSentBy p e f × (is_valid c f ≡ true)) (step c p s e).1
+pub step_future : (c : Config) (p : ℕ) (s : Cache) (e : Event Body) → IsWellFormed c p s
+    → is_valid c e ≡ true → e.to ≡ p
+    → All (λ f. IsSentBy p e f × (is_valid c f ≡ true)) (step c p s e).1
 step_future c p s e w v at =
     All-weaker (Follows c p e.time) (λ f. IsSentBy p e f × (is_valid c f ≡ true))
     (λ f h. (record { source = h.0; later = h.1 }, h.2))
     (step c p s e).1
     (event-fine c p s e w v at).follow
-
--- Bodies that compare as equal are the same
-
-both_equal : (r s : Ordering) → ordering_then r s ≡ Equal → (r ≡ Equal) × (s ≡ Equal)
-both_equal Less s h = cc
-both_equal Equal s h = (refl, h)
-both_equal Greater s h = cc
-
-same_number : (m n : ℕ) → nat_cmp m n ≡ Equal → m ≡ n
-same_number m n h = by_ranked (m < n) (m ≡ n) (n < m) (nat_cmp m n) (ranked m n (nat_cmp m n) refl) (λ e _. cc) (λ _ same. same) (λ e _. cc)
 
 pub bodies_same : (a b : Body) → order.ghosts.cmp a b ≡ Equal → a ≡ b
 bodies_same (Request a b) (Request c d) h =

@@ -5,5 +5,6 @@ pub mod Storing
 pub mod Events
 pub mod Undoing
 pub mod Deeds
+pub mod Lawful
 pub mod Laws
 pub mod Simulation

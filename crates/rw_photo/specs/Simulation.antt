@@ -17,4 +17,10 @@ starts_of c = map (start c) (range_with_len 0 (c.edges + c.origins))
 -- each cache starts with nothing, the rows of the trace are the requests from outside, and each event does its step
 abbrev pub simulation : Config → List Row → System Cache Body
 simulation c rows =
-    record { order = event_cmp order.ghosts.cmp; step = step c; valid = is_valid c; starts = starts_of c; initial = map_from 0 request_of rows }
+    record {
+      order = event_cmp order.ghosts.cmp;
+      step = step c;
+      valid = is_valid c;
+      starts = starts_of c;
+      initial = map_from 0 request_of rows;
+    }

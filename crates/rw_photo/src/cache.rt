@@ -11,14 +11,14 @@ ghost use Rattle.rw_photo.specs.Storing.{hit, stored};
 
 use crate::body::Body;
 use crate::counters::Counters;
-use rw_ripq::{Place, Policy, Queue, Shape, Trail};
-use rw_vt::{Event, NoMemory};
+use rw_ripq::{Change, Place, Policy, Queue, Shape, Trail};
+use rw_vt::{Event, NoMemory, Refusal};
 use std::alloc::Global;
 use std::collections::BTreeMap;
 use std::marker::Model;
 
-/// What one cache keeps: its queue on flash, which objects are on their way to it and how many requests wait for each, how
-/// many events it has sent, and what it has counted.
+/// What one cache keeps: its queue on flash, which objects are on their way to it and how many requests wait for
+/// each, how many events it has sent, and what it has counted.
 ///
 /// Contracts see it as `Cache` of `specs/Cache.antt`.
 #[derive(Drop)]
@@ -34,7 +34,12 @@ impl Model for CacheState {
 
     ghost Value = { Cache };
 
-    ghost view = { λ s. record { queue = s.queue; awaited = s.awaited.entries; sends = s.sends; counters = s.counters } };
+    ghost view = { λ s. record {
+      queue = s.queue;
+      awaited = s.awaited.entries;
+      sends = s.sends;
+      counters = s.counters;
+    } };
 }
 
 impl CacheState {
@@ -92,9 +97,10 @@ impl CacheState {
         self.awaited.get(&object).copied()
     }
 
-    /// So many requests wait for the object, or it is not awaited.
+    /// Sets how many requests wait for an object; `None`: it is not awaited.
     pub(crate) fn set_waiting(&mut self, object: u64, waiting: Option<u64>) -> Result<(), NoMemory>
-        ensures { OnOk result (self.new ≡ record self.old { awaited = with_waiting self.old.awaited object waiting }) }
+        ensures { OnOk result (self.new
+            ≡ record self.old { awaited = with_waiting self.old.awaited object waiting }) }
     {
         match waiting {
             Some(count) => {
@@ -107,32 +113,37 @@ impl CacheState {
         Ok(())
     }
 
-    /// A hit of an object that is stored, in this row: it is promoted. Hands back what takes that back, and what it counts.
+    /// A hit of an object that is stored, and whose row is `row`: it is promoted. Hands back what that did and counts.
     pub(crate) fn hit(
         &mut self,
         alloc: Global,
         policy: Policy,
         object: u64,
         row: Place,
-    ) -> Result<(Trail, Counters), NoMemory>
+    ) -> Result<Change<Counters>, NoMemory>
         requires well_formed { IsWellFormedQueue self.old.queue }
         requires stores { policy ≢ Policy.Off }
         requires row { row_at self.old.queue object ≡ Some row }
         requires fresh { self.old.queue.next < 2 ^ 62 }
-        ensures queue { OnOk result (self.new ≡ record self.old { queue = (hit policy self.old.queue object).queue }) }
-        ensures counts { IfOk result (λ r. r.1 ≡ (hit policy self.old.queue object).counts) }
-        ensures leads { IfOk result (λ r. Leads r.0 self.old.queue self.new.queue) }
-        ensures short { IfOk result (λ r. IsShort r.0 self.old.queue self.new.queue) }
+        ensures queue { OnOk result (self.new
+            ≡ record self.old { queue = (hit policy self.old.queue object).queue }) }
+        ensures counts { IfOk result (λ change.
+            change.counts ≡ (hit policy self.old.queue object).counts) }
+        ensures leads { IfOk result (λ change. Leads change.trail self.old.queue self.new.queue) }
+        ensures short { IfOk result (λ change. IsShort change.trail self.old.queue self.new.queue) }
     {
-        let Ok((trail, moved)) = rw_ripq::promote_row(alloc, &mut self.queue, policy, object, row)
-        else {
-            return Err(NoMemory);
+        let promoted = rw_ripq::promote_row(alloc, &mut self.queue, policy, object, row);
+        let (trail, moved) = match promoted {
+            Ok(done) => done,
+            Err(Refusal::Memory) => return Err(NoMemory),
+            Err(Refusal::Exhausted) => unreachable!(),
         };
-        Ok((trail, Counters::of_hit(moved)))
+        let counts = Counters::of_hit(moved);
+        Ok(Change { trail, counts })
     }
 
-    /// Stores an object that is not stored, if it fits a block and anything is stored at all. Hands back what takes that
-    /// back, and what it counts.
+    /// Stores an object of `size` bytes that is not stored, where it fits a block and the policy is not `Off`. Hands
+    /// back what that did and counts.
     #[tactic(auto, using(crate::proofs::Stores::store_laws))]
     pub(crate) fn store(
         &mut self,
@@ -140,53 +151,60 @@ impl CacheState {
         policy: Policy,
         object: u64,
         size: u64,
-    ) -> Result<(Trail, Counters), NoMemory>
+    ) -> Result<Change<Counters>, NoMemory>
         requires well_formed { IsWellFormedQueue self.old.queue }
         requires new { is_stored self.old object ≡ false }
         requires some { 1 ≤ size }
         requires fresh { self.old.queue.next < 2 ^ 62 }
-        ensures queue { OnOk result (self.new ≡ record self.old { queue = (stored policy self.old.queue object size).queue }) }
-        ensures counts { IfOk result (λ r. r.1 ≡ (stored policy self.old.queue object size).counts) }
-        ensures leads { IfOk result (λ r. Leads r.0 self.old.queue self.new.queue) }
-        ensures short { IfOk result (λ r. IsShort r.0 self.old.queue self.new.queue) }
+        ensures queue { OnOk result (self.new
+            ≡ record self.old { queue = (stored policy self.old.queue object size).queue }) }
+        ensures counts { IfOk result (λ change.
+            change.counts ≡ (stored policy self.old.queue object size).counts) }
+        ensures leads { IfOk result (λ change. Leads change.trail self.old.queue self.new.queue) }
+        ensures short { IfOk result (λ change. IsShort change.trail self.old.queue self.new.queue) }
     {
         if policy == Policy::Off {
-            return Ok((Trail::new(alloc), Counters::default()));
+            return Ok(Change::new(alloc, Counters::default()));
         }
         let (_, block, _) = self.queue.shape();
         if size > block {
-            return Ok((Trail::new(alloc), Counters::of_bypass()));
+            return Ok(Change::new(alloc, Counters::of_bypass()));
         }
-        let Ok((trail, tally)) = rw_ripq::insert(alloc, &mut self.queue, policy, object, size, 1)
-        else {
-            return Err(NoMemory);
+        let inserted = rw_ripq::insert(alloc, &mut self.queue, policy, object, size, 1);
+        let (trail, tally) = match inserted {
+            Ok(done) => done,
+            Err(Refusal::Memory) => return Err(NoMemory),
+            Err(Refusal::Exhausted) => unreachable!(),
         };
-        Ok((trail, Counters::of_insertion(tally)))
+        let counts = Counters::of_insertion(tally);
+        Ok(Change { trail, counts })
     }
 
-    /// Takes back what happened to the queue.
+    /// Takes back what happened to the queue, by its trail.
     pub(crate) fn rewind(&mut self, trail: Trail) -> Result<(), NoMemory>
         requires { IsRewindable trail self.old.queue }
-        ensures { OnOk result (self.new ≡ record self.old { queue = rewind_of trail self.old.queue }) }
+        ensures { OnOk result (self.new
+            ≡ record self.old { queue = rewind_of trail self.old.queue }) }
     {
         rw_ripq::rewind(&mut self.queue, trail)
     }
 
-    /// Counts.
+    /// Adds what an event counted.
     pub(crate) fn count(&mut self, counted: &Counters)
         ensures { self.new ≡ record self.old { counters = added self.old.counters counted.now } }
     {
         self.counters.add(counted);
     }
 
-    /// Takes off what was counted.
+    /// Takes off what an event counted: undoes [`CacheState::count`].
     pub(crate) fn take_off(&mut self, counted: &Counters)
-        ensures { self.new ≡ record self.old { counters = taken_off self.old.counters counted.now } }
+        ensures { self.new
+            ≡ record self.old { counters = taken_off self.old.counters counted.now } }
     {
         self.counters.take_off(counted);
     }
 
-    /// Numbers an event that process `process` is to send.
+    /// The event that process `process` is to send, with the number of events that it has sent before.
     pub(crate) fn sending(&self, process: u32, time: u64, to: u32, body: Body) -> Event<Body>
         requires { process + 1 < 2 ^ 32 }
         ensures { result ≡ sending process self.now time to body }
@@ -200,14 +218,14 @@ impl CacheState {
         }
     }
 
-    /// One event more was sent, if any was.
+    /// Counts one event more as sent, where `sent`.
     pub(crate) fn count_send(&mut self, sent: bool)
         ensures { self.new ≡ record self.old { sends = plus self.old.sends (one_if sent) } }
     {
         self.sends = self.sends.wrapping_add(u64::from(sent));
     }
 
-    /// The event that was sent, if any was, was not.
+    /// Undoes [`CacheState::count_send`].
     pub(crate) fn take_send_back(&mut self, sent: bool)
         ensures { self.new ≡ record self.old { sends = minus self.old.sends (one_if sent) } }
     {

@@ -35,7 +35,7 @@ impl Config {
     /// The longest delay, in ticks.
     pub const MAX_DELAY: u64 = 1_048_576;
 
-    /// A configuration; None exactly where a number is out of its range. Takes no memory.
+    /// A configuration; `None` exactly where a number is out of its range. Takes no memory.
     pub fn new(
         edges: u32,
         origins: u32,

@@ -34,6 +34,27 @@ pub struct Counters {
     pub merges: u64,
 }
 
+/// The counters of which each count is made, by a method of `u64`, of that count on the left and on the right.
+macro_rules! each_count {
+    ($left:expr, $method:ident, $right:expr) => {
+        Counters {
+            requests: $left.requests.$method($right.requests),
+            hits: $left.hits.$method($right.hits),
+            misses: $left.misses.$method($right.misses),
+            coalesced: $left.coalesced.$method($right.coalesced),
+            late: $left.late.$method($right.late),
+            bypassed: $left.bypassed.$method($right.bypassed),
+            inserted: $left.inserted.$method($right.inserted),
+            evicted: $left.evicted.$method($right.evicted),
+            reinserted: $left.reinserted.$method($right.reinserted),
+            promoted: $left.promoted.$method($right.promoted),
+            writes: $left.writes.$method($right.writes),
+            splits: $left.splits.$method($right.splits),
+            merges: $left.merges.$method($right.merges),
+        }
+    };
+}
+
 impl Counters {
     /// A hit, which moved its object to another place or not.
     pub(crate) fn of_hit(moved: bool) -> Counters
@@ -57,7 +78,7 @@ impl Counters {
         }
     }
 
-    /// The same, of a miss.
+    /// These counts, and a miss: one request and one miss.
     pub(crate) fn with_miss(self) -> Counters
         ensures { result ≡ one_miss self }
     {
@@ -68,7 +89,7 @@ impl Counters {
         }
     }
 
-    /// The same, of a fill that answers so many requests.
+    /// These counts, and those of a fill that answers `late` requests.
     pub(crate) fn with_late(self, late: u64) -> Counters
         ensures { result ≡ with_late late self }
     {
@@ -85,7 +106,7 @@ impl Counters {
         }
     }
 
-    /// An object that was stored.
+    /// An object that was stored, with what its insertion counted.
     pub(crate) fn of_insertion(tally: Tally) -> Counters
         ensures { result ≡ one_inserted tally }
     {
@@ -111,37 +132,13 @@ impl Counters {
     pub fn add(&mut self, counted: &Counters)
         ensures { self.new ≡ added self.old counted.now }
     {
-        self.requests = self.requests.wrapping_add(counted.requests);
-        self.hits = self.hits.wrapping_add(counted.hits);
-        self.misses = self.misses.wrapping_add(counted.misses);
-        self.coalesced = self.coalesced.wrapping_add(counted.coalesced);
-        self.late = self.late.wrapping_add(counted.late);
-        self.bypassed = self.bypassed.wrapping_add(counted.bypassed);
-        self.inserted = self.inserted.wrapping_add(counted.inserted);
-        self.evicted = self.evicted.wrapping_add(counted.evicted);
-        self.reinserted = self.reinserted.wrapping_add(counted.reinserted);
-        self.promoted = self.promoted.wrapping_add(counted.promoted);
-        self.writes = self.writes.wrapping_add(counted.writes);
-        self.splits = self.splits.wrapping_add(counted.splits);
-        self.merges = self.merges.wrapping_add(counted.merges);
+        *self = each_count!(self, wrapping_add, counted);
     }
 
-    /// Each count falls by what was counted.
+    /// Each count falls by what was counted, modulo 2^64: undoes [`Counters::add`].
     pub(crate) fn take_off(&mut self, counted: &Counters)
         ensures { self.new ≡ taken_off self.old counted.now }
     {
-        self.requests = self.requests.wrapping_sub(counted.requests);
-        self.hits = self.hits.wrapping_sub(counted.hits);
-        self.misses = self.misses.wrapping_sub(counted.misses);
-        self.coalesced = self.coalesced.wrapping_sub(counted.coalesced);
-        self.late = self.late.wrapping_sub(counted.late);
-        self.bypassed = self.bypassed.wrapping_sub(counted.bypassed);
-        self.inserted = self.inserted.wrapping_sub(counted.inserted);
-        self.evicted = self.evicted.wrapping_sub(counted.evicted);
-        self.reinserted = self.reinserted.wrapping_sub(counted.reinserted);
-        self.promoted = self.promoted.wrapping_sub(counted.promoted);
-        self.writes = self.writes.wrapping_sub(counted.writes);
-        self.splits = self.splits.wrapping_sub(counted.splits);
-        self.merges = self.merges.wrapping_sub(counted.merges);
+        *self = each_count!(self, wrapping_sub, counted);
     }
 }

@@ -1,9 +1,10 @@
 #![tactic(auto)]
 //! Photo caches as a model: edges near the users, origins behind them, a backend store behind those.
 //!
-//! A user's request comes to an edge. What the edge lacks it asks of an origin, once however many requests wait for it; what
-//! the origin lacks it fetches from the backend. What comes is stored on flash, in a RIPQ queue (Tang, Huang, Lloyd, Kumar
-//! and Li, FAST 2015) under the policy of the configuration, and requests for an object that is on its way coalesce.
+//! A user's request comes to an edge. What the edge lacks it asks of an origin, once however many requests wait for
+//! it; what the origin lacks it fetches from the backend. What comes is stored on flash, in a RIPQ queue (Tang,
+//! Huang, Lloyd, Kumar and Li, FAST 2015) under the policy of the configuration, and requests for an object that is
+//! on its way coalesce.
 //!
 //! [`Photo`] is a model of `rw_vt`: each event can be taken back, by the marks of what it did to the queue, by what it
 //! counted and by the few numbers that it destroyed.
@@ -24,7 +25,7 @@ pub use config::Config;
 pub use counters::Counters;
 pub use photo::Photo;
 pub use rows::requests;
-pub use rw_ripq::{Policy, Shape, Trail};
+pub use rw_ripq::{Change, Policy, Shape, Trail};
 pub use rw_trace::Row;
 pub use rw_vt::{Event, NoMemory, Refusal};
 pub use undo::Undo;

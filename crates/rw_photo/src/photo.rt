@@ -1,5 +1,5 @@
 ghost use Rattle.std.specs.Prelude.{◌≡◌, ◌≤◌, IfOk, true, ◌<◌, ◌+◌, ◌^◌, ◌&&◌, nat_le, nat_lt};
-ghost use Rattle.rw_photo.specs.Cache.{IsWellFormed, is_edge, is_stored, shape_at, start};
+ghost use Rattle.rw_photo.specs.Cache.{IsWellFormed, is_edge, shape_at, start};
 ghost use Rattle.rw_photo.specs.Deeds.{HasDone};
 ghost use Rattle.rw_photo.specs.Events.{asked, filled, happening, is_origin, is_valid, object_of, origin_of, requested};
 
@@ -8,7 +8,7 @@ use crate::cache::CacheState;
 use crate::config::Config;
 use crate::counters::Counters;
 use crate::undo::Undo;
-use rw_ripq::Trail;
+use rw_ripq::Change;
 use rw_vt::{Event, Model as VtModel, NoMemory, Refusal};
 use std::alloc::Global;
 
@@ -19,12 +19,10 @@ pub struct Photo {
     pub config: Config,
 }
 
-/// What an event did to a cache, beside the change of its queue and of the requests that wait.
+/// What an event did to a cache, beside changing how many requests wait for its object.
 struct Deed {
-    /// What takes the change of the queue back.
-    trail: Trail,
-    /// What it counts.
-    counted: Counters,
+    /// What it did to the queue, and what it counts.
+    change: Change<Counters>,
     /// What it sends.
     send: Option<Event<Body>>,
 }
@@ -46,8 +44,12 @@ impl Photo {
         Photo { config }
     }
 
-    /// The state in which process `process` starts: an empty queue in the shape of its kind, nothing awaited, nothing sent,
-    /// nothing counted.
+    /// The state in which process `process` starts: an empty queue in the shape of its kind, nothing awaited, nothing
+    /// sent, nothing counted.
+    ///
+    /// # Errors
+    ///
+    /// `NoMemory` only where memory was refused.
     pub fn start(&self, alloc: Global, process: u32) -> Result<CacheState, NoMemory>
         requires { process < self.now.config.edges + self.now.config.origins }
         ensures state { IfOk result (λ s. s ≡ start self.now.config process) }
@@ -61,18 +63,21 @@ impl Photo {
         CacheState::new(alloc, shape)
     }
 
+    /// Whether a process is an edge.
     fn is_edge(&self, process: u32) -> bool
         ensures { result ≡ is_edge self.now.config process }
     {
         process < self.config.edges
     }
 
+    /// Whether a process is an origin.
     fn is_origin(&self, process: u32) -> bool
         ensures { result ≡ is_origin self.now.config process }
     {
         self.config.edges <= process && process < self.config.edges + self.config.origins
     }
 
+    /// The origin that is asked for an object.
     fn origin_of(&self, object: u64) -> u32
         ensures { result ≡ origin_of self.now.config object }
     {
@@ -80,8 +85,9 @@ impl Photo {
     }
 }
 
-/// What each event does to the cache that it goes to, beside counting; the event is valid there.
+/// What each event does to the cache that it goes to, but for what is counted and sent. The event is valid there.
 impl Photo {
+    /// Does what the event does, by its kind.
     fn happen(
         &self,
         alloc: Global,
@@ -93,7 +99,9 @@ impl Photo {
         requires fresh { state.old.queue.next < 2 ^ 62 }
         requires valid { is_valid self.now.config event.now ≡ true }
         requires here { event.now.to ≡ process }
-        ensures { IfOk result (λ deed. HasDone (happening self.now.config process state.old event.now.time event.now.body) state.old (object_of event.now.body) deed state.new) }
+        ensures { IfOk result (λ deed. HasDone
+            (happening self.now.config process state.old event.now.time event.now.body)
+            state.old (object_of event.now.body) deed state.new) }
     {
         let time = event.time;
         match event.body {
@@ -121,22 +129,20 @@ impl Photo {
         requires fresh { state.old.queue.next < 2 ^ 62 }
         requires early { time < 2 ^ 40 }
         requires process { process < self.now.config.edges }
-        ensures { IfOk result (λ deed. HasDone (requested self.now.config process state.old time object size (is_stored state.old object)) state.old object deed state.new) }
+        ensures { IfOk result (λ deed. HasDone
+            (requested self.now.config process state.old time object size)
+            state.old object deed state.new) }
     {
         if let Some(row) = state.row(object) {
-            let (trail, counted) = state.hit(alloc, self.config.policy, object, row)?;
             return Ok(Deed {
-                trail,
-                counted,
+                change: state.hit(alloc, self.config.policy, object, row)?,
                 send: None,
             });
         }
-        let trail = Trail::new(alloc);
         if let Some(others) = state.waiting(object) {
             state.set_waiting(object, Some(others.wrapping_add(1)))?;
             return Ok(Deed {
-                trail,
-                counted: Counters::of_coalesced(),
+                change: Change::new(alloc, Counters::of_coalesced()),
                 send: None,
             });
         }
@@ -148,14 +154,13 @@ impl Photo {
         };
         let origin = self.origin_of(object);
         Ok(Deed {
-            trail,
-            counted: Counters::default().with_miss(),
+            change: Change::new(alloc, Counters::default().with_miss()),
             send: Some(state.sending(process, time + self.config.up, origin, question)),
         })
     }
 
-    /// A miss at an origin. A hit promotes its object; what the origin lacks is fetched from the backend and stored. The
-    /// edge is sent a fill.
+    /// A miss at an origin. A hit promotes its object; what the origin lacks is fetched from the backend and stored.
+    /// The edge is sent a fill.
     fn miss(
         &self,
         alloc: Global,
@@ -171,7 +176,9 @@ impl Photo {
         requires early { time < 2 ^ 40 }
         requires process { process < self.now.config.edges + self.now.config.origins }
         requires some { 1 ≤ size }
-        ensures { IfOk result (λ deed. HasDone (asked self.now.config process state.old time object size edge (is_stored state.old object)) state.old object deed state.new) }
+        ensures { IfOk result (λ deed. HasDone
+            (asked self.now.config process state.old time object size edge)
+            state.old object deed state.new) }
     {
         let Config {
             policy,
@@ -181,17 +188,18 @@ impl Photo {
         } = self.config;
         let answer = Body::Fill { object, size };
         if let Some(row) = state.row(object) {
-            let (trail, counted) = state.hit(alloc, policy, object, row)?;
+            let change = state.hit(alloc, policy, object, row)?;
             return Ok(Deed {
-                trail,
-                counted,
+                change,
                 send: Some(state.sending(process, time + down, edge, answer)),
             });
         }
-        let (trail, counted) = state.store(alloc, policy, object, size)?;
+        let Change { trail, counts } = state.store(alloc, policy, object, size)?;
         Ok(Deed {
-            trail,
-            counted: counted.with_miss(),
+            change: Change {
+                trail,
+                counts: counts.with_miss(),
+            },
             send: Some(state.sending(process, time + down + back, edge, answer)),
         })
     }
@@ -208,18 +216,22 @@ impl Photo {
         requires well_formed { IsWellFormed self.now.config process state.old }
         requires fresh { state.old.queue.next < 2 ^ 62 }
         requires some { 1 ≤ size }
-        ensures { IfOk result (λ deed. HasDone (filled self.now.config state.old object size (is_stored state.old object)) state.old object deed state.new) }
+        ensures { IfOk result (λ deed. HasDone
+            (filled self.now.config state.old object size)
+            state.old object deed state.new) }
     {
         let answered = state.waiting(object).unwrap_or(0);
-        let (trail, counted) = if state.is_stored(object) {
-            (Trail::new(alloc), Counters::default())
+        let Change { trail, counts } = if state.is_stored(object) {
+            Change::new(alloc, Counters::default())
         } else {
             state.store(alloc, self.config.policy, object, size)?
         };
         state.set_waiting(object, None)?;
         Ok(Deed {
-            trail,
-            counted: counted.with_late(answered),
+            change: Change {
+                trail,
+                counts: counts.with_late(answered),
+            },
             send: None,
         })
     }
@@ -258,9 +270,10 @@ impl VtModel for Photo {
 
     ghost Links = { λ _ _ before e undo after. TakesBack before e undo after };
 
-    ghost weight = { λ undo. length undo.trail };
+    ghost weight = { λ undo. length undo.change.trail };
 
-    ghost weight_bound = { λ _ _ before after. 8 + 4 * moved_rows before.queue after.queue + gone_blocks before.queue after.queue };
+    ghost weight_bound = { λ _ _ before after.
+        8 + 4 * moved_rows before.queue after.queue + gone_blocks before.queue after.queue };
 
     fn processes(&self) -> u32 {
         self.config.edges + self.config.origins
@@ -295,24 +308,18 @@ impl VtModel for Photo {
         if self.exhausted(state) {
             return Err(Refusal::Exhausted);
         }
-        let before = state.waiting(event.body.object());
-        let Deed {
-            trail,
-            counted,
-            send,
-        } = self.happen(alloc, process, state, event)?;
+        let waiting = state.waiting(event.body.object());
+        let Deed { change, send } = self.happen(alloc, process, state, event)?;
         let sent = send.is_some();
-        state.count(&counted);
+        state.count(&change.counts);
         state.count_send(sent);
         if let Some(event) = send {
             out.push(event)?;
         }
         Ok(Undo {
-            trail,
-            counted,
+            change,
             sent,
-            awaited: before.is_some(),
-            waiting: before.unwrap_or(0),
+            waiting,
         })
     }
 
@@ -325,17 +332,14 @@ impl VtModel for Photo {
         undo: Undo,
     ) -> Result<(), NoMemory> {
         let Undo {
-            trail,
-            counted,
+            change: Change { trail, counts },
             sent,
-            awaited,
             waiting,
         } = undo;
         state.rewind(trail)?;
-        state.take_off(&counted);
+        state.take_off(&counts);
         state.take_send_back(sent);
-        let before = if awaited { Some(waiting) } else { None };
-        state.set_waiting(event.body.object(), before)
+        state.set_waiting(event.body.object(), waiting)
     }
 
     ghost ranges = { λ m. valid_ranges m.config };

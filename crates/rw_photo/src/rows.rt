@@ -12,9 +12,14 @@ use std::alloc::Global;
 /// The requests of a trace, in its order: row n is event number n from outside.
 ///
 /// Rows in the ranges of a trace of the configuration's edges give valid events.
+///
+/// # Errors
+///
+/// `NoMemory` only where memory was refused.
 pub fn requests(alloc: Global, rows: &[Row]) -> Result<Vec<Event<Body>>, NoMemory>
     ensures events { IfOk result (λ es. es.items ≡ map_from 0 request_of rows.now) }
-    ensures valid { IfOk result (λ es. (c : Config) → All (IsRow c.edges) rows.now → All (λ e. is_valid c e ≡ true) es.items) }
+    ensures valid { IfOk result (λ es. (c : Config)
+        → All (IsRow c.edges) rows.now → All (λ e. is_valid c e ≡ true) es.items) }
 {
     let mut events = Vec::with_capacity(alloc, rows.len())?;
     for (number, row) in rows.iter().enumerate() {

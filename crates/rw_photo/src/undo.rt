@@ -1,18 +1,14 @@
 use crate::counters::Counters;
-use rw_ripq::Trail;
+use rw_ripq::Change;
 
-/// What takes one event back (reverse computation: Carothers, Perumalla and Fujimoto 1999): what it did is undone, and only
-/// what it destroyed is kept here.
+/// What takes one event back (reverse computation: Carothers, Perumalla and Fujimoto 1999): the marks that undo what
+/// it did, and only those numbers that it destroyed.
 #[derive(Drop)]
 pub struct Undo {
-    /// The marks of what the event did to the queue, by which that is undone.
-    pub trail: Trail,
-    /// What it counted.
-    pub counted: Counters,
+    /// What the event did to the queue, and what it counted.
+    pub change: Change<Counters>,
     /// Whether it sent an event.
     pub sent: bool,
-    /// Whether its object was awaited before it.
-    pub awaited: bool,
-    /// How many requests waited for the object then; 0 where it was not awaited.
-    pub waiting: u64,
+    /// How many requests waited for its object before the event, where it was awaited.
+    pub waiting: Option<u64>,
 }

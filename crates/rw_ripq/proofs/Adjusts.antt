@@ -4,20 +4,20 @@ use Rattle.std.specs.Prelude.{Option, Some, None, nat_lt}
 use Rattle.std.proofs.lemmas.Bool.{ltb-true}
 use Rattle.std.specs.Ordering.{nat_cmp}
 use Rattle.std.specs.BTreeMap.{insert_entry}
-use Rattle.rw_blocks.proofs.Kept.{IsLoose-after_add}
-use Rattle.rw_blocks.proofs.Moved.{IsLoose-after_merge, IsLoose-after_split}
+use Rattle.rw_blocks.proofs.Cited.{IsLoose-after_add, IsLoose-after_merge, IsLoose-after_split}
 use Rattle.rw_blocks.specs.Loose.{IsLoose}
 use Rattle.rw_blocks.specs.State.{QueueState, active_of, section_at}
 use Rattle.rw_blocks.specs.Sums.{bytes_held, total}
 use Rattle.rw_blocks.specs.declared.Kind.TheVariants.{Device}
 use Rattle.rw_blocks.specs.declared.Place.{Place}
+use Rattle.rw_ripq.proofs.Cases.{adjust_unless, split_if}
 use Rattle.rw_ripq.proofs.Found.{heavy_section-there, light_pair-there}
 use Rattle.rw_ripq.proofs.Reputs.{IsLoose-with_room, row-with_room}
 use Rattle.rw_ripq.proofs.Rooms.{fits-with_room, rows-with_room, sections-with_room, shape-with_room}
 use Rattle.rw_ripq.proofs.Walks.{KeepsBy, evict-keeps, evict-loose}
-use Rattle.rw_ripq.specs.Adjust.{adjust, heavy_section, light_pair, merge, merge_at, merge_once, split, split_at, split_if}
+use Rattle.rw_ripq.specs.Adjust.{adjust, heavy_section, light_pair, merge, merge_at, merge_once, split, split_at}
 use Rattle.rw_ripq.specs.Evict.{evict}
-use Rattle.rw_ripq.specs.Insert.{adjust_unless, insert_at}
+use Rattle.rw_ripq.specs.Insert.{insert_at}
 use Rattle.rw_ripq.specs.Record.{IsInsertable}
 use Rattle.rw_ripq.specs.Put.{is_room, put_new, with_room}
 use Rattle.rw_ripq.specs.Work.{Work, no_tally}

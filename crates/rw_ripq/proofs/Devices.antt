@@ -3,13 +3,14 @@ use Rattle.std.proofs.Common.{◌≡◌, ℕ, ◌+◌, ◌/◌, ◌≤◌, ◌<�
 use Rattle.std.specs.Prelude.{Option, Some, None, nat_lt, remove}
 use Rattle.std.proofs.lemmas.Bool.{ltb-true, ltb-false, and_parts}
 use Rattle.std.proofs.lemmas.List.Sums.{sum_by-cons, sum_by-set, sum_by-insert, sum_by-remove, sum_by-take-drop, count_by-le-length}
-use Rattle.rw_blocks.proofs.Moved.{IsLoose-after_merge}
+use Rattle.rw_blocks.proofs.Cited.{IsLoose-after_merge}
 use Rattle.rw_blocks.specs.Loose.{IsLoose, devices_in, is_sealed_virtual, sealed_devices}
 use Rattle.rw_blocks.specs.Primitives.{after_replace, after_split, section_sealing}
 use Rattle.rw_blocks.specs.State.{QueueState, SectionState, no_section, row_or, section_at}
 use Rattle.rw_blocks.specs.Sums.{is_kind}
 use Rattle.rw_blocks.specs.declared.Kind.{Kind}
 use Rattle.rw_blocks.specs.declared.Kind.TheVariants.{Device, Virtual}
+use Rattle.rw_ripq.proofs.Cases.{adjust_unless, moved_unless, seal_unless, split_if, without_block_if}
 use Rattle.rw_ripq.proofs.Adjusts.{IsLoose-put_new, start, written}
 use Rattle.rw_ripq.specs.Record.{IsInsertable}
 use Rattle.rw_ripq.proofs.Basics.{by_bool}
@@ -18,12 +19,12 @@ use Rattle.rw_ripq.proofs.Folds.{measure}
 use Rattle.rw_ripq.proofs.Found.{heavy_section-there, light_pair-there}
 use Rattle.rw_ripq.proofs.Measures.{sealed-there, sealed-virtual-there}
 use Rattle.rw_ripq.proofs.Walks.{Keeps, evict-loose, throughout}
-use Rattle.rw_ripq.specs.Adjust.{adjust, heavy_section, light_pair, merge, merge_at, merge_once, split_at, split_if}
+use Rattle.rw_ripq.specs.Adjust.{adjust, heavy_section, light_pair, merge, merge_at, merge_once, split_at}
 use Rattle.rw_ripq.specs.Evict.{evict, evict_last, evict_within, is_over}
-use Rattle.rw_ripq.specs.Insert.{adjust_unless, insert_at}
-use Rattle.rw_ripq.specs.Promote.{is_active_in, moved_unless, promote_to}
-use Rattle.rw_ripq.specs.Put.{is_room, seal_unless, with_room}
-use Rattle.rw_ripq.specs.Sealed.{cleared, is_emptied, is_sealed, sealed_blocks, sealed_position, sealed_section, without_block, without_block_if}
+use Rattle.rw_ripq.specs.Insert.{insert_at}
+use Rattle.rw_ripq.specs.Promote.{is_active_in, promote_to}
+use Rattle.rw_ripq.specs.Put.{is_room, with_room}
+use Rattle.rw_ripq.specs.Sealed.{cleared, is_emptied, is_sealed, sealed_blocks, sealed_position, sealed_section, without_block}
 use Rattle.rw_ripq.specs.Work.{Work}
 
 -- ---- an eviction ends because it is done

@@ -12,9 +12,7 @@ use Rattle.std.proofs.lemmas.Bool.{eq-eqb, eqb-false, ltb-true}
 use Rattle.std.proofs.lemmas.Map.Keys.{sorted_head, sorted_tail}
 use Rattle.std.proofs.lemmas.List.Sums.{sum_by-cons}
 use Rattle.std.proofs.lemmas.List.Elements.{All-from_recursion}
-use Rattle.rw_blocks.proofs.Grown.{at_block, count_in-cons}
-use Rattle.rw_blocks.proofs.Kept.{IsLoose-after_remove}
-use Rattle.rw_blocks.proofs.Moved.{IsLoose-after_take_out}
+use Rattle.rw_blocks.proofs.Cited.{IsLoose-after_remove, IsLoose-after_take_out, at_block, count_in-cons}
 use Rattle.rw_blocks.specs.Loose.{IsFree, IsLoose, count, count_in, sealed_devices}
 use Rattle.rw_blocks.specs.Primitives.{after_remove}
 use Rattle.rw_blocks.specs.Questions.{last_block, last_from, last_or}

@@ -4,7 +4,7 @@ use Rattle.std.specs.Prelude.{sum_by, drop}
 use Rattle.rw_blocks.specs.State.{QueueState, section_at}
 use Rattle.rw_blocks.specs.Sums.{bytes, below, bytes_in}
 use Rattle.rw_blocks.specs.Loose.{IsLoose}
-use Rattle.rw_blocks.proofs.Sums.{bytes_in-le-total}
+use Rattle.rw_blocks.proofs.Cited.{bytes_in-le-total}
 use Rattle.std.proofs.lemmas.Nat.{mul-le}
 use Rattle.std.proofs.Common.{get_or, length-drop}
 use Rattle.std.proofs.lemmas.List.Sums.{sum_by-le}

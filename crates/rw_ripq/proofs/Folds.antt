@@ -6,19 +6,20 @@ use Rattle.std.specs.Map.{values_of}
 use Rattle.std.proofs.lemmas.Bool.{ne_eqb, eqb-true, and_parts}
 use Rattle.std.proofs.lemmas.Map.Views.{All-values-insert_entry}
 use Rattle.std.specs.BTreeMap.{insert_entry}
-use Rattle.rw_blocks.proofs.Kept.{of_row}
+use Rattle.rw_blocks.proofs.Cited.{of_row}
 use Rattle.rw_blocks.specs.Loose.{IsLoose, IsPlaced, count, is_sealed_virtual}
 use Rattle.rw_blocks.specs.State.{QueueState, no_place, row_at, row_or, section_at}
 use Rattle.rw_blocks.specs.Sums.{rows_placed}
 use Rattle.rw_blocks.specs.declared.Kind.TheVariants.{Device, Virtual}
 use Rattle.rw_blocks.specs.declared.Place.{Place}
+use Rattle.rw_ripq.proofs.Cases.{reinserted, reinserted_from, seal_unless, without_block_if}
 use Rattle.rw_ripq.proofs.Measures.{displaced-after_rehome, displaced-with_room, sealed-there, sealed-virtual-there}
 use Rattle.rw_ripq.proofs.Reputs.{IsLoose-cleared, IsLoose-put_again, IsLoose-with_room, measure-put_again, row-with_room, rows-cleared, sealed_blocks-cleared, section-there}
 use Rattle.rw_ripq.proofs.Rooms.{rows-with_room, sections-with_room}
 use Rattle.rw_ripq.proofs.Turns.{active-not-sealed, first-there, others-left, sealed_count-after_seal, sealed_count-after_take_out}
-use Rattle.rw_ripq.specs.Evict.{displaced, objects_homed, reinsert, reinserted, reinserted_from, section_with}
-use Rattle.rw_ripq.specs.Put.{is_room, put_again, seal_unless, with_room}
-use Rattle.rw_ripq.specs.Sealed.{cleared, sealed_blocks, sealed_position, sealed_section, without_block_if}
+use Rattle.rw_ripq.specs.Evict.{displaced, objects_homed, reinsert}
+use Rattle.rw_ripq.specs.Put.{is_room, put_again, with_room}
+use Rattle.rw_ripq.specs.Sealed.{cleared, sealed_blocks, sealed_position, sealed_section, section_with}
 use Rattle.rw_ripq.specs.Victim.{IsVictim, sealed_count}
 use Rattle.rw_ripq.specs.Work.{Work}
 

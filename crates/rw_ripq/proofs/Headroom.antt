@@ -11,9 +11,10 @@ use Rattle.rw_blocks.specs.State.{QueueState, row_at, row_or}
 use Rattle.rw_blocks.specs.Sums.{total}
 use Rattle.rw_blocks.specs.Loose.{IsLoose, IsSized}
 use Rattle.rw_blocks.specs.Primitives.{after_remove}
-use Rattle.rw_blocks.proofs.Kept.{of_row}
+use Rattle.rw_blocks.proofs.Cited.{IsLoose-after_merge, of_row}
+use Rattle.rw_ripq.specs.Sealed.{section_with}
 use Rattle.rw_ripq.specs.Work.{Work, one_if}
-use Rattle.rw_ripq.specs.Evict.{evict, objects_homed, reinsert, section_with}
+use Rattle.rw_ripq.specs.Evict.{evict, objects_homed, reinsert}
 use Rattle.rw_ripq.specs.Put.{is_room}
 use Rattle.rw_blocks.specs.declared.Kind.TheVariants.{Device}
 use Rattle.rw_ripq.specs.Victim.{IsVictim}
@@ -23,7 +24,6 @@ use Rattle.rw_ripq.proofs.Folds.{Reput, reinsert-row}
 use Rattle.rw_ripq.proofs.Walks.{Keeps, left_one, evict-keeps, throughout}
 use Rattle.rw_ripq.proofs.Weights.{IsCount, keeps-count}
 use Rattle.rw_ripq.proofs.Found.{light_pair-there}
-use Rattle.rw_blocks.proofs.Moved.{IsLoose-after_merge}
 use Rattle.rw_ripq.specs.Adjust.{merge, merge_at, merge_once, light_pair, is_written}
 
 total-after_remove : (q : QueueState) (o : ℕ) (r : Place) → IsLoose q → row_at q o ≡ Some r → total (after_remove q o) + 1 ≤ total q

@@ -5,7 +5,7 @@ use Rattle.std.specs.List.{list_any}
 use Rattle.std.proofs.lemmas.Bool.{eq-eqb, or_cases}
 use Rattle.std.proofs.lemmas.List.{take-append-drop}
 use Rattle.std.proofs.lemmas.List.Sums.{sum_by-cons}
-use Rattle.rw_blocks.proofs.Grown.{at_block}
+use Rattle.rw_blocks.proofs.Cited.{at_block}
 use Rattle.rw_blocks.specs.Loose.{IsLoose, count_in}
 use Rattle.rw_blocks.specs.Primitives.{block_unless, section_joining}
 use Rattle.rw_blocks.specs.Questions.{last_from, last_or}

@@ -4,7 +4,7 @@ use Rattle.std.specs.Prelude.{Some, None}
 use Rattle.std.specs.List.{position_or_len}
 use Rattle.std.proofs.lemmas.Bool.{cases_lt, le-ltb}
 use Rattle.std.proofs.lemmas.List.Sums.{passes_at_first, get_or-le-sum_by}
-use Rattle.rw_blocks.proofs.Grown.{at_block}
+use Rattle.rw_blocks.proofs.Cited.{at_block}
 use Rattle.rw_blocks.specs.Loose.{IsLoose, count, count_in}
 use Rattle.rw_blocks.specs.Questions.{section_of}
 use Rattle.rw_blocks.specs.State.{QueueState, SectionState, blocks_of, no_section, row_at}

@@ -1,5 +1,6 @@
 pub mod Standing
 pub mod Basics
+pub mod Cases
 pub mod Found
 pub mod Rooms
 pub mod Leaves

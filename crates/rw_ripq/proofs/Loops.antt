@@ -6,7 +6,7 @@ use Rattle.rw_blocks.specs.State.{QueueState, row_at}
 use Rattle.rw_blocks.specs.Loose.{IsLoose}
 use Rattle.rw_blocks.specs.Primitives.{after_remove}
 use Rattle.rw_blocks.specs.Questions.{first_place, last_block}
-use Rattle.rw_blocks.proofs.Kept.{IsLoose-after_remove}
+use Rattle.rw_blocks.proofs.Cited.{IsLoose-after_remove}
 use Rattle.rw_ripq.specs.Work.{Work}
 use Rattle.rw_ripq.specs.Evict.{is_over, evict, evict_last, leave, objects_placed}
 use Rattle.rw_ripq.specs.Record.{HasHeadroom}

@@ -16,9 +16,10 @@ use Rattle.rw_blocks.specs.Sums.{has_serial, is_kind}
 use Rattle.rw_blocks.specs.declared.Kind.{Kind}
 use Rattle.rw_blocks.specs.declared.Kind.TheVariants.{Device, Virtual}
 use Rattle.rw_blocks.specs.declared.Place.{Place}
+use Rattle.rw_ripq.proofs.Cases.{seal_unless}
 use Rattle.rw_ripq.proofs.Basics.{by_bool}
 use Rattle.rw_ripq.specs.Evict.{displaced, without_rows}
-use Rattle.rw_ripq.specs.Put.{is_room, seal_unless, with_room}
+use Rattle.rw_ripq.specs.Put.{is_room, with_room}
 use Rattle.rw_ripq.specs.Sealed.{has_sealed, sealed_blocks, sealed_position, sealed_section, without_block}
 
 -- ---- the displaced rows

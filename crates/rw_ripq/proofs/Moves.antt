@@ -9,7 +9,7 @@ use Rattle.std.proofs.lemmas.List.Sums.{position_or_len_is}
 use Rattle.rw_blocks.specs.declared.Kind.{Kind}
 use Rattle.rw_blocks.specs.declared.Kind.TheVariants.{Device, Virtual}
 use Rattle.rw_blocks.specs.declared.Place.{Place}
-use Rattle.rw_blocks.proofs.Kept.{of_row}
+use Rattle.rw_blocks.proofs.Cited.{of_row}
 use Rattle.rw_ripq.proofs.Rooms.{fits-with_room, shape-with_room}
 use Rattle.rw_ripq.proofs.Reputs.{row-with_room, free-virtual, section_of-there, section_with-is, section-there}
 use Rattle.std.proofs.lemmas.List.Quantifiers.{position-Some}
@@ -26,9 +26,9 @@ use Rattle.std.proofs.lemmas.Map.Entries.{sum_by-remove_entry}
 use Rattle.rw_blocks.specs.Sums.{total}
 use Rattle.rw_ripq.specs.Work.{Work, work_of, one_if}
 use Rattle.rw_blocks.specs.Primitives.{after_rehome}
-use Rattle.rw_ripq.specs.Evict.{reinsert, section_with}
+use Rattle.rw_ripq.specs.Evict.{reinsert}
 use Rattle.rw_ripq.specs.Put.{is_room, with_room}
-use Rattle.rw_ripq.specs.Sealed.{is_emptied, is_sealed, cleared, has_sealed, sealed_position, sealed_section, without_block}
+use Rattle.rw_ripq.specs.Sealed.{is_emptied, is_sealed, cleared, has_sealed, sealed_position, sealed_section, without_block, section_with}
 
 pub row-small : (q : QueueState) (o : ℕ) (r : Place) → IsLoose q → row_at q o ≡ Some r → r.size ≤ q.shape.block
 row-small q o r loose is = (of_row q o r (IsSized q) loose.sizes is).1

@@ -3,22 +3,22 @@ use Rattle.std.proofs.Common.{◌≡◌, ℕ, ◌+◌, ◌≤◌, ◌<◌, List,
 use Rattle.std.specs.Prelude.{◌&&◌, insert, remove}
 use Rattle.std.specs.List.{list_any}
 use Rattle.std.proofs.lemmas.Bool.{eq-eqb, eqb-true, eqb-false, and_parts, cases_lt}
-use Rattle.rw_blocks.proofs.Grown.{at_block, count-after_seal, one, one-other}
-use Rattle.rw_blocks.proofs.Moved.{count-after_merge, count-after_split, count-after_take_out}
+use Rattle.rw_blocks.proofs.Cited.{at_block, count-after_merge, count-after_seal, count-after_split, count-after_take_out, one, one-other}
 use Rattle.rw_blocks.specs.Loose.{IsLoose, count, count_in, is_sealed_virtual}
 use Rattle.rw_blocks.specs.Primitives.{after_merge, after_seal, after_split, after_take_out, section_joining, section_sealing}
 use Rattle.rw_blocks.specs.State.{QueueState, SectionState, no_section, section_at}
 use Rattle.rw_blocks.specs.Sums.{bytes_held, has_block, has_serial, rows_placed}
 use Rattle.rw_blocks.specs.declared.Kind.{Kind}
 use Rattle.rw_blocks.specs.declared.Kind.TheVariants.{Device, Virtual}
+use Rattle.rw_ripq.proofs.Cases.{seal_unless, without_block_if}
 use Rattle.rw_ripq.proofs.Basics.{by_bool}
 use Rattle.rw_ripq.proofs.Behinds.{behind-device, behind-set, passes-after_remove, passes-sealed}
 use Rattle.rw_ripq.proofs.Joins.{Stays, behind-join, behind-split}
 use Rattle.rw_ripq.proofs.Measures.{any-counts, sealed-there, sealed-virtual-there}
 use Rattle.rw_ripq.proofs.Turns.{counts-all, either-kind, sum-above}
 use Rattle.rw_ripq.specs.Order.{Behind}
-use Rattle.rw_ripq.specs.Put.{is_room, seal_unless, with_room}
-use Rattle.rw_ripq.specs.Sealed.{cleared, has_sealed, sealed_position, sealed_section, without_block, without_block_if}
+use Rattle.rw_ripq.specs.Put.{is_room, with_room}
+use Rattle.rw_ripq.specs.Sealed.{cleared, has_sealed, sealed_position, sealed_section, without_block}
 
 -- no block has the serial, and none will
 abbrev pub Gone : ℕ → QueueState → Type 0

@@ -4,13 +4,14 @@ use Rattle.std.specs.Prelude.{Some, None, unwrap_or}
 use Rattle.std.specs.Ordering.{nat_cmp}
 use Rattle.std.specs.BTreeMap.{insert_entry}
 use Rattle.std.proofs.lemmas.Bool.{eq-eqb, ne_eqb, cases_eq}
-use Rattle.rw_blocks.proofs.Kept.{IsLoose-after_replace, of_row}
+use Rattle.rw_blocks.proofs.Cited.{IsLoose-after_replace, of_row}
 use Rattle.rw_blocks.specs.Loose.{IsLoose, IsSized, count}
 use Rattle.rw_blocks.specs.Primitives.{after_replace, section_sealing}
 use Rattle.rw_blocks.specs.State.{QueueState, SectionState, active_of, no_place, no_section, row_at, row_or, section_at}
 use Rattle.rw_blocks.specs.Sums.{bytes_held}
 use Rattle.rw_blocks.specs.declared.Kind.TheVariants.{Device, Virtual}
 use Rattle.rw_blocks.specs.declared.Place.{Place}
+use Rattle.rw_ripq.proofs.Cases.{moved, moved_unless, seal_unless}
 use Rattle.rw_ripq.proofs.Basics.{clash, none_some}
 use Rattle.rw_ripq.proofs.Behinds.{or-right}
 use Rattle.rw_ripq.proofs.Costs.{look-put}
@@ -20,8 +21,8 @@ use Rattle.rw_ripq.proofs.Rooms.{fits-with_room, rows-with_room, sections-with_r
 use Rattle.rw_ripq.proofs.Tails.{place-there}
 use Rattle.rw_ripq.specs.Laws.{KeepsHome, KeepsOthers}
 use Rattle.rw_ripq.specs.Order.{Behind, KeepsOrder}
-use Rattle.rw_ripq.specs.Promote.{is_active_in, moved, moved_unless, promote_to}
-use Rattle.rw_ripq.specs.Put.{is_room, seal_unless, with_room}
+use Rattle.rw_ripq.specs.Promote.{is_active_in, promote_to}
+use Rattle.rw_ripq.specs.Put.{is_room, with_room}
 
 kept-order : (old now : QueueState) → ((x c : ℕ) → Behind x c old.sections → Kept x c now) → KeepsOrder old now
 kept-order old now kept x y was b now-x now-y =

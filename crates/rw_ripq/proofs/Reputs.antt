@@ -7,9 +7,7 @@ use Rattle.std.specs.Map.{values_of, lookup}
 use Rattle.std.specs.BTreeMap.{is_at as is_key}
 use Rattle.std.proofs.lemmas.Bool.{eq-eqb, eqb-true, and_parts, cases_Bool, lt-ltb}
 use Rattle.std.proofs.lemmas.List.Sums.{sum_by-cons, get_or-le-sum_by, length-filter, fails_before_first}
-use Rattle.rw_blocks.proofs.Grown.{IsLoose-after_seal, at_block}
-use Rattle.rw_blocks.proofs.Kept.{IsLoose-after_rehome, of_row}
-use Rattle.rw_blocks.proofs.Moved.{IsLoose-after_take_out}
+use Rattle.rw_blocks.proofs.Cited.{IsLoose-after_rehome, IsLoose-after_seal, IsLoose-after_take_out, at_block, of_row}
 use Rattle.rw_blocks.specs.Loose.{IsFree, IsLoose, IsSized, count, count_in, is_sealed_virtual}
 use Rattle.rw_blocks.specs.Primitives.{after_rehome}
 use Rattle.rw_blocks.specs.Questions.{section_of}
@@ -18,11 +16,12 @@ use Rattle.rw_blocks.specs.Sums.{bytes_held, has_block, has_serial, rows_placed}
 use Rattle.rw_blocks.specs.declared.Kind.{Kind}
 use Rattle.rw_blocks.specs.declared.Kind.TheVariants.{Device}
 use Rattle.rw_blocks.specs.declared.Place.{Place}
+use Rattle.rw_ripq.proofs.Cases.{seal_unless, without_block_if}
 use Rattle.rw_ripq.proofs.Measures.{displaced-after_rehome, displaced-with_room, position-there, sealed-there, sealed-virtual-there, sealed_blocks-with_room, sealed_blocks-without_block, virtual-counts}
 use Rattle.rw_ripq.proofs.Rooms.{fits-with_room, rows-with_room, sections-with_room, shape-with_room}
-use Rattle.rw_ripq.specs.Evict.{displaced, section_with}
-use Rattle.rw_ripq.specs.Put.{is_room, put_again, seal_unless, with_room}
-use Rattle.rw_ripq.specs.Sealed.{cleared, sealed_blocks, sealed_position, sealed_section, without_block_if}
+use Rattle.rw_ripq.specs.Evict.{displaced}
+use Rattle.rw_ripq.specs.Put.{is_room, put_again, with_room}
+use Rattle.rw_ripq.specs.Sealed.{cleared, sealed_blocks, sealed_position, sealed_section, section_with}
 
 -- ---- a block that is cleared is free
 pub free-virtual : (q : QueueState) (b : ℕ) → IsLoose q → is_sealed_virtual q b ≡ true → length (rows_placed q b) ≡ 0 → IsFree q b

@@ -1,14 +1,15 @@
 -- After room is made the size fits.
 use Rattle.std.proofs.Common.{◌≡◌, ℕ, ◌+◌, ◌≤◌, ◌<◌, List, refl, ap, ◌∙◌, arith, Bool, true, false, length, set, get_or, length-set, get_or-set_same}
 use Rattle.std.proofs.lemmas.Bool.{leb-true}
-use Rattle.rw_blocks.proofs.Grown.{bytes_held-blocks, bytes_held-nowhere}
+use Rattle.rw_blocks.proofs.Cited.{bytes_held-blocks, bytes_held-nowhere}
 use Rattle.rw_blocks.specs.Loose.{IsLoose}
 use Rattle.rw_blocks.specs.Primitives.{after_seal, section_sealing}
 use Rattle.rw_blocks.specs.State.{QueueState, SectionState, active_of, no_section, section_at}
 use Rattle.rw_blocks.specs.Sums.{bytes_held}
 use Rattle.rw_blocks.specs.declared.Kind.{Kind}
 use Rattle.rw_blocks.specs.declared.Kind.TheVariants.{Device, Virtual}
-use Rattle.rw_ripq.specs.Put.{is_room, seal_unless, with_room}
+use Rattle.rw_ripq.proofs.Cases.{seal_unless}
+use Rattle.rw_ripq.specs.Put.{is_room, with_room}
 
 active-fresh : (K : Kind) (n : ℕ) (s : SectionState) → active_of K (section_sealing K n s) ≡ n
 active-fresh Device n s = refl

@@ -6,7 +6,7 @@ use Rattle.std.specs.Map.{values_of}
 use Rattle.std.proofs.lemmas.Bool.{eq-eqb, ne_eqb, cases_eq}
 use Rattle.std.proofs.lemmas.List.Sums.{sum_by-cons, sum_by-append, sum_by-le}
 use Rattle.std.proofs.lemmas.List.Elements.{recursion_from_All}
-use Rattle.rw_blocks.proofs.Kept.{bytes_held-is, weight}
+use Rattle.rw_blocks.proofs.Cited.{bytes_held-is, weight}
 use Rattle.rw_blocks.specs.Loose.{IsLoose, count, sealed_devices}
 use Rattle.rw_blocks.specs.State.{IsShape, QueueState, SectionState, blocks_of}
 use Rattle.rw_blocks.specs.Sums.{is_kind, total}

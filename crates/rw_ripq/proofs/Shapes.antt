@@ -3,15 +3,15 @@ use Rattle.std.proofs.Common.{◌≡◌, ℕ, ◌<◌, refl, ◌∙◌, Bool, tr
 use Rattle.rw_blocks.specs.Primitives.{after_replace}
 use Rattle.rw_blocks.specs.State.{QueueState, row_or}
 use Rattle.rw_blocks.specs.declared.Kind.TheVariants.{Device, Virtual}
+use Rattle.rw_ripq.proofs.Cases.{moved_unless, without_block_if}
 use Rattle.rw_ripq.proofs.Adjusts.{KeepsAll, insert-good}
 use Rattle.rw_ripq.proofs.Rooms.{shape-with_room}
 use Rattle.rw_ripq.proofs.Walks.{Keeps, Throughout, throughout}
-use Rattle.rw_ripq.specs.Evict.{section_with}
 use Rattle.rw_ripq.specs.Insert.{insert_at}
 use Rattle.rw_ripq.specs.Record.{IsInsertable}
-use Rattle.rw_ripq.specs.Promote.{is_active_in, moved_unless, promote_to}
+use Rattle.rw_ripq.specs.Promote.{is_active_in, promote_to}
 use Rattle.rw_ripq.specs.Put.{put_again, with_room}
-use Rattle.rw_ripq.specs.Sealed.{is_emptied, without_block_if}
+use Rattle.rw_ripq.specs.Sealed.{is_emptied, section_with}
 use Rattle.rw_ripq.specs.Work.{Work}
 
 shape-clear : (t : Bool) (q : QueueState) (b : ℕ) → (without_block_if t q b).shape ≡ q.shape

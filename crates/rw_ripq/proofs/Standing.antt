@@ -11,9 +11,7 @@ use Rattle.rw_blocks.specs.State.{QueueState, SectionState, no_section, section_
 use Rattle.rw_blocks.specs.Sums.{has_block, has_serial}
 use Rattle.rw_blocks.specs.Loose.{IsLoose, count_in}
 use Rattle.rw_blocks.specs.Questions.{section_of}
-use Rattle.rw_blocks.proofs.Serials.{serials-cons, kinds}
-use Rattle.rw_blocks.proofs.Present.{times, has-times}
-use Rattle.rw_blocks.proofs.Tagged.{absent_from-position}
+use Rattle.rw_blocks.proofs.Cited.{absent_from-position, has-times, kinds, serials-cons, times}
 use Rattle.rw_ripq.proofs.Moves.{stands-nowhere, position-none}
 use Rattle.rw_ripq.specs.Sealed.{has_sealed, is_sealed}
 use Rattle.rw_ripq.proofs.Basics.{by_bool}

@@ -5,8 +5,7 @@ use Rattle.std.specs.List.{list_any}
 use Rattle.std.specs.Ordering.{nat_cmp}
 use Rattle.std.specs.Map.{lookup}
 use Rattle.std.specs.BTreeMap.{insert_entry, is_at as is_key}
-use Rattle.rw_blocks.proofs.Kept.{of_row}
-use Rattle.rw_blocks.proofs.Moved.{IsLoose-after_merge, IsLoose-after_split}
+use Rattle.rw_blocks.proofs.Cited.{IsLoose-after_merge, IsLoose-after_split, of_row}
 use Rattle.rw_blocks.specs.Loose.{IsFree, IsHomed, IsLoose, IsPlaced, count}
 use Rattle.rw_blocks.specs.Primitives.{after_merge, after_split}
 use Rattle.rw_blocks.specs.Questions.{last_block}
@@ -16,6 +15,7 @@ use Rattle.rw_blocks.specs.declared.Kind.{Kind}
 use Rattle.rw_blocks.specs.declared.Kind.TheVariants.{Device, Virtual}
 use Rattle.rw_blocks.specs.declared.Place.{Place}
 use Rattle.rw_vt.proofs.Entries.{lookup-insert_entry}
+use Rattle.rw_ripq.proofs.Cases.{reinserted}
 use Rattle.rw_ripq.proofs.Adjusts.{IsLoose-put_new, KeepsAll, insert-good, put_row, rows-put_new, start}
 use Rattle.rw_ripq.specs.Record.{IsInsertable}
 use Rattle.rw_ripq.proofs.Basics.{none_some, some_is}
@@ -27,11 +27,10 @@ use Rattle.rw_ripq.proofs.Orders.{Gone, Kept, gone-after_merge, gone-after_split
 use Rattle.rw_ripq.proofs.Reputs.{IsLoose-cleared, IsLoose-put_again, rows-cleared, section-first, section-there}
 use Rattle.rw_ripq.proofs.Turns.{sealed_count-there}
 use Rattle.rw_ripq.proofs.Walks.{Keeps, Throughout, left_one, throughout}
-use Rattle.rw_ripq.specs.Evict.{reinserted, section_with}
 use Rattle.rw_ripq.specs.Insert.{insert_at}
 use Rattle.rw_ripq.specs.Order.{Behind, KeepsOrder, LeavesFromTail}
 use Rattle.rw_ripq.specs.Put.{is_room, put_again, put_new, with_room}
-use Rattle.rw_ripq.specs.Sealed.{cleared, has_sealed, without_block}
+use Rattle.rw_ripq.specs.Sealed.{cleared, has_sealed, without_block, section_with}
 use Rattle.rw_ripq.specs.Victim.{sealed_count}
 use Rattle.rw_ripq.specs.Work.{Work}
 

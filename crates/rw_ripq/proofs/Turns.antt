@@ -11,7 +11,7 @@ use Rattle.std.specs.BTreeMap.{insert_entry, is_at as is_key}
 use Rattle.std.proofs.lemmas.Bool.{eq-eqb, ne_eqb}
 use Rattle.std.proofs.lemmas.Map.Keys.{sorted_head, sorted_tail}
 use Rattle.std.proofs.lemmas.List.Sums.{sum_by-cons, sum_by-set, sum_by-remove, get_or-le-sum_by}
-use Rattle.rw_blocks.proofs.Grown.{at_block, count_in-cons, one}
+use Rattle.rw_blocks.proofs.Cited.{at_block, count_in-cons, one}
 use Rattle.rw_blocks.specs.Loose.{IsLoose, count_in}
 use Rattle.rw_blocks.specs.Primitives.{after_seal, after_take_out, section_sealing}
 use Rattle.rw_blocks.specs.State.{QueueState, SectionState, no_section, section_at}

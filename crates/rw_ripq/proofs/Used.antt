@@ -10,8 +10,7 @@ use Rattle.std.proofs.lemmas.Bool.{ne_eqb, eqb-false, cases_eq, cases_lt, leb-fa
 use Rattle.std.proofs.lemmas.List.Edits.{length-remove, get_or-remove_below}
 use Rattle.std.proofs.lemmas.List.Sums.{sum_by-cons, sum_by-append, sum_by-set, sum_by-insert, sum_by-remove, sum_by-take-drop, length-filter}
 use Rattle.std.proofs.lemmas.Map.Entries.{sum_by-insert_entry, sum_by-remove_entry}
-use Rattle.rw_blocks.proofs.Grown.{at_block, count_in-cons, one}
-use Rattle.rw_blocks.proofs.Moved.{one-kind}
+use Rattle.rw_blocks.proofs.Cited.{at_block, count_in-cons, one, one-kind}
 use Rattle.rw_blocks.specs.Loose.{IsLoose, count, count_in, is_sealed_virtual}
 use Rattle.rw_blocks.specs.Primitives.{after_merge, after_remove, after_seal, after_split, block_unless, section_joining, section_sealing}
 use Rattle.rw_blocks.specs.State.{QueueState, SectionState, no_section, row_at, section_at}
@@ -19,13 +18,14 @@ use Rattle.rw_blocks.specs.Sums.{bytes_held, is_block, rows_placed, size_of}
 use Rattle.rw_blocks.specs.declared.Kind.{Kind}
 use Rattle.rw_blocks.specs.declared.Kind.TheVariants.{Device, Virtual}
 use Rattle.rw_blocks.specs.declared.Place.{Place}
+use Rattle.rw_ripq.proofs.Cases.{seal_unless, without_block_if}
 use Rattle.rw_ripq.proofs.Basics.{by_bool, clash}
 use Rattle.rw_ripq.proofs.Falls.{sum-le}
 use Rattle.rw_ripq.proofs.Leaving.{without_block-gone}
 use Rattle.rw_ripq.proofs.Measures.{any-counts, sealed-there, sealed-virtual-there}
 use Rattle.rw_ripq.proofs.Orders.{Gone}
-use Rattle.rw_ripq.specs.Put.{is_room, seal_unless, with_room}
-use Rattle.rw_ripq.specs.Sealed.{cleared, is_emptied, is_sealed, sealed_position, sealed_section, without_block, without_block_if}
+use Rattle.rw_ripq.specs.Put.{is_room, with_room}
+use Rattle.rw_ripq.specs.Sealed.{cleared, is_emptied, is_sealed, sealed_position, sealed_section, without_block}
 
 -- ---- how many sealed virtual blocks have the serial
 abbrev pub virtuals_in : ℕ → SectionState → ℕ

@@ -3,7 +3,7 @@ use Rattle.std.proofs.Common.{◌≡◌, ℕ, ◌+◌, ◌≤◌, List, [], ◌�
 use Rattle.std.specs.Prelude.{Option, Some, None, fold, sum_by}
 use Rattle.std.specs.Map.{values_of}
 use Rattle.std.proofs.lemmas.Bool.{eqb-true}
-use Rattle.rw_blocks.proofs.Kept.{IsLoose-after_remove}
+use Rattle.rw_blocks.proofs.Cited.{IsLoose-after_remove}
 use Rattle.rw_blocks.specs.Loose.{IsFree, IsLoose, count, count_in}
 use Rattle.rw_blocks.specs.Primitives.{after_remove}
 use Rattle.rw_blocks.specs.Questions.{last_block}

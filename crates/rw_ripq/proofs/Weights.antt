@@ -7,11 +7,12 @@ use Rattle.std.specs.Map.{values_of}
 use Rattle.std.specs.BTreeMap.{insert_entry}
 use Rattle.std.proofs.lemmas.Bool.{eq-eqb}
 use Rattle.std.proofs.lemmas.Map.Entries.{sum_by-insert_entry}
-use Rattle.rw_blocks.proofs.Moved.{IsLoose-after_merge}
+use Rattle.rw_blocks.proofs.Cited.{IsLoose-after_merge}
 use Rattle.rw_blocks.specs.Loose.{IsLoose}
 use Rattle.rw_blocks.specs.State.{QueueState, row_at}
 use Rattle.rw_blocks.specs.declared.Kind.TheVariants.{Device}
 use Rattle.rw_blocks.specs.declared.Place.{Place}
+use Rattle.rw_ripq.proofs.Cases.{adjust_unless, split_if}
 use Rattle.rw_ripq.proofs.Adjusts.{IsGood, IsLoose-put_new, KeepsAll, evict-good, insert-good, put_row, rows-put_new, start, written}
 use Rattle.rw_ripq.specs.Record.{IsInsertable}
 use Rattle.rw_ripq.proofs.Basics.{some_is}
@@ -22,9 +23,9 @@ use Rattle.rw_ripq.proofs.Found.{light_pair-there}
 use Rattle.rw_ripq.proofs.Lines.{blocks-gone}
 use Rattle.rw_ripq.proofs.Measures.{unlike}
 use Rattle.rw_ripq.proofs.Walks.{Keeps, Throughout, evict-keeps, throughout}
-use Rattle.rw_ripq.specs.Adjust.{heavy_section, light_pair, merge, merge_at, merge_once, split_at, split_if}
+use Rattle.rw_ripq.specs.Adjust.{heavy_section, light_pair, merge, merge_at, merge_once, split_at}
 use Rattle.rw_ripq.specs.Evict.{displaced, evict}
-use Rattle.rw_ripq.specs.Insert.{adjust_unless, insert_at}
+use Rattle.rw_ripq.specs.Insert.{insert_at}
 use Rattle.rw_ripq.specs.Put.{is_room, put_new, with_room}
 use Rattle.rw_blocks.specs.declared.Mark.{Mark}
 use Rattle.rw_ripq.specs.Weight.{IsShort, Spends, gone_blocks, moved_rows}

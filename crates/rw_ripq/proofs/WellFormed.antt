@@ -1,13 +1,15 @@
 -- An insertion and a promotion leave a well-formed queue.
 use Rattle.std.proofs.Common.{◌≡◌, ℕ, ◌+◌, ◌/◌, ◌≤◌, ◌<◌, refl, sym, ap, subst, ◌∙◌, arith, Bool, true, false, length, inl, inr}
 use Rattle.std.specs.Prelude.{Some, unwrap_or}
-use Rattle.rw_blocks.proofs.Kept.{of_row}
+use Rattle.rw_blocks.proofs.Cited.{of_row}
 use Rattle.rw_blocks.specs.Loose.{IsLoose, IsPlaced, IsSized, IsWellFormedQueue, count, is_sealed_virtual}
 use Rattle.rw_blocks.specs.Primitives.{after_replace}
 use Rattle.rw_blocks.specs.State.{Limits, QueueState, no_place, row_at, row_or, section_at}
 use Rattle.rw_blocks.specs.Sums.{rows_placed}
 use Rattle.rw_blocks.specs.declared.Kind.TheVariants.{Device, Virtual}
 use Rattle.rw_blocks.specs.declared.Place.{Place}
+use Rattle.rw_ripq.proofs.Cases.{moved_unless, reinserted_from}
+use Rattle.rw_ripq.specs.Sealed.{section_with}
 use Rattle.rw_ripq.proofs.Adjusts.{KeepsAll, insert-good, put_row}
 use Rattle.rw_ripq.specs.Record.{IsInsertable}
 use Rattle.rw_ripq.proofs.Devices.{insert-devices, promote-devices}
@@ -18,9 +20,8 @@ use Rattle.rw_ripq.proofs.Shapes.{shape-moved}
 use Rattle.rw_ripq.proofs.Turns.{sealed_count-there}
 use Rattle.rw_ripq.proofs.Used.{Or, UsedBut, placed-length, used-added, used-after_merge, used-after_remove, used-after_split, used-cleared, used-device_room, used-virtual_room, used-without_block, used-written, virtual-some, virtual-there}
 use Rattle.rw_ripq.proofs.Walks.{KeepsBy}
-use Rattle.rw_ripq.specs.Evict.{reinserted_from, section_with}
 use Rattle.rw_ripq.specs.Insert.{insert_at}
-use Rattle.rw_ripq.specs.Promote.{is_active_in, moved_unless, promote_to}
+use Rattle.rw_ripq.specs.Promote.{is_active_in, promote_to}
 use Rattle.rw_ripq.specs.Put.{put_again, put_new, with_room}
 use Rattle.rw_ripq.specs.Work.{Work}
 

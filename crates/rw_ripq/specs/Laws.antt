@@ -1,4 +1,4 @@
--- What an insertion and a promotion leave of the state before.
+-- What an insertion and a promotion leave of the queue before.
 use Rattle.std.specs.Prelude.{◌≡◌, Some, None, ◌⊎◌}
 use Rattle.rw_blocks.specs.Words.{Object, Size}
 use Rattle.rw_blocks.specs.declared.Place.{Place}
@@ -7,22 +7,31 @@ use Rattle.rw_blocks.specs.Questions.{section_of}
 
 -- no row's size changes
 abbrev pub KeepsSizes : QueueState → QueueState → Type 0
-KeepsSizes old now = (o : Object) (r s : Place) → row_at old o ≡ Some r → row_at now o ≡ Some s → s.size ≡ r.size
+KeepsSizes before after =
+    (o : Object) (r r' : Place)
+    → row_at before o ≡ Some r → row_at after o ≡ Some r' → r'.size ≡ r.size
 
 -- no row comes but the object's, which has the size given
 abbrev pub AddsOnly : QueueState → Object → Size → QueueState → Type 0
-AddsOnly old object size now = (o : Object) (s : Place) → row_at old o ≡ None → row_at now o ≡ Some s → (o ≡ object) × (s.size ≡ size)
+AddsOnly before object size after =
+    (o : Object) (r : Place)
+    → row_at before o ≡ None → row_at after o ≡ Some r → (o ≡ object) × (r.size ≡ size)
 
--- of every row that left, the block of its old home or that of its old place is gone
+-- of each row that left, its home or its place before is gone
 abbrev pub LeavesWithBlock : QueueState → QueueState → Type 0
-LeavesWithBlock old now =
-    (o : Object) (r : Place) → row_at old o ≡ Some r → row_at now o ≡ None → (section_of now r.home ≡ None) ⊎ (section_of now r.place ≡ None)
+LeavesWithBlock before after =
+    (o : Object) (r : Place)
+    → row_at before o ≡ Some r → row_at after o ≡ None
+    → (section_of after r.home ≡ None) ⊎ (section_of after r.place ≡ None)
 
 -- the object keeps its size and its home
 abbrev pub KeepsHome : QueueState → Object → QueueState → Type 0
-KeepsHome old object now =
-    (r : Place) → row_at old object ≡ Some r → (s : Place) × (row_at now object ≡ Some s) × (s.size ≡ r.size) × (s.home ≡ r.home)
+KeepsHome before object after =
+    (r : Place)
+    → row_at before object ≡ Some r
+    → (r' : Place) × (row_at after object ≡ Some r') × (r'.size ≡ r.size) × (r'.home ≡ r.home)
 
 -- no row changes, comes or leaves but the object's
 abbrev pub KeepsOthers : QueueState → Object → QueueState → Type 0
-KeepsOthers old object now = (o : Object) → (o ≡ object → ⊥) → row_at now o ≡ row_at old o
+KeepsOthers before object after =
+    (o : Object) → (o ≡ object → ⊥) → row_at after o ≡ row_at before o

@@ -8,9 +8,9 @@ use Rattle.rw_blocks.specs.State.{QueueState, row_at, row_or}
 use Rattle.rw_blocks.specs.Sums.{total, bytes, below}
 use Rattle.rw_ripq.specs.declared.Policy.{Policy}
 use Rattle.rw_ripq.specs.declared.Policy.TheVariants.{Off, Lru, Slru3}
-use Rattle.rw_ripq.specs.Evict.{section_with}
+use Rattle.rw_ripq.specs.Sealed.{section_with}
 
--- 1 to 3: in which third of all bytes, counted from the tail, the section begins
+-- in which third of all bytes, counted from the tail, the section begins
 abbrev pub level_of_section : QueueState → Section → Level
 level_of_section q i = 1 + min 2 (3 * below q i / total q)
 
@@ -18,11 +18,11 @@ level_of_section q i = 1 + min 2 (3 * below q i / total q)
 abbrev pub level : QueueState → Object → Level
 level q o = level_of_section q (section_with q (row_or q o).place)
 
--- none where the object is not stored
+-- the same, and none where the object is not stored
 abbrev pub level_of : QueueState → Object → Option Level
 level_of q o = option_map (λ r. level_of_section q (section_with q r.place)) (row_at q o)
 
--- whether the section and those nearer the tail hold l thirds of all bytes
+-- whether the section and those nearer the tail together hold l thirds of all bytes
 abbrev pub reaches : QueueState → Level → Section → Bool
 reaches q l i = nat_le (l * total q) (3 * (bytes q i + below q i))
 
@@ -30,19 +30,20 @@ reaches q l i = nat_le (l * total q) (3 * (bytes q i + below q i))
 abbrev pub from_tail : QueueState → List Section
 from_tail q = reverse (range_with_len 0 (length q.sections))
 
--- of segmented LRU with three segments: the head for level 3, or the section nearest the tail that reaches the level
+-- under segmented LRU with three segments: the head for level 3, else the section nearest the tail that reaches it
 abbrev pub slru_target : QueueState → Level → Section
 slru_target q l = if nat_le 3 l then 0 else unwrap_or (find (reaches q l) (from_tail q)) 0
 
+-- the section that an object of the level goes to
 abbrev pub target : Policy → QueueState → Level → Section
 target Off q l = 0
 target Lru q l = 0
 target Slru3 q l = slru_target q l
 
--- a hit raises the level by one
+-- the level that a hit gives an object: under segmented LRU one more than it has
 abbrev pub hit_level : Policy → QueueState → Object → Level
 hit_level Slru3 q o = min 3 (level q o + 1)
 hit_level _ q o = 1
 
 abbrev pub hit_target : Policy → QueueState → Object → Section
-hit_target p q o = target p q (hit_level p q o)
+hit_target policy q o = target policy q (hit_level policy q o)

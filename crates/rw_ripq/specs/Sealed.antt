@@ -1,5 +1,5 @@
--- Where a sealed block stands, and the queue without it.
-use Rattle.std.specs.Prelude.{Bool, true, false, ◌&&◌, length, nat_eq, sum_by}
+-- Where a block stands, and the queue without a sealed one.
+use Rattle.std.specs.Prelude.{Bool, if◌then◌else◌, ◌&&◌, length, nat_eq, sum_by, unwrap_or}
 use Rattle.std.specs.List.{list_any, position_or_len}
 use Rattle.rw_vt.specs.Words.{Count, Position}
 use Rattle.rw_blocks.specs.Words.{Section, Serial}
@@ -7,7 +7,13 @@ use Rattle.rw_blocks.specs.State.{QueueState, SectionState, section_at}
 use Rattle.rw_blocks.specs.Sums.{has_serial, rows_placed}
 use Rattle.rw_blocks.specs.Loose.{is_sealed_virtual}
 use Rattle.rw_blocks.specs.Primitives.{after_take_out}
+use Rattle.rw_blocks.specs.Questions.{section_of}
 
+-- the section that has the block, the head where there is none
+abbrev pub section_with : QueueState → Serial → Section
+section_with q b = unwrap_or (section_of q b) 0
+
+-- whether the block is sealed: in a section, in the queue
 abbrev pub has_sealed : Serial → SectionState → Bool
 has_sealed b s = list_any (has_serial b) s.sealed
 
@@ -29,14 +35,10 @@ sealed_position q b = position_or_len (has_serial b) (section_at q (sealed_secti
 abbrev pub without_block : QueueState → Serial → QueueState
 without_block q b = after_take_out q (sealed_section q b) (sealed_position q b)
 
-abbrev pub without_block_if : Bool → QueueState → Serial → QueueState
-without_block_if true q b = without_block q b
-without_block_if false q b = q
-
 -- whether it is a sealed virtual block that no row has as its place
 abbrev pub is_emptied : QueueState → Serial → Bool
 is_emptied q b = is_sealed_virtual q b && nat_eq (length (rows_placed q b)) 0
 
 -- a sealed virtual block without rows is taken out
 abbrev pub cleared : QueueState → Serial → QueueState
-cleared q b = without_block_if (is_emptied q b) q b
+cleared q b = if is_emptied q b then without_block q b else q

@@ -1,4 +1,4 @@
--- A sealed device block whose rows are put again.
+-- For the contracts inside the crate: a sealed device block whose rows are put again.
 use Rattle.std.specs.Prelude.{◌≡◌, ◌≤◌, sum_by, count_by, All}
 use Rattle.std.specs.Map.{values_of}
 use Rattle.rw_vt.specs.Words.{Count}

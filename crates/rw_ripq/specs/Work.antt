@@ -8,12 +8,15 @@ pub record Work : Type 0 where
   pub queue : QueueState
   pub tally : Tally
 
+-- nothing counted yet
 abbrev pub no_tally : Tally
 no_tally = record { evicted = 0; reinserted = 0; writes = 0; splits = 0; merges = 0 }
 
+-- the queue before an operation
 abbrev pub untouched : QueueState → Work
 untouched q = record { queue = q; tally = no_tally }
 
+-- 1 where the test holds
 abbrev pub one_if : Bool → Count
 one_if true = 1
 one_if false = 0

@@ -3,14 +3,16 @@ ghost use Rattle.std.specs.Prelude.{◌≡◌, ◌<◌, ◌+◌, ◌^◌, length
 ghost use Rattle.rw_blocks.specs.Loose.{IsLoose};
 ghost use Rattle.rw_ripq.specs.Work.{work_of};
 ghost use Rattle.rw_ripq.specs.Adjust.{is_light, light_pair, is_heavy, heavy_section, merge_once, split_once, adjust};
-ghost use Rattle.rw_ripq.specs.Record.{Recorded, HasHeadroom};
+ghost use Rattle.rw_ripq.specs.Record.{Extends, HasHeadroom};
 
 use crate::eviction::evict;
-use crate::putting::{Log, count_write};
+use crate::putting::count_write;
+use crate::{Change, Tally};
 use rw_blocks::{Kind, Queue};
 use rw_vt::NoMemory;
 
-/// Whether the section and the next one towards the tail hold few bytes.
+/// Whether the section and the next one towards the tail together hold less than one share of all bytes, of which there
+/// are as many as there may be sections.
 fn is_light(queue: &Queue, section: usize) -> bool
     requires loose { IsLoose queue.now }
     requires there { section + 1 < length queue.now.sections }
@@ -20,7 +22,7 @@ fn is_light(queue: &Queue, section: usize) -> bool
     (queue.bytes(section) + queue.bytes(section + 1)) * sections < queue.total()
 }
 
-/// The first such pair from the head.
+/// The first such pair, counted from the head, by its upper section.
 fn light_pair(queue: &Queue) -> Option<usize>
     requires { IsLoose queue.now }
     ensures { result ≡ light_pair queue.now }
@@ -28,7 +30,7 @@ fn light_pair(queue: &Queue) -> Option<usize>
     (0..queue.sections() - 1).find(|section| is_light(queue, *section))
 }
 
-/// Whether the section holds many bytes, and at least two sealed blocks.
+/// Whether the section holds more than two shares of all bytes, and at least two sealed blocks.
 fn is_heavy(queue: &Queue, section: usize) -> bool
     requires loose { IsLoose queue.now }
     requires there { section < length queue.now.sections }
@@ -38,7 +40,7 @@ fn is_heavy(queue: &Queue, section: usize) -> bool
     2 * queue.total() < queue.bytes(section) * sections && queue.sealed(section) >= 2
 }
 
-/// The first such section from the head.
+/// The first such section, counted from the head.
 fn heavy_section(queue: &Queue) -> Option<usize>
     requires { IsLoose queue.now }
     ensures { result ≡ heavy_section queue.now }
@@ -46,13 +48,14 @@ fn heavy_section(queue: &Queue) -> Option<usize>
     (0..queue.sections()).find(|section| is_heavy(queue, *section))
 }
 
-/// Merges the first two neighbours with few bytes, if any, and evicts.
-fn merge_once(queue: &mut Queue, log: &mut Log) -> Result<(), NoMemory>
+/// Merges the first pair of neighbours with few bytes, if there is one, and evicts.
+fn merge_once(queue: &mut Queue, change: &mut Change<Tally>) -> Result<(), NoMemory>
     requires loose { IsLoose queue.old }
-    requires headroom { HasHeadroom (work_of queue.old log.old.tally) }
-    requires first { log.old.tally.merges ≡ 0 }
-    ensures effect { OnOk result (work_of queue.new log.new.tally ≡ merge_once (work_of queue.old log.old.tally)) }
-    ensures trail { OnOk result (Recorded log.old.trail (work_of queue.old log.old.tally) log.new.trail (work_of queue.new log.new.tally)) }
+    requires headroom { HasHeadroom (work_of queue.old change.old.counts) }
+    requires first { change.old.counts.merges ≡ 0 }
+    ensures effect { OnOk result (work_of queue.new change.new.counts
+        ≡ merge_once (work_of queue.old change.old.counts)) }
+    ensures trail { OnOk result (Extends queue.old change.old queue.new change.new) }
     ensures kept { OnOk result (IsLoose queue.new) }
 {
     let Some(section) = light_pair(queue) else {
@@ -60,20 +63,21 @@ fn merge_once(queue: &mut Queue, log: &mut Log) -> Result<(), NoMemory>
     };
     let written = queue.fill(queue.active(section + 1, Kind::Device)) > 0;
     let mark = queue.merge(section)?;
-    log.trail.push(mark)?;
-    log.tally.merges += 1;
-    count_write(&mut log.tally, written);
-    evict(queue, log)?;
+    change.trail.push(mark)?;
+    change.counts.merges += 1;
+    count_write(&mut change.counts, written);
+    evict(queue, change)?;
     Ok(())
 }
 
-/// Splits the first section with many bytes, if any and if there are fewer sections than the shape allows.
-fn split_once(queue: &mut Queue, log: &mut Log) -> Result<(), NoMemory>
+/// Splits the first section with many bytes, if there is one and the shape allows one section more.
+fn split_once(queue: &mut Queue, change: &mut Change<Tally>) -> Result<(), NoMemory>
     requires loose { IsLoose queue.old }
     requires fresh { queue.old.next + 1 < 2 ^ 63 }
-    requires first { log.old.tally.splits ≡ 0 }
-    ensures effect { OnOk result (work_of queue.new log.new.tally ≡ split_once (work_of queue.old log.old.tally)) }
-    ensures trail { OnOk result (Recorded log.old.trail (work_of queue.old log.old.tally) log.new.trail (work_of queue.new log.new.tally)) }
+    requires first { change.old.counts.splits ≡ 0 }
+    ensures effect { OnOk result (work_of queue.new change.new.counts
+        ≡ split_once (work_of queue.old change.old.counts)) }
+    ensures trail { OnOk result (Extends queue.old change.old queue.new change.new) }
     ensures kept { OnOk result (IsLoose queue.new) }
 {
     let (sections, _, _) = queue.shape();
@@ -84,23 +88,25 @@ fn split_once(queue: &mut Queue, log: &mut Log) -> Result<(), NoMemory>
         return Ok(());
     };
     let mark = queue.split(section, queue.sealed(section).div_ceil(2))?;
-    log.trail.push(mark)?;
-    log.tally.splits += 1;
+    change.trail.push(mark)?;
+    change.counts.splits += 1;
     Ok(())
 }
 
-/// What follows a put that sealed a device block.
-pub fn adjust(queue: &mut Queue, log: &mut Log) -> Result<(), NoMemory>
+/// Adjusts the queue after a put that sealed a device block: evicts, merges at most one pair of sections, evicts
+/// again, and splits at most one section.
+pub fn adjust(queue: &mut Queue, change: &mut Change<Tally>) -> Result<(), NoMemory>
     requires loose { IsLoose queue.old }
-    requires headroom { HasHeadroom (work_of queue.old log.old.tally) }
-    requires merges { log.old.tally.merges ≡ 0 }
-    requires splits { log.old.tally.splits ≡ 0 }
-    ensures effect { OnOk result (work_of queue.new log.new.tally ≡ adjust (work_of queue.old log.old.tally)) }
-    ensures trail { OnOk result (Recorded log.old.trail (work_of queue.old log.old.tally) log.new.trail (work_of queue.new log.new.tally)) }
+    requires headroom { HasHeadroom (work_of queue.old change.old.counts) }
+    requires merges { change.old.counts.merges ≡ 0 }
+    requires splits { change.old.counts.splits ≡ 0 }
+    ensures effect { OnOk result (work_of queue.new change.new.counts
+        ≡ adjust (work_of queue.old change.old.counts)) }
+    ensures trail { OnOk result (Extends queue.old change.old queue.new change.new) }
     ensures kept { OnOk result (IsLoose queue.new) }
 {
-    evict(queue, log)?;
-    merge_once(queue, log)?;
-    split_once(queue, log)?;
+    evict(queue, change)?;
+    merge_once(queue, change)?;
+    split_once(queue, change)?;
     Ok(())
 }

@@ -7,81 +7,87 @@ ghost use Rattle.rw_blocks.specs.Questions.{last_block};
 ghost use Rattle.rw_ripq.specs.Work.{work_of};
 ghost use Rattle.rw_ripq.specs.Evict.{leave, objects_placed, objects_homed, reinsert, evict_last, is_over, evict};
 ghost use Rattle.rw_ripq.specs.Victim.{IsVictim};
-ghost use Rattle.rw_ripq.specs.Record.{Recorded, HasHeadroom};
+ghost use Rattle.rw_ripq.specs.Record.{Extends, HasHeadroom};
 
-use crate::putting::{Log, count_write, make_room};
+use crate::putting::{count_write, make_room};
 use crate::sealed::{clear, take_out};
+use crate::{Change, Tally};
 use rw_blocks::{Kind, Queue};
 use rw_vt::NoMemory;
 
-/// Lets the objects go whose place is the block.
-fn leave(queue: &mut Queue, log: &mut Log, block: u64) -> Result<(), NoMemory>
+/// Removes the objects whose place is the block, and counts them as evicted.
+fn leave(queue: &mut Queue, change: &mut Change<Tally>, block: u64) -> Result<(), NoMemory>
     requires loose { IsLoose queue.old }
-    requires headroom { HasHeadroom (work_of queue.old log.old.tally) }
-    ensures effect { OnOk result (work_of queue.new log.new.tally ≡ leave (work_of queue.old log.old.tally) (objects_placed queue.old block)) }
-    ensures trail { OnOk result (Recorded log.old.trail (work_of queue.old log.old.tally) log.new.trail (work_of queue.new log.new.tally)) }
+    requires headroom { HasHeadroom (work_of queue.old change.old.counts) }
+    ensures effect { OnOk result (work_of queue.new change.new.counts
+        ≡ leave (work_of queue.old change.old.counts) (objects_placed queue.old block)) }
+    ensures trail { OnOk result (Extends queue.old change.old queue.new change.new) }
 {
     while let Some(object) = queue.first_place(block) {
         let mark = queue.remove(object)?;
-        log.trail.push(mark)?;
-        log.tally.evicted += 1;
+        change.trail.push(mark)?;
+        change.counts.evicted += 1;
     }
     Ok(())
 }
 
-/// Writes an object again, into the section that holds its place; its old place is taken out where that empties it.
-fn reinsert(queue: &mut Queue, log: &mut Log, object: u64) -> Result<(), NoMemory>
+/// Writes an object again, into the section that holds its place; its place before is taken out where that empties it.
+fn reinsert(queue: &mut Queue, change: &mut Change<Tally>, object: u64) -> Result<(), NoMemory>
     requires loose { IsLoose queue.old }
     requires resident { IsSome (row_at queue.old object) }
     requires fresh { queue.old.next < 2 ^ 63 }
-    requires reinserted { log.old.tally.reinserted < 2 ^ 63 }
-    requires writes { log.old.tally.writes < 2 ^ 63 }
-    ensures effect { OnOk result (work_of queue.new log.new.tally ≡ reinsert (work_of queue.old log.old.tally) object) }
-    ensures trail { OnOk result (Recorded log.old.trail (work_of queue.old log.old.tally) log.new.trail (work_of queue.new log.new.tally)) }
+    requires reinserted { change.old.counts.reinserted < 2 ^ 63 }
+    requires writes { change.old.counts.writes < 2 ^ 63 }
+    ensures effect { OnOk result (work_of queue.new change.new.counts
+        ≡ reinsert (work_of queue.old change.old.counts) object) }
+    ensures trail { OnOk result (Extends queue.old change.old queue.new change.new) }
 {
     let row = queue.row(object).unwrap();
     let section = queue.section_of(row.place).unwrap();
-    let full = make_room(queue, &mut log.trail, section, Kind::Device, row.size)?;
+    let full = make_room(queue, &mut change.trail, section, Kind::Device, row.size)?;
     let mark = queue.rehome(object, section)?;
-    log.trail.push(mark)?;
-    clear(queue, &mut log.trail, row.place)?;
-    log.tally.reinserted += 1;
-    count_write(&mut log.tally, full);
+    change.trail.push(mark)?;
+    clear(queue, &mut change.trail, row.place)?;
+    change.counts.reinserted += 1;
+    count_write(&mut change.counts, full);
     Ok(())
 }
 
-/// Writes the objects again whose home is the victim.
-fn reinsert_all(queue: &mut Queue, log: &mut Log, block: u64) -> Result<(), NoMemory>
+/// Writes the objects again whose home is the block.
+fn reinsert_all(queue: &mut Queue, change: &mut Change<Tally>, block: u64) -> Result<(), NoMemory>
     requires victim { IsVictim block queue.old }
-    requires headroom { HasHeadroom (work_of queue.old log.old.tally) }
-    ensures effect { OnOk result (work_of queue.new log.new.tally ≡ fold reinsert (work_of queue.old log.old.tally) (objects_homed queue.old block)) }
-    ensures trail { OnOk result (Recorded log.old.trail (work_of queue.old log.old.tally) log.new.trail (work_of queue.new log.new.tally)) }
+    requires headroom { HasHeadroom (work_of queue.old change.old.counts) }
+    ensures effect { OnOk result (work_of queue.new change.new.counts
+        ≡ fold reinsert (work_of queue.old change.old.counts) (objects_homed queue.old block)) }
+    ensures trail { OnOk result (Extends queue.old change.old queue.new change.new) }
 {
     while let Some(object) = queue.first_home(block) {
-        reinsert(queue, log, object)?;
+        reinsert(queue, change, object)?;
     }
     Ok(())
 }
 
 /// Evicts the last sealed block: the objects whose place it is leave, and the others whose home it is are written
 /// again. A virtual block is no object's home.
-fn evict_last(queue: &mut Queue, log: &mut Log, block: u64) -> Result<(), NoMemory>
+fn evict_last(queue: &mut Queue, change: &mut Change<Tally>, block: u64) -> Result<(), NoMemory>
     requires loose { IsLoose queue.old }
     requires last { option_map (λ b. b.0) (last_block queue.old) ≡ Some block }
-    requires headroom { HasHeadroom (work_of queue.old log.old.tally) }
-    ensures effect { OnOk result (work_of queue.new log.new.tally ≡ evict_last (work_of queue.old log.old.tally)) }
-    ensures trail { OnOk result (Recorded log.old.trail (work_of queue.old log.old.tally) log.new.trail (work_of queue.new log.new.tally)) }
+    requires headroom { HasHeadroom (work_of queue.old change.old.counts) }
+    ensures effect { OnOk result (work_of queue.new change.new.counts
+        ≡ evict_last (work_of queue.old change.old.counts)) }
+    ensures trail { OnOk result (Extends queue.old change.old queue.new change.new) }
 {
-    leave(queue, log, block)?;
-    reinsert_all(queue, log, block)?;
-    take_out(queue, &mut log.trail, block)?;
+    leave(queue, change, block)?;
+    reinsert_all(queue, change, block)?;
+    take_out(queue, &mut change.trail, block)?;
     Ok(())
 }
 
 /// The last sealed block, where more device blocks are sealed than the shape allows.
 fn victim(queue: &Queue) -> Option<u64>
     requires { IsLoose queue.now }
-    ensures some { IfSome result (λ block. (is_over queue.now ≡ true) × (option_map (λ b. b.0) (last_block queue.now) ≡ Some block)) }
+    ensures some { IfSome result (λ block. (is_over queue.now ≡ true)
+        × (option_map (λ b. b.0) (last_block queue.now) ≡ Some block)) }
     ensures none { IsNone result → is_over queue.now ≡ false }
 {
     let (_, _, blocks) = queue.shape();
@@ -94,15 +100,16 @@ fn victim(queue: &Queue) -> Option<u64>
 }
 
 /// Evicts from the tail until no more device blocks are sealed than the shape allows.
-pub fn evict(queue: &mut Queue, log: &mut Log) -> Result<(), NoMemory>
+pub fn evict(queue: &mut Queue, change: &mut Change<Tally>) -> Result<(), NoMemory>
     requires loose { IsLoose queue.old }
-    requires headroom { HasHeadroom (work_of queue.old log.old.tally) }
-    ensures effect { OnOk result (work_of queue.new log.new.tally ≡ evict (work_of queue.old log.old.tally)) }
-    ensures trail { OnOk result (Recorded log.old.trail (work_of queue.old log.old.tally) log.new.trail (work_of queue.new log.new.tally)) }
+    requires headroom { HasHeadroom (work_of queue.old change.old.counts) }
+    ensures effect { OnOk result (work_of queue.new change.new.counts
+        ≡ evict (work_of queue.old change.old.counts)) }
+    ensures trail { OnOk result (Extends queue.old change.old queue.new change.new) }
     ensures kept { OnOk result (IsLoose queue.new) }
 {
     while let Some(block) = victim(queue) {
-        evict_last(queue, log, block)?;
+        evict_last(queue, change, block)?;
     }
     Ok(())
 }

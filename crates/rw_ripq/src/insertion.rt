@@ -13,23 +13,26 @@ ghost use Rattle.rw_ripq.specs.Weight.{Spends, IsShort};
 
 use crate::adjusting::adjust;
 use crate::levels::target;
-use crate::putting::{Log, make_room};
-use crate::{Policy, Tally, Trail};
+use crate::putting::make_room;
+use crate::{Change, Policy, Tally, Trail};
 use rw_blocks::{Kind, Queue};
 use rw_vt::{NoMemory, Refusal};
 use std::alloc::Global;
 
-/// Stores an object of `size` bytes, a miss: it is put into the target section of the level, whose active device block
-/// is sealed first where the size does not fit. Where that sealed a block the queue is adjusted: from the tail blocks
-/// are evicted while more device blocks are sealed than the shape allows, and at most one pair of sections is merged and
-/// at most one section split.
+/// Stores an object of `size` bytes, a miss: it is put into the target section of the level, whose active device
+/// block is sealed first where the size does not fit. Where that sealed a block the queue is adjusted: from the tail
+/// blocks are evicted while more device blocks are sealed than the shape allows, and at most one pair of sections is
+/// merged and at most one section split.
 ///
-/// Hands back the trail that takes it back, and the counts. With r the rows of the old queue that left or have another
-/// home, and m the sealed blocks of the old queue that are gone, the trail has at most 8 + 4r + m marks.
+/// Hands back the trail that takes it back, and the counts. Where r rows left or have another home now, and m sealed
+/// blocks are gone, the trail has at most 8 + 4r + m marks.
 ///
 /// The policy is not `Off`, the object is not stored, the size is 1 to the block size, and the level 1 to 3.
-/// `Exhausted` exactly where the next serial is 2^62 or more, which is tested first. After a refusal nothing is said of
-/// the queue: it is only dropped.
+///
+/// # Errors
+///
+/// `Exhausted` exactly where the next serial is 2^62 or more, which is tested first, and `Memory` only where memory was
+/// refused. Nothing is said of the queue then: it is only dropped.
 pub fn insert(
     alloc: Global,
     queue: &mut Queue,
@@ -47,13 +50,15 @@ pub fn insert(
     requires to_three { level ≤ 3 }
     ensures exhausted { (result ≡ Err Refusal.Exhausted) ↔ (2 ^ 62 ≤ queue.old.next) }
     ensures effect { OnOk result (queue.new ≡ (insert policy queue.old object size level).queue) }
-    ensures tally { IfOk result (λ done. done.1 ≡ (insert policy queue.old object size level).tally) }
+    ensures tally { IfOk result (λ done.
+        done.1 ≡ (insert policy queue.old object size level).tally) }
     ensures leads { IfOk result (λ done. Leads done.0 queue.old queue.new) }
     ensures short { IfOk result (λ done. IsShort done.0 queue.old queue.new) }
     ensures kept { OnOk result (IsWellFormedQueue queue.new) }
     ensures sizes { OnOk result (KeepsSizes queue.old queue.new) }
     ensures adds { OnOk result (AddsOnly queue.old object size queue.new) }
-    ensures rows { IfOk result (λ done. length queue.new.rows + done.1.evicted ≡ length queue.old.rows + 1) }
+    ensures rows { IfOk result (λ done.
+        length queue.new.rows + done.1.evicted ≡ length queue.old.rows + 1) }
     ensures order { OnOk result (KeepsOrder queue.old queue.new) }
     ensures leaves { OnOk result (LeavesWithBlock queue.old queue.new) }
     ensures tail { OnOk result (LeavesFromTail queue.old queue.new) }
@@ -62,15 +67,16 @@ pub fn insert(
         return Err(Refusal::Exhausted);
     }
     let section = target(queue, policy, level) as usize;
-    let mut log = Log::new(alloc);
-    insert_at(queue, &mut log, object, size, section)?;
-    Ok((log.trail, log.tally))
+    let mut change = Change::new(alloc, Tally::default());
+    insert_at(queue, &mut change, object, size, section)?;
+    let Change { trail, counts } = change;
+    Ok((trail, counts))
 }
 
 /// Puts a new object into the section, and adjusts where that sealed a device block.
 fn insert_at(
     queue: &mut Queue,
-    log: &mut Log,
+    change: &mut Change<Tally>,
     object: u64,
     size: u64,
     section: usize,
@@ -78,17 +84,20 @@ fn insert_at(
     requires insertable { IsInsertable queue.old object size }
     requires there { section < length queue.old.sections }
     requires fresh { queue.old.next < 2 ^ 62 }
-    requires none { log.old.tally ≡ no_tally }
-    ensures effect { OnOk result (work_of queue.new log.new.tally ≡ insert_at queue.old object size section) }
-    ensures leads { OnOk result ((start : QueueState) → Leads log.old.trail start queue.old → Leads log.new.trail start queue.new) }
-    ensures spends { OnOk result (Spends (length log.old.trail + 1) (untouched queue.old) (length log.new.trail) (work_of queue.new log.new.tally)) }
+    requires none { change.old.counts ≡ no_tally }
+    ensures effect { OnOk result (work_of queue.new change.new.counts
+        ≡ insert_at queue.old object size section) }
+    ensures leads { OnOk result ((start : QueueState)
+        → Leads change.old.trail start queue.old → Leads change.new.trail start queue.new) }
+    ensures spends { OnOk result (Spends (length change.old.trail + 1) (untouched queue.old)
+        (length change.new.trail) (work_of queue.new change.new.counts)) }
 {
-    let full = make_room(queue, &mut log.trail, section, Kind::Device, size)?;
+    let full = make_room(queue, &mut change.trail, section, Kind::Device, size)?;
     let mark = queue.add(object, size, section)?;
-    log.trail.push(mark)?;
+    change.trail.push(mark)?;
     if full {
-        log.tally.writes += 1;
-        adjust(queue, log)?;
+        change.counts.writes += 1;
+        adjust(queue, change)?;
     }
     Ok(())
 }

@@ -25,7 +25,7 @@ pub fn level_of(queue: &Queue, object: u64) -> Option<u8>
     Some(level_of_row(queue, object, row))
 }
 
-/// The level of an object whose row is known.
+/// The level of an object whose row is `row`, which is not looked up again.
 pub fn level_of_row(queue: &Queue, _object: u64, row: Place) -> u8
     requires loose { IsLoose queue.now }
     requires row { row_at queue.now _object ≡ Some row }
@@ -44,7 +44,7 @@ fn level_of_section(queue: &Queue, section: usize) -> u8
     1 + (3 * queue.below(section) / queue.total()).min(2) as u8
 }
 
-/// Whether the section and those nearer the tail hold as many thirds of all bytes as the level says.
+/// Whether the section and those nearer the tail together hold `level` thirds of all bytes.
 fn reaches(queue: &Queue, level: u8, section: usize) -> bool
     requires loose { IsLoose queue.now }
     requires there { section < length queue.now.sections }
@@ -53,9 +53,9 @@ fn reaches(queue: &Queue, level: u8, section: usize) -> bool
     level as u64 * queue.total() <= 3 * (queue.bytes(section) + queue.below(section))
 }
 
-/// The section, counted from 0 at the head, that an object of the level, 1 to 3, goes to. Under `Lru` it is the head.
-/// Under `Slru3` it is the head for level 3, and for a lower level the section nearest the tail that, with the sections
-/// behind it, holds as many thirds of all bytes as the level says. The policy is not `Off`. Takes no memory.
+/// The section, counted from 0 at the head, that an object of `level`, 1 to 3, goes to. Under `Lru` it is the head.
+/// Under `Slru3` it is the head for level 3, and for a lower level the section nearest the tail that, together with
+/// the sections behind it, holds `level` thirds of all bytes. The policy is not `Off`. Takes no memory.
 pub fn target(queue: &Queue, policy: Policy, level: u8) -> u32
     requires loose { IsLoose queue.now }
     requires stores { policy ≢ Policy.Off }

@@ -6,6 +6,7 @@
 //! Worked examples: `rw_tests/src/insertions.rt`.
 
 mod adjusting;
+mod change;
 mod eviction;
 mod insertion;
 mod levels;
@@ -14,6 +15,7 @@ mod putting;
 mod sealed;
 mod trail;
 
+pub use change::Change;
 pub use insertion::insert;
 pub use levels::{level_of, resident, target};
 pub use promotion::{promote, promote_row};
@@ -33,7 +35,7 @@ pub enum Policy {
 }
 
 /// What an insertion did, in counts.
-#[derive(Clone, Copy, Debug, PartialEq, Eq)]
+#[derive(Clone, Copy, Debug, Default, PartialEq, Eq)]
 pub struct Tally {
     /// Rows that left.
     pub evicted: u64,

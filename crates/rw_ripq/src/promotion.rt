@@ -35,12 +35,16 @@ fn hit_target(queue: &Queue, policy: Policy, object: u64, row: Place) -> usize
 }
 
 /// Raises an object's priority, a hit: where its place is not already an active block of the target section, its place
-/// becomes that section's active virtual block, which is sealed first where the size does not fit, and the old place
+/// becomes that section's active virtual block, which is sealed first where the size does not fit, and the place before
 /// is taken out where it is a sealed virtual block without rows then. The object is not written again: its home stays.
 ///
 /// Hands back the trail that takes it back, and whether the place changed. The object is stored and the policy is not
-/// `Off`. `Exhausted` exactly where the next serial is 2^62 or more, which is tested first. After a refusal nothing is
-/// said of the queue: it is only dropped.
+/// `Off`.
+///
+/// # Errors
+///
+/// `Exhausted` exactly where the next serial is 2^62 or more, which is tested first, and `Memory` only where memory was
+/// refused. Nothing is said of the queue then: it is only dropped.
 pub fn promote(
     alloc: Global,
     queue: &mut Queue,
@@ -52,7 +56,8 @@ pub fn promote(
     requires stores { policy ≢ Policy.Off }
     ensures exhausted { (result ≡ Err Refusal.Exhausted) ↔ (2 ^ 62 ≤ queue.old.next) }
     ensures effect { OnOk result (queue.new ≡ promote policy queue.old object) }
-    ensures changed { IfOk result (λ done. done.1 ≡ not (nat_eq (row_or queue.new object).place (row_or queue.old object).place)) }
+    ensures changed { IfOk result (λ done.
+        done.1 ≡ not (nat_eq (row_or queue.new object).place (row_or queue.old object).place)) }
     ensures leads { IfOk result (λ done. Leads done.0 queue.old queue.new) }
     ensures short { IfOk result (λ done. IsShort done.0 queue.old queue.new) }
     ensures kept { OnOk result (IsWellFormedQueue queue.new) }
@@ -66,7 +71,11 @@ pub fn promote(
     promote_row(alloc, queue, policy, object, row)
 }
 
-/// [`promote`] of an object whose row is known, and is not looked up again.
+/// [`promote`] of an object whose row is `row`, which is not looked up again.
+///
+/// # Errors
+///
+/// As [`promote`].
 pub fn promote_row(
     alloc: Global,
     queue: &mut Queue,
@@ -79,7 +88,8 @@ pub fn promote_row(
     requires stores { policy ≢ Policy.Off }
     ensures exhausted { (result ≡ Err Refusal.Exhausted) ↔ (2 ^ 62 ≤ queue.old.next) }
     ensures effect { OnOk result (queue.new ≡ promote policy queue.old object) }
-    ensures changed { IfOk result (λ done. done.1 ≡ not (nat_eq (row_or queue.new object).place (row_or queue.old object).place)) }
+    ensures changed { IfOk result (λ done.
+        done.1 ≡ not (nat_eq (row_or queue.new object).place (row_or queue.old object).place)) }
     ensures leads { IfOk result (λ done. Leads done.0 queue.old queue.new) }
     ensures short { IfOk result (λ done. IsShort done.0 queue.old queue.new) }
     ensures kept { OnOk result (IsWellFormedQueue queue.new) }
@@ -98,8 +108,8 @@ pub fn promote_row(
     Ok((trail, changed))
 }
 
-/// Moves an object to the section's active virtual block, where its place is no active block of that section already;
-/// says whether its place changed.
+/// Makes the section's active virtual block the object's place, unless that is an active block of the section already.
+/// Answers whether the place changed.
 fn promote_to(
     queue: &mut Queue,
     trail: &mut Trail,
@@ -112,8 +122,10 @@ fn promote_to(
     requires there { section < length queue.old.sections }
     requires fresh { queue.old.next < 2 ^ 63 }
     ensures effect { OnOk result (queue.new ≡ promote_to queue.old object section) }
-    ensures changed { IfOk result (λ changed. changed ≡ not (is_active_in queue.old (row_or queue.old object).place section)) }
-    ensures leads { OnOk result ((start : QueueState) → Leads trail.old start queue.old → Leads trail.new start queue.new) }
+    ensures changed { IfOk result (λ changed.
+        changed ≡ not (is_active_in queue.old (row_or queue.old object).place section)) }
+    ensures leads { OnOk result ((start : QueueState)
+        → Leads trail.old start queue.old → Leads trail.new start queue.new) }
     ensures marks { OnOk result (length trail.new ≤ length trail.old + 3) }
 {
     if row.place == queue.active(section, Kind::Device)

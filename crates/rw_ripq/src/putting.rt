@@ -1,42 +1,15 @@
-// What an operation keeps of its doing, and room for an object in an active block.
-ghost use Rattle.std.specs.Prelude.{◌≡◌, ◌≤◌, ◌<◌, ◌+◌, ◌^◌, [], length, not, OnOk, IfOk};
+// Room for an object in an active block.
+ghost use Rattle.std.specs.Prelude.{◌≡◌, ◌≤◌, ◌<◌, ◌+◌, ◌^◌, length, not, OnOk, IfOk};
 ghost use Rattle.rw_blocks.specs.Loose.{IsLoose};
-ghost use Rattle.rw_ripq.specs.Work.{untouched, one_if, no_tally};
+ghost use Rattle.rw_ripq.specs.Work.{untouched, one_if};
 ghost use Rattle.rw_ripq.specs.Put.{is_room, with_room};
 ghost use Rattle.rw_ripq.specs.Record.{Recorded};
 
 use crate::{Tally, Trail};
 use rw_blocks::{Kind, Queue};
 use rw_vt::NoMemory;
-use std::alloc::Global;
 
-/// What an operation did so far.
-#[derive(Drop)]
-pub struct Log {
-    pub trail: Trail,
-    pub tally: Tally,
-}
-
-impl Log {
-    /// Nothing done yet.
-    pub fn new(alloc: Global) -> Log
-        ensures trail { result.trail ≡ [] }
-        ensures tally { result.tally ≡ no_tally }
-    {
-        Log {
-            trail: Trail::new(alloc),
-            tally: Tally {
-                evicted: 0,
-                reinserted: 0,
-                writes: 0,
-                splits: 0,
-                merges: 0,
-            },
-        }
-    }
-}
-
-/// Counts a block write, where there was one.
+/// Counts one block write more, where `written`.
 pub fn count_write(tally: &mut Tally, written: bool)
     requires { tally.old.writes < 2 ^ 63 }
     ensures { tally.new ≡ record tally.old { writes = tally.old.writes + one_if written } }
@@ -46,7 +19,7 @@ pub fn count_write(tally: &mut Tally, written: bool)
     }
 }
 
-/// Seals the section's active block of the kind where the size does not fit, and says whether it did.
+/// Seals the section's active block of the kind where `size` bytes do not fit it. Answers whether it was sealed.
 pub fn make_room(
     queue: &mut Queue,
     trail: &mut Trail,
@@ -60,7 +33,8 @@ pub fn make_room(
     requires fresh { queue.old.next < 2 ^ 63 }
     ensures full { IfOk result (λ full. full ≡ not (is_room queue.old kind section size)) }
     ensures effect { OnOk result (queue.new ≡ with_room queue.old kind section size) }
-    ensures trail { OnOk result (Recorded trail.old (untouched queue.old) trail.new (untouched queue.new)) }
+    ensures trail { OnOk result (Recorded trail.old (untouched queue.old)
+        trail.new (untouched queue.new)) }
     ensures marks { OnOk result (length trail.new ≤ length trail.old + 1) }
     ensures kept { OnOk result (IsLoose queue.new) }
 {

@@ -16,7 +16,8 @@ use rw_vt::NoMemory;
 fn is_last(queue: &Queue, section: usize, block: u64) -> bool
     requires { section < length queue.now.sections }
     ensures some { IsTrue result → 0 < length (section_at queue.now section).sealed }
-    ensures last { IsTrue result → (slice_index_or (section_at queue.now section).sealed (length (section_at queue.now section).sealed - 1) (0, Kind.Device)).0 ≡ block }
+    ensures last { IsTrue result → (slice_index_or (section_at queue.now section).sealed
+        (length (section_at queue.now section).sealed - 1) (0, Kind.Device)).0 ≡ block }
 {
     let sealed = queue.sealed(section);
     if sealed == 0 {
@@ -26,11 +27,11 @@ fn is_last(queue: &Queue, section: usize, block: u64) -> bool
     serial == block
 }
 
-/// How far around a guessed position a block is looked for.
+/// How many positions before and behind a guess a block is looked for.
 const REACH: usize = 16;
 
-/// About where the block stands in the section's sealed list, if it does: what was sealed later stands nearer the front,
-/// and mostly has a greater serial.
+/// About where the block stands in the section's sealed list, if it does: what was sealed later stands nearer the
+/// front, and mostly has a greater serial.
 fn guess(queue: &Queue, section: usize, block: u64) -> usize
     requires { section < length queue.now.sections }
     ensures { result ≤ length (section_at queue.now section).sealed }
@@ -49,11 +50,12 @@ fn guess(queue: &Queue, section: usize, block: u64) -> usize
     from
 }
 
-/// Where the block stands, if it is one of the few around this position in the section's sealed list.
+/// Where the block stands in the section's sealed list, if that is near the position `near`.
 fn position_near(queue: &Queue, section: usize, block: u64, near: usize) -> Option<usize>
     requires { section < length queue.now.sections }
     ensures within { IfSome result (λ p. p < length (section_at queue.now section).sealed) }
-    ensures here { IfSome result (λ p. (slice_index_or (section_at queue.now section).sealed p (0, Kind.Device)).0 ≡ block) }
+    ensures here { IfSome result (λ p.
+        (slice_index_or (section_at queue.now section).sealed p (0, Kind.Device)).0 ≡ block) }
 {
     let end = queue.sealed(section).min(near.saturating_add(REACH));
     for position in near.saturating_sub(REACH)..end {
@@ -105,13 +107,14 @@ fn find_sealed(queue: &Queue, block: u64) -> Option<(usize, usize)>
     Some((section, position))
 }
 
-/// Takes a sealed block out of its list.
+/// Takes a sealed block out of its list. It is no row's home or place.
 pub fn take_out(queue: &mut Queue, trail: &mut Trail, block: u64) -> Result<(), NoMemory>
     requires loose { IsLoose queue.old }
     requires sealed { is_sealed queue.old block ≡ true }
     requires free { IsFree queue.old block }
     ensures effect { OnOk result (queue.new ≡ without_block queue.old block) }
-    ensures trail { OnOk result (Recorded trail.old (untouched queue.old) trail.new (untouched queue.new)) }
+    ensures trail { OnOk result (Recorded trail.old (untouched queue.old)
+        trail.new (untouched queue.new)) }
     ensures marks { OnOk result (length trail.new ≤ length trail.old + 1) }
     ensures kept { OnOk result (IsLoose queue.new) }
 {
@@ -121,6 +124,7 @@ pub fn take_out(queue: &mut Queue, trail: &mut Trail, block: u64) -> Result<(), 
     Ok(())
 }
 
+/// Whether the kind is virtual.
 fn is_virtual(kind: Kind) -> bool
     ensures { result ≡ is_virtual kind }
 {
@@ -153,7 +157,8 @@ fn is_emptied(queue: &Queue, block: u64) -> bool
 pub fn clear(queue: &mut Queue, trail: &mut Trail, block: u64) -> Result<(), NoMemory>
     requires { IsLoose queue.old }
     ensures effect { OnOk result (queue.new ≡ cleared queue.old block) }
-    ensures trail { OnOk result (Recorded trail.old (untouched queue.old) trail.new (untouched queue.new)) }
+    ensures trail { OnOk result (Recorded trail.old (untouched queue.old)
+        trail.new (untouched queue.new)) }
     ensures marks { OnOk result (length trail.new ≤ length trail.old + 1) }
     ensures kept { OnOk result (IsLoose queue.new) }
 {

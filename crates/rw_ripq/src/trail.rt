@@ -61,12 +61,17 @@ impl Trail {
 }
 
 /// Takes an operation back: on the queue right after it, the queue is again the whole of what it was before, every
-/// serial and the next serial included. After `NoMemory` nothing is said of the queue: it is only dropped.
+/// serial and the next serial included.
+///
+/// # Errors
+///
+/// `NoMemory` only where memory was refused. Nothing is said of the queue then: it is only dropped.
 #[tactic(auto, using(crate::proofs::Trails::trail_laws))]
 pub fn rewind(queue: &mut Queue, trail: Trail) -> Result<(), NoMemory>
     requires { IsRewindable trail queue.old }
     ensures effect { OnOk result (queue.new ≡ rewind_of trail queue.old) }
-    ensures restores { OnOk result ((before : QueueState) → Leads trail before queue.old → queue.new ≡ before) }
+    ensures restores { OnOk result ((before : QueueState)
+        → Leads trail before queue.old → queue.new ≡ before) }
 {
     let mut trail = trail;
     while let Some(mark) = trail.pop() {

@@ -4,7 +4,7 @@ use Rattle.std.specs.Prelude.{sum_by}
 use Rattle.std.proofs.lemmas.List.Sums.{sum_by-cons}
 use Rattle.rw_photo.specs.declared.config.Config.{Config}
 use Rattle.rw_photo.specs.declared.counters.Counters.{Counters}
-use Rattle.rw_photo.specs.Counts.{added}
+use Rattle.rw_photo.specs.Counts.{added, counters_by}
 use Rattle.rw_ripqwarp.specs.Report.{cache_lines, line, name_of, total_of, totals}
 
 -- a line behind a text
@@ -40,19 +40,4 @@ module _ {A : Type 0} (f : A → Counters) where
 
   -- the totals with one cache more
   pub totals-more : (n : ℕ) (xs : List A) (d : A) → n < length xs → totals (map f (take (suc n) xs)) ≡ added (totals (map f (take n xs))) (f (get_or xs n d))
-  totals-more n xs d l i =
-      record {
-        requests = total-more (λ k. k.requests) n xs d l i;
-        hits = total-more (λ k. k.hits) n xs d l i;
-        misses = total-more (λ k. k.misses) n xs d l i;
-        coalesced = total-more (λ k. k.coalesced) n xs d l i;
-        late = total-more (λ k. k.late) n xs d l i;
-        bypassed = total-more (λ k. k.bypassed) n xs d l i;
-        inserted = total-more (λ k. k.inserted) n xs d l i;
-        evicted = total-more (λ k. k.evicted) n xs d l i;
-        reinserted = total-more (λ k. k.reinserted) n xs d l i;
-        promoted = total-more (λ k. k.promoted) n xs d l i;
-        writes = total-more (λ k. k.writes) n xs d l i;
-        splits = total-more (λ k. k.splits) n xs d l i;
-        merges = total-more (λ k. k.merges) n xs d l i;
-      }
+  totals-more n xs d l i = counters_by (λ which. total-more which n xs d l i)

@@ -3,6 +3,7 @@ use Rattle.std.specs.Prelude.{ℕ, ◌-◌, ◌%◌, ◌^◌, nat_lt, if◌then�
 use Rattle.rw_vt.specs.System.{map_from, flatten}
 use Rattle.rw_photo.specs.declared.config.Config.{Config}
 use Rattle.rw_photo.specs.declared.counters.Counters.{Counters}
+use Rattle.rw_photo.specs.Counts.{counters_by}
 
 -- a name and the counts of a cache, as one line
 abbrev pub line : List ℕ → Counters → List ℕ
@@ -27,27 +28,13 @@ line name k =
 abbrev pub name_of : Config → ℕ → List ℕ
 name_of c p = if nat_lt p c.edges then codes "edge " ++ decimal p else codes "origin " ++ decimal (p - c.edges)
 
--- a count of all caches together, modulo 2 ^ 64
+-- one of the counts of all caches together, modulo 2 ^ 64
 abbrev pub total_of : (Counters → ℕ) → List Counters → ℕ
 total_of count ks = sum_by count ks % 2 ^ 64
 
+-- the counts of all caches together
 abbrev pub totals : List Counters → Counters
-totals ks =
-    record {
-      requests = total_of (λ k. k.requests) ks;
-      hits = total_of (λ k. k.hits) ks;
-      misses = total_of (λ k. k.misses) ks;
-      coalesced = total_of (λ k. k.coalesced) ks;
-      late = total_of (λ k. k.late) ks;
-      bypassed = total_of (λ k. k.bypassed) ks;
-      inserted = total_of (λ k. k.inserted) ks;
-      evicted = total_of (λ k. k.evicted) ks;
-      reinserted = total_of (λ k. k.reinserted) ks;
-      promoted = total_of (λ k. k.promoted) ks;
-      writes = total_of (λ k. k.writes) ks;
-      splits = total_of (λ k. k.splits) ks;
-      merges = total_of (λ k. k.merges) ks;
-    }
+totals ks = counters_by (λ which. total_of which ks)
 
 -- the lines of these caches, of which the first has this number
 abbrev pub cache_lines : Config → ℕ → List Counters → List ℕ

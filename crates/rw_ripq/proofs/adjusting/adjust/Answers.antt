@@ -9,21 +9,21 @@ merge_once-requires-clause-headroom c = rw c.in_ok-evict.ensures.effect (evict-r
 
 pub merge_once-requires-clause-first : goal.merge_once-requires-clause-first
 merge_once-requires-clause-first c =
-    ap (λ (w : Work). w.tally.merges) c.in_ok-evict.ensures.effect ∙ (evict-counts (work_of c.args.queue.now c.args.log.now.tally) c.requires.loose).merges ∙ c.requires.merges
+    ap (λ (w : Work). w.tally.merges) c.in_ok-evict.ensures.effect ∙ (evict-counts (work_of c.args.queue.now c.args.change.now.counts) c.requires.loose).merges ∙ c.requires.merges
 
 pub split_once-requires-clause-fresh : goal.split_once-requires-clause-fresh
 split_once-requires-clause-fresh c =
-    let v : Work = work_of c.evict.new.queue c.evict.new.log.tally in
+    let v : Work = work_of c.evict.new.queue c.evict.new.change.counts in
     let room : HasHeadroom v = rw c.in_ok-evict.ensures.effect (evict-room _ c.requires.loose c.requires.headroom) in
-    let first = ap (λ (w : Work). w.tally.merges) c.in_ok-evict.ensures.effect ∙ (evict-counts (work_of c.args.queue.now c.args.log.now.tally) c.requires.loose).merges ∙ c.requires.merges in
+    let first = ap (λ (w : Work). w.tally.merges) c.in_ok-evict.ensures.effect ∙ (evict-counts (work_of c.args.queue.now c.args.change.now.counts) c.requires.loose).merges ∙ c.requires.merges in
     let serials = (merge_once-room v c.in_ok-evict.ensures.kept first room).serials in
     let same = ap (λ (w : Work). w.queue.next) c.in_ok-merge_once.ensures.effect in
     omega arith
 
 pub split_once-requires-clause-first : goal.split_once-requires-clause-first
 split_once-requires-clause-first c =
-    let w : Work = work_of c.args.queue.now c.args.log.now.tally in
-    let v : Work = work_of c.evict.new.queue c.evict.new.log.tally in
+    let w : Work = work_of c.args.queue.now c.args.change.now.counts in
+    let v : Work = work_of c.evict.new.queue c.evict.new.change.counts in
     let counts = evict-counts w c.requires.loose in
     ap (λ (w : Work). w.tally.splits) c.in_ok-merge_once.ensures.effect
     ∙ merge_once-splits v c.in_ok-evict.ensures.kept (ap (λ (w : Work). w.tally.merges) c.in_ok-evict.ensures.effect ∙ counts.merges ∙ c.requires.merges) (rw c.in_ok-evict.ensures.effect (evict-room _ c.requires.loose c.requires.headroom))

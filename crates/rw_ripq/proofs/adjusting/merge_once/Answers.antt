@@ -21,7 +21,7 @@ merge-requires-clause-there c = light_pair-there c.args.queue.now _ (sym c.light
 
 pub returns-clause-effect : goal.returns-clause-effect
 returns-clause-effect c =
-    let w : Work = work_of c.args.queue.now c.args.log.now.tally in
+    let w : Work = work_of c.args.queue.now c.args.change.now.counts in
     c.in_ok-evict.ensures.effect
     ∙ ap evict (merge-made w c.in-Some.section c.fill-written.result _ _ c.in_ok-mark.ensures.effect
     (c.fill-written.ensures.active Device (c.in-Some.section + 1) (light_pair-there c.args.queue.now _ (sym c.light_pair.ensures ∙ c.in-Some.is)) c.active.ensures ∙ ap (bytes_held Device c.args.queue.now) c.active.ensures)
@@ -32,5 +32,5 @@ pub returns-clause-trail : goal.returns-clause-trail
 returns-clause-trail c =
     let there = light_pair-there c.args.queue.now _ (sym c.light_pair.ensures ∙ c.in-Some.is) in
     Recorded-then
-    (rw c.count_write.ensures (Recorded-merge _ _ _ _ _ c.args.log.now.tally _ _ c.in_ok-push.ensures c.in_ok-mark.ensures.undoes c.in_ok-mark.ensures.effect there))
+    (rw c.count_write.ensures (Recorded-merge _ _ _ _ _ c.args.change.now.counts _ _ c.in_ok-push.ensures c.in_ok-mark.ensures.undoes c.in_ok-mark.ensures.effect there))
     c.in_ok-evict.ensures.trail

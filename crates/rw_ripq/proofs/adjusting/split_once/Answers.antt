@@ -11,4 +11,4 @@ split-requires-clause-there c = heavy_section-there c.args.queue.now _ (sym c.he
 
 pub returns-clause-trail : goal.returns-clause-trail
 returns-clause-trail c =
-    Recorded-split _ _ _ _ _ c.args.log.now.tally _ _ c.in_ok-push.ensures c.in_ok-mark.ensures.undoes c.in_ok-mark.ensures.effect (heavy_section-there c.args.queue.now _ (sym c.heavy_section.ensures ∙ c.in-Some.is))
+    Recorded-split _ _ _ _ _ c.args.change.now.counts _ _ c.in_ok-push.ensures c.in_ok-mark.ensures.undoes c.in_ok-mark.ensures.effect (heavy_section-there c.args.queue.now _ (sym c.heavy_section.ensures ∙ c.in-Some.is))

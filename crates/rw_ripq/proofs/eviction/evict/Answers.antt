@@ -9,11 +9,11 @@ loop-block-init c = record { loose = c.requires.loose; room = c.requires.headroo
 
 pub loop-block-smaller : goal.loop-block-smaller
 loop-block-smaller c =
-    (turn-made (work_of c.loop-block.queue c.loop-block.log.tally) (work_of c.evict_last.new.queue c.evict_last.new.log.tally) c.loop-block.invariant.loose c.loop-block.invariant.room (c.in-Some.ensures.some.0) c.in_ok-evict_last.ensures.effect).lower
+    (turn-made (work_of c.loop-block.queue c.loop-block.change.counts) (work_of c.evict_last.new.queue c.evict_last.new.change.counts) c.loop-block.invariant.loose c.loop-block.invariant.room (c.in-Some.ensures.some.0) c.in_ok-evict_last.ensures.effect).lower
 
 pub loop-block-preserved : goal.loop-block-preserved
 loop-block-preserved c =
-    let step = turn-made (work_of c.loop-block.queue c.loop-block.log.tally) (work_of c.evict_last.new.queue c.evict_last.new.log.tally) c.loop-block.invariant.loose c.loop-block.invariant.room (c.in-Some.ensures.some.0) c.in_ok-evict_last.ensures.effect in
+    let step = turn-made (work_of c.loop-block.queue c.loop-block.change.counts) (work_of c.evict_last.new.queue c.evict_last.new.change.counts) c.loop-block.invariant.loose c.loop-block.invariant.room (c.in-Some.ensures.some.0) c.in_ok-evict_last.ensures.effect in
     record {
       loose = step.loose;
       room = step.room;

@@ -10,9 +10,9 @@ abbrev pub invariant-loop-block : goal.invariant-loop-block
 invariant-loop-block l =
     record {
       loose : IsLoose l.queue;
-      room : HasHeadroom (work_of l.queue l.log.tally);
-      effect : evict (work_of l.queue l.log.tally) ≡ evict (work_of l.fn.queue l.fn.log.tally);
-      trail : Recorded l.fn.log.trail (work_of l.fn.queue l.fn.log.tally) l.log.trail (work_of l.queue l.log.tally);
+      room : HasHeadroom (work_of l.queue l.change.counts);
+      effect : evict (work_of l.queue l.change.counts) ≡ evict (work_of l.fn.queue l.fn.change.counts);
+      trail : Recorded l.fn.change.trail (work_of l.fn.queue l.fn.change.counts) l.change.trail (work_of l.queue l.change.counts);
     }
 
 abbrev pub decreases-loop-block : goal.decreases-loop-block

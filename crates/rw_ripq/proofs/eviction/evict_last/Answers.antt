@@ -32,6 +32,6 @@ take_out-requires-clause-free c =
 pub returns-clause-effect : goal.returns-clause-effect
 returns-clause-effect c =
     let parts = parts-of _ _ c.args.block c.requires.loose c.requires.last c.in_ok-leave.ensures.effect in
-    ap (λ q. work_of q c.reinsert_all.new.log.tally) c.in_ok-take_out.ensures.effect
+    ap (λ q. work_of q c.reinsert_all.new.change.counts) c.in_ok-take_out.ensures.effect
     ∙ ap (λ (w : Work). take_out w c.args.block) c.in_ok-reinsert_all.ensures.effect
     ∙ parts.whole

@@ -14,11 +14,11 @@ loop-object-init c = record { loose = c.requires.loose; room = c.requires.headro
 
 pub loop-object-smaller : goal.loop-object-smaller
 loop-object-smaller c =
-    (leave-made (work_of c.loop-object.queue c.loop-object.log.tally) c.args.block c.in-Some.object _ c.loop-object.invariant.loose c.loop-object.invariant.room (sym c.first_place.ensures.first ∙ c.in-Some.is) c.in_ok-mark.ensures.effect).fewer
+    (leave-made (work_of c.loop-object.queue c.loop-object.change.counts) c.args.block c.in-Some.object _ c.loop-object.invariant.loose c.loop-object.invariant.room (sym c.first_place.ensures.first ∙ c.in-Some.is) c.in_ok-mark.ensures.effect).fewer
 
 pub loop-object-preserved : goal.loop-object-preserved
 loop-object-preserved c =
-    let step = leave-made (work_of c.loop-object.queue c.loop-object.log.tally) c.args.block c.in-Some.object _ c.loop-object.invariant.loose c.loop-object.invariant.room (sym c.first_place.ensures.first ∙ c.in-Some.is) c.in_ok-mark.ensures.effect in
+    let step = leave-made (work_of c.loop-object.queue c.loop-object.change.counts) c.args.block c.in-Some.object _ c.loop-object.invariant.loose c.loop-object.invariant.room (sym c.first_place.ensures.first ∙ c.in-Some.is) c.in_ok-mark.ensures.effect in
     record {
       loose = step.loose;
       room = step.room;
@@ -28,4 +28,4 @@ loop-object-preserved c =
 
 pub returns-clause-effect : goal.returns-clause-effect
 returns-clause-effect c =
-    sym (leave-end (work_of c.loop-object.queue c.loop-object.log.tally) c.args.block (sym c.first_place.ensures.first ∙ c.in_default.is)) ∙ c.loop-object.invariant.effect
+    sym (leave-end (work_of c.loop-object.queue c.loop-object.change.counts) c.args.block (sym c.first_place.ensures.first ∙ c.in_default.is)) ∙ c.loop-object.invariant.effect

@@ -9,9 +9,9 @@ abbrev pub invariant-loop-object : goal.invariant-loop-object
 invariant-loop-object l =
     record {
       loose : IsLoose l.queue;
-      room : HasHeadroom (work_of l.queue l.log.tally);
-      effect : leave (work_of l.queue l.log.tally) (objects_placed l.queue l.block) ≡ leave (work_of l.fn.queue l.fn.log.tally) (objects_placed l.fn.queue l.block);
-      trail : Recorded l.fn.log.trail (work_of l.fn.queue l.fn.log.tally) l.log.trail (work_of l.queue l.log.tally);
+      room : HasHeadroom (work_of l.queue l.change.counts);
+      effect : leave (work_of l.queue l.change.counts) (objects_placed l.queue l.block) ≡ leave (work_of l.fn.queue l.fn.change.counts) (objects_placed l.fn.queue l.block);
+      trail : Recorded l.fn.change.trail (work_of l.fn.queue l.fn.change.counts) l.change.trail (work_of l.queue l.change.counts);
     }
 
 abbrev pub decreases-loop-object : goal.decreases-loop-object

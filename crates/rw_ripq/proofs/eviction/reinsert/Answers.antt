@@ -19,9 +19,9 @@ rehome-requires-clause-fits c =
 pub returns-clause-effect : goal.returns-clause-effect
 returns-clause-effect c =
     ap (work_of c.clear.new.queue) c.count_write.ensures
-    ∙ reinsert-made (work_of c.args.queue.now c.args.log.now.tally) c.args.object c.unwrap-section.result c.unwrap-row.result c.in_ok-full.full _ _ _ (sym c.row.ensures ∙ c.unwrap-row.ensures) (sym c.section_of.ensures ∙ c.unwrap-section.ensures)
+    ∙ reinsert-made (work_of c.args.queue.now c.args.change.now.counts) c.args.object c.unwrap-section.result c.unwrap-row.result c.in_ok-full.full _ _ _ (sym c.row.ensures ∙ c.unwrap-row.ensures) (sym c.section_of.ensures ∙ c.unwrap-section.ensures)
     c.in_ok-full.ensures.effect c.in_ok-mark.ensures.effect c.in_ok-clear.ensures.effect c.in_ok-full.ensures.full
 
 pub returns-clause-trail : goal.returns-clause-trail
 returns-clause-trail c =
-    rw c.count_write.ensures (Recorded-reinsert _ _ _ _ _ c.args.log.now.tally _ _ _ c.in_ok-full.ensures.trail c.in_ok-push.ensures c.in_ok-mark.ensures.undoes c.in_ok-mark.ensures.effect c.in_ok-clear.ensures.trail)
+    rw c.count_write.ensures (Recorded-reinsert _ _ _ _ _ c.args.change.now.counts _ _ _ c.in_ok-full.ensures.trail c.in_ok-push.ensures c.in_ok-mark.ensures.undoes c.in_ok-mark.ensures.effect c.in_ok-clear.ensures.trail)

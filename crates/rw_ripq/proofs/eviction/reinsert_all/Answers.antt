@@ -20,11 +20,11 @@ loop-object-init c = record { victim = c.requires.victim; room = c.requires.head
 
 pub loop-object-smaller : goal.loop-object-smaller
 loop-object-smaller c =
-    (back-made (work_of c.loop-object.queue c.loop-object.log.tally) (work_of c.reinsert.new.queue c.reinsert.new.log.tally) c.args.block c.in-Some.object c.loop-object.invariant.victim (sym c.first_home.ensures.first ∙ c.in-Some.is) c.loop-object.invariant.room c.in_ok-reinsert.ensures.effect).fewer
+    (back-made (work_of c.loop-object.queue c.loop-object.change.counts) (work_of c.reinsert.new.queue c.reinsert.new.change.counts) c.args.block c.in-Some.object c.loop-object.invariant.victim (sym c.first_home.ensures.first ∙ c.in-Some.is) c.loop-object.invariant.room c.in_ok-reinsert.ensures.effect).fewer
 
 pub loop-object-preserved : goal.loop-object-preserved
 loop-object-preserved c =
-    let step = back-made (work_of c.loop-object.queue c.loop-object.log.tally) (work_of c.reinsert.new.queue c.reinsert.new.log.tally) c.args.block c.in-Some.object c.loop-object.invariant.victim (sym c.first_home.ensures.first ∙ c.in-Some.is) c.loop-object.invariant.room c.in_ok-reinsert.ensures.effect in
+    let step = back-made (work_of c.loop-object.queue c.loop-object.change.counts) (work_of c.reinsert.new.queue c.reinsert.new.change.counts) c.args.block c.in-Some.object c.loop-object.invariant.victim (sym c.first_home.ensures.first ∙ c.in-Some.is) c.loop-object.invariant.room c.in_ok-reinsert.ensures.effect in
     record {
       victim = step.victim;
       room = step.room;
@@ -34,4 +34,4 @@ loop-object-preserved c =
 
 pub returns-clause-effect : goal.returns-clause-effect
 returns-clause-effect c =
-    sym (ap (fold reinsert (work_of c.loop-object.queue c.loop-object.log.tally)) (objects_homed-none c.loop-object.queue c.args.block (sym c.first_home.ensures.first ∙ c.in_default.is))) ∙ c.loop-object.invariant.effect
+    sym (ap (fold reinsert (work_of c.loop-object.queue c.loop-object.change.counts)) (objects_homed-none c.loop-object.queue c.args.block (sym c.first_home.ensures.first ∙ c.in_default.is))) ∙ c.loop-object.invariant.effect

@@ -10,9 +10,9 @@ abbrev pub invariant-loop-object : goal.invariant-loop-object
 invariant-loop-object l =
     record {
       victim : IsVictim l.block l.queue;
-      room : HasHeadroom (work_of l.queue l.log.tally);
-      effect : fold reinsert (work_of l.queue l.log.tally) (objects_homed l.queue l.block) ≡ fold reinsert (work_of l.fn.queue l.fn.log.tally) (objects_homed l.fn.queue l.block);
-      trail : Recorded l.fn.log.trail (work_of l.fn.queue l.fn.log.tally) l.log.trail (work_of l.queue l.log.tally);
+      room : HasHeadroom (work_of l.queue l.change.counts);
+      effect : fold reinsert (work_of l.queue l.change.counts) (objects_homed l.queue l.block) ≡ fold reinsert (work_of l.fn.queue l.fn.change.counts) (objects_homed l.fn.queue l.block);
+      trail : Recorded l.fn.change.trail (work_of l.fn.queue l.fn.change.counts) l.change.trail (work_of l.queue l.change.counts);
     }
 
 abbrev pub decreases-loop-object : goal.decreases-loop-object

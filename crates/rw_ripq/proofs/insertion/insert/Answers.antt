@@ -8,7 +8,7 @@ insert_at-requires-clause-insertable c = insertable _ _ _ c.requires.well_formed
 pub returns-clause-short : goal.returns-clause-short
 returns-clause-short c =
     insert-short c.args.queue.now c.args.object c.args.size c.target-section.result _ _ _
-    (insertable _ _ _ c.requires.well_formed c.requires.new c.requires.some c.requires.small) c.target-section.ensures.there c.new-log.ensures.trail c.in_ok-insert_at.ensures.effect c.in_ok-insert_at.ensures.spends
+    (insertable _ _ _ c.requires.well_formed c.requires.new c.requires.some c.requires.small) c.target-section.ensures.there c.new-change.ensures.trail c.in_ok-insert_at.ensures.effect c.in_ok-insert_at.ensures.spends
 
 pub returns-clause-kept : goal.returns-clause-kept
 returns-clause-kept c =

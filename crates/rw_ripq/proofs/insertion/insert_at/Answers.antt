@@ -7,7 +7,7 @@ add-requires-clause-fits c = put-fits _ _ c.args.object _ _ c.requires.insertabl
 
 pub adjust-requires-clause-headroom : goal.adjust-requires-clause-headroom
 adjust-requires-clause-headroom c =
-    put-room c.args.queue.now c.make_room.new.queue c.add.new.self c.args.log.now.tally c.args.object c.args.size c.args.section c.in_ok-mark.ensures.kept c.in_ok-full.ensures.effect c.in_ok-mark.ensures.effect c.requires.fresh c.requires.none
+    put-room c.args.queue.now c.make_room.new.queue c.add.new.self c.args.change.now.counts c.args.object c.args.size c.args.section c.in_ok-mark.ensures.kept c.in_ok-full.ensures.effect c.in_ok-mark.ensures.effect c.requires.fresh c.requires.none
 
 pub returns-in_ok-adjust-clause-leads : goal.returns-in_ok-adjust-clause-leads
 returns-in_ok-adjust-clause-leads c =
