@@ -13,3 +13,4 @@ mod Lasts
 mod Arriving
 mod Balance
 mod Own
+mod PutBack

@@ -1,4 +1,3 @@
-pub mod PutBack
 pub mod ByPlace
 pub mod Sums
 pub mod Governing

@@ -19,7 +19,7 @@ use Rattle.rw_board.specs.contracts.board.Seat as Seat
 use Rattle.rw_exchange.specs.contracts.port.Port as Port
 use Rattle.rw_lp.specs.contracts.lp.Lp as Lp
 use Rattle.rw_rounds.specs.contracts.plan.Plan as Plan
-use Rattle.rw_rounds.specs.contracts.traffic.Traffic as Traffic
+use Rattle.rw_rounds.specs.contracts.sim.Traffic as Traffic
 use Rattle.rw_rounds.specs.contracts.desk.Desk as Desk
 use Rattle.rw_rounds.specs.contracts.worker.Worker as Worker
 use Rattle.rw_rounds.specs.contracts.worker.Worker.TheInside as Inside

@@ -1,4 +1,4 @@
--- What a worker does on the way through a turn.
+-- What a worker does on the way through a turn: only contracts of private functions cite what stands here.
 use Rattle.std.specs.Prelude.{◌≡◌, ℕ, ◌+◌, ◌<◌, ◌≤◌, Bool, true, false, not, List, [], ◌∷◌, ◌++◌, length, slice_get, Option, Some, None}
 use Rattle.std.specs.declared.cmp.Ordering.{Ordering}
 use Rattle.std.specs.Ordering.{is_gt}
@@ -15,8 +15,9 @@ use Rattle.rw_lp.specs.declared.step.StepFault.TheVariants.{Straggler}
 use Rattle.rw_exchange.specs.Ports.{SamePort, sent_to, received_from}
 use Rattle.rw_rounds.specs.declared.desk.Desk.{Desk}
 use Rattle.rw_rounds.specs.Bags.{weigh, only, Every, sum_below}
-use Rattle.rw_rounds.specs.Deeds.{Deed, Goes, arrivals, executions}
+use Rattle.rw_rounds.specs.Deeds.{Deed, Goes, IsFair, arrivals, executions}
 use Rattle.rw_rounds.specs.Turns.{Role, WorkerState, owner, is_own, passes, process_at, IsFit}
+use Rattle.rw_rounds.specs.Rounds.{Closes}
 
 -- who the worker is
 abbrev pub role_of : {M S B U : Type 0} → Desk M S B U → Role
@@ -58,14 +59,44 @@ pub record Works {M S B : Type 0} (y : System S B) (r : Role) (a b : WorkerState
   -- each process stays that of its model and its number
   pub named : (place : Position) (l z : LogicalProcess M S B) → slice_get a.processes place ≡ Some l → slice_get b.processes place ≡ Some z → (z.model ≡ l.model) × (z.number ≡ l.number)
 
+-- What the clauses of a desk say
+
+-- the worker at this desk is fit, and its processes are sound
+abbrev pub CanWork : {M S B U : Type 0} → Ghosts M S B U → (B → B → Ordering) → M → Desk M S B U → Type 0
+CanWork model order m d = IsFitAndSound model order m (desk_of d)
+
+-- the worker at this desk went from a to b: it dealt with the letters at hand and those that came up since, but for the rest; with n executions
+abbrev pub Deals : {M S B U : Type 0} → Ghosts M S B U → (B → B → Ordering) → M → Desk M S B U → Desk M S B U → List (Letter B) → List (Letter B) → Count → Type 0
+Deals model order m a b at_hand rest n = Works (rules model order m) (role_of a) (desk_of a) (desk_of b) at_hand rest n
+
+-- each of the letters is of a valid event that is not before the greatest time that this desk has collected
+abbrev pub AreFair : {M S B U : Type 0} → Ghosts M S B U → (B → B → Ordering) → M → Desk M S B U → List (Letter B) → Type 0
+AreFair model order m d letters = Every (IsFair (rules model order m) d.collected) letters
+
 -- x executed what was next, or undid its last event where what is next is a straggler
 abbrev pub Moved : {S B : Type 0} → System S B → Process → ProcessState S B → ProcessState S B → Bool → List (Letter B) → Type 0
 Moved y p x z true given = execute_next y p x ≡ Turned z given
 Moved y p x z false given = (undo_one y p x ≡ Turned z given) × (execute_next y p x ≡ Stays Straggler)
 
+-- x executed what was next, or undid its last event where that is a straggler, and became z; what it gave out was appended to the letters
+abbrev pub Advances : {M S B U : Type 0} → Ghosts M S B U → (B → B → Ordering) → LogicalProcess M S B → LogicalProcess M S B → Bool → List (Letter B) → List (Letter B) → Type 0
+Advances {M} {S} {B} model order x z executed before after = (given : List (Letter B)) × (after ≡ before ++ given) × Moved (rules model order x.model) x.number x.process z.process executed given
+
+-- of the events that each process has of some kind, none is before the time t
+abbrev pub NoneBefore : {M S B : Type 0} → (Event B → Event B → Ordering) → (ProcessState S B → List (Event B)) → Time → List (LogicalProcess M S B) → Type 0
+NoneBefore {M} {S} {B} cmp events_of t xs = (place : Position) (l : LogicalProcess M S B) → slice_get xs place ≡ Some l → Each cmp (λ e. t ≤ e.time) (events_of l.process)
+
 -- no pending event is before the bound
 abbrev pub HeldBack : {M S B : Type 0} → System S B → Time → List (LogicalProcess M S B) → Type 0
-HeldBack {M} {S} {B} y bound xs = (place : Position) (l : LogicalProcess M S B) → slice_get xs place ≡ Some l → Each y.order (λ e. bound ≤ e.time) l.process.pending
+HeldBack y bound xs = NoneBefore y.order (λ x. x.pending) bound xs
+
+-- the worker's desk went from a to b with n executions; if these are fewer than its batch, all that is pending is held back by the last reading and the window
+abbrev pub HoldsBackRest : {M S B U : Type 0} → Ghosts M S B U → (B → B → Ordering) → M → Desk M S B U → Desk M S B U → Count → Type 0
+HoldsBackRest model order m a b n = n < a.plan.batch → HeldBack (rules model order m) (b.seat.read + a.plan.window) b.processes.items
+
+-- the worker's desk was a and is b after its closing
+abbrev pub ClosesDesk : {M S B U : Type 0} → Ghosts M S B U → (B → B → Ordering) → M → Desk M S B U → Desk M S B U → Type 0
+ClosesDesk model order m a b = Closes (rules model order m) (desk_of a) (desk_of b)
 
 -- the event is less than the least one found so far, or none was found
 abbrev pub comes_before : {B : Type 0} → (Event B → Event B → Ordering) → Event B → Option (Position × Event B) → Bool
@@ -102,3 +133,11 @@ sizes y (l ∷ ls) = size y l + sizes y ls
 abbrev pub dones : {M S B : Type 0} → List (LogicalProcess M S B) → Count
 dones [] = 0
 dones (l ∷ ls) = length (done l.process) + dones ls
+
+-- how many events are done at this desk
+abbrev pub done_count : {M S B U : Type 0} → Desk M S B U → Count
+done_count d = dones d.processes.items
+
+-- how much work may be left at this desk with these letters at hand
+abbrev pub work_left : {M S B U : Type 0} → Ghosts M S B U → (B → B → Ordering) → M → Desk M S B U → List (Letter B) → Count
+work_left model order m d letters = sizes (rules model order m) d.processes.items + length letters

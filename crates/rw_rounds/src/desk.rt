@@ -1,11 +1,22 @@
-use crate::plan::Plan;
-use crate::traffic::Traffic;
-use rw_board::Seat;
-use rw_exchange::Port;
-use rw_lp::Lp;
-use rw_vt::{Letter, Model as VtModel};
+ghost use Rattle.std.specs.Prelude.{◌≡◌, ◌≢◌, ◌<◌, ◌≤◌, ◌+◌, ◌∷◌, ◌++◌, [], ℕ, true, false, cond, length, map, OnOk, IfOk, IfSome, IfNone};
+ghost use Rattle.rw_vt.specs.Order.{event_cmp};
+ghost use Rattle.rw_lp.specs.Calls.{rules};
+ghost use Rattle.rw_lp.specs.Sound.{HasCollected};
+ghost use Rattle.rw_exchange.specs.Ports.{IsWide};
+ghost use Rattle.rw_rounds.specs.Deeds.{IsFair};
+ghost use Rattle.rw_rounds.specs.Turns.{is_own, owner, passes};
+ghost use Rattle.rw_rounds.specs.Working.{role_of, CanWork, Deals, AreFair, HoldsBackRest, ClosesDesk, HeldBack, IsNext, NoneBefore, Advances, comes_before, done_count, work_left};
 
-/// What a worker works on: see [`Worker`](crate::Worker). The modules beside this one each do one part of a turn.
+use crate::plan::Plan;
+use crate::sim::Traffic;
+use rw_board::{Board, Seat};
+use rw_exchange::Port;
+use rw_lp::{Answer, Lp, put_back};
+use rw_vt::{END, Event, Letter, Model as VtModel, Refusal};
+use std::alloc::Global;
+use std::mem;
+
+/// What a worker works on, and what it does in a turn: see [`Worker`](crate::Worker).
 #[derive(Drop)]
 pub(crate) struct Desk<M: VtModel> {
     /// The worker's number, from 0.
@@ -22,4 +33,379 @@ pub(crate) struct Desk<M: VtModel> {
     pub(crate) port: Port<M::Body>,
     pub(crate) seat: Seat,
     pub(crate) traffic: Traffic,
+}
+
+impl<M: VtModel> Desk<M> {
+    /// Takes one turn: the letters of the inbox arrive, kept ones are offered to their rings again, those that the others
+    /// sent are taken up, and events are executed. Gives how many events were executed.
+    pub(crate) fn turn(
+        &mut self,
+        alloc: Global,
+        model: &M,
+        board: &Board,
+        inbox: Vec<Letter<M::Body>>,
+    ) -> Result<u64, Refusal>
+        requires fit { CanWork M.Model M.Body.cmp model.now self.old }
+        requires board { self.old.seat.board ≡ board.now.board }
+        requires fair { AreFair M.Model M.Body.cmp model.now self.old inbox.items }
+        ensures works { IfOk result (λ n.
+            Deals M.Model M.Body.cmp model.now self.old self.new inbox.items [] n) }
+        ensures fit { OnOk result (CanWork M.Model M.Body.cmp model.now self.new) }
+        ensures within { IfOk result (λ n. n ≤ self.old.plan.batch) }
+        ensures held_back { IfOk result (λ n.
+            HoldsBackRest M.Model M.Body.cmp model.now self.old self.new n) }
+    {
+        self.deal(alloc, model, board, inbox)?;
+        self.offer_kept(alloc, model, board)?;
+        self.receive_all(alloc, model, board)?;
+        self.execute_some(alloc, model, board)
+    }
+
+    // Dealing with letters.
+
+    /// Deals with letters in order: one to an own process arrives there, and what that gives out is dealt with before the
+    /// next, its last one first; one to another worker is posted.
+    fn deal(
+        &mut self,
+        alloc: Global,
+        model: &M,
+        board: &Board,
+        letters: Vec<Letter<M::Body>>,
+    ) -> Result<(), Refusal>
+        requires fit { CanWork M.Model M.Body.cmp model.now self.old }
+        requires board { self.old.seat.board ≡ board.now.board }
+        requires fair { AreFair M.Model M.Body.cmp model.now self.old letters.items }
+        ensures works { OnOk result (
+            Deals M.Model M.Body.cmp model.now self.old self.new letters.items [] 0) }
+        ensures fit { OnOk result (CanWork M.Model M.Body.cmp model.now self.new) }
+        ensures fewer { OnOk result (done_count self.new ≤ done_count self.old) }
+    {
+        // What is next stands last, so that it can be popped.
+        let mut at_hand = letters;
+        at_hand.reverse();
+        while let Some(letter) = at_hand.pop() {
+            if self.owns(&letter) {
+                self.arrive(alloc, model, letter, &mut at_hand)?;
+            } else {
+                self.post(board, letter)?;
+            }
+        }
+        Ok(())
+    }
+
+    /// Whether the letter goes to one of the worker's own processes.
+    fn owns(&self, letter: &Letter<M::Body>) -> bool
+        requires workers { 0 < self.now.plan.workers }
+        ensures own { result ≡ is_own (role_of self.now) letter.now }
+    {
+        letter.event.to % self.plan.workers == self.number
+    }
+
+    /// A letter arrives at the own process that it goes to. What that gives out is appended to `out`.
+    fn arrive(
+        &mut self,
+        alloc: Global,
+        model: &M,
+        letter: Letter<M::Body>,
+        out: &mut Vec<Letter<M::Body>>,
+    ) -> Result<(), Refusal>
+        requires fit { CanWork M.Model M.Body.cmp model.now self.old }
+        requires fair { IsFair (rules M.Model M.Body.cmp model.now) self.old.collected letter }
+        requires own { is_own (role_of self.old) letter ≡ true }
+        ensures works { OnOk result (
+            Deals M.Model M.Body.cmp model.now self.old self.new
+            (out.old.items ++ letter ∷ []) out.new.items 0) }
+        ensures fit { OnOk result (CanWork M.Model M.Body.cmp model.now self.new) }
+        ensures fair { OnOk result (
+            AreFair M.Model M.Body.cmp model.now self.old out.old.items
+            → AreFair M.Model M.Body.cmp model.now self.old out.new.items) }
+        ensures falls { OnOk result (
+            work_left M.Model M.Body.cmp model.now self.new out.new.items
+            ≤ work_left M.Model M.Body.cmp model.now self.old out.old.items) }
+        ensures fewer { OnOk result (done_count self.new ≤ done_count self.old) }
+    {
+        let place = (letter.event.to / self.plan.workers) as usize;
+        let process = self.processes.swap_remove(place);
+        let before = process.processed().len();
+        let process = process.arrive(alloc, model, letter, out)?;
+        let undone = before.saturating_sub(process.processed().len());
+        put_back(&mut self.processes, place, process)?;
+        self.traffic.undone = self.traffic.undone.wrapping_add(undone as u64);
+        Ok(())
+    }
+
+    // What goes out to other workers.
+
+    /// Sends a letter to the worker of its process and notes its time, or keeps it where the ring has no room.
+    fn post(&mut self, board: &Board, letter: Letter<M::Body>) -> Result<(), Refusal>
+        requires workers { self.old.number < self.old.plan.workers }
+        requires port { (self.old.port.worker ≡ self.old.number)
+            × IsWide self.old.plan.workers self.old.port }
+        requires other { owner (role_of self.old) letter ≡ self.old.number → ⊥ }
+        requires board { self.old.seat.board ≡ board.now.board }
+        ensures works { OnOk result ((m : M)
+            → Deals M.Model M.Body.cmp m self.old self.new (letter ∷ []) [] 0) }
+        ensures processes { OnOk result (self.new.processes ≡ self.old.processes) }
+    {
+        let to = letter.event.to % self.plan.workers;
+        match self.port.send(to as usize, letter) {
+            Ok(()) => board.note(&mut self.seat, letter.event.time),
+            Err(back) => self.kept.push(back)?,
+        }
+        Ok(())
+    }
+
+    /// Offers the kept letters to their rings again, in order. Those that are refused stay kept.
+    fn offer_kept(&mut self, alloc: Global, model: &M, board: &Board) -> Result<(), Refusal>
+        requires fit { CanWork M.Model M.Body.cmp model.now self.old }
+        requires board { self.old.seat.board ≡ board.now.board }
+        ensures works { OnOk result (
+            Deals M.Model M.Body.cmp model.now self.old self.new [] [] 0) }
+        ensures fit { OnOk result (CanWork M.Model M.Body.cmp model.now self.new) }
+    {
+        let kept = mem::replace(&mut self.kept, Vec::new(alloc));
+        for letter in kept {
+            self.post(board, letter)?;
+        }
+        Ok(())
+    }
+
+    // What comes in from other workers.
+
+    /// Takes up at most as many letters from each other worker as a ring has room for, by rising number.
+    fn receive_all(&mut self, alloc: Global, model: &M, board: &Board) -> Result<(), Refusal>
+        requires fit { CanWork M.Model M.Body.cmp model.now self.old }
+        requires board { self.old.seat.board ≡ board.now.board }
+        ensures works { OnOk result (
+            Deals M.Model M.Body.cmp model.now self.old self.new [] [] 0) }
+        ensures fit { OnOk result (CanWork M.Model M.Body.cmp model.now self.new) }
+    {
+        for from in 0..self.plan.workers {
+            if from == self.number {
+                continue;
+            }
+            self.receive_from(alloc, model, board, from)?;
+        }
+        Ok(())
+    }
+
+    /// Takes up at most as many letters from worker `from` as the ring has room for.
+    fn receive_from(
+        &mut self,
+        alloc: Global,
+        model: &M,
+        board: &Board,
+        from: u32,
+    ) -> Result<(), Refusal>
+        requires fit { CanWork M.Model M.Body.cmp model.now self.old }
+        requires board { self.old.seat.board ≡ board.now.board }
+        requires other { (from < self.old.plan.workers) × (from ≢ self.old.number) }
+        ensures works { OnOk result (
+            Deals M.Model M.Body.cmp model.now self.old self.new [] [] 0) }
+        ensures fit { OnOk result (CanWork M.Model M.Body.cmp model.now self.new) }
+    {
+        for _ in 0..self.plan.ring {
+            let found = self.receive_one(alloc, model, board, from)?;
+            if !found {
+                return Ok(());
+            }
+        }
+        Ok(())
+    }
+
+    /// Takes up the next letter from worker `from`, and answers whether there was one. A letter that passes the test is
+    /// dealt with at once; another one is set aside.
+    fn receive_one(
+        &mut self,
+        alloc: Global,
+        model: &M,
+        board: &Board,
+        from: u32,
+    ) -> Result<bool, Refusal>
+        requires fit { CanWork M.Model M.Body.cmp model.now self.old }
+        requires board { self.old.seat.board ≡ board.now.board }
+        requires other { (from < self.old.plan.workers) × (from ≢ self.old.number) }
+        ensures works { OnOk result (
+            Deals M.Model M.Body.cmp model.now self.old self.new [] [] 0) }
+        ensures fit { OnOk result (CanWork M.Model M.Body.cmp model.now self.new) }
+    {
+        let Some(letter) = self.port.receive(from as usize) else {
+            return Ok(false);
+        };
+        self.traffic.ring = self.traffic.ring.wrapping_add(1);
+        if self.passes(model, &letter) {
+            let mut letters = Vec::new(alloc);
+            letters.push(letter)?;
+            self.deal(alloc, model, board, letters)?;
+        } else {
+            self.aside.push(letter)?;
+        }
+        Ok(true)
+    }
+
+    /// The test of a received letter: whether it is valid, goes to an own process, and is not before the greatest time
+    /// collected.
+    fn passes(&self, model: &M, letter: &Letter<M::Body>) -> bool
+        requires workers { 0 < self.now.plan.workers }
+        ensures passes { result
+            ≡ passes (rules M.Model M.Body.cmp model.now) (role_of self.now) letter.now }
+    {
+        model.valid(&letter.event) && self.owns(letter) && self.collected <= letter.event.time
+    }
+
+    // Executing.
+
+    /// Executes events until the batch is used up or all that is pending is held back, and gives how many it executed.
+    ///
+    /// It is always the least pending event that comes next. Where that is a straggler, the last processed event of its
+    /// process is undone, and the worker looks again.
+    fn execute_some(&mut self, alloc: Global, model: &M, board: &Board) -> Result<u64, Refusal>
+        requires fit { CanWork M.Model M.Body.cmp model.now self.old }
+        requires board { self.old.seat.board ≡ board.now.board }
+        ensures works { IfOk result (λ n.
+            Deals M.Model M.Body.cmp model.now self.old self.new [] [] n) }
+        ensures fit { OnOk result (CanWork M.Model M.Body.cmp model.now self.new) }
+        ensures within { IfOk result (λ n. n ≤ self.old.plan.batch) }
+        ensures held_back { IfOk result (λ n.
+            HoldsBackRest M.Model M.Body.cmp model.now self.old self.new n) }
+    {
+        let batch = u64::from(self.plan.batch);
+        let mut executed = 0;
+        while executed < batch {
+            let bound = board.floor(&mut self.seat) + self.plan.window;
+            let Some(place) = next_before(&self.processes, bound) else {
+                return Ok(executed);
+            };
+            let done = self.advance(alloc, model, board, place)?;
+            if done {
+                executed += 1;
+            }
+        }
+        Ok(executed)
+    }
+
+    /// The process at `place` executes what is next, or undoes its last event where that is a straggler; then what was
+    /// given out is dealt with. Answers whether it executed.
+    fn advance(
+        &mut self,
+        alloc: Global,
+        model: &M,
+        board: &Board,
+        place: usize,
+    ) -> Result<bool, Refusal>
+        requires fit { CanWork M.Model M.Body.cmp model.now self.old }
+        requires board { self.old.seat.board ≡ board.now.board }
+        requires next { (bound : ℕ)
+            × IsNext (rules M.Model M.Body.cmp model.now) bound self.old.processes.items place }
+        ensures works { IfOk result (λ executed.
+            Deals M.Model M.Body.cmp model.now self.old self.new [] [] (cond executed 1 0)) }
+        ensures fit { OnOk result (CanWork M.Model M.Body.cmp model.now self.new) }
+        ensures executed { IfOk result (λ executed.
+            executed ≡ true → done_count self.new ≤ done_count self.old + 1) }
+        ensures undone { IfOk result (λ executed.
+            executed ≡ false → done_count self.new < done_count self.old) }
+    {
+        let mut out = Vec::new(alloc);
+        let process = self.processes.swap_remove(place);
+        let (process, executed) = execute_or_undo(alloc, model, process, &mut out)?;
+        put_back(&mut self.processes, place, process)?;
+        self.traffic.executed = self.traffic.executed.wrapping_add(u64::from(executed));
+        self.traffic.undone = self.traffic.undone.wrapping_add(u64::from(!executed));
+        self.deal(alloc, model, board, out)?;
+        Ok(executed)
+    }
+
+    // The end of a round.
+
+    /// Notes the least time of the processes, and the time of each kept letter. Takes no memory.
+    pub(crate) fn close(&mut self, board: &Board)
+        requires board { self.old.seat.board ≡ board.now.board }
+        ensures closes { (m : M) → ClosesDesk M.Model M.Body.cmp m self.old self.new }
+    {
+        let least = least_of(&self.processes);
+        board.note(&mut self.seat, least);
+        note_all(board, &mut self.seat, &self.kept);
+    }
+}
+
+/// The place of the process with the least pending event, if that event is before `bound`.
+fn next_before<M: VtModel>(processes: &[Lp<M>], bound: u64) -> Option<usize>
+    ensures some { IfSome result (λ place. (m : M)
+        → IsNext (rules M.Model M.Body.cmp m) bound processes.now place) }
+    ensures none { IfNone result ((m : M)
+        → HeldBack (rules M.Model M.Body.cmp m) bound processes.now) }
+{
+    let mut least = None;
+    for (place, process) in processes.iter().enumerate() {
+        let Some(event) = process.next() else {
+            continue;
+        };
+        if !comes_before(event, &least) {
+            continue;
+        }
+        least = Some((place, *event));
+    }
+    let (place, event) = least?;
+    if bound <= event.time {
+        return None;
+    }
+    Some(place)
+}
+
+/// Whether the event is less than the least one found so far, or none was found.
+fn comes_before<B: Ord + Copy>(event: &Event<B>, least: &Option<(usize, Event<B>)>) -> bool
+    ensures { result ≡ comes_before (event_cmp B.cmp) event.now least.now }
+{
+    match least {
+        None => true,
+        Some((_, other)) => other.cmp(event).is_gt(),
+    }
+}
+
+/// The process executes what is next, or undoes its last event where that is a straggler. What it gives out is appended to
+/// `out`. Answers whether it executed.
+fn execute_or_undo<M: VtModel>(
+    alloc: Global,
+    model: &M,
+    process: Lp<M>,
+    out: &mut Vec<Letter<M::Body>>,
+) -> Result<(Lp<M>, bool), Refusal>
+    requires model { model.now ≡ process.model }
+    requires pending { process.process.pending ≢ [] }
+    requires undoable { (g : ℕ) × HasCollected (event_cmp M.Body.cmp) g process.process }
+    ensures same { IfOk result (λ r.
+        (r.0.model ≡ process.model) × (r.0.number ≡ process.number)) }
+    ensures moved { IfOk result (λ r.
+        Advances M.Model M.Body.cmp process r.0 r.1 out.old.items out.new.items) }
+{
+    let (process, answer) = process.execute_next(alloc, model, out)?;
+    if let Answer::Done = answer {
+        return Ok((process, true));
+    }
+    let (process, _answer) = process.undo_one(alloc, model, out)?;
+    Ok((process, false))
+}
+
+/// The least time of the pending events and debts of `processes`, in ticks, or the end of time.
+fn least_of<M: VtModel>(processes: &[Lp<M>]) -> u64
+    ensures pending { NoneBefore (event_cmp M.Body.cmp) (λ x. x.pending) result processes.now }
+    ensures debts { NoneBefore (event_cmp M.Body.cmp) (λ x. x.debts) result processes.now }
+{
+    let mut least = END;
+    for process in processes {
+        least = least.min(process.least());
+    }
+    least
+}
+
+/// Notes the time of each of the letters.
+fn note_all<B>(board: &Board, seat: &mut Seat, letters: &[Letter<B>])
+    requires board { seat.old.board ≡ board.now.board }
+    ensures noted { seat.new ≡ record seat.old {
+      noted = seat.old.noted ++ map (λ l. l.event.time) letters.now;
+    } }
+{
+    for letter in letters {
+        board.note(seat, letter.event.time);
+    }
 }

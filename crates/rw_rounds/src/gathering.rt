@@ -7,7 +7,7 @@ ghost use Rattle.rw_rounds.specs.Bags.{weigh, sum_below};
 ghost use Rattle.rw_rounds.specs.Gathering.{IsGathered};
 
 use crate::desk::Desk;
-use crate::traffic::Traffic;
+use crate::sim::Traffic;
 use crate::worker::Worker;
 use rw_board::{Board, Seat};
 use rw_exchange::{Left, Port};

@@ -10,37 +10,25 @@
 //!
 //! Worked examples: `rw_tests/src/relay_rounds.rt` and `photo_rounds.rt`.
 
-mod closing;
-mod dealing;
-mod dealing_out;
 mod desk;
-mod executing;
-mod gate;
 mod gathering;
-mod places;
 mod plan;
-mod posting;
-mod receiving;
 mod round;
 mod running;
+mod setting_up;
 mod sim;
 mod stop;
 mod threads;
-mod traffic;
-mod turning;
 mod worker;
-mod worker_round;
 
-pub use gate::{Gate, Open};
 pub use plan::Plan;
-pub use round::run_round;
+pub use round::{Gate, Open, run_round};
 pub use running::run;
 pub use rw_board::{Board, Seat};
 pub use rw_exchange::Port;
 pub use rw_lp::Lp;
 pub use rw_vt::{Letter, Model, Outcome, Refusal};
 pub use rw_world::World;
-pub use sim::Sim;
+pub use sim::{Sim, Traffic};
 pub use stop::Stop;
-pub use traffic::Traffic;
 pub use worker::Worker;

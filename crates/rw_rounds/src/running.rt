@@ -4,12 +4,10 @@ ghost use Rattle.rw_world.specs.Calls.{system_of};
 ghost use Rattle.rw_world.specs.WorldState.{floor};
 ghost use Rattle.rw_rounds.specs.Plans.{IsInRanges};
 
-use crate::gate::Gate;
 use crate::plan::Plan;
-use crate::round::run_round;
-use crate::sim::Sim;
+use crate::round::{Gate, run_round};
+use crate::sim::{Sim, Traffic};
 use crate::stop::Stop;
-use crate::traffic::Traffic;
 use rw_lp::Lp;
 use rw_vt::{END, Model as VtModel, NoMemory, Outcome};
 use rw_world::{World, every_sound_world};

@@ -6,7 +6,7 @@ ghost use Rattle.rw_rounds.specs.Turns.{IsFit, TookTurn};
 
 use crate::desk::Desk;
 use crate::plan::Plan;
-use crate::traffic::Traffic;
+use crate::sim::Traffic;
 use rw_board::{Board, Seat};
 use rw_exchange::Port;
 use rw_lp::Lp;
