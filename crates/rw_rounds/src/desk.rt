@@ -36,56 +36,60 @@ pub(crate) struct Desk<M: VtModel> {
 }
 
 impl<M: VtModel> Desk<M> {
-    /// Takes one turn: the letters of the inbox arrive, kept ones are offered to their rings again, those that the others
-    /// sent are taken up, and events are executed. Gives how many events were executed.
+    /// Takes one turn: the letters at hand arrive, kept ones are offered to their rings again, those that the others sent
+    /// are taken up, and events are executed. Gives how many events were executed.
+    ///
+    /// `at_hand` is the stack of letters that are to be dealt with next. Whatever comes up in the turn is pushed onto it and
+    /// dealt with at once, so it is empty between the parts of a turn, and after it.
     pub(crate) fn turn(
         &mut self,
         alloc: Global,
         model: &M,
         board: &Board,
-        inbox: Vec<Letter<M::Body>>,
+        at_hand: &mut Vec<Letter<M::Body>>,
     ) -> Result<u64, Refusal>
         requires fit { CanWork M.Model M.Body.cmp model.now self.old }
         requires board { self.old.seat.board ≡ board.now.board }
-        requires fair { AreFair M.Model M.Body.cmp model.now self.old inbox.items }
+        requires fair { AreFair M.Model M.Body.cmp model.now self.old at_hand.old.items }
         ensures works { IfOk result (λ n.
-            Deals M.Model M.Body.cmp model.now self.old self.new inbox.items [] n) }
+            Deals M.Model M.Body.cmp model.now self.old self.new at_hand.old.items [] n) }
         ensures fit { OnOk result (CanWork M.Model M.Body.cmp model.now self.new) }
+        ensures none_left { OnOk result (at_hand.new.items ≡ []) }
         ensures within { IfOk result (λ n. n ≤ self.old.plan.batch) }
         ensures held_back { IfOk result (λ n.
             HoldsBackRest M.Model M.Body.cmp model.now self.old self.new n) }
     {
-        self.deal(alloc, model, board, inbox)?;
+        self.deal(alloc, model, board, at_hand)?;
         self.offer_kept(alloc, model, board)?;
-        self.receive_all(alloc, model, board)?;
-        self.execute_some(alloc, model, board)
+        self.receive_all(alloc, model, board, at_hand)?;
+        self.execute_some(alloc, model, board, at_hand)
     }
 
     // Dealing with letters.
 
-    /// Deals with letters in order: one to an own process arrives there, and what that gives out is dealt with before the
-    /// next, its last one first; one to another worker is posted.
+    /// Deals with the letters at hand in order: one to an own process arrives there, and what that gives out is dealt with
+    /// before the next, its last one first; one to another worker is posted. None is left at hand.
     fn deal(
         &mut self,
         alloc: Global,
         model: &M,
         board: &Board,
-        letters: Vec<Letter<M::Body>>,
+        at_hand: &mut Vec<Letter<M::Body>>,
     ) -> Result<(), Refusal>
         requires fit { CanWork M.Model M.Body.cmp model.now self.old }
         requires board { self.old.seat.board ≡ board.now.board }
-        requires fair { AreFair M.Model M.Body.cmp model.now self.old letters.items }
+        requires fair { AreFair M.Model M.Body.cmp model.now self.old at_hand.old.items }
         ensures works { OnOk result (
-            Deals M.Model M.Body.cmp model.now self.old self.new letters.items [] 0) }
+            Deals M.Model M.Body.cmp model.now self.old self.new at_hand.old.items [] 0) }
         ensures fit { OnOk result (CanWork M.Model M.Body.cmp model.now self.new) }
+        ensures none_left { OnOk result (at_hand.new.items ≡ []) }
         ensures fewer { OnOk result (done_count self.new ≤ done_count self.old) }
     {
         // What is next stands last, so that it can be popped.
-        let mut at_hand = letters;
         at_hand.reverse();
         while let Some(letter) = at_hand.pop() {
             if self.owns(&letter) {
-                self.arrive(alloc, model, letter, &mut at_hand)?;
+                self.arrive(alloc, model, letter, at_hand)?;
             } else {
                 self.post(board, letter)?;
             }
@@ -173,18 +177,26 @@ impl<M: VtModel> Desk<M> {
     // What comes in from other workers.
 
     /// Takes up at most as many letters from each other worker as a ring has room for, by rising number.
-    fn receive_all(&mut self, alloc: Global, model: &M, board: &Board) -> Result<(), Refusal>
+    fn receive_all(
+        &mut self,
+        alloc: Global,
+        model: &M,
+        board: &Board,
+        at_hand: &mut Vec<Letter<M::Body>>,
+    ) -> Result<(), Refusal>
         requires fit { CanWork M.Model M.Body.cmp model.now self.old }
         requires board { self.old.seat.board ≡ board.now.board }
+        requires none { at_hand.old.items ≡ [] }
         ensures works { OnOk result (
             Deals M.Model M.Body.cmp model.now self.old self.new [] [] 0) }
         ensures fit { OnOk result (CanWork M.Model M.Body.cmp model.now self.new) }
+        ensures none_left { OnOk result (at_hand.new.items ≡ []) }
     {
         for from in 0..self.plan.workers {
             if from == self.number {
                 continue;
             }
-            self.receive_from(alloc, model, board, from)?;
+            self.receive_from(alloc, model, board, from, at_hand)?;
         }
         Ok(())
     }
@@ -196,16 +208,19 @@ impl<M: VtModel> Desk<M> {
         model: &M,
         board: &Board,
         from: u32,
+        at_hand: &mut Vec<Letter<M::Body>>,
     ) -> Result<(), Refusal>
         requires fit { CanWork M.Model M.Body.cmp model.now self.old }
         requires board { self.old.seat.board ≡ board.now.board }
+        requires none { at_hand.old.items ≡ [] }
         requires other { (from < self.old.plan.workers) × (from ≢ self.old.number) }
         ensures works { OnOk result (
             Deals M.Model M.Body.cmp model.now self.old self.new [] [] 0) }
         ensures fit { OnOk result (CanWork M.Model M.Body.cmp model.now self.new) }
+        ensures none_left { OnOk result (at_hand.new.items ≡ []) }
     {
         for _ in 0..self.plan.ring {
-            let found = self.receive_one(alloc, model, board, from)?;
+            let found = self.receive_one(alloc, model, board, from, at_hand)?;
             if !found {
                 return Ok(());
             }
@@ -221,22 +236,24 @@ impl<M: VtModel> Desk<M> {
         model: &M,
         board: &Board,
         from: u32,
+        at_hand: &mut Vec<Letter<M::Body>>,
     ) -> Result<bool, Refusal>
         requires fit { CanWork M.Model M.Body.cmp model.now self.old }
         requires board { self.old.seat.board ≡ board.now.board }
+        requires none { at_hand.old.items ≡ [] }
         requires other { (from < self.old.plan.workers) × (from ≢ self.old.number) }
         ensures works { OnOk result (
             Deals M.Model M.Body.cmp model.now self.old self.new [] [] 0) }
         ensures fit { OnOk result (CanWork M.Model M.Body.cmp model.now self.new) }
+        ensures none_left { OnOk result (at_hand.new.items ≡ []) }
     {
         let Some(letter) = self.port.receive(from as usize) else {
             return Ok(false);
         };
         self.traffic.ring = self.traffic.ring.wrapping_add(1);
         if self.passes(model, &letter) {
-            let mut letters = Vec::new(alloc);
-            letters.push(letter)?;
-            self.deal(alloc, model, board, letters)?;
+            at_hand.push(letter)?;
+            self.deal(alloc, model, board, at_hand)?;
         } else {
             self.aside.push(letter)?;
         }
@@ -259,12 +276,20 @@ impl<M: VtModel> Desk<M> {
     ///
     /// It is always the least pending event that comes next. Where that is a straggler, the last processed event of its
     /// process is undone, and the worker looks again.
-    fn execute_some(&mut self, alloc: Global, model: &M, board: &Board) -> Result<u64, Refusal>
+    fn execute_some(
+        &mut self,
+        alloc: Global,
+        model: &M,
+        board: &Board,
+        at_hand: &mut Vec<Letter<M::Body>>,
+    ) -> Result<u64, Refusal>
         requires fit { CanWork M.Model M.Body.cmp model.now self.old }
         requires board { self.old.seat.board ≡ board.now.board }
+        requires none { at_hand.old.items ≡ [] }
         ensures works { IfOk result (λ n.
             Deals M.Model M.Body.cmp model.now self.old self.new [] [] n) }
         ensures fit { OnOk result (CanWork M.Model M.Body.cmp model.now self.new) }
+        ensures none_left { OnOk result (at_hand.new.items ≡ []) }
         ensures within { IfOk result (λ n. n ≤ self.old.plan.batch) }
         ensures held_back { IfOk result (λ n.
             HoldsBackRest M.Model M.Body.cmp model.now self.old self.new n) }
@@ -276,7 +301,7 @@ impl<M: VtModel> Desk<M> {
             let Some(place) = next_before(&self.processes, bound) else {
                 return Ok(executed);
             };
-            let done = self.advance(alloc, model, board, place)?;
+            let done = self.advance(alloc, model, board, place, at_hand)?;
             if done {
                 executed += 1;
             }
@@ -292,26 +317,28 @@ impl<M: VtModel> Desk<M> {
         model: &M,
         board: &Board,
         place: usize,
+        at_hand: &mut Vec<Letter<M::Body>>,
     ) -> Result<bool, Refusal>
         requires fit { CanWork M.Model M.Body.cmp model.now self.old }
         requires board { self.old.seat.board ≡ board.now.board }
+        requires none { at_hand.old.items ≡ [] }
         requires next { (bound : ℕ)
             × IsNext (rules M.Model M.Body.cmp model.now) bound self.old.processes.items place }
         ensures works { IfOk result (λ executed.
             Deals M.Model M.Body.cmp model.now self.old self.new [] [] (cond executed 1 0)) }
         ensures fit { OnOk result (CanWork M.Model M.Body.cmp model.now self.new) }
+        ensures none_left { OnOk result (at_hand.new.items ≡ []) }
         ensures executed { IfOk result (λ executed.
             executed ≡ true → done_count self.new ≤ done_count self.old + 1) }
         ensures undone { IfOk result (λ executed.
             executed ≡ false → done_count self.new < done_count self.old) }
     {
-        let mut out = Vec::new(alloc);
         let process = self.processes.swap_remove(place);
-        let (process, executed) = execute_or_undo(alloc, model, process, &mut out)?;
+        let (process, executed) = execute_or_undo(alloc, model, process, at_hand)?;
         put_back(&mut self.processes, place, process)?;
         self.traffic.executed = self.traffic.executed.wrapping_add(u64::from(executed));
         self.traffic.undone = self.traffic.undone.wrapping_add(u64::from(!executed));
-        self.deal(alloc, model, board, out)?;
+        self.deal(alloc, model, board, at_hand)?;
         Ok(executed)
     }
 

@@ -21,7 +21,9 @@ use std::marker::Model;
 #[derive(Drop)]
 pub struct Worker<M: VtModel> {
     desk: Desk<M>,
-    inbox: Vec<Letter<M::Body>>,
+    /// Before the first turn the letters that are on their way to the worker's processes; afterwards an empty list, whose
+    /// memory each turn uses.
+    at_hand: Vec<Letter<M::Body>>,
 }
 
 impl<M: VtModel> Model for Worker<M> {
@@ -29,7 +31,7 @@ impl<M: VtModel> Model for Worker<M> {
 
     ghost Value = { WorkerState M M.State M.Body };
 
-    ghost view = { λ w. record { role = record { number = w.desk.number; plan = w.desk.plan; collected = w.desk.collected }; processes = w.desk.processes.items; inbox = w.inbox.items; kept = w.desk.kept.items; aside = w.desk.aside.items; port = w.desk.port; seat = w.desk.seat } };
+    ghost view = { λ w. record { role = record { number = w.desk.number; plan = w.desk.plan; collected = w.desk.collected }; processes = w.desk.processes.items; inbox = w.at_hand.items; kept = w.desk.kept.items; aside = w.desk.aside.items; port = w.desk.port; seat = w.desk.seat } };
 }
 
 impl<M: VtModel> Worker<M> {
@@ -59,7 +61,10 @@ impl<M: VtModel> Worker<M> {
             seat,
             traffic: Traffic::default(),
         };
-        Worker { desk, inbox }
+        Worker {
+            desk,
+            at_hand: inbox,
+        }
     }
 
     /// Takes one turn, and gives how many events were executed, at most the plan's `batch`.
@@ -84,15 +89,14 @@ impl<M: VtModel> Worker<M> {
         ensures turn { IfOk result (λ r. TookTurn (rules M.Model M.Body.cmp model.now) self r.0 r.1) }
         ensures fit { IfOk result (λ r. IsFit M.Model M.Body.cmp model.now r.0) }
     {
-        let Worker { mut desk, inbox } = self;
+        let Worker {
+            mut desk,
+            mut at_hand,
+        } = self;
         // What every process promises.
         soundness(&desk.processes);
-        let executed = desk.turn(alloc, model, board, inbox)?;
-        let worker = Worker {
-            desk,
-            inbox: Vec::new(alloc),
-        };
-        Ok((worker, executed))
+        let executed = desk.turn(alloc, model, board, &mut at_hand)?;
+        Ok((Worker { desk, at_hand }, executed))
     }
 
     /// Notes the least time of the worker's processes and the time of each kept letter: what it leaves behind after its last
@@ -101,9 +105,9 @@ impl<M: VtModel> Worker<M> {
         requires board { self.seat.board ≡ board.now.board }
         ensures closes { (m : M) → Closes (rules M.Model M.Body.cmp m) self result }
     {
-        let Worker { mut desk, inbox } = self;
+        let Worker { mut desk, at_hand } = self;
         desk.close(board);
-        Worker { desk, inbox }
+        Worker { desk, at_hand }
     }
 
     /// What the worker worked on. Takes no memory.
@@ -114,7 +118,7 @@ impl<M: VtModel> Worker<M> {
         ensures port { result.port ≡ self.port }
         ensures seat { result.seat ≡ self.seat }
     {
-        let Worker { desk, inbox: _ } = self;
+        let Worker { desk, at_hand: _ } = self;
         desk
     }
 

@@ -7,7 +7,7 @@ use Rattle.rw_rounds.proofs.Fits.{fit_with_seat}
 use Rattle.rw_rounds.proofs.desk.Desk.execute_some.Goals as goal
 
 pub loop-executed-init : goal.loop-executed-init
-loop-executed-init g c = record { works = works_none (rules g.M.Model g.M.Body.Ord.cmp c.args.model.now) (role_of c.args.self.now) (desk_of c.args.self.now) [] refl; fit = c.requires.fit; board = c.requires.board; plan = refl; within = omega arith }
+loop-executed-init g c = record { works = works_none (rules g.M.Model g.M.Body.Ord.cmp c.args.model.now) (role_of c.args.self.now) (desk_of c.args.self.now) [] refl; fit = c.requires.fit; board = c.requires.board; none = c.requires.none; plan = refl; within = omega arith }
 
 pub loop-executed-preserved-then-done : goal.loop-executed-preserved-then-done
 loop-executed-preserved-then-done g c =
@@ -23,6 +23,7 @@ loop-executed-preserved-then-done g c =
       works = subst (Works (rules g.M.Model g.M.Body.Ord.cmp c.args.model.now) (role_of c.args.self.now) (desk_of c.args.self.now) (desk_of c.advance.new.self) [] []) sum both;
       fit = c.in_ok-done.ensures.fit;
       board = both.same_board ∙ c.requires.board;
+      none = c.in_ok-done.ensures.none_left;
       plan = ap (λ k. k.plan) both.after;
       within = omega (arith, known.within, c.from-batch.ensures);
     }
@@ -41,6 +42,7 @@ loop-executed-preserved g c =
       works = subst (Works (rules g.M.Model g.M.Body.Ord.cmp c.args.model.now) (role_of c.args.self.now) (desk_of c.args.self.now) (desk_of c.advance.new.self) [] []) sum both;
       fit = c.in_ok-done.ensures.fit;
       board = both.same_board ∙ c.requires.board;
+      none = c.in_ok-done.ensures.none_left;
       plan = ap (λ k. k.plan) both.after;
       within = omega (arith, known.within, c.from-batch.ensures);
     }

@@ -8,6 +8,7 @@ invariant-loop-executed g l = record {
   works : Works (rules g.M.Model g.M.Body.Ord.cmp l.model) (role_of l.fn.self) (desk_of l.fn.self) (desk_of l.self) [] [] l.executed;
   fit : IsFitAndSound g.M.Model g.M.Body.Ord.cmp l.model (desk_of l.self);
   board : l.self.seat.board ≡ l.board.board;
+  none : l.at_hand.items ≡ [];
   plan : l.self.plan ≡ l.fn.self.plan;
   within : l.executed ≤ l.fn.self.plan.batch;
 }

@@ -8,4 +8,5 @@ invariant-loop g l = record {
   works : Works (rules g.M.Model g.M.Body.Ord.cmp l.model) (role_of l.fn.self) (desk_of l.fn.self) (desk_of l.self) [] [] 0;
   fit : IsFitAndSound g.M.Model g.M.Body.Ord.cmp l.model (desk_of l.self);
   board : l.self.seat.board ≡ l.board.board;
+  none : l.at_hand.items ≡ [];
 }

@@ -18,14 +18,14 @@ pub deal-requires-clause-fair : goal.deal-requires-clause-fair
 deal-requires-clause-fair g c =
     let x = c.args.self.now in
     let pass : passes (rules g.M.Model g.M.Body.Ord.cmp c.args.model.now) (role_of x) c.in-Some.letter ≡ true = sym c.passes.ensures.passes ∙ c.if-passes.true in
-    let items : c.push.new.self.items ≡ c.in-Some.letter ∷ [] = c.in_ok-push.ensures.items ∙ ap (λ l. l ++ c.in-Some.letter ∷ []) c.new-letters.ensures.items in
+    let items : c.push.new.self.items ≡ c.in-Some.letter ∷ [] = c.in_ok-push.ensures.items ∙ ap (λ l. l ++ c.in-Some.letter ∷ []) c.requires.none in
     subst (Every (IsFair (rules g.M.Model g.M.Body.Ord.cmp c.args.model.now) x.collected)) (sym items) (passes_fair (rules g.M.Model g.M.Body.Ord.cmp c.args.model.now) (role_of x) c.in-Some.letter pass, tt)
 
 pub returns-in_ok-deal-clause-works : goal.returns-in_ok-deal-clause-works
 returns-in_ok-deal-clause-works g c =
     let x = c.args.self.now in
     let pass : passes (rules g.M.Model g.M.Body.Ord.cmp c.args.model.now) (role_of x) c.in-Some.letter ≡ true = sym c.passes.ensures.passes ∙ c.if-passes.true in
-    let items : c.push.new.self.items ≡ c.in-Some.letter ∷ [] = c.in_ok-push.ensures.items ∙ ap (λ l. l ++ c.in-Some.letter ∷ []) c.new-letters.ensures.items in
+    let items : c.push.new.self.items ≡ c.in-Some.letter ∷ [] = c.in_ok-push.ensures.items ∙ ap (λ l. l ++ c.in-Some.letter ∷ []) c.requires.none in
     let came = works_received (rules g.M.Model g.M.Body.Ord.cmp c.args.model.now) (role_of x) (desk_of x) (record (desk_of x) { port = c.receive.new.self }) refl refl refl c.in-Some.letter c.args.from c.requires.other.0 c.requires.fit.fit.wide.3 refl refl c.in-Some.ensures.some c.in-Some.ensures.same refl pass (passes_own (rules g.M.Model g.M.Body.Ord.cmp c.args.model.now) (role_of x) c.in-Some.letter pass) refl in
     let dealt = subst (λ ls. Works (rules g.M.Model g.M.Body.Ord.cmp c.args.model.now) (role_of x) (record (desk_of x) { port = c.receive.new.self }) (desk_of c.deal.new.self) ls [] 0) items c.in_ok-deal.ensures.works in
     works_then (rules g.M.Model g.M.Body.Ord.cmp c.args.model.now) (role_of x) (desk_of x) (record (desk_of x) { port = c.receive.new.self }) (desk_of c.deal.new.self) [] (c.in-Some.letter ∷ []) [] 0 0 came dealt
