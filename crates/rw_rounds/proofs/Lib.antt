@@ -12,7 +12,7 @@ pub mod Looking
 pub mod Passing
 pub mod Taking
 pub mod Ends
-pub mod Hands
+pub mod Shares
 pub mod Totals
 pub mod Systems
 pub mod Working

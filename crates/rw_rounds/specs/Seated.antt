@@ -1,4 +1,4 @@
--- Workers that may begin.
+-- Workers that may begin: only contracts of private functions cite this.
 use Rattle.std.specs.Prelude.{◌≡◌}
 use Rattle.std.specs.declared.cmp.Ordering.{Ordering}
 use Rattle.rw_board.specs.Seats.{BoardState}

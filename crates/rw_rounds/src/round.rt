@@ -6,7 +6,7 @@ ghost use Rattle.rw_rounds.specs.Stops.{EndsRound};
 
 use crate::gathering::{all_done, gather};
 use crate::plan::Plan;
-use crate::setting_up::deal_out;
+use crate::setting_up::set_up;
 use crate::sim::{Sim, Traffic};
 use crate::stop::Stop;
 use crate::threads::{Job, may_move, run_each};
@@ -19,7 +19,7 @@ use std::alloc::Global;
 use std::sync::Wait;
 use std::thread::Threads;
 
-/// A place that each worker passes before each of its turns, so that a test may hold some back.
+/// For tests: what each worker passes before each of its turns, so that a test may hold some back.
 pub trait Gate {
     /// Lets worker `worker` pass to its turn `turn`, both counted from 0.
     fn pass(&self, worker: u32, turn: u32);
@@ -71,7 +71,7 @@ where
     })
 }
 
-/// Deals the parts out to the workers, runs these, and joins what they leave to parts again. Gives the least time noted too.
+/// Splits the parts among the workers, runs these, and joins what they hold to parts again. Gives the least time noted too.
 fn go_round<M, G, R>(
     rt: &R,
     alloc: Global,
@@ -101,7 +101,7 @@ where
         initial,
     } = parts;
     let count = processes.len();
-    let (board, workers) = deal_out(alloc, plan, collected, processes, letters)?;
+    let (board, workers) = set_up(alloc, plan, collected, processes, letters)?;
     let work = WorkerRound {
         alloc,
         model: &model,
@@ -126,7 +126,7 @@ where
     Ok((parts, gathered.floor))
 }
 
-/// The whole round of one worker: so many turns, and then its closing.
+/// The whole round of one worker: as many turns as `turns` says, and then its closing.
 #[derive(Drop)]
 pub(crate) struct WorkerRound<'a, M: VtModel, G> {
     pub(crate) alloc: Global,
@@ -142,7 +142,8 @@ impl<'a, M: VtModel, G: Gate> Job<Worker<M>> for WorkerRound<'a, M, G> {
 
     ghost Takes = { λ r w. IsSeated M.Model M.Body.cmp r.model.now r.board.now w };
 
-    ghost Gives = { λ r before after. TookRound M.Model M.Body.cmp r.model.now r.turns before after };
+    ghost Gives = { λ r before after.
+        TookRound M.Model M.Body.cmp r.model.now r.turns before after };
 
     fn run(&self, worker: Worker<M>) -> Result<Worker<M>, Refusal> {
         let mut worker = worker;

@@ -29,13 +29,14 @@ impl<M: VtModel> Model for Sim<M> {
 }
 
 impl<M: VtModel + Drop> Sim<M> {
-    /// A run of this world by this plan, before its first round. Takes no memory.
+    /// A run of `world` by `plan`, before its first round. Takes no memory.
     ///
     /// # Errors
     ///
     /// `BadPlan`, exactly where a field of the plan is out of its range.
     pub fn open(world: World<M>, plan: Plan) -> Result<Sim<M>, Stop>
-        ensures holds { IfOk result (λ s. s ≡ record { simulation = world; plan = plan; floor = 0 }) }
+        ensures holds { IfOk result (λ s.
+            s ≡ record { simulation = world; plan = plan; floor = 0 }) }
         ensures plan { (result ≡ Err Stop.BadPlan) ↔ (IsInRanges plan → ⊥) }
         ensures others { IfErr result (λ s. s ≡ BadPlan) }
     {
@@ -88,12 +89,12 @@ pub struct Traffic {
     pub undone: u64,
     /// Letters received through rings.
     pub ring: u64,
-    /// Letters kept back at ends of rounds.
+    /// Letters kept or set aside at ends of rounds.
     pub kept: u64,
 }
 
 impl Traffic {
-    /// Adds other counts to these.
+    /// Adds the counts of `more`.
     pub(crate) fn add(&mut self, more: &Traffic) {
         self.rounds = self.rounds.wrapping_add(more.rounds);
         self.executed = self.executed.wrapping_add(more.executed);

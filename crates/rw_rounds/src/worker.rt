@@ -31,7 +31,19 @@ impl<M: VtModel> Model for Worker<M> {
 
     ghost Value = { WorkerState M M.State M.Body };
 
-    ghost view = { λ w. record { role = record { number = w.desk.number; plan = w.desk.plan; collected = w.desk.collected }; processes = w.desk.processes.items; inbox = w.at_hand.items; kept = w.desk.kept.items; aside = w.desk.aside.items; port = w.desk.port; seat = w.desk.seat } };
+    ghost view = { λ w. record {
+      role = record {
+        number = w.desk.number;
+        plan = w.desk.plan;
+        collected = w.desk.collected;
+      };
+      processes = w.desk.processes.items;
+      inbox = w.at_hand.items;
+      kept = w.desk.kept.items;
+      aside = w.desk.aside.items;
+      port = w.desk.port;
+      seat = w.desk.seat;
+    } };
 }
 
 impl<M: VtModel> Worker<M> {
@@ -48,7 +60,15 @@ impl<M: VtModel> Worker<M> {
         seat: Seat,
         collected: u64,
     ) -> Worker<M>
-        ensures is { result ≡ record { role = record { number = number; plan = plan.now; collected = collected }; processes = processes.items; inbox = inbox.items; kept = []; aside = []; port = port; seat = seat } }
+        ensures is { result ≡ record {
+          role = record { number = number; plan = plan.now; collected = collected };
+          processes = processes.items;
+          inbox = inbox.items;
+          kept = [];
+          aside = [];
+          port = port;
+          seat = seat;
+        } }
     {
         let desk = Desk {
             number,
@@ -86,7 +106,8 @@ impl<M: VtModel> Worker<M> {
     pub fn turn(self, alloc: Global, model: &M, board: &Board) -> Result<(Worker<M>, u64), Refusal>
         requires fit { IsFit M.Model M.Body.cmp model.now self }
         requires board { self.seat.board ≡ board.now.board }
-        ensures turn { IfOk result (λ r. TookTurn (rules M.Model M.Body.cmp model.now) self r.0 r.1) }
+        ensures turn { IfOk result (λ r.
+            TookTurn (rules M.Model M.Body.cmp model.now) self r.0 r.1) }
         ensures fit { IfOk result (λ r. IsFit M.Model M.Body.cmp model.now r.0) }
     {
         let Worker {
@@ -99,8 +120,7 @@ impl<M: VtModel> Worker<M> {
         Ok((Worker { desk, at_hand }, executed))
     }
 
-    /// Notes the least time of the worker's processes and the time of each kept letter: what it leaves behind after its last
-    /// turn. Takes no memory.
+    /// Notes the least time of the worker's processes and the time of each kept letter, after its last turn. Takes no memory.
     pub(crate) fn close(self, board: &Board) -> Worker<M>
         requires board { self.seat.board ≡ board.now.board }
         ensures closes { (m : M) → Closes (rules M.Model M.Body.cmp m) self result }
@@ -111,7 +131,7 @@ impl<M: VtModel> Worker<M> {
     }
 
     /// What the worker worked on. Takes no memory.
-    pub(crate) fn leave(self) -> Desk<M>
+    pub(crate) fn into_desk(self) -> Desk<M>
         ensures processes { result.processes.items ≡ self.processes }
         ensures kept { result.kept.items ≡ self.kept }
         ensures aside { result.aside.items ≡ self.aside }
@@ -129,8 +149,8 @@ impl<M: VtModel> Worker<M> {
         self.desk.number
     }
 
-    /// What the worker did so far: executions, undoings, letters received through rings, and letters that it holds back. Takes
-    /// no memory.
+    /// What the worker did so far: executions, undoings, letters received through rings, and letters that it keeps or set
+    /// aside. Takes no memory.
     pub(crate) fn traffic(&self) -> Traffic {
         let mut traffic = self.desk.traffic;
         traffic.kept = (self.desk.kept.len() as u64).wrapping_add(self.desk.aside.len() as u64);
@@ -140,7 +160,8 @@ impl<M: VtModel> Worker<M> {
 
 /// Each process is sound wherever it has collected, as [`Lp::soundness`] says. Does nothing.
 fn soundness<M: VtModel>(processes: &[Lp<M>])
-    ensures { (place : ℕ) (l : LogicalProcess M M.State M.Body) → slice_get processes.now place ≡ Some l → IsSoundOnceCollected M.Model M.Body.cmp l }
+    ensures { (place : ℕ) (l : LogicalProcess M M.State M.Body)
+        → slice_get processes.now place ≡ Some l → IsSoundOnceCollected M.Model M.Body.cmp l }
 {
     for process in processes {
         process.soundness();

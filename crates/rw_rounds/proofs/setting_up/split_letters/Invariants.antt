@@ -1,6 +1,6 @@
 use Rattle.std.proofs.Common.{◌≡◌, ◌<◌, ℕ, [], length, map, take, get_or}
 use Rattle.std.specs.Prelude.{filter, ◌==◌, ◌%◌}
-use Rattle.rw_rounds.proofs.setting_up.deal_letters.Given as goal
+use Rattle.rw_rounds.proofs.setting_up.split_letters.Given as goal
 
 abbrev pub invariant-loop-letter : goal.invariant-loop-letter
 invariant-loop-letter g l = record {

@@ -1,8 +1,8 @@
 use Rattle.std.proofs.Common.{◌≡◌, ◌<◌, [], length, map, get_or, ap, ◌∙◌, arith}
 use Rattle.std.specs.Prelude.{◌%◌}
 use Rattle.std.proofs.lemmas.List.{length-set, length-map}
-use Rattle.rw_rounds.proofs.Hands.{pushed_at, sorted_more}
-use Rattle.rw_rounds.proofs.setting_up.deal_letters.Goals as goal
+use Rattle.rw_rounds.proofs.Shares.{pushed_at, sorted_more}
+use Rattle.rw_rounds.proofs.setting_up.split_letters.Goals as goal
 
 pub loop-letter-preserved : goal.loop-letter-preserved
 loop-letter-preserved g c =

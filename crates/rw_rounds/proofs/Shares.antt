@@ -1,4 +1,4 @@
--- Lists dealt out to so many hands, and gathered from them again.
+-- Lists dealt out to so many shares, and gathered from them again.
 use Rattle.std.proofs.Math.Nat.{suc-mul, mul-le-mul_right}
 use Rattle.std.proofs.Common.{◌≡◌, ℕ, zero, suc, ◌+◌, ◌*◌, ◌<◌, ◌≤◌, cond, Option, List, [], ◌∷◌, ◌++◌, length, map, take, get_or, refl, sym, ap, ◌∙◌, arith, append-nil, append_assoc, inl, inr, Some, None}
 use Rattle.std.specs.Prelude.{◌⊎◌, ◌/◌, ◌%◌, ◌==◌, filter, slice_get, slice_set}
@@ -51,19 +51,19 @@ place_apart n i place j within is =
     let e = number_place n i place within in
     (ap (λ k. k / n) (sym is) ∙ e.0, ap (λ k. k % n) (sym is) ∙ e.1)
 
--- the hands hold what was dealt: hand i the elements i, i + n, i + 2n, ..
+-- the shares hold what was dealt: share i the elements i, i + n, i + 2n, ..
 abbrev pub AreDealt : {X : Type 0} → ℕ → List (List X) → List X → Type 0
-AreDealt n hands xs = (i place : ℕ) → i < n → slice_get (get_or hands i []) place ≡ slice_get xs (i + place * n)
+AreDealt n shares xs = (i place : ℕ) → i < n → slice_get (get_or shares i []) place ≡ slice_get xs (i + place * n)
 
 module _ {X : Type 0} (n : ℕ) (positive : 0 < n) where
-  -- so does a hand have as many as were dealt to it
-  hand_long : (hands : List (List X)) (xs : List X) → AreDealt n hands xs → length (get_or hands (length xs % n) []) ≡ length xs / n
-  hand_long hands xs known =
+  -- so does a share have as many as were dealt to it
+  share_long : (shares : List (List X)) (xs : List X) → AreDealt n shares xs → length (get_or shares (length xs % n) []) ≡ length xs / n
+  share_long shares xs known =
       let k : ℕ = length xs % n in
       let a : ℕ = length xs / n in
       let small : k < n = omega arith in
       let whole : k + a * n ≡ length xs = omega arith in
-      length_is (get_or hands k []) a
+      length_is (get_or shares k []) a
       (λ p within none. get_there xs (k + p * n) (below p a k within whole) (sym (known k p small) ∙ none))
       (known k a small ∙ get_past xs (k + a * n) (omega arith))
     where
@@ -73,9 +73,9 @@ module _ {X : Type 0} (n : ℕ) (positive : 0 < n) where
           let one : suc p * n ≡ p * n + n = omega arith in
           omega arith
 
-  -- the next element goes to the hand whose turn it is
-  pub dealt_more : (hands : List (List X)) (xs : List X) (x : X) → length hands ≡ n → AreDealt n hands xs → AreDealt n (slice_set hands (length xs % n) (get_or hands (length xs % n) [] ++ x ∷ [])) (xs ++ x ∷ [])
-  dealt_more hands xs x long known i place within = go (cases_eq i (length xs % n))
+  -- the next element goes to the share whose turn it is
+  pub dealt_more : (shares : List (List X)) (xs : List X) (x : X) → length shares ≡ n → AreDealt n shares xs → AreDealt n (slice_set shares (length xs % n) (get_or shares (length xs % n) [] ++ x ∷ [])) (xs ++ x ∷ [])
+  dealt_more shares xs x long known i place within = go (cases_eq i (length xs % n))
     where
       k : ℕ
       k = length xs % n
@@ -83,38 +83,38 @@ module _ {X : Type 0} (n : ℕ) (positive : 0 < n) where
       a : ℕ
       a = length xs / n
 
-      go : (i ≡ length xs % n) ⊎ (i ≡ length xs % n → ⊥) → slice_get (get_or (slice_set hands (length xs % n) (get_or hands (length xs % n) [] ++ x ∷ [])) i []) place ≡ slice_get (xs ++ x ∷ []) (i + place * n)
+      go : (i ≡ length xs % n) ⊎ (i ≡ length xs % n → ⊥) → slice_get (get_or (slice_set shares (length xs % n) (get_or shares (length xs % n) [] ++ x ∷ [])) i []) place ≡ slice_get (xs ++ x ∷ []) (i + place * n)
       go (inr other) =
-          ap (λ h. slice_get h place) (get_or-set_other hands (length xs % n) i (get_or hands (length xs % n) [] ++ x ∷ []) [] other)
+          ap (λ h. slice_get h place) (get_or-set_other shares (length xs % n) i (get_or shares (length xs % n) [] ++ x ∷ []) [] other)
           ∙ known i place within
           ∙ sym (get_push-other xs x (i + place * n) (λ e. other (sym (place_apart n i place (length xs) within e).1)))
       go (inl here) = turn (cases_eq place (length xs / n))
         where
-          small : length xs % n < length hands
+          small : length xs % n < length shares
           small = omega arith
 
-          hand : slice_get (get_or (slice_set hands (length xs % n) (get_or hands (length xs % n) [] ++ x ∷ [])) i []) place ≡ slice_get (get_or hands (length xs % n) [] ++ x ∷ []) place
-          hand = ap (λ j. slice_get (get_or (slice_set hands (length xs % n) (get_or hands (length xs % n) [] ++ x ∷ [])) j []) place) here ∙ ap (λ h. slice_get h place) (get_or-set_same hands (length xs % n) (get_or hands (length xs % n) [] ++ x ∷ []) [] small)
+          share : slice_get (get_or (slice_set shares (length xs % n) (get_or shares (length xs % n) [] ++ x ∷ [])) i []) place ≡ slice_get (get_or shares (length xs % n) [] ++ x ∷ []) place
+          share = ap (λ j. slice_get (get_or (slice_set shares (length xs % n) (get_or shares (length xs % n) [] ++ x ∷ [])) j []) place) here ∙ ap (λ h. slice_get h place) (get_or-set_same shares (length xs % n) (get_or shares (length xs % n) [] ++ x ∷ []) [] small)
 
-          turn : (place ≡ length xs / n) ⊎ (place ≡ length xs / n → ⊥) → slice_get (get_or (slice_set hands (length xs % n) (get_or hands (length xs % n) [] ++ x ∷ [])) i []) place ≡ slice_get (xs ++ x ∷ []) (i + place * n)
+          turn : (place ≡ length xs / n) ⊎ (place ≡ length xs / n → ⊥) → slice_get (get_or (slice_set shares (length xs % n) (get_or shares (length xs % n) [] ++ x ∷ [])) i []) place ≡ slice_get (xs ++ x ∷ []) (i + place * n)
           turn (inl last) =
               let whole : length xs % n + (length xs / n) * n ≡ length xs = omega arith in
               let at : i + place * n ≡ length xs = ap (λ j. j + place * n) here ∙ ap (λ p. length xs % n + p * n) last ∙ whole in
-              hand
-              ∙ ap (slice_get (get_or hands (length xs % n) [] ++ x ∷ [])) (last ∙ sym (hand_long hands xs known))
-              ∙ get_push (get_or hands (length xs % n) []) x
+              share
+              ∙ ap (slice_get (get_or shares (length xs % n) [] ++ x ∷ [])) (last ∙ sym (share_long shares xs known))
+              ∙ get_push (get_or shares (length xs % n) []) x
               ∙ sym (get_push xs x)
               ∙ ap (slice_get (xs ++ x ∷ [])) (sym at)
           turn (inr other) =
-              hand
-              ∙ get_push-other (get_or hands (length xs % n) []) x place (λ e. other (e ∙ hand_long hands xs known))
-              ∙ ap (λ j. slice_get (get_or hands j []) place) (sym here)
+              share
+              ∙ get_push-other (get_or shares (length xs % n) []) x place (λ e. other (e ∙ share_long shares xs known))
+              ∙ ap (λ j. slice_get (get_or shares j []) place) (sym here)
               ∙ known i place within
               ∙ sym (get_push-other xs x (i + place * n) (λ e. other (sym (place_apart n i place (length xs) within e).0)))
 
   -- at first nothing is dealt
-  pub dealt_none : (hands : List (List X)) → ((i : ℕ) → get_or hands i [] ≡ []) → AreDealt n hands []
-  dealt_none hands empty i place within = ap (λ h. slice_get h place) (empty i)
+  pub dealt_none : (shares : List (List X)) → ((i : ℕ) → get_or shares i [] ≡ []) → AreDealt n shares []
+  dealt_none shares empty i place within = ap (λ h. slice_get h place) (empty i)
 
 -- of what is sorted out by f, the elements at q, one element further
 module _ {X : Type 0} (f : X → ℕ) (q : ℕ) (xs : List X) (k : ℕ) (x : X) (within : k < length xs) (read : x ≡ get_or xs k x) where
@@ -148,21 +148,21 @@ sorted_more f boxes count xs k x long inside within read known q at = go (cases_
         ∙ known q at
         ∙ sym (more_elsewhere f q xs k x within read other)
 
--- The other way: element q of the whole stands in hand q mod n, and the hands go round, each giving its next element
+-- The other way: element q of the whole stands in share q mod n, and the shares go round, each giving its next element
 
-abbrev pub from_hands : {X : Type 0} → ℕ → List (List X) → ℕ → Option X
-from_hands n hands q = slice_get (get_or hands (q % n) []) (q / n)
+abbrev pub from_shares : {X : Type 0} → ℕ → List (List X) → ℕ → Option X
+from_shares n shares q = slice_get (get_or shares (q % n) []) (q / n)
 
--- so many were given: what the hand at j has left are the elements of F from there on, each n-th
+-- so many were given: what the share at j has left are the elements of F from there on, each n-th
 abbrev pub GoRound : {X : Type 0} → ℕ → (ℕ → Option X) → ℕ → List (List X) → Type 0
-GoRound n F given hands = (j place : ℕ) → j < n → slice_get (get_or hands j []) place ≡ F (given + j + place * n)
+GoRound n F given shares = (j place : ℕ) → j < n → slice_get (get_or shares j []) place ≡ F (given + j + place * n)
 
 module _ {X : Type 0} where
-  pub round_start : (n : ℕ) (hands : List (List X)) → GoRound n (from_hands n hands) 0 hands
-  round_start n hands j place within =
+  pub round_start : (n : ℕ) (shares : List (List X)) → GoRound n (from_shares n shares) 0 shares
+  round_start n shares j place within =
       let e = number_place n j place within in
       let z : 0 + j + place * n ≡ j + place * n = omega arith in
-      ap (λ i. slice_get (get_or hands i []) place) (sym e.1) ∙ ap (λ p. slice_get (get_or hands ((j + place * n) % n) []) p) (sym e.0) ∙ ap (from_hands n hands) (sym z)
+      ap (λ i. slice_get (get_or shares i []) place) (sym e.1) ∙ ap (λ p. slice_get (get_or shares ((j + place * n) % n) []) p) (sym e.0) ∙ ap (from_shares n shares) (sym z)
 
   at_end : (xs : List (List X)) (h : List X) → get_or (xs ++ h ∷ []) (length xs) [] ≡ h
   at_end [] h = refl
@@ -173,11 +173,11 @@ module _ {X : Type 0} where
   before_end (x ∷ xs) h zero within = refl
   before_end (x ∷ xs) h (suc j) within = before_end xs h j (omega arith)
 
-  module _ (n : ℕ) (F : ℕ → Option X) (given : ℕ) (hands rest : List (List X)) (h h' : List X) (x : X) (long : length hands ≡ n) (first : hands ≡ h ∷ rest) (next : h ≡ x ∷ h') (known : GoRound n F given hands) where
-    split : hands ≡ (x ∷ h') ∷ rest
+  module _ (n : ℕ) (F : ℕ → Option X) (given : ℕ) (shares rest : List (List X)) (h h' : List X) (x : X) (long : length shares ≡ n) (first : shares ≡ h ∷ rest) (next : h ≡ x ∷ h') (known : GoRound n F given shares) where
+    split : shares ≡ (x ∷ h') ∷ rest
     split = first ∙ ap (λ k. k ∷ rest) next
 
-    -- the first hand's next element is the one whose turn it is
+    -- the first share's next element is the one whose turn it is
     pub round_next : F given ≡ Some x
     round_next =
         let z : given + 0 + 0 * n ≡ given = omega arith in
@@ -206,9 +206,9 @@ module _ {X : Type 0} where
             ∙ known (suc j) place (omega (arith, count, inside))
             ∙ ap F z
 
-  -- a first hand that is empty has no element whose turn it is
-  pub round_none : (n : ℕ) (F : ℕ → Option X) (given : ℕ) (hands rest : List (List X)) → length hands ≡ n → hands ≡ [] ∷ rest → GoRound n F given hands → F given ≡ None
-  round_none n F given hands rest long first known =
+  -- a first share that is empty has no element whose turn it is
+  pub round_none : (n : ℕ) (F : ℕ → Option X) (given : ℕ) (shares rest : List (List X)) → length shares ≡ n → shares ≡ [] ∷ rest → GoRound n F given shares → F given ≡ None
+  round_none n F given shares rest long first known =
       let z : given + 0 + 0 * n ≡ given = omega arith in
       let some : 0 < n = omega (arith, ap length first, long) in
       sym (ap (λ hs. slice_get (get_or hs 0 []) 0) (sym first) ∙ known 0 0 some ∙ ap F z)
