@@ -1,4 +1,4 @@
-ghost use Rattle.std.specs.Prelude.{◌≡◌, ◌≢◌, ◌<◌, ◌≤◌, ◌+◌, ◌∷◌, ◌++◌, [], ℕ, true, false, cond, length, map, OnOk, IfOk, IfSome, IfNone};
+ghost use Rattle.std.specs.Prelude.{◌≡◌, ◌≢◌, ◌<◌, ◌≤◌, ◌+◌, ◌∷◌, ◌++◌, [], ℕ, true, false, if◌then◌else◌, length, map, OnOk, IfOk, IfSome, IfNone};
 ghost use Rattle.rw_vt.specs.Order.{event_cmp};
 ghost use Rattle.rw_lp.specs.Calls.{rules};
 ghost use Rattle.rw_lp.specs.Sound.{HasCollected};
@@ -35,6 +35,15 @@ pub(crate) struct Desk<M: VtModel> {
     pub(crate) traffic: Traffic,
 }
 
+/// What each part of a turn works with.
+#[derive(Drop)]
+pub(crate) struct Bench<'a, M: VtModel> {
+    pub(crate) alloc: Global,
+    pub(crate) model: &'a M,
+    /// The board of the round.
+    pub(crate) board: &'a Board,
+}
+
 impl<M: VtModel> Desk<M> {
     /// Takes one turn: the letters at hand arrive, kept ones are offered to their rings again, those that the others sent
     /// are taken up, and events are executed. Gives how many events were executed.
@@ -43,26 +52,24 @@ impl<M: VtModel> Desk<M> {
     /// dealt with at once, so it is empty between the parts of a turn, and after it.
     pub(crate) fn turn(
         &mut self,
-        alloc: Global,
-        model: &M,
-        board: &Board,
+        bench: &Bench<'_, M>,
         at_hand: &mut Vec<Letter<M::Body>>,
     ) -> Result<u64, Refusal>
-        requires fit { CanWork M.Model M.Body.cmp model.now self.old }
-        requires board { self.old.seat.board ≡ board.now.board }
-        requires fair { AreFair M.Model M.Body.cmp model.now self.old at_hand.old.items }
+        requires fit { CanWork M.Model M.Body.cmp bench.now.model.now self.old }
+        requires board { self.old.seat.board ≡ bench.now.board.now.board }
+        requires fair { AreFair M.Model M.Body.cmp bench.now.model.now self.old at_hand.old.items }
         ensures works { IfOk result (λ n.
-            Deals M.Model M.Body.cmp model.now self.old self.new at_hand.old.items [] n) }
-        ensures fit { OnOk result (CanWork M.Model M.Body.cmp model.now self.new) }
+            Deals M.Model M.Body.cmp bench.now.model.now self.old self.new at_hand.old.items [] n) }
+        ensures fit { OnOk result (CanWork M.Model M.Body.cmp bench.now.model.now self.new) }
         ensures none_left { OnOk result (at_hand.new.items ≡ []) }
         ensures within { IfOk result (λ n. n ≤ self.old.plan.batch) }
         ensures held_back { IfOk result (λ n.
-            HoldsBackRest M.Model M.Body.cmp model.now self.old self.new n) }
+            HoldsBackRest M.Model M.Body.cmp bench.now.model.now self.old self.new n) }
     {
-        self.deal(alloc, model, board, at_hand)?;
-        self.offer_kept(alloc, model, board)?;
-        self.receive_all(alloc, model, board, at_hand)?;
-        self.execute_some(alloc, model, board, at_hand)
+        self.deal(bench, at_hand)?;
+        self.offer_kept(bench)?;
+        self.receive_all(bench, at_hand)?;
+        self.execute_some(bench, at_hand)
     }
 
     // Dealing with letters.
@@ -71,17 +78,15 @@ impl<M: VtModel> Desk<M> {
     /// before the next, its last one first; one to another worker is posted. None is left at hand.
     fn deal(
         &mut self,
-        alloc: Global,
-        model: &M,
-        board: &Board,
+        bench: &Bench<'_, M>,
         at_hand: &mut Vec<Letter<M::Body>>,
     ) -> Result<(), Refusal>
-        requires fit { CanWork M.Model M.Body.cmp model.now self.old }
-        requires board { self.old.seat.board ≡ board.now.board }
-        requires fair { AreFair M.Model M.Body.cmp model.now self.old at_hand.old.items }
+        requires fit { CanWork M.Model M.Body.cmp bench.now.model.now self.old }
+        requires board { self.old.seat.board ≡ bench.now.board.now.board }
+        requires fair { AreFair M.Model M.Body.cmp bench.now.model.now self.old at_hand.old.items }
         ensures works { OnOk result (
-            Deals M.Model M.Body.cmp model.now self.old self.new at_hand.old.items [] 0) }
-        ensures fit { OnOk result (CanWork M.Model M.Body.cmp model.now self.new) }
+            Deals M.Model M.Body.cmp bench.now.model.now self.old self.new at_hand.old.items [] 0) }
+        ensures fit { OnOk result (CanWork M.Model M.Body.cmp bench.now.model.now self.new) }
         ensures none_left { OnOk result (at_hand.new.items ≡ []) }
         ensures fewer { OnOk result (done_count self.new ≤ done_count self.old) }
     {
@@ -89,9 +94,9 @@ impl<M: VtModel> Desk<M> {
         at_hand.reverse();
         while let Some(letter) = at_hand.pop() {
             if self.owns(&letter) {
-                self.arrive(alloc, model, letter, at_hand)?;
+                self.arrive(bench, letter, at_hand)?;
             } else {
-                self.post(board, letter)?;
+                self.post(bench, letter)?;
             }
         }
         Ok(())
@@ -108,30 +113,29 @@ impl<M: VtModel> Desk<M> {
     /// A letter arrives at the own process that it goes to. What that gives out is appended to `out`.
     fn arrive(
         &mut self,
-        alloc: Global,
-        model: &M,
+        bench: &Bench<'_, M>,
         letter: Letter<M::Body>,
         out: &mut Vec<Letter<M::Body>>,
     ) -> Result<(), Refusal>
-        requires fit { CanWork M.Model M.Body.cmp model.now self.old }
-        requires fair { IsFair (rules M.Model M.Body.cmp model.now) self.old.collected letter }
+        requires fit { CanWork M.Model M.Body.cmp bench.now.model.now self.old }
+        requires fair { IsFair (rules M.Model M.Body.cmp bench.now.model.now) self.old.collected letter }
         requires own { is_own (role_of self.old) letter ≡ true }
         ensures works { OnOk result (
-            Deals M.Model M.Body.cmp model.now self.old self.new
+            Deals M.Model M.Body.cmp bench.now.model.now self.old self.new
             (out.old.items ++ letter ∷ []) out.new.items 0) }
-        ensures fit { OnOk result (CanWork M.Model M.Body.cmp model.now self.new) }
+        ensures fit { OnOk result (CanWork M.Model M.Body.cmp bench.now.model.now self.new) }
         ensures fair { OnOk result (
-            AreFair M.Model M.Body.cmp model.now self.old out.old.items
-            → AreFair M.Model M.Body.cmp model.now self.old out.new.items) }
+            AreFair M.Model M.Body.cmp bench.now.model.now self.old out.old.items
+            → AreFair M.Model M.Body.cmp bench.now.model.now self.old out.new.items) }
         ensures falls { OnOk result (
-            work_left M.Model M.Body.cmp model.now self.new out.new.items
-            ≤ work_left M.Model M.Body.cmp model.now self.old out.old.items) }
+            work_left M.Model M.Body.cmp bench.now.model.now self.new out.new.items
+            ≤ work_left M.Model M.Body.cmp bench.now.model.now self.old out.old.items) }
         ensures fewer { OnOk result (done_count self.new ≤ done_count self.old) }
     {
         let place = (letter.event.to / self.plan.workers) as usize;
         let process = self.processes.swap_remove(place);
         let before = process.processed().len();
-        let process = process.arrive(alloc, model, letter, out)?;
+        let process = process.arrive(bench.alloc, bench.model, letter, out)?;
         let undone = before.saturating_sub(process.processed().len());
         put_back(&mut self.processes, place, process)?;
         self.traffic.undone = self.traffic.undone.wrapping_add(undone as u64);
@@ -141,35 +145,35 @@ impl<M: VtModel> Desk<M> {
     // What goes out to other workers.
 
     /// Sends a letter to the worker of its process and notes its time, or keeps it where the ring has no room.
-    fn post(&mut self, board: &Board, letter: Letter<M::Body>) -> Result<(), Refusal>
+    fn post(&mut self, bench: &Bench<'_, M>, letter: Letter<M::Body>) -> Result<(), Refusal>
         requires workers { self.old.number < self.old.plan.workers }
         requires port { (self.old.port.worker ≡ self.old.number)
             × IsWide self.old.plan.workers self.old.port }
         requires other { owner (role_of self.old) letter ≡ self.old.number → ⊥ }
-        requires board { self.old.seat.board ≡ board.now.board }
-        ensures works { OnOk result ((m : M)
-            → Deals M.Model M.Body.cmp m self.old self.new (letter ∷ []) [] 0) }
+        requires board { self.old.seat.board ≡ bench.now.board.now.board }
+        ensures works { OnOk result (
+            Deals M.Model M.Body.cmp bench.now.model.now self.old self.new (letter ∷ []) [] 0) }
         ensures processes { OnOk result (self.new.processes ≡ self.old.processes) }
     {
         let to = letter.event.to % self.plan.workers;
         match self.port.send(to as usize, letter) {
-            Ok(()) => board.note(&mut self.seat, letter.event.time),
+            Ok(()) => bench.board.note(&mut self.seat, letter.event.time),
             Err(back) => self.kept.push(back)?,
         }
         Ok(())
     }
 
     /// Offers the kept letters to their rings again, in order. Those that are refused stay kept.
-    fn offer_kept(&mut self, alloc: Global, model: &M, board: &Board) -> Result<(), Refusal>
-        requires fit { CanWork M.Model M.Body.cmp model.now self.old }
-        requires board { self.old.seat.board ≡ board.now.board }
+    fn offer_kept(&mut self, bench: &Bench<'_, M>) -> Result<(), Refusal>
+        requires fit { CanWork M.Model M.Body.cmp bench.now.model.now self.old }
+        requires board { self.old.seat.board ≡ bench.now.board.now.board }
         ensures works { OnOk result (
-            Deals M.Model M.Body.cmp model.now self.old self.new [] [] 0) }
-        ensures fit { OnOk result (CanWork M.Model M.Body.cmp model.now self.new) }
+            Deals M.Model M.Body.cmp bench.now.model.now self.old self.new [] [] 0) }
+        ensures fit { OnOk result (CanWork M.Model M.Body.cmp bench.now.model.now self.new) }
     {
-        let kept = mem::replace(&mut self.kept, Vec::new(alloc));
+        let kept = mem::replace(&mut self.kept, Vec::new(bench.alloc));
         for letter in kept {
-            self.post(board, letter)?;
+            self.post(bench, letter)?;
         }
         Ok(())
     }
@@ -179,24 +183,22 @@ impl<M: VtModel> Desk<M> {
     /// Takes up at most as many letters from each other worker as a ring has room for, by rising number.
     fn receive_all(
         &mut self,
-        alloc: Global,
-        model: &M,
-        board: &Board,
+        bench: &Bench<'_, M>,
         at_hand: &mut Vec<Letter<M::Body>>,
     ) -> Result<(), Refusal>
-        requires fit { CanWork M.Model M.Body.cmp model.now self.old }
-        requires board { self.old.seat.board ≡ board.now.board }
+        requires fit { CanWork M.Model M.Body.cmp bench.now.model.now self.old }
+        requires board { self.old.seat.board ≡ bench.now.board.now.board }
         requires none { at_hand.old.items ≡ [] }
         ensures works { OnOk result (
-            Deals M.Model M.Body.cmp model.now self.old self.new [] [] 0) }
-        ensures fit { OnOk result (CanWork M.Model M.Body.cmp model.now self.new) }
+            Deals M.Model M.Body.cmp bench.now.model.now self.old self.new [] [] 0) }
+        ensures fit { OnOk result (CanWork M.Model M.Body.cmp bench.now.model.now self.new) }
         ensures none_left { OnOk result (at_hand.new.items ≡ []) }
     {
         for from in 0..self.plan.workers {
             if from == self.number {
                 continue;
             }
-            self.receive_from(alloc, model, board, from, at_hand)?;
+            self.receive_from(bench, from, at_hand)?;
         }
         Ok(())
     }
@@ -204,23 +206,21 @@ impl<M: VtModel> Desk<M> {
     /// Takes up at most as many letters from worker `from` as the ring has room for.
     fn receive_from(
         &mut self,
-        alloc: Global,
-        model: &M,
-        board: &Board,
+        bench: &Bench<'_, M>,
         from: u32,
         at_hand: &mut Vec<Letter<M::Body>>,
     ) -> Result<(), Refusal>
-        requires fit { CanWork M.Model M.Body.cmp model.now self.old }
-        requires board { self.old.seat.board ≡ board.now.board }
+        requires fit { CanWork M.Model M.Body.cmp bench.now.model.now self.old }
+        requires board { self.old.seat.board ≡ bench.now.board.now.board }
         requires none { at_hand.old.items ≡ [] }
         requires other { (from < self.old.plan.workers) × (from ≢ self.old.number) }
         ensures works { OnOk result (
-            Deals M.Model M.Body.cmp model.now self.old self.new [] [] 0) }
-        ensures fit { OnOk result (CanWork M.Model M.Body.cmp model.now self.new) }
+            Deals M.Model M.Body.cmp bench.now.model.now self.old self.new [] [] 0) }
+        ensures fit { OnOk result (CanWork M.Model M.Body.cmp bench.now.model.now self.new) }
         ensures none_left { OnOk result (at_hand.new.items ≡ []) }
     {
         for _ in 0..self.plan.ring {
-            let found = self.receive_one(alloc, model, board, from, at_hand)?;
+            let found = self.receive_one(bench, from, at_hand)?;
             if !found {
                 return Ok(());
             }
@@ -232,28 +232,26 @@ impl<M: VtModel> Desk<M> {
     /// dealt with at once; another one is set aside.
     fn receive_one(
         &mut self,
-        alloc: Global,
-        model: &M,
-        board: &Board,
+        bench: &Bench<'_, M>,
         from: u32,
         at_hand: &mut Vec<Letter<M::Body>>,
     ) -> Result<bool, Refusal>
-        requires fit { CanWork M.Model M.Body.cmp model.now self.old }
-        requires board { self.old.seat.board ≡ board.now.board }
+        requires fit { CanWork M.Model M.Body.cmp bench.now.model.now self.old }
+        requires board { self.old.seat.board ≡ bench.now.board.now.board }
         requires none { at_hand.old.items ≡ [] }
         requires other { (from < self.old.plan.workers) × (from ≢ self.old.number) }
         ensures works { OnOk result (
-            Deals M.Model M.Body.cmp model.now self.old self.new [] [] 0) }
-        ensures fit { OnOk result (CanWork M.Model M.Body.cmp model.now self.new) }
+            Deals M.Model M.Body.cmp bench.now.model.now self.old self.new [] [] 0) }
+        ensures fit { OnOk result (CanWork M.Model M.Body.cmp bench.now.model.now self.new) }
         ensures none_left { OnOk result (at_hand.new.items ≡ []) }
     {
         let Some(letter) = self.port.receive(from as usize) else {
             return Ok(false);
         };
         self.traffic.ring = self.traffic.ring.wrapping_add(1);
-        if self.passes(model, &letter) {
+        if self.passes(bench.model, &letter) {
             at_hand.push(letter)?;
-            self.deal(alloc, model, board, at_hand)?;
+            self.deal(bench, at_hand)?;
         } else {
             self.aside.push(letter)?;
         }
@@ -278,30 +276,28 @@ impl<M: VtModel> Desk<M> {
     /// process is undone, and the worker looks again.
     fn execute_some(
         &mut self,
-        alloc: Global,
-        model: &M,
-        board: &Board,
+        bench: &Bench<'_, M>,
         at_hand: &mut Vec<Letter<M::Body>>,
     ) -> Result<u64, Refusal>
-        requires fit { CanWork M.Model M.Body.cmp model.now self.old }
-        requires board { self.old.seat.board ≡ board.now.board }
+        requires fit { CanWork M.Model M.Body.cmp bench.now.model.now self.old }
+        requires board { self.old.seat.board ≡ bench.now.board.now.board }
         requires none { at_hand.old.items ≡ [] }
         ensures works { IfOk result (λ n.
-            Deals M.Model M.Body.cmp model.now self.old self.new [] [] n) }
-        ensures fit { OnOk result (CanWork M.Model M.Body.cmp model.now self.new) }
+            Deals M.Model M.Body.cmp bench.now.model.now self.old self.new [] [] n) }
+        ensures fit { OnOk result (CanWork M.Model M.Body.cmp bench.now.model.now self.new) }
         ensures none_left { OnOk result (at_hand.new.items ≡ []) }
         ensures within { IfOk result (λ n. n ≤ self.old.plan.batch) }
         ensures held_back { IfOk result (λ n.
-            HoldsBackRest M.Model M.Body.cmp model.now self.old self.new n) }
+            HoldsBackRest M.Model M.Body.cmp bench.now.model.now self.old self.new n) }
     {
         let batch = u64::from(self.plan.batch);
         let mut executed = 0;
         while executed < batch {
-            let bound = board.floor(&mut self.seat) + self.plan.window;
+            let bound = bench.board.floor(&mut self.seat) + self.plan.window;
             let Some(place) = next_before(&self.processes, bound) else {
                 return Ok(executed);
             };
-            let done = self.advance(alloc, model, board, place, at_hand)?;
+            let done = self.advance(bench, place, at_hand)?;
             if done {
                 executed += 1;
             }
@@ -313,20 +309,19 @@ impl<M: VtModel> Desk<M> {
     /// given out is dealt with. Answers whether it executed.
     fn advance(
         &mut self,
-        alloc: Global,
-        model: &M,
-        board: &Board,
+        bench: &Bench<'_, M>,
         place: usize,
         at_hand: &mut Vec<Letter<M::Body>>,
     ) -> Result<bool, Refusal>
-        requires fit { CanWork M.Model M.Body.cmp model.now self.old }
-        requires board { self.old.seat.board ≡ board.now.board }
+        requires fit { CanWork M.Model M.Body.cmp bench.now.model.now self.old }
+        requires board { self.old.seat.board ≡ bench.now.board.now.board }
         requires none { at_hand.old.items ≡ [] }
-        requires next { (bound : ℕ)
-            × IsNext (rules M.Model M.Body.cmp model.now) bound self.old.processes.items place }
+        requires next { (bound : ℕ) × IsNext (rules M.Model M.Body.cmp bench.now.model.now) bound
+            self.old.processes.items place }
         ensures works { IfOk result (λ executed.
-            Deals M.Model M.Body.cmp model.now self.old self.new [] [] (cond executed 1 0)) }
-        ensures fit { OnOk result (CanWork M.Model M.Body.cmp model.now self.new) }
+            Deals M.Model M.Body.cmp bench.now.model.now self.old self.new [] []
+            (if executed then 1 else 0)) }
+        ensures fit { OnOk result (CanWork M.Model M.Body.cmp bench.now.model.now self.new) }
         ensures none_left { OnOk result (at_hand.new.items ≡ []) }
         ensures executed { IfOk result (λ executed.
             executed ≡ true → done_count self.new ≤ done_count self.old + 1) }
@@ -334,11 +329,11 @@ impl<M: VtModel> Desk<M> {
             executed ≡ false → done_count self.new < done_count self.old) }
     {
         let process = self.processes.swap_remove(place);
-        let (process, executed) = execute_or_undo(alloc, model, process, at_hand)?;
+        let (process, executed) = execute_or_undo(bench.alloc, bench.model, process, at_hand)?;
         put_back(&mut self.processes, place, process)?;
         self.traffic.executed = self.traffic.executed.wrapping_add(u64::from(executed));
         self.traffic.undone = self.traffic.undone.wrapping_add(u64::from(!executed));
-        self.deal(alloc, model, board, at_hand)?;
+        self.deal(bench, at_hand)?;
         Ok(executed)
     }
 

@@ -4,7 +4,7 @@ ghost use Rattle.rw_lp.specs.Sound.{IsSoundOnceCollected};
 ghost use Rattle.rw_rounds.specs.Rounds.{Closes};
 ghost use Rattle.rw_rounds.specs.Turns.{IsFit, TookTurn};
 
-use crate::desk::Desk;
+use crate::desk::{Bench, Desk};
 use crate::plan::Plan;
 use crate::sim::Traffic;
 use rw_board::{Board, Seat};
@@ -114,9 +114,14 @@ impl<M: VtModel> Worker<M> {
             mut desk,
             mut at_hand,
         } = self;
+        let bench = Bench {
+            alloc,
+            model,
+            board,
+        };
         // What every process promises.
         soundness(&desk.processes);
-        let executed = desk.turn(alloc, model, board, &mut at_hand)?;
+        let executed = desk.turn(&bench, &mut at_hand)?;
         Ok((Worker { desk, at_hand }, executed))
     }
 
