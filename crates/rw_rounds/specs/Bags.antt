@@ -1,5 +1,6 @@
--- Lists as bags: two lists that weigh the same, however their elements are weighed, hold the same elements as often.
-use Rattle.std.specs.Prelude.{ℕ, zero, suc, ◌+◌, Bool, cond, List, [], ◌∷◌}
+-- Lists as bags: two lists that weigh the same, however their elements are weighed, hold the same
+-- elements as often.
+use Rattle.std.specs.Prelude.{ℕ, zero, suc, ◌+◌, Bool, if◌then◌else◌, List, [], ◌∷◌}
 
 -- what all elements weigh together
 abbrev pub weigh : {X : Type 0} → (X → ℕ) → List X → ℕ
@@ -8,7 +9,7 @@ weigh h (x ∷ xs) = h x + weigh h xs
 
 -- weighs those that pass the test
 abbrev pub only : {X : Type 0} → (X → Bool) → (X → ℕ) → X → ℕ
-only p h x = cond (p x) (h x) 0
+only p h x = if p x then h x else 0
 
 -- P holds of each element
 abbrev pub Every : {X : Type 0} → (X → Type 0) → List X → Type 0

@@ -4,8 +4,9 @@ ghost use Rattle.rw_lp.specs.Calls.{rules};
 ghost use Rattle.rw_lp.specs.Sound.{HasCollected};
 ghost use Rattle.rw_exchange.specs.Ports.{IsWide};
 ghost use Rattle.rw_rounds.specs.Deeds.{IsFair};
+ghost use Rattle.rw_rounds.specs.Rounds.{NoneBefore};
 ghost use Rattle.rw_rounds.specs.Turns.{is_own, owner, passes};
-ghost use Rattle.rw_rounds.specs.Working.{role_of, CanWork, Deals, AreFair, HoldsBackRest, ClosesDesk, HeldBack, IsNext, NoneBefore, Advances, comes_before, done_count, work_left};
+ghost use Rattle.rw_rounds.specs.Working.{role_of, CanWork, Deals, AreFair, HoldsBackRest, ClosesDesk, HeldBack, IsNext, Advances, comes_before, done_count, work_left};
 
 use crate::plan::Plan;
 use crate::sim::Traffic;
@@ -118,7 +119,8 @@ impl<M: VtModel> Desk<M> {
         out: &mut Vec<Letter<M::Body>>,
     ) -> Result<(), Refusal>
         requires fit { CanWork M.Model M.Body.cmp bench.now.model.now self.old }
-        requires fair { IsFair (rules M.Model M.Body.cmp bench.now.model.now) self.old.collected letter }
+        requires fair { IsFair (rules M.Model M.Body.cmp bench.now.model.now)
+            self.old.collected letter }
         requires own { is_own (role_of self.old) letter ≡ true }
         ensures works { OnOk result (
             Deals M.Model M.Body.cmp bench.now.model.now self.old self.new

@@ -4,7 +4,8 @@ ghost use Rattle.rw_vt.specs.declared.event.Letter.{Letter};
 ghost use Rattle.rw_vt.specs.System.{flatten};
 ghost use Rattle.rw_exchange.specs.Ports.{entry, IsOpening};
 ghost use Rattle.rw_rounds.specs.Bags.{weigh, sum_below};
-ghost use Rattle.rw_rounds.specs.Gathering.{IsGathered, of_shares, weigh_left};
+ghost use Rattle.rw_rounds.specs.Gathering.{IsGathered, of_shares};
+ghost use Rattle.rw_rounds.specs.Rounds.{weigh_left};
 
 use crate::desk::Desk;
 use crate::sim::Traffic;
@@ -194,7 +195,7 @@ fn join_letters<B: Copy>(
     aside: &[Vec<Letter<B>>],
 ) -> Result<Vec<Letter<B>>, NoMemory>
     ensures all { IfOk result (λ all. (h : Letter B → ℕ) → weigh h all.items
-        ≡ weigh_left h left.now
+        ≡ weigh_left (length left.now) h (λ i k. entry left.now i k)
         + weigh h (flatten (map (λ k. k.items) kept.now))
         + weigh h (flatten (map (λ a. a.items) aside.now))) }
 {

@@ -12,8 +12,8 @@ returns g c =
     record {
       many = its.count ∙ c.in_ok-shares.ensures.count;
       roles = λ i below. its.roles i (subst (λ n. i < n) (sym c.in_ok-shares.ensures.count) below);
-      dealt = λ i place below. ap (λ hs. slice_get (get_or hs i []) place) its.processes ∙ c.in_ok-shares.ensures.each i place below;
-      sorted_out = λ i below. ap (λ bs. get_or bs i []) its.inboxes ∙ c.in_ok-inboxes.ensures.each i below ∙ ap (filter (λ l. l.event.to % n == i)) c.deref.ensures.value;
+      own_processes = λ i place below. ap (λ hs. slice_get (get_or hs i []) place) its.processes ∙ c.in_ok-shares.ensures.each i place below;
+      own_letters = λ i below. ap (λ bs. get_or bs i []) its.inboxes ∙ c.in_ok-inboxes.ensures.each i below ∙ ap (filter (λ l. l.event.to % n == i)) c.deref.ensures.value;
       none = its.none;
       opening = subst IsOpening (sym its.ports) c.in_ok-ports.ensures.opening;
       stays = subst StayAnOpening (sym its.ports) c.in_ok-ports.ensures.stays;
