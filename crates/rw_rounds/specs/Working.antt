@@ -14,6 +14,7 @@ use Rattle.rw_lp.specs.Calls.{LogicalProcess, rules}
 use Rattle.rw_lp.specs.Sound.{SoundAt}
 use Rattle.rw_lp.specs.declared.step.StepFault.TheVariants.{Straggler}
 use Rattle.rw_exchange.specs.Ports.{SamePort, sent_to, received_from}
+use Rattle.rw_rounds.specs.declared.desk.Bench.{Bench}
 use Rattle.rw_rounds.specs.declared.desk.Desk.{Desk}
 use Rattle.rw_rounds.specs.Bags.{weigh, Every}
 use Rattle.rw_rounds.specs.Deeds.{Deed, Goes, IsFair, arrivals, executions}
@@ -86,22 +87,23 @@ pub record Works {M S B : Type 0} (y : System S B) (r : Role) (a b : WorkerState
 -- What the clauses of a desk say
 
 -- the worker at this desk is fit, and its processes are sound
-abbrev pub CanWork : {M S B U : Type 0} → Ghosts M S B U → (B → B → Ordering) → M
+abbrev pub CanWork : {M S B U : Type 0} → Ghosts M S B U → (B → B → Ordering) → Bench M S B U
     → Desk M S B U → Type 0
-CanWork model order m d = IsFitAndSound model order m (desk_of d)
+CanWork model order bench d = IsFitAndSound model order bench.model.now (desk_of d)
 
 -- the worker at this desk went from a to b: it dealt with the letters at hand and those that came
 -- up since, but for the rest; with n executions
-abbrev pub Deals : {M S B U : Type 0} → Ghosts M S B U → (B → B → Ordering) → M
+abbrev pub Deals : {M S B U : Type 0} → Ghosts M S B U → (B → B → Ordering) → Bench M S B U
     → Desk M S B U → Desk M S B U → List (Letter B) → List (Letter B) → Count → Type 0
-Deals model order m a b at_hand rest n =
-    Works (rules model order m) (role_of a) (desk_of a) (desk_of b) at_hand rest n
+Deals model order bench a b at_hand rest n =
+    Works (rules model order bench.model.now) (role_of a) (desk_of a) (desk_of b) at_hand rest n
 
 -- each of the letters is of a valid event that is not before the greatest time that this desk has
 -- collected
-abbrev pub AreFair : {M S B U : Type 0} → Ghosts M S B U → (B → B → Ordering) → M
+abbrev pub AreFair : {M S B U : Type 0} → Ghosts M S B U → (B → B → Ordering) → Bench M S B U
     → Desk M S B U → List (Letter B) → Type 0
-AreFair model order m d letters = Every (IsFair (rules model order m) d.collected) letters
+AreFair model order bench d letters =
+    Every (IsFair (rules model order bench.model.now) d.collected) letters
 
 -- the desk was a and is b after its closing
 abbrev pub ClosesDesk : {M S B U : Type 0} → Ghosts M S B U → (B → B → Ordering) → M
@@ -132,10 +134,10 @@ HeldBack y bound xs = NoneBefore y.order (λ x. x.pending) bound xs
 
 -- the desk went from a to b with n executions; if these are fewer than its batch, all that is
 -- pending is held back by the last reading and the window
-abbrev pub HoldsBackRest : {M S B U : Type 0} → Ghosts M S B U → (B → B → Ordering) → M
-    → Desk M S B U → Desk M S B U → Count → Type 0
-HoldsBackRest model order m a b n = n < a.plan.batch
-    → HeldBack (rules model order m) (b.seat.read + a.plan.window) b.processes.items
+abbrev pub HoldsBackRest : {M S B U : Type 0} → Ghosts M S B U → (B → B → Ordering)
+    → Bench M S B U → Desk M S B U → Desk M S B U → Count → Type 0
+HoldsBackRest model order bench a b n = n < a.plan.batch
+    → HeldBack (rules model order bench.model.now) (b.seat.read + a.plan.window) b.processes.items
 
 -- the event is less than the least one found so far, or none was found
 abbrev pub comes_before : {B : Type 0} → (Event B → Event B → Ordering) → Event B
@@ -193,7 +195,7 @@ abbrev pub done_count : {M S B U : Type 0} → Desk M S B U → Count
 done_count d = dones d.processes.items
 
 -- how much work may be left at this desk with these letters at hand
-abbrev pub work_left : {M S B U : Type 0} → Ghosts M S B U → (B → B → Ordering) → M
+abbrev pub work_left : {M S B U : Type 0} → Ghosts M S B U → (B → B → Ordering) → Bench M S B U
     → Desk M S B U → List (Letter B) → Count
-work_left model order m d letters =
-    sizes (rules model order m) d.processes.items + length letters
+work_left model order bench d letters =
+    sizes (rules model order bench.model.now) d.processes.items + length letters

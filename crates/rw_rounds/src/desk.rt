@@ -56,16 +56,16 @@ impl<M: VtModel> Desk<M> {
         bench: &Bench<'_, M>,
         at_hand: &mut Vec<Letter<M::Body>>,
     ) -> Result<u64, Refusal>
-        requires fit { CanWork M.Model M.Body.cmp bench.now.model.now self.old }
+        requires fit { CanWork M.Model M.Body.cmp bench.now self.old }
         requires board { self.old.seat.board ≡ bench.now.board.now.board }
-        requires fair { AreFair M.Model M.Body.cmp bench.now.model.now self.old at_hand.old.items }
+        requires fair { AreFair M.Model M.Body.cmp bench.now self.old at_hand.old.items }
         ensures works { IfOk result (λ n.
-            Deals M.Model M.Body.cmp bench.now.model.now self.old self.new at_hand.old.items [] n) }
-        ensures fit { OnOk result (CanWork M.Model M.Body.cmp bench.now.model.now self.new) }
+            Deals M.Model M.Body.cmp bench.now self.old self.new at_hand.old.items [] n) }
+        ensures fit { OnOk result (CanWork M.Model M.Body.cmp bench.now self.new) }
         ensures none_left { OnOk result (at_hand.new.items ≡ []) }
         ensures within { IfOk result (λ n. n ≤ self.old.plan.batch) }
         ensures held_back { IfOk result (λ n.
-            HoldsBackRest M.Model M.Body.cmp bench.now.model.now self.old self.new n) }
+            HoldsBackRest M.Model M.Body.cmp bench.now self.old self.new n) }
     {
         self.deal(bench, at_hand)?;
         self.offer_kept(bench)?;
@@ -82,12 +82,12 @@ impl<M: VtModel> Desk<M> {
         bench: &Bench<'_, M>,
         at_hand: &mut Vec<Letter<M::Body>>,
     ) -> Result<(), Refusal>
-        requires fit { CanWork M.Model M.Body.cmp bench.now.model.now self.old }
+        requires fit { CanWork M.Model M.Body.cmp bench.now self.old }
         requires board { self.old.seat.board ≡ bench.now.board.now.board }
-        requires fair { AreFair M.Model M.Body.cmp bench.now.model.now self.old at_hand.old.items }
+        requires fair { AreFair M.Model M.Body.cmp bench.now self.old at_hand.old.items }
         ensures works { OnOk result (
-            Deals M.Model M.Body.cmp bench.now.model.now self.old self.new at_hand.old.items [] 0) }
-        ensures fit { OnOk result (CanWork M.Model M.Body.cmp bench.now.model.now self.new) }
+            Deals M.Model M.Body.cmp bench.now self.old self.new at_hand.old.items [] 0) }
+        ensures fit { OnOk result (CanWork M.Model M.Body.cmp bench.now self.new) }
         ensures none_left { OnOk result (at_hand.new.items ≡ []) }
         ensures fewer { OnOk result (done_count self.new ≤ done_count self.old) }
     {
@@ -118,20 +118,20 @@ impl<M: VtModel> Desk<M> {
         letter: Letter<M::Body>,
         out: &mut Vec<Letter<M::Body>>,
     ) -> Result<(), Refusal>
-        requires fit { CanWork M.Model M.Body.cmp bench.now.model.now self.old }
+        requires fit { CanWork M.Model M.Body.cmp bench.now self.old }
         requires fair { IsFair (rules M.Model M.Body.cmp bench.now.model.now)
             self.old.collected letter }
         requires own { is_own (role_of self.old) letter ≡ true }
         ensures works { OnOk result (
-            Deals M.Model M.Body.cmp bench.now.model.now self.old self.new
+            Deals M.Model M.Body.cmp bench.now self.old self.new
             (out.old.items ++ letter ∷ []) out.new.items 0) }
-        ensures fit { OnOk result (CanWork M.Model M.Body.cmp bench.now.model.now self.new) }
+        ensures fit { OnOk result (CanWork M.Model M.Body.cmp bench.now self.new) }
         ensures fair { OnOk result (
-            AreFair M.Model M.Body.cmp bench.now.model.now self.old out.old.items
-            → AreFair M.Model M.Body.cmp bench.now.model.now self.old out.new.items) }
+            AreFair M.Model M.Body.cmp bench.now self.old out.old.items
+            → AreFair M.Model M.Body.cmp bench.now self.old out.new.items) }
         ensures falls { OnOk result (
-            work_left M.Model M.Body.cmp bench.now.model.now self.new out.new.items
-            ≤ work_left M.Model M.Body.cmp bench.now.model.now self.old out.old.items) }
+            work_left M.Model M.Body.cmp bench.now self.new out.new.items
+            ≤ work_left M.Model M.Body.cmp bench.now self.old out.old.items) }
         ensures fewer { OnOk result (done_count self.new ≤ done_count self.old) }
     {
         let place = (letter.event.to / self.plan.workers) as usize;
@@ -154,7 +154,7 @@ impl<M: VtModel> Desk<M> {
         requires other { owner (role_of self.old) letter ≡ self.old.number → ⊥ }
         requires board { self.old.seat.board ≡ bench.now.board.now.board }
         ensures works { OnOk result (
-            Deals M.Model M.Body.cmp bench.now.model.now self.old self.new (letter ∷ []) [] 0) }
+            Deals M.Model M.Body.cmp bench.now self.old self.new (letter ∷ []) [] 0) }
         ensures processes { OnOk result (self.new.processes ≡ self.old.processes) }
     {
         let to = letter.event.to % self.plan.workers;
@@ -167,11 +167,11 @@ impl<M: VtModel> Desk<M> {
 
     /// Offers the kept letters to their rings again, in order. Those that are refused stay kept.
     fn offer_kept(&mut self, bench: &Bench<'_, M>) -> Result<(), Refusal>
-        requires fit { CanWork M.Model M.Body.cmp bench.now.model.now self.old }
+        requires fit { CanWork M.Model M.Body.cmp bench.now self.old }
         requires board { self.old.seat.board ≡ bench.now.board.now.board }
         ensures works { OnOk result (
-            Deals M.Model M.Body.cmp bench.now.model.now self.old self.new [] [] 0) }
-        ensures fit { OnOk result (CanWork M.Model M.Body.cmp bench.now.model.now self.new) }
+            Deals M.Model M.Body.cmp bench.now self.old self.new [] [] 0) }
+        ensures fit { OnOk result (CanWork M.Model M.Body.cmp bench.now self.new) }
     {
         let kept = mem::replace(&mut self.kept, Vec::new(bench.alloc));
         for letter in kept {
@@ -188,12 +188,12 @@ impl<M: VtModel> Desk<M> {
         bench: &Bench<'_, M>,
         at_hand: &mut Vec<Letter<M::Body>>,
     ) -> Result<(), Refusal>
-        requires fit { CanWork M.Model M.Body.cmp bench.now.model.now self.old }
+        requires fit { CanWork M.Model M.Body.cmp bench.now self.old }
         requires board { self.old.seat.board ≡ bench.now.board.now.board }
         requires none { at_hand.old.items ≡ [] }
         ensures works { OnOk result (
-            Deals M.Model M.Body.cmp bench.now.model.now self.old self.new [] [] 0) }
-        ensures fit { OnOk result (CanWork M.Model M.Body.cmp bench.now.model.now self.new) }
+            Deals M.Model M.Body.cmp bench.now self.old self.new [] [] 0) }
+        ensures fit { OnOk result (CanWork M.Model M.Body.cmp bench.now self.new) }
         ensures none_left { OnOk result (at_hand.new.items ≡ []) }
     {
         for from in 0..self.plan.workers {
@@ -212,13 +212,13 @@ impl<M: VtModel> Desk<M> {
         from: u32,
         at_hand: &mut Vec<Letter<M::Body>>,
     ) -> Result<(), Refusal>
-        requires fit { CanWork M.Model M.Body.cmp bench.now.model.now self.old }
+        requires fit { CanWork M.Model M.Body.cmp bench.now self.old }
         requires board { self.old.seat.board ≡ bench.now.board.now.board }
         requires none { at_hand.old.items ≡ [] }
         requires other { (from < self.old.plan.workers) × (from ≢ self.old.number) }
         ensures works { OnOk result (
-            Deals M.Model M.Body.cmp bench.now.model.now self.old self.new [] [] 0) }
-        ensures fit { OnOk result (CanWork M.Model M.Body.cmp bench.now.model.now self.new) }
+            Deals M.Model M.Body.cmp bench.now self.old self.new [] [] 0) }
+        ensures fit { OnOk result (CanWork M.Model M.Body.cmp bench.now self.new) }
         ensures none_left { OnOk result (at_hand.new.items ≡ []) }
     {
         for _ in 0..self.plan.ring {
@@ -238,13 +238,13 @@ impl<M: VtModel> Desk<M> {
         from: u32,
         at_hand: &mut Vec<Letter<M::Body>>,
     ) -> Result<bool, Refusal>
-        requires fit { CanWork M.Model M.Body.cmp bench.now.model.now self.old }
+        requires fit { CanWork M.Model M.Body.cmp bench.now self.old }
         requires board { self.old.seat.board ≡ bench.now.board.now.board }
         requires none { at_hand.old.items ≡ [] }
         requires other { (from < self.old.plan.workers) × (from ≢ self.old.number) }
         ensures works { OnOk result (
-            Deals M.Model M.Body.cmp bench.now.model.now self.old self.new [] [] 0) }
-        ensures fit { OnOk result (CanWork M.Model M.Body.cmp bench.now.model.now self.new) }
+            Deals M.Model M.Body.cmp bench.now self.old self.new [] [] 0) }
+        ensures fit { OnOk result (CanWork M.Model M.Body.cmp bench.now self.new) }
         ensures none_left { OnOk result (at_hand.new.items ≡ []) }
     {
         let Some(letter) = self.port.receive(from as usize) else {
@@ -281,16 +281,16 @@ impl<M: VtModel> Desk<M> {
         bench: &Bench<'_, M>,
         at_hand: &mut Vec<Letter<M::Body>>,
     ) -> Result<u64, Refusal>
-        requires fit { CanWork M.Model M.Body.cmp bench.now.model.now self.old }
+        requires fit { CanWork M.Model M.Body.cmp bench.now self.old }
         requires board { self.old.seat.board ≡ bench.now.board.now.board }
         requires none { at_hand.old.items ≡ [] }
         ensures works { IfOk result (λ n.
-            Deals M.Model M.Body.cmp bench.now.model.now self.old self.new [] [] n) }
-        ensures fit { OnOk result (CanWork M.Model M.Body.cmp bench.now.model.now self.new) }
+            Deals M.Model M.Body.cmp bench.now self.old self.new [] [] n) }
+        ensures fit { OnOk result (CanWork M.Model M.Body.cmp bench.now self.new) }
         ensures none_left { OnOk result (at_hand.new.items ≡ []) }
         ensures within { IfOk result (λ n. n ≤ self.old.plan.batch) }
         ensures held_back { IfOk result (λ n.
-            HoldsBackRest M.Model M.Body.cmp bench.now.model.now self.old self.new n) }
+            HoldsBackRest M.Model M.Body.cmp bench.now self.old self.new n) }
     {
         let batch = u64::from(self.plan.batch);
         let mut executed = 0;
@@ -315,15 +315,15 @@ impl<M: VtModel> Desk<M> {
         place: usize,
         at_hand: &mut Vec<Letter<M::Body>>,
     ) -> Result<bool, Refusal>
-        requires fit { CanWork M.Model M.Body.cmp bench.now.model.now self.old }
+        requires fit { CanWork M.Model M.Body.cmp bench.now self.old }
         requires board { self.old.seat.board ≡ bench.now.board.now.board }
         requires none { at_hand.old.items ≡ [] }
         requires next { (bound : ℕ) × IsNext (rules M.Model M.Body.cmp bench.now.model.now) bound
             self.old.processes.items place }
         ensures works { IfOk result (λ executed.
-            Deals M.Model M.Body.cmp bench.now.model.now self.old self.new [] []
+            Deals M.Model M.Body.cmp bench.now self.old self.new [] []
             (if executed then 1 else 0)) }
-        ensures fit { OnOk result (CanWork M.Model M.Body.cmp bench.now.model.now self.new) }
+        ensures fit { OnOk result (CanWork M.Model M.Body.cmp bench.now self.new) }
         ensures none_left { OnOk result (at_hand.new.items ≡ []) }
         ensures executed { IfOk result (λ executed.
             executed ≡ true → done_count self.new ≤ done_count self.old + 1) }
