@@ -14,3 +14,4 @@ mod Arriving
 mod Balance
 mod Own
 pub mod WithBags
+mod PutBack

@@ -15,11 +15,13 @@ mod held;
 mod history;
 mod letters;
 mod lp;
+mod places;
 mod step;
 mod undo_record;
 
 pub use held::Held;
 pub use lp::Lp;
+pub use places::put_back;
 pub use rw_vt::{Event, Letter, Model, Refusal};
 pub use step::{Answer, StepFault};
 

@@ -14,7 +14,7 @@ use Rattle.rw_world.specs.declared.step.Step.{Step}
 use Rattle.rw_world.specs.WorldState.{opened}
 use Rattle.rw_world.specs.Steps.{answers, run}
 use Rattle.rw_world.specs.Calls.{MeetsAt}
-use Rattle.rw_rounds.specs.declared.traffic.Traffic.{Traffic}
+use Rattle.rw_rounds.specs.declared.sim.Traffic.{Traffic}
 use Rattle.rw_rounds.specs.Plans.{IsInRanges}
 use Rattle.rw_ripqwarp.specs.Report.{report_text}
 use Rattle.rw_ripqwarp.specs.Journal.{journal_text}

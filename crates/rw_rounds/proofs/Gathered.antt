@@ -20,12 +20,12 @@ use Rattle.rw_rounds.specs.Bags.{weigh, Every, sum_below}
 use Rattle.rw_rounds.specs.Turns.{WorkerState, IsInPlace, TookTurns}
 use Rattle.rw_rounds.specs.Rounds.{role, Begins, Closes, TookRound}
 use Rattle.rw_rounds.specs.Seated.{IsSeated}
-use Rattle.rw_rounds.specs.Setting.{AreDealtOut}
+use Rattle.rw_rounds.specs.Setting.{AreSetUp}
 use Rattle.rw_rounds.proofs.Governing.{Laws}
 use Rattle.rw_rounds.proofs.Sums.{total_add, weigh-append}
 use Rattle.rw_rounds.proofs.ByPlace.{get_within}
 use Rattle.rw_rounds.proofs.Beginning.{as_many, begins_fit}
-use Rattle.rw_rounds.proofs.Hands.{AreDealt, get_there, get_past}
+use Rattle.rw_rounds.proofs.Shares.{AreDealt, get_there, get_past}
 
 pub some_of : {X : Type 0} (xs : List X) → 0 < length xs → X
 some_of [] h = absurd (omega arith)
@@ -90,30 +90,30 @@ weigh_flatten h f (w ∷ ws) d =
     ∙ ap (λ k. weigh h (f w) + k) (weigh_flatten h f ws d)
     ∙ sym (total_first (length ws) (λ i. weigh h (f (get_or (w ∷ ws) i d))))
 
--- what each place of the hands holds, by number
-pub same_hands : {V W X : Type 0} (f : V → List X) (k : W → List X) (hands : List V) (ws : List W) → map f hands ≡ map k ws → (q : ℕ)
-    → slice_get (get_or (map f hands) (q % length hands) []) (q / length hands) ≡ slice_get (get_or (map k ws) (q % length ws) []) (q / length ws)
-same_hands f k hands ws is q =
-    ap (λ n. slice_get (get_or (map f hands) (q % n) []) (q / n)) (sym (length-map hands f) ∙ (ap length is ∙ length-map ws k))
+-- what each place of the shares holds, by number
+pub same_shares : {V W X : Type 0} (f : V → List X) (k : W → List X) (shares : List V) (ws : List W) → map f shares ≡ map k ws → (q : ℕ)
+    → slice_get (get_or (map f shares) (q % length shares) []) (q / length shares) ≡ slice_get (get_or (map k ws) (q % length ws) []) (q / length ws)
+same_shares f k shares ws is q =
+    ap (λ n. slice_get (get_or (map f shares) (q % n) []) (q / n)) (sym (length-map shares f) ∙ (ap length is ∙ length-map ws k))
     ∙ ap (λ z. slice_get (get_or z (q % length ws) []) (q / length ws)) is
 
--- the workers are set up as dealt out
-pub record AreSetUp {M S B U : Type 0} (plan : Plan) (x : Parts M S B U) (ws : List (WorkerState M S B)) (hands : List (List (LogicalProcess M S B))) (boxes : List (List (Letter B))) (ports : List (PortState (Letter B))) (seats : List SeatState) (its : BoardState) : Type 0 where
+-- the workers are set up
+pub record StandReady {M S B U : Type 0} (plan : Plan) (x : Parts M S B U) (ws : List (WorkerState M S B)) (shares : List (List (LogicalProcess M S B))) (boxes : List (List (Letter B))) (ports : List (PortState (Letter B))) (seats : List SeatState) (its : BoardState) : Type 0 where
   pub many : length ws ≡ plan.workers
   pub roles : (i : ℕ) → i < plan.workers → slice_get (map (λ w. w.role) ws) i ≡ Some (role plan x.collected i)
-  pub processes : map (λ w. w.processes) ws ≡ hands
+  pub processes : map (λ w. w.processes) ws ≡ shares
   pub inboxes : map (λ w. w.inbox) ws ≡ boxes
   pub ports_are : map (λ w. w.port) ws ≡ ports
   pub seats_are : map (λ w. w.seat) ws ≡ seats
   pub none : All (λ w. (w.kept ≡ []) × (w.aside ≡ [])) ws
-  pub dealt : AreDealt plan.workers hands x.processes.items
+  pub dealt : AreDealt plan.workers shares x.processes.items
   pub sorted_out : (i : ℕ) → i < plan.workers → get_or boxes i [] ≡ filter (λ l. l.event.to % plan.workers == i) x.letters.items
   pub opening : IsOpening ports
   pub new_ports : All IsNew ports
   pub new_seats : All (λ s. s ≡ new_seat its.board) seats
 
-pub set_up_from : {M S B U : Type 0} (plan : Plan) (x : Parts M S B U) (its : BoardState) (ws : List (WorkerState M S B)) → AreDealtOut plan x.collected x.processes.items x.letters.items its ws
-    → AreSetUp plan x ws (map (λ w. w.processes) ws) (map (λ w. w.inbox) ws) (map (λ w. w.port) ws) (map (λ w. w.seat) ws) its
+pub set_up_from : {M S B U : Type 0} (plan : Plan) (x : Parts M S B U) (its : BoardState) (ws : List (WorkerState M S B)) → AreSetUp plan x.collected x.processes.items x.letters.items its ws
+    → StandReady plan x ws (map (λ w. w.processes) ws) (map (λ w. w.inbox) ws) (map (λ w. w.port) ws) (map (λ w. w.seat) ws) its
 set_up_from plan x its ws out = record {
   many = out.many;
   roles = out.roles;
@@ -122,8 +122,8 @@ set_up_from plan x its ws out = record {
   ports_are = refl;
   seats_are = refl;
   none = out.none;
-  dealt = out.dealt;
-  sorted_out = out.sorted_out;
+  dealt = out.own_processes;
+  sorted_out = out.own_letters;
   opening = out.opening;
   new_ports = out.new_ports;
   new_seats = out.new_seats;
@@ -134,10 +134,10 @@ pub record AllTook {M S B U : Type 0} (model : Ghosts M S B U) (order : B → B 
   pub long : length ws' ≡ length ws
   pub went : (i : ℕ) (d d' : WorkerState M S B) → i < length ws → TookRound model order m turns (get_or ws i d) (get_or ws' i d')
 
--- A round of these parts, whose workers begin as dealt out
+-- A round of these parts, whose workers begin as set up
 module _ {M S B U : Type 0} {model : Ghosts M S B U} {order : B → B → Ordering} (laws : Laws model order) {plan : Plan} {x : Parts M S B U} (ranges : IsInRanges plan) (whole : IsWhole model order x)
-    {ws : List (WorkerState M S B)} {hands : List (List (LogicalProcess M S B))} {boxes : List (List (Letter B))} {ports : List (PortState (Letter B))} {seats : List SeatState} {its : BoardState} where
-  module _ (up : AreSetUp plan x ws hands boxes ports seats its) where
+    {ws : List (WorkerState M S B)} {shares : List (List (LogicalProcess M S B))} {boxes : List (List (Letter B))} {ports : List (PortState (Letter B))} {seats : List SeatState} {its : BoardState} where
+  module _ (up : StandReady plan x ws shares boxes ports seats its) where
     pub ports_many : length ports ≡ plan.workers
     ports_many = ap length (sym up.ports_are) ∙ length-map ws (λ w. w.port) ∙ up.many
 
@@ -228,23 +228,23 @@ module _ {M S B U : Type 0} {model : Ghosts M S B U} {order : B → B → Orderi
               let n = as_many x whole in
               absurd (omega (arith, stands.number, whole_q, inside, fit.ready.enough, n, past))
 
-      hand_after : (hands' : List (List (LogicalProcess M S B))) (d : WorkerState M S B) (i : ℕ) → hands' ≡ map (λ w. w.processes) ws' → i < plan.workers → get_or hands' i [] ≡ (get_or ws' i d).processes
-      hand_after hands' d i is below = ap (λ z. get_or z i []) is ∙ get_or-map (λ w. w.processes) ws' i d [] (subst (λ n. i < n) (sym (took.long ∙ up.many)) below)
+      hand_after : (shares' : List (List (LogicalProcess M S B))) (d : WorkerState M S B) (i : ℕ) → shares' ≡ map (λ w. w.processes) ws' → i < plan.workers → get_or shares' i [] ≡ (get_or ws' i d).processes
+      hand_after shares' d i is below = ap (λ z. get_or z i []) is ∙ get_or-map (λ w. w.processes) ws' i d [] (subst (λ n. i < n) (sym (took.long ∙ up.many)) below)
 
-      -- what the hands have, by number
-      pub from_hands_after : (hands' : List (List (LogicalProcess M S B))) (d : WorkerState M S B) (q k : ℕ) → hands' ≡ map (λ w. w.processes) ws' → k ≡ plan.workers → slice_get (get_or hands' (q % k) []) (q / k) ≡ slice_get (get_or ws' (q % plan.workers) d).processes (q / plan.workers)
-      from_hands_after hands' d q k is same =
+      -- what the shares have, by number
+      pub from_hands_after : (shares' : List (List (LogicalProcess M S B))) (d : WorkerState M S B) (q k : ℕ) → shares' ≡ map (λ w. w.processes) ws' → k ≡ plan.workers → slice_get (get_or shares' (q % k) []) (q / k) ≡ slice_get (get_or ws' (q % plan.workers) d).processes (q / plan.workers)
+      from_hands_after shares' d q k is same =
           let some : 0 < plan.workers = omega (arith, ranges.workers.0) in
           let below : q % plan.workers < plan.workers = omega arith in
-          ap (λ n. slice_get (get_or hands' (q % n) []) (q / n)) same ∙ ap (λ h. slice_get h (q / plan.workers)) (hand_after hands' d (q % plan.workers) is below)
+          ap (λ n. slice_get (get_or shares' (q % n) []) (q / n)) same ∙ ap (λ h. slice_get h (q / plan.workers)) (hand_after shares' d (q % plan.workers) is below)
 
       -- the processes are joined in the order of their numbers
-      pub joined : (all : List (LogicalProcess M S B)) (hands' : List (List (LogicalProcess M S B))) (d : WorkerState M S B) (k : ℕ) → hands' ≡ map (λ w. w.processes) ws' → k ≡ plan.workers → length all ≡ length x.processes.items
-          → ((q : ℕ) → q < length x.processes.items → slice_get all q ≡ slice_get (get_or hands' (q % k) []) (q / k)) → (q : ℕ) → slice_get all q ≡ slice_get (get_or ws' (q % plan.workers) d).processes (q / plan.workers)
-      joined all hands' d k is same count each q = go (cases_lt q (length x.processes.items))
+      pub joined : (all : List (LogicalProcess M S B)) (shares' : List (List (LogicalProcess M S B))) (d : WorkerState M S B) (k : ℕ) → shares' ≡ map (λ w. w.processes) ws' → k ≡ plan.workers → length all ≡ length x.processes.items
+          → ((q : ℕ) → q < length x.processes.items → slice_get all q ≡ slice_get (get_or shares' (q % k) []) (q / k)) → (q : ℕ) → slice_get all q ≡ slice_get (get_or ws' (q % plan.workers) d).processes (q / plan.workers)
+      joined all shares' d k is same count each q = go (cases_lt q (length x.processes.items))
         where
           go : (q < length x.processes.items) ⊎ (length x.processes.items ≤ q) → slice_get all q ≡ slice_get (get_or ws' (q % plan.workers) d).processes (q / plan.workers)
-          go (inl within) = each q within ∙ from_hands_after hands' d q k is same
+          go (inl within) = each q within ∙ from_hands_after shares' d q k is same
           go (inr past) = get_past all q (omega (arith, count, past)) ∙ sym (none_past d q past)
 
       -- what was left on the way between two workers

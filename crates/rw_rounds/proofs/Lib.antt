@@ -1,4 +1,3 @@
-pub mod PutBack
 pub mod ByPlace
 pub mod Sums
 pub mod Governing
@@ -13,7 +12,7 @@ pub mod Looking
 pub mod Passing
 pub mod Taking
 pub mod Ends
-pub mod Hands
+pub mod Shares
 pub mod Totals
 pub mod Systems
 pub mod Working

@@ -19,7 +19,7 @@ use Rattle.rw_board.specs.contracts.board.Seat as Seat
 use Rattle.rw_exchange.specs.contracts.port.Port as Port
 use Rattle.rw_lp.specs.contracts.lp.Lp as Lp
 use Rattle.rw_rounds.specs.contracts.plan.Plan as Plan
-use Rattle.rw_rounds.specs.contracts.traffic.Traffic as Traffic
+use Rattle.rw_rounds.specs.contracts.sim.Traffic as Traffic
 use Rattle.rw_rounds.specs.contracts.desk.Desk as Desk
 use Rattle.rw_rounds.specs.contracts.worker.Worker as Worker
 use Rattle.rw_rounds.specs.contracts.worker.Worker.TheInside as Inside
@@ -48,16 +48,16 @@ module _ (B : RattleType) where
   letters_may_move s = search (sendable, crosses) depth 40
 
 module _ (M S B U : RattleType) (g : Ghosts M.Denot S.Denot B.Denot U.Denot) (o : ord.Ghosts B.Denot) (e : eq.Ghosts B.Denot) (p : partial.Ghosts B.Denot) where
-  abbrev Hands : RattleType
-  Hands = (Vec.the_field (Lp.the_row M S B U g o e p) Global.the_row global.ghosts).row
+  abbrev Processes : RattleType
+  Processes = (Vec.the_field (Lp.the_row M S B U g o e p) Global.the_row global.ghosts).row
 
-  hands_may_move : IsSend (Lp.the_row M S B U g o e p) → IsSend Hands
-  hands_may_move s = search (sendable, crosses) depth 40
+  processes_may_move : IsSend (Lp.the_row M S B U g o e p) → IsSend Processes
+  processes_may_move s = search (sendable, crosses) depth 40
 
   desk_may_move : IsSend B → IsSend (Lp.the_row M S B U g o e p) → IsSend (Port.the_row B) → IsSend Seat.the_row → IsSend (Desk.the_field M S B U g o e p).row
   desk_may_move b lp port seat =
       let letters = letters_may_move B b in
-      let all : AllSend (u32-field.row ∷ Plan.the_field.row ∷ u64-field.row ∷ Hands ∷ Letters B ∷ Letters B ∷ (Port.the_field B).row ∷ Seat.the_field.row ∷ Traffic.the_field.row ∷ []) = (number_may_move, (plan_may_move, (time_may_move, (hands_may_move lp, (letters, (letters, (port, (seat, (traffic_may_move, tt))))))))) in
+      let all : AllSend (u32-field.row ∷ Plan.the_field.row ∷ u64-field.row ∷ Processes ∷ Letters B ∷ Letters B ∷ (Port.the_field B).row ∷ Seat.the_field.row ∷ Traffic.the_field.row ∷ []) = (number_may_move, (plan_may_move, (time_may_move, (processes_may_move lp, (letters, (letters, (port, (seat, (traffic_may_move, tt))))))))) in
       struct_send (shape (Desk.the_type M S B U g o e p)) all
 
   process_may_move : IsSend S → IsSend B → IsSend U → IsSend (Lp.the_row M S B U g o e p)

@@ -1,4 +1,5 @@
--- Lists as bags: two lists that weigh the same, however their elements are weighed, hold the same elements as often.
+-- Lists as bags: two lists that weigh the same, however their elements are weighed, hold the same
+-- elements as often.
 use Rattle.std.specs.Prelude.{ℕ, zero, suc, ◌+◌, Bool, if◌then◌else◌, List, [], ◌∷◌}
 pub use Rattle.rw_vt.specs.Order.{weigh}
 

@@ -17,8 +17,14 @@ pub data Deed (B : Type 0) : Type 0 where
   -- the least pending event of process p is executed
   Execution : (p : Process) → Deed B
 
+-- the processes that a worker has, by their numbers
+abbrev pub Owned : Type 0 → Type 0 → Type 0
+Owned S B = Process → Option (ProcessState S B)
+
 -- process p went from x to z and gave these letters out, as the relation says; the others stayed
-pub record Stepped {S B : Type 0} (p : Process) (By : ProcessState S B → ProcessState S B → List (Letter B) → Type 0) (a b : Process → Option (ProcessState S B)) (x z : ProcessState S B) (out : List (Letter B)) : Type 0 where
+pub record Stepped {S B : Type 0} (p : Process)
+    (By : ProcessState S B → ProcessState S B → List (Letter B) → Type 0)
+    (a b : Owned S B) (x z : ProcessState S B) (out : List (Letter B)) : Type 0 where
   pub was : a p ≡ Some x
   pub is : b p ≡ Some z
   pub by : By x z out
@@ -30,20 +36,31 @@ pub record IsFair {S B : Type 0} (y : System S B) (g : Time) (l : Letter B) : Ty
   pub from : g ≤ l.event.time
 
 -- what is next at x is the least of all pending events
-abbrev pub IsLeast : {S B : Type 0} → System S B → (Process → Option (ProcessState S B)) → ProcessState S B → Type 0
-IsLeast {S} {B} y a x = (e : Event B) (rest : List (Event B)) → x.pending ≡ e ∷ rest → (q : Process) (z : ProcessState S B) → a q ≡ Some z → Each y.order (λ f. AtMost y.order e f) z.pending
+abbrev pub IsLeast : {S B : Type 0} → System S B → Owned S B → ProcessState S B → Type 0
+IsLeast {S} {B} y a x = (e : Event B) (rest : List (Event B)) → x.pending ≡ e ∷ rest
+    → (q : Process) (z : ProcessState S B) → a q ≡ Some z
+    → Each y.order (λ f. AtMost y.order e f) z.pending
 
 -- the deed, done by processes none of which may go back before g
-abbrev pub Did : {S B : Type 0} → System S B → Time → Deed B → (Process → Option (ProcessState S B)) → (Process → Option (ProcessState S B)) → List (Letter B) → Type 0
-Did {S} {B} y g (Arrival l) a b out = (x z : ProcessState S B) × Stepped l.event.to (Arrived y l.event.to l) a b x z out × IsFair y g l
+abbrev pub Did : {S B : Type 0} → System S B → Time → Deed B
+    → Owned S B → Owned S B → List (Letter B) → Type 0
+Did {S} {B} y g (Arrival l) a b out = (x z : ProcessState S B)
+    × Stepped l.event.to (Arrived y l.event.to l) a b x z out
+    × IsFair y g l
 -- an undoing, where what is next is a straggler
-Did {S} {B} y g (Undoing p) a b out = (x z : ProcessState S B) × Stepped p (λ x z out. undo_one y p x ≡ Turned z out) a b x z out × (execute_next y p x ≡ Stays Straggler)
-Did {S} {B} y g (Execution p) a b out = (x z : ProcessState S B) × Stepped p (λ x z out. execute_next y p x ≡ Turned z out) a b x z out × IsLeast y a x
+Did {S} {B} y g (Undoing p) a b out = (x z : ProcessState S B)
+    × Stepped p (λ x z out. undo_one y p x ≡ Turned z out) a b x z out
+    × (execute_next y p x ≡ Stays Straggler)
+Did {S} {B} y g (Execution p) a b out = (x z : ProcessState S B)
+    × Stepped p (λ x z out. execute_next y p x ≡ Turned z out) a b x z out
+    × IsLeast y a x
 
 -- the deeds lead from a to b, and give out these letters
-abbrev pub Goes : {S B : Type 0} → System S B → Time → List (Deed B) → (Process → Option (ProcessState S B)) → (Process → Option (ProcessState S B)) → List (Letter B) → Type 0
+abbrev pub Goes : {S B : Type 0} → System S B → Time → List (Deed B)
+    → Owned S B → Owned S B → List (Letter B) → Type 0
 Goes y g [] a b given = (b ≡ a) × (given ≡ [])
-Goes {S} {B} y g (d ∷ ds) a b given = (c : Process → Option (ProcessState S B)) × (out rest : List (Letter B)) × Did y g d a c out × Goes y g ds c b rest × (given ≡ out ++ rest)
+Goes {S} {B} y g (d ∷ ds) a b given = (c : Owned S B) × (out rest : List (Letter B))
+    × Did y g d a c out × Goes y g ds c b rest × (given ≡ out ++ rest)
 
 -- the letters that arrive
 abbrev pub arrivals : {B : Type 0} → List (Deed B) → List (Letter B)

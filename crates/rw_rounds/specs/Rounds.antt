@@ -2,6 +2,7 @@
 use Rattle.std.specs.Prelude.{◌≡◌, ℕ, ◌+◌, ◌*◌, ◌/◌, ◌%◌, ◌^◌, ◌<◌, ◌≤◌, max, List, [], ◌∷◌, ◌++◌, length, map, filter, slice_get, Some}
 use Rattle.std.specs.declared.cmp.Ordering.{Ordering}
 use Rattle.rw_vt.specs.Words.{Count, Position, Process, Time, Worker}
+use Rattle.rw_vt.specs.declared.event.Event.{Event}
 use Rattle.rw_vt.specs.declared.event.Letter.{Letter}
 use Rattle.rw_vt.specs.declared.model.Model.{Ghosts}
 use Rattle.rw_vt.specs.Order.{Each}
@@ -21,10 +22,13 @@ use Rattle.rw_rounds.specs.Turns.{Role, WorkerState, is_own, IsFit, TookTurns}
 abbrev pub role : Plan → Time → Worker → Role
 role plan g i = record { number = i; plan = plan; collected = g }
 
--- of these processes and letters, a worker begins with those that are its own, and has sent and received nothing yet
-pub record Begins {M S B : Type 0} (processes : List (LogicalProcess M S B)) (letters : List (Letter B)) (r : Role) (a : WorkerState M S B) : Type 0 where
+-- of these processes and letters, a worker begins with those that are its own, and has sent and
+-- received nothing yet
+pub record Begins {M S B : Type 0} (processes : List (LogicalProcess M S B))
+    (letters : List (Letter B)) (r : Role) (a : WorkerState M S B) : Type 0 where
   pub role : a.role ≡ r
-  pub processes_are : (place : Position) → slice_get a.processes place ≡ slice_get processes (r.number + place * r.plan.workers)
+  pub processes_are : (place : Position)
+      → slice_get a.processes place ≡ slice_get processes (r.number + place * r.plan.workers)
   pub inbox : a.inbox ≡ filter (is_own r) letters
   pub none_kept : a.kept ≡ []
   pub none_aside : a.aside ≡ []
@@ -33,63 +37,102 @@ pub record Begins {M S B : Type 0} (processes : List (LogicalProcess M S B)) (le
   pub new : IsNew a.port
   pub none_noted : a.seat.noted ≡ []
 
--- after its last turn a worker notes a time that none of its pending events and debts is before, and that of each letter that it keeps
+-- of the events that each process has of some kind, none is before the time t
+abbrev pub NoneBefore : {M S B : Type 0} → (Event B → Event B → Ordering)
+    → (ProcessState S B → List (Event B)) → Time → List (LogicalProcess M S B) → Type 0
+NoneBefore {M} {S} {B} cmp events_of t xs = (place : Position) (l : LogicalProcess M S B)
+    → slice_get xs place ≡ Some l → Each cmp (λ e. t ≤ e.time) (events_of l.process)
+
+-- after its last turn a worker notes a time that none of its pending events and debts is before,
+-- and that of each letter that it keeps
 pub record Closes {M S B : Type 0} (y : System S B) (a b : WorkerState M S B) : Type 0 where
   pub least : Time
-  pub pending : (place : Position) (l : LogicalProcess M S B) → slice_get a.processes place ≡ Some l → Each y.order (λ e. least ≤ e.time) l.process.pending
-  pub debts : (place : Position) (l : LogicalProcess M S B) → slice_get a.processes place ≡ Some l → Each y.order (λ e. least ≤ e.time) l.process.debts
-  pub closed : b ≡ record a { seat = record a.seat { noted = a.seat.noted ++ least ∷ map (λ l. l.event.time) a.kept } }
+  pub pending : NoneBefore y.order (λ x. x.pending) least a.processes
+  pub debts : NoneBefore y.order (λ x. x.debts) least a.processes
+  pub closed : b ≡ record a {
+    seat = record a.seat {
+      noted = a.seat.noted ++ least ∷ map (λ l. l.event.time) a.kept;
+    };
+  }
 
 -- so many turns, and the closing, of a worker of the model m
-pub record TookRound {M S B U : Type 0} (model : Ghosts M S B U) (order : B → B → Ordering) (m : M) (turns : Count) (a b : WorkerState M S B) : Type 0 where
+pub record TookRound {M S B U : Type 0} (model : Ghosts M S B U) (order : B → B → Ordering)
+    (m : M) (turns : Count) (a b : WorkerState M S B) : Type 0 where
   pub between : WorkerState M S B
   pub turns_are : TookTurns (rules model order m) turns a between
   pub closes : Closes (rules model order m) between b
   pub fit : IsFit model order m b
 
--- these letters are on their way once the workers are done: those left in the rings between them, those kept and those set aside
-pub record AreOnTheirWay {M S B : Type 0} (ws : List (WorkerState M S B)) (letters : List (Letter B)) : Type 0 where
+-- what the letters left in the rings between n workers weigh, by sender and receiver
+abbrev pub weigh_left : {B : Type 0} → Count → (Letter B → ℕ)
+    → (Worker → Worker → List (Letter B)) → ℕ
+weigh_left n h left = sum_below n (λ i. sum_below n (λ k. weigh h (left i k)))
+
+-- these letters are on their way once the workers are done: those left in the rings between them,
+-- those kept and those set aside
+pub record AreOnTheirWay {M S B : Type 0} (ws : List (WorkerState M S B))
+    (letters : List (Letter B)) : Type 0 where
   -- what was left in the rings, by sender and receiver
   pub left : Worker → Worker → List (Letter B)
-  pub settled : (i k : Worker) → i < length ws → k < length ws → received_between (map (λ w. w.port) ws) i k ++ left i k ≡ sent_between (map (λ w. w.port) ws) i k
-  pub letters_are : (h : Letter B → ℕ) → weigh h letters ≡ sum_below (length ws) (λ i. sum_below (length ws) (λ k. weigh h (left i k))) + weigh h (flatten (map (λ w. w.kept) ws)) + weigh h (flatten (map (λ w. w.aside) ws))
+  pub settled : (i k : Worker) → i < length ws → k < length ws
+      → received_between (map (λ w. w.port) ws) i k ++ left i k
+      ≡ sent_between (map (λ w. w.port) ws) i k
+  pub letters_are : (h : Letter B → ℕ)
+      → weigh h letters
+      ≡ weigh_left (length ws) h left + weigh h (flatten (map (λ w. w.kept) ws))
+      + weigh h (flatten (map (λ w. w.aside) ws))
 
 -- the workers of the plan take the parts x to the parts z
-pub record Round {M S B U : Type 0} (model : Ghosts M S B U) (order : B → B → Ordering) (plan : Plan) (x z : Parts M S B U) (least : Time) : Type 0 where
+pub record Round {M S B U : Type 0} (model : Ghosts M S B U) (order : B → B → Ordering)
+    (plan : Plan) (x z : Parts M S B U) (least : Time) : Type 0 where
   -- by worker: as it began, and as it closed
   pub first : Worker → WorkerState M S B
   pub last : Worker → WorkerState M S B
   -- what was left in the rings, by sender and receiver
   pub left : Worker → Worker → List (Letter B)
-  pub begins : (i : Worker) → i < plan.workers → Begins x.processes.items x.letters.items (role plan x.collected i) (first i)
-  pub works : (i : Worker) → i < plan.workers → TookRound model order x.model plan.turns (first i) (last i)
-  pub settled : (i k : Worker) → i < plan.workers → k < plan.workers → received_from (last k).port i ++ left i k ≡ sent_to (last i).port k
+  pub begins : (i : Worker) → i < plan.workers
+      → Begins x.processes.items x.letters.items (role plan x.collected i) (first i)
+  pub works : (i : Worker) → i < plan.workers
+      → TookRound model order x.model plan.turns (first i) (last i)
+  pub settled : (i k : Worker) → i < plan.workers → k < plan.workers
+      → received_from (last k).port i ++ left i k ≡ sent_to (last i).port k
   -- what the board gave
   pub least_end : least ≤ 2 ^ 40
-  pub least_noted : (i : Worker) → i < plan.workers → Every (λ t. least ≤ t) (last i).seat.noted
+  pub least_noted : (i : Worker) → i < plan.workers
+      → Every (λ t. least ≤ t) (last i).seat.noted
   -- the parts in which they are joined
   pub model_is : z.model ≡ x.model
   pub starts_are : z.starts ≡ x.starts
   pub initial_are : z.initial ≡ x.initial
   pub collected_is : z.collected ≡ x.collected
-  pub processes_are : (q : Process) → slice_get z.processes.items q ≡ slice_get (last (q % plan.workers)).processes (q / plan.workers)
-  pub letters_are : (h : Letter B → ℕ) → weigh h z.letters.items ≡ sum_below plan.workers (λ i. sum_below plan.workers (λ k. weigh h (left i k))) + sum_below plan.workers (λ i. weigh h (last i).kept + weigh h (last i).aside)
+  pub processes_are : (q : Process)
+      → slice_get z.processes.items q
+      ≡ slice_get (last (q % plan.workers)).processes (q / plan.workers)
+  pub letters_are : (h : Letter B → ℕ)
+      → weigh h z.letters.items
+      ≡ weigh_left plan.workers h left
+      + sum_below plan.workers (λ i. weigh h (last i).kept + weigh h (last i).aside)
 
--- What contracts see of a run between two rounds: the world, how it is run, and what the last round gave as its floor
+-- What contracts see of a run between two rounds: the world, how it is run, and what the last
+-- round gave as its floor
 pub record SimState (M S B : Type 0) : Type 0 where
   pub simulation : Simulation M S B
   pub plan : Plan
   pub floor : Time
 
 -- what a round promises of the worlds before and after it
-pub record Rounded {M S B U : Type 0} (model : Ghosts M S B U) (order : B → B → Ordering) (x z : SimState M S B) : Type 0 where
+pub record Rounded {M S B U : Type 0} (model : Ghosts M S B U) (order : B → B → Ordering)
+    (x z : SimState M S B) : Type 0 where
   pub model_is : z.simulation.model ≡ x.simulation.model
   pub starts_are : z.simulation.starts ≡ x.simulation.starts
   pub initial_are : z.simulation.initial ≡ x.simulation.initial
   pub plan_is : z.plan ≡ x.plan
   pub sound : Sound (system_of model order z.simulation) z.simulation.world
-  -- what it gives as its floor is a lower bound of what is outstanding, and all before it is committed
+  -- its floor is a lower bound of what is outstanding, and all before it is committed
   pub below_floor : z.floor ≤ floor z.simulation.world
   pub collected : z.simulation.world.collected ≡ max x.simulation.world.collected z.floor
   -- no committed event is lost
-  pub longer : (q : Process) (a b : ProcessState S B) → slice_get x.simulation.world.processes q ≡ Some a → slice_get z.simulation.world.processes q ≡ Some b → (rest : _) × (a.committed ++ rest ≡ b.committed)
+  pub longer : (q : Process) (a b : ProcessState S B)
+      → slice_get x.simulation.world.processes q ≡ Some a
+      → slice_get z.simulation.world.processes q ≡ Some b
+      → (rest : _) × (a.committed ++ rest ≡ b.committed)

@@ -1,4 +1,4 @@
--- The workers of a round, as they are set up.
+-- The workers of a round, as they are set up: only contracts of private functions cite this.
 use Rattle.std.specs.Prelude.{◌≡◌, ◌+◌, ◌*◌, ◌%◌, ◌<◌, ◌==◌, List, [], All, filter, length, map, slice_get, slice_index_or, Some}
 use Rattle.rw_vt.specs.Words.{Position, Time, Worker}
 use Rattle.rw_vt.specs.declared.event.Letter.{Letter}
@@ -9,12 +9,20 @@ use Rattle.rw_rounds.specs.declared.plan.Plan.{Plan}
 use Rattle.rw_rounds.specs.Turns.{WorkerState}
 use Rattle.rw_rounds.specs.Rounds.{role}
 
--- these processes and letters are dealt out to the workers of the plan, which have new ports and new seats of this board
-pub record AreDealtOut {M S B : Type 0} (plan : Plan) (collected : Time) (processes : List (LogicalProcess M S B)) (letters : List (Letter B)) (its : BoardState) (ws : List (WorkerState M S B)) : Type 0 where
+-- the workers of the plan share these processes and letters, and have new ports and new seats of
+-- this board
+pub record AreSetUp {M S B : Type 0} (plan : Plan) (collected : Time)
+    (processes : List (LogicalProcess M S B)) (letters : List (Letter B)) (its : BoardState)
+    (ws : List (WorkerState M S B)) : Type 0 where
   pub many : length ws ≡ plan.workers
-  pub roles : (i : Worker) → i < plan.workers → slice_get (map (λ w. w.role) ws) i ≡ Some (role plan collected i)
-  pub dealt : (i : Worker) (place : Position) → i < plan.workers → slice_get (slice_index_or (map (λ w. w.processes) ws) i []) place ≡ slice_get processes (i + place * plan.workers)
-  pub sorted_out : (i : Worker) → i < plan.workers → slice_index_or (map (λ w. w.inbox) ws) i [] ≡ filter (λ l. l.event.to % plan.workers == i) letters
+  pub roles : (i : Worker) → i < plan.workers
+      → slice_get (map (λ w. w.role) ws) i ≡ Some (role plan collected i)
+  pub own_processes : (i : Worker) (place : Position) → i < plan.workers
+      → slice_get (slice_index_or (map (λ w. w.processes) ws) i []) place
+      ≡ slice_get processes (i + place * plan.workers)
+  pub own_letters : (i : Worker) → i < plan.workers
+      → slice_index_or (map (λ w. w.inbox) ws) i []
+      ≡ filter (λ l. l.event.to % plan.workers == i) letters
   pub none : All (λ w. (w.kept ≡ []) × (w.aside ≡ [])) ws
   pub opening : IsOpening (map (λ w. w.port) ws)
   pub stays : StayAnOpening (map (λ w. w.port) ws)

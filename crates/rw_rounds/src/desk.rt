@@ -1,11 +1,23 @@
-use crate::plan::Plan;
-use crate::traffic::Traffic;
-use rw_board::Seat;
-use rw_exchange::Port;
-use rw_lp::Lp;
-use rw_vt::{Letter, Model as VtModel};
+ghost use Rattle.std.specs.Prelude.{◌≡◌, ◌≢◌, ◌<◌, ◌≤◌, ◌+◌, ◌∷◌, ◌++◌, [], ℕ, true, false, if◌then◌else◌, length, map, OnOk, IfOk, IfSome, IfNone};
+ghost use Rattle.rw_vt.specs.Order.{event_cmp};
+ghost use Rattle.rw_lp.specs.Calls.{rules};
+ghost use Rattle.rw_lp.specs.Sound.{HasCollected};
+ghost use Rattle.rw_exchange.specs.Ports.{IsWide};
+ghost use Rattle.rw_rounds.specs.Deeds.{IsFair};
+ghost use Rattle.rw_rounds.specs.Rounds.{NoneBefore};
+ghost use Rattle.rw_rounds.specs.Turns.{is_own, owner, passes};
+ghost use Rattle.rw_rounds.specs.Working.{role_of, CanWork, Deals, AreFair, HoldsBackRest, ClosesDesk, HeldBack, IsNext, Advances, comes_before, done_count, work_left};
 
-/// What a worker works on: see [`Worker`](crate::Worker). The modules beside this one each do one part of a turn.
+use crate::plan::Plan;
+use crate::sim::Traffic;
+use rw_board::{Board, Seat};
+use rw_exchange::Port;
+use rw_lp::{Answer, Lp, put_back};
+use rw_vt::{END, Event, Letter, Model as VtModel, Refusal};
+use std::alloc::Global;
+use std::mem;
+
+/// What a worker works on, and what it does in a turn: see [`Worker`](crate::Worker).
 #[derive(Drop)]
 pub(crate) struct Desk<M: VtModel> {
     /// The worker's number, from 0.
@@ -22,4 +34,402 @@ pub(crate) struct Desk<M: VtModel> {
     pub(crate) port: Port<M::Body>,
     pub(crate) seat: Seat,
     pub(crate) traffic: Traffic,
+}
+
+/// What each part of a turn works with.
+#[derive(Drop)]
+pub(crate) struct Bench<'a, M: VtModel> {
+    pub(crate) alloc: Global,
+    pub(crate) model: &'a M,
+    /// The board of the round.
+    pub(crate) board: &'a Board,
+}
+
+impl<M: VtModel> Desk<M> {
+    /// Takes one turn: the letters at hand arrive, kept ones are offered to their rings again, those that the others sent
+    /// are taken up, and events are executed. Gives how many events were executed.
+    ///
+    /// `at_hand` is the stack of letters that are to be dealt with next. Whatever comes up in the turn is pushed onto it and
+    /// dealt with at once, so it is empty between the parts of a turn, and after it.
+    pub(crate) fn turn(
+        &mut self,
+        bench: &Bench<'_, M>,
+        at_hand: &mut Vec<Letter<M::Body>>,
+    ) -> Result<u64, Refusal>
+        requires fit { CanWork M.Model M.Body.cmp bench.now self.old }
+        requires board { self.old.seat.board ≡ bench.now.board.now.board }
+        requires fair { AreFair M.Model M.Body.cmp bench.now self.old at_hand.old.items }
+        ensures works { IfOk result (λ n.
+            Deals M.Model M.Body.cmp bench.now self.old self.new at_hand.old.items [] n) }
+        ensures fit { OnOk result (CanWork M.Model M.Body.cmp bench.now self.new) }
+        ensures none_left { OnOk result (at_hand.new.items ≡ []) }
+        ensures within { IfOk result (λ n. n ≤ self.old.plan.batch) }
+        ensures held_back { IfOk result (λ n.
+            HoldsBackRest M.Model M.Body.cmp bench.now self.old self.new n) }
+    {
+        self.deal(bench, at_hand)?;
+        self.offer_kept(bench)?;
+        self.receive_all(bench, at_hand)?;
+        self.execute_some(bench, at_hand)
+    }
+
+    // Dealing with letters.
+
+    /// Deals with the letters at hand in order: one to an own process arrives there, and what that gives out is dealt with
+    /// before the next, its last one first; one to another worker is posted. None is left at hand.
+    fn deal(
+        &mut self,
+        bench: &Bench<'_, M>,
+        at_hand: &mut Vec<Letter<M::Body>>,
+    ) -> Result<(), Refusal>
+        requires fit { CanWork M.Model M.Body.cmp bench.now self.old }
+        requires board { self.old.seat.board ≡ bench.now.board.now.board }
+        requires fair { AreFair M.Model M.Body.cmp bench.now self.old at_hand.old.items }
+        ensures works { OnOk result (
+            Deals M.Model M.Body.cmp bench.now self.old self.new at_hand.old.items [] 0) }
+        ensures fit { OnOk result (CanWork M.Model M.Body.cmp bench.now self.new) }
+        ensures none_left { OnOk result (at_hand.new.items ≡ []) }
+        ensures fewer { OnOk result (done_count self.new ≤ done_count self.old) }
+    {
+        // What is next stands last, so that it can be popped.
+        at_hand.reverse();
+        while let Some(letter) = at_hand.pop() {
+            if self.owns(&letter) {
+                self.arrive(bench, letter, at_hand)?;
+            } else {
+                self.post(bench, letter)?;
+            }
+        }
+        Ok(())
+    }
+
+    /// Whether the letter goes to one of the worker's own processes.
+    fn owns(&self, letter: &Letter<M::Body>) -> bool
+        requires workers { 0 < self.now.plan.workers }
+        ensures own { result ≡ is_own (role_of self.now) letter.now }
+    {
+        letter.event.to % self.plan.workers == self.number
+    }
+
+    /// A letter arrives at the own process that it goes to. What that gives out is appended to `out`.
+    fn arrive(
+        &mut self,
+        bench: &Bench<'_, M>,
+        letter: Letter<M::Body>,
+        out: &mut Vec<Letter<M::Body>>,
+    ) -> Result<(), Refusal>
+        requires fit { CanWork M.Model M.Body.cmp bench.now self.old }
+        requires fair { IsFair (rules M.Model M.Body.cmp bench.now.model.now)
+            self.old.collected letter }
+        requires own { is_own (role_of self.old) letter ≡ true }
+        ensures works { OnOk result (
+            Deals M.Model M.Body.cmp bench.now self.old self.new
+            (out.old.items ++ letter ∷ []) out.new.items 0) }
+        ensures fit { OnOk result (CanWork M.Model M.Body.cmp bench.now self.new) }
+        ensures fair { OnOk result (
+            AreFair M.Model M.Body.cmp bench.now self.old out.old.items
+            → AreFair M.Model M.Body.cmp bench.now self.old out.new.items) }
+        ensures falls { OnOk result (
+            work_left M.Model M.Body.cmp bench.now self.new out.new.items
+            ≤ work_left M.Model M.Body.cmp bench.now self.old out.old.items) }
+        ensures fewer { OnOk result (done_count self.new ≤ done_count self.old) }
+    {
+        let place = (letter.event.to / self.plan.workers) as usize;
+        let process = self.processes.swap_remove(place);
+        let before = process.processed().len();
+        let process = process.arrive(bench.alloc, bench.model, letter, out)?;
+        let undone = before.saturating_sub(process.processed().len());
+        put_back(&mut self.processes, place, process)?;
+        self.traffic.undone = self.traffic.undone.wrapping_add(undone as u64);
+        Ok(())
+    }
+
+    // What goes out to other workers.
+
+    /// Sends a letter to the worker of its process and notes its time, or keeps it where the ring has no room.
+    fn post(&mut self, bench: &Bench<'_, M>, letter: Letter<M::Body>) -> Result<(), Refusal>
+        requires workers { self.old.number < self.old.plan.workers }
+        requires port { (self.old.port.worker ≡ self.old.number)
+            × IsWide self.old.plan.workers self.old.port }
+        requires other { owner (role_of self.old) letter ≡ self.old.number → ⊥ }
+        requires board { self.old.seat.board ≡ bench.now.board.now.board }
+        ensures works { OnOk result (
+            Deals M.Model M.Body.cmp bench.now self.old self.new (letter ∷ []) [] 0) }
+        ensures processes { OnOk result (self.new.processes ≡ self.old.processes) }
+    {
+        let to = letter.event.to % self.plan.workers;
+        match self.port.send(to as usize, letter) {
+            Ok(()) => bench.board.note(&mut self.seat, letter.event.time),
+            Err(back) => self.kept.push(back)?,
+        }
+        Ok(())
+    }
+
+    /// Offers the kept letters to their rings again, in order. Those that are refused stay kept.
+    fn offer_kept(&mut self, bench: &Bench<'_, M>) -> Result<(), Refusal>
+        requires fit { CanWork M.Model M.Body.cmp bench.now self.old }
+        requires board { self.old.seat.board ≡ bench.now.board.now.board }
+        ensures works { OnOk result (
+            Deals M.Model M.Body.cmp bench.now self.old self.new [] [] 0) }
+        ensures fit { OnOk result (CanWork M.Model M.Body.cmp bench.now self.new) }
+    {
+        let kept = mem::replace(&mut self.kept, Vec::new(bench.alloc));
+        for letter in kept {
+            self.post(bench, letter)?;
+        }
+        Ok(())
+    }
+
+    // What comes in from other workers.
+
+    /// Takes up at most as many letters from each other worker as a ring has room for, by rising number.
+    fn receive_all(
+        &mut self,
+        bench: &Bench<'_, M>,
+        at_hand: &mut Vec<Letter<M::Body>>,
+    ) -> Result<(), Refusal>
+        requires fit { CanWork M.Model M.Body.cmp bench.now self.old }
+        requires board { self.old.seat.board ≡ bench.now.board.now.board }
+        requires none { at_hand.old.items ≡ [] }
+        ensures works { OnOk result (
+            Deals M.Model M.Body.cmp bench.now self.old self.new [] [] 0) }
+        ensures fit { OnOk result (CanWork M.Model M.Body.cmp bench.now self.new) }
+        ensures none_left { OnOk result (at_hand.new.items ≡ []) }
+    {
+        for from in 0..self.plan.workers {
+            if from == self.number {
+                continue;
+            }
+            self.receive_from(bench, from, at_hand)?;
+        }
+        Ok(())
+    }
+
+    /// Takes up at most as many letters from worker `from` as the ring has room for.
+    fn receive_from(
+        &mut self,
+        bench: &Bench<'_, M>,
+        from: u32,
+        at_hand: &mut Vec<Letter<M::Body>>,
+    ) -> Result<(), Refusal>
+        requires fit { CanWork M.Model M.Body.cmp bench.now self.old }
+        requires board { self.old.seat.board ≡ bench.now.board.now.board }
+        requires none { at_hand.old.items ≡ [] }
+        requires other { (from < self.old.plan.workers) × (from ≢ self.old.number) }
+        ensures works { OnOk result (
+            Deals M.Model M.Body.cmp bench.now self.old self.new [] [] 0) }
+        ensures fit { OnOk result (CanWork M.Model M.Body.cmp bench.now self.new) }
+        ensures none_left { OnOk result (at_hand.new.items ≡ []) }
+    {
+        for _ in 0..self.plan.ring {
+            let found = self.receive_one(bench, from, at_hand)?;
+            if !found {
+                return Ok(());
+            }
+        }
+        Ok(())
+    }
+
+    /// Takes up the next letter from worker `from`, and answers whether there was one. A letter that passes the test is
+    /// dealt with at once; another one is set aside.
+    fn receive_one(
+        &mut self,
+        bench: &Bench<'_, M>,
+        from: u32,
+        at_hand: &mut Vec<Letter<M::Body>>,
+    ) -> Result<bool, Refusal>
+        requires fit { CanWork M.Model M.Body.cmp bench.now self.old }
+        requires board { self.old.seat.board ≡ bench.now.board.now.board }
+        requires none { at_hand.old.items ≡ [] }
+        requires other { (from < self.old.plan.workers) × (from ≢ self.old.number) }
+        ensures works { OnOk result (
+            Deals M.Model M.Body.cmp bench.now self.old self.new [] [] 0) }
+        ensures fit { OnOk result (CanWork M.Model M.Body.cmp bench.now self.new) }
+        ensures none_left { OnOk result (at_hand.new.items ≡ []) }
+    {
+        let Some(letter) = self.port.receive(from as usize) else {
+            return Ok(false);
+        };
+        self.traffic.ring = self.traffic.ring.wrapping_add(1);
+        if self.passes(bench.model, &letter) {
+            at_hand.push(letter)?;
+            self.deal(bench, at_hand)?;
+        } else {
+            self.aside.push(letter)?;
+        }
+        Ok(true)
+    }
+
+    /// The test of a received letter: whether it is valid, goes to an own process, and is not before the greatest time
+    /// collected.
+    fn passes(&self, model: &M, letter: &Letter<M::Body>) -> bool
+        requires workers { 0 < self.now.plan.workers }
+        ensures passes { result
+            ≡ passes (rules M.Model M.Body.cmp model.now) (role_of self.now) letter.now }
+    {
+        model.valid(&letter.event) && self.owns(letter) && self.collected <= letter.event.time
+    }
+
+    // Executing.
+
+    /// Executes events until the batch is used up or all that is pending is held back, and gives how many it executed.
+    ///
+    /// It is always the least pending event that comes next. Where that is a straggler, the last processed event of its
+    /// process is undone, and the worker looks again.
+    fn execute_some(
+        &mut self,
+        bench: &Bench<'_, M>,
+        at_hand: &mut Vec<Letter<M::Body>>,
+    ) -> Result<u64, Refusal>
+        requires fit { CanWork M.Model M.Body.cmp bench.now self.old }
+        requires board { self.old.seat.board ≡ bench.now.board.now.board }
+        requires none { at_hand.old.items ≡ [] }
+        ensures works { IfOk result (λ n.
+            Deals M.Model M.Body.cmp bench.now self.old self.new [] [] n) }
+        ensures fit { OnOk result (CanWork M.Model M.Body.cmp bench.now self.new) }
+        ensures none_left { OnOk result (at_hand.new.items ≡ []) }
+        ensures within { IfOk result (λ n. n ≤ self.old.plan.batch) }
+        ensures held_back { IfOk result (λ n.
+            HoldsBackRest M.Model M.Body.cmp bench.now self.old self.new n) }
+    {
+        let batch = u64::from(self.plan.batch);
+        let mut executed = 0;
+        while executed < batch {
+            let bound = bench.board.floor(&mut self.seat) + self.plan.window;
+            let Some(place) = next_before(&self.processes, bound) else {
+                return Ok(executed);
+            };
+            let done = self.advance(bench, place, at_hand)?;
+            if done {
+                executed += 1;
+            }
+        }
+        Ok(executed)
+    }
+
+    /// The process at `place` executes what is next, or undoes its last event where that is a straggler; then what was
+    /// given out is dealt with. Answers whether it executed.
+    fn advance(
+        &mut self,
+        bench: &Bench<'_, M>,
+        place: usize,
+        at_hand: &mut Vec<Letter<M::Body>>,
+    ) -> Result<bool, Refusal>
+        requires fit { CanWork M.Model M.Body.cmp bench.now self.old }
+        requires board { self.old.seat.board ≡ bench.now.board.now.board }
+        requires none { at_hand.old.items ≡ [] }
+        requires next { (bound : ℕ) × IsNext (rules M.Model M.Body.cmp bench.now.model.now) bound
+            self.old.processes.items place }
+        ensures works { IfOk result (λ executed.
+            Deals M.Model M.Body.cmp bench.now self.old self.new [] []
+            (if executed then 1 else 0)) }
+        ensures fit { OnOk result (CanWork M.Model M.Body.cmp bench.now self.new) }
+        ensures none_left { OnOk result (at_hand.new.items ≡ []) }
+        ensures executed { IfOk result (λ executed.
+            executed ≡ true → done_count self.new ≤ done_count self.old + 1) }
+        ensures undone { IfOk result (λ executed.
+            executed ≡ false → done_count self.new < done_count self.old) }
+    {
+        let process = self.processes.swap_remove(place);
+        let (process, executed) = execute_or_undo(bench.alloc, bench.model, process, at_hand)?;
+        put_back(&mut self.processes, place, process)?;
+        self.traffic.executed = self.traffic.executed.wrapping_add(u64::from(executed));
+        self.traffic.undone = self.traffic.undone.wrapping_add(u64::from(!executed));
+        self.deal(bench, at_hand)?;
+        Ok(executed)
+    }
+
+    // The end of a round.
+
+    /// Notes the least time of the processes, and the time of each kept letter. Takes no memory.
+    pub(crate) fn close(&mut self, board: &Board)
+        requires board { self.old.seat.board ≡ board.now.board }
+        ensures closes { (m : M) → ClosesDesk M.Model M.Body.cmp m self.old self.new }
+    {
+        let least = least_of(&self.processes);
+        board.note(&mut self.seat, least);
+        note_all(board, &mut self.seat, &self.kept);
+    }
+}
+
+/// The place of the process with the least pending event, if that event is before `bound`.
+fn next_before<M: VtModel>(processes: &[Lp<M>], bound: u64) -> Option<usize>
+    ensures some { IfSome result (λ place. (m : M)
+        → IsNext (rules M.Model M.Body.cmp m) bound processes.now place) }
+    ensures none { IfNone result ((m : M)
+        → HeldBack (rules M.Model M.Body.cmp m) bound processes.now) }
+{
+    let mut least = None;
+    for (place, process) in processes.iter().enumerate() {
+        let Some(event) = process.next() else {
+            continue;
+        };
+        if !comes_before(event, &least) {
+            continue;
+        }
+        least = Some((place, *event));
+    }
+    let (place, event) = least?;
+    if bound <= event.time {
+        return None;
+    }
+    Some(place)
+}
+
+/// Whether the event is less than the least one found so far, or none was found.
+fn comes_before<B: Ord + Copy>(event: &Event<B>, least: &Option<(usize, Event<B>)>) -> bool
+    ensures { result ≡ comes_before (event_cmp B.cmp) event.now least.now }
+{
+    match least {
+        None => true,
+        Some((_, other)) => other.cmp(event).is_gt(),
+    }
+}
+
+/// The process executes what is next, or undoes its last event where that is a straggler. What it gives out is appended to
+/// `out`. Answers whether it executed.
+fn execute_or_undo<M: VtModel>(
+    alloc: Global,
+    model: &M,
+    process: Lp<M>,
+    out: &mut Vec<Letter<M::Body>>,
+) -> Result<(Lp<M>, bool), Refusal>
+    requires model { model.now ≡ process.model }
+    requires pending { process.process.pending ≢ [] }
+    requires undoable { (g : ℕ) × HasCollected (event_cmp M.Body.cmp) g process.process }
+    ensures same { IfOk result (λ r.
+        (r.0.model ≡ process.model) × (r.0.number ≡ process.number)) }
+    ensures moved { IfOk result (λ r.
+        Advances M.Model M.Body.cmp process r.0 r.1 out.old.items out.new.items) }
+{
+    let (process, answer) = process.execute_next(alloc, model, out)?;
+    if let Answer::Done = answer {
+        return Ok((process, true));
+    }
+    let (process, _answer) = process.undo_one(alloc, model, out)?;
+    Ok((process, false))
+}
+
+/// The least time of the pending events and debts of `processes`, in ticks, or the end of time.
+fn least_of<M: VtModel>(processes: &[Lp<M>]) -> u64
+    ensures pending { NoneBefore (event_cmp M.Body.cmp) (λ x. x.pending) result processes.now }
+    ensures debts { NoneBefore (event_cmp M.Body.cmp) (λ x. x.debts) result processes.now }
+{
+    let mut least = END;
+    for process in processes {
+        least = least.min(process.least());
+    }
+    least
+}
+
+/// Notes the time of each of the letters.
+fn note_all<B>(board: &Board, seat: &mut Seat, letters: &[Letter<B>])
+    requires board { seat.old.board ≡ board.now.board }
+    ensures noted { seat.new ≡ record seat.old {
+      noted = seat.old.noted ++ map (λ l. l.event.time) letters.now;
+    } }
+{
+    for letter in letters {
+        board.note(seat, letter.event.time);
+    }
 }

@@ -1,13 +1,14 @@
-ghost use Rattle.std.specs.Prelude.{◌≡◌, ◌+◌, ◌/◌, ◌%◌, ◌<◌, ◌≤◌, ◌++◌, ℕ, [], All, None, IfOk, OnOk, length, map, slice_get, slice_index_or, vec_capacity};
+ghost use Rattle.std.specs.Prelude.{◌≡◌, ◌+◌, ◌<◌, ◌++◌, ℕ, [], All, None, IfOk, OnOk, length, map, slice_get, vec_capacity};
 ghost use Rattle.std.specs.VecDeque.{deque_capacity};
 ghost use Rattle.rw_vt.specs.declared.event.Letter.{Letter};
 ghost use Rattle.rw_vt.specs.System.{flatten};
 ghost use Rattle.rw_exchange.specs.Ports.{entry, IsOpening};
 ghost use Rattle.rw_rounds.specs.Bags.{weigh, sum_below};
-ghost use Rattle.rw_rounds.specs.Gathering.{IsGathered};
+ghost use Rattle.rw_rounds.specs.Gathering.{IsGathered, of_shares};
+ghost use Rattle.rw_rounds.specs.Rounds.{weigh_left};
 
 use crate::desk::Desk;
-use crate::traffic::Traffic;
+use crate::sim::Traffic;
 use crate::worker::Worker;
 use rw_board::{Board, Seat};
 use rw_exchange::{Left, Port};
@@ -31,7 +32,7 @@ pub(crate) fn all_done<M: VtModel>(
     Ok(workers)
 }
 
-/// What a round leaves, once its workers are joined.
+/// What a round comes to, once its workers are joined.
 #[derive(Drop)]
 pub(crate) struct Gathered<M: VtModel> {
     /// All processes in the order of their numbers.
@@ -42,7 +43,7 @@ pub(crate) struct Gathered<M: VtModel> {
     pub(crate) floor: u64,
 }
 
-/// Joins the workers of a round, which have so many processes, closes their board and adds what they did to the traffic.
+/// Joins the workers of a round, which have `count` processes, closes their board and adds what they did to the traffic.
 pub(crate) fn gather<M: VtModel>(
     alloc: Global,
     count: usize,
@@ -54,11 +55,13 @@ pub(crate) fn gather<M: VtModel>(
     requires seats { length workers.items ≡ board.seats }
     requires board { All (λ s. s.board ≡ board.board) (map (λ w. w.seat) workers.items) }
     requires some { 0 < length workers.items }
-    requires complete { (q : ℕ) → q < count → slice_get (slice_index_or (map (λ w. w.processes) workers.items) (q % length workers.items) []) (q / length workers.items) ≡ None → ⊥ }
-    ensures { IfOk result (λ r. IsGathered count workers.items r.processes.items r.letters.items r.floor) }
+    requires complete { (q : ℕ) → q < count
+        → of_shares (length workers.items) (map (λ w. w.processes) workers.items) q ≡ None → ⊥ }
+    ensures { IfOk result (λ r.
+        IsGathered count workers.items r.processes.items r.letters.items r.floor) }
 {
-    let Leavings {
-        hands,
+    let Holdings {
+        shares,
         kept,
         aside,
         ports,
@@ -67,7 +70,7 @@ pub(crate) fn gather<M: VtModel>(
     let floor = rw_board::close(board, seats);
     let left = rw_exchange::settle(alloc, ports)?;
     let letters = join_letters(alloc, &left, &kept, &aside)?;
-    let processes = join_processes(alloc, count, hands)?;
+    let processes = join_processes(alloc, count, shares)?;
     Ok(Gathered {
         processes,
         letters,
@@ -75,11 +78,11 @@ pub(crate) fn gather<M: VtModel>(
     })
 }
 
-/// What the workers of a round leave, by worker.
+/// What the workers of a round hold at its end, by worker.
 #[derive(Drop)]
-struct Leavings<M: VtModel> {
+struct Holdings<M: VtModel> {
     /// The processes of each.
-    hands: VecDeque<VecDeque<Lp<M>>>,
+    shares: VecDeque<VecDeque<Lp<M>>>,
     /// The letters that each kept.
     kept: Vec<Vec<Letter<M::Body>>>,
     /// The letters that each set aside.
@@ -88,21 +91,24 @@ struct Leavings<M: VtModel> {
     seats: Vec<Seat>,
 }
 
-impl<M: VtModel> Leavings<M> {
-    /// Nothing yet, with room for what so many workers leave.
-    fn with_capacity(alloc: Global, workers: usize) -> Result<Leavings<M>, NoMemory>
+impl<M: VtModel> Holdings<M> {
+    /// Nothing yet, with room for what `workers` workers hold.
+    fn with_capacity(alloc: Global, workers: usize) -> Result<Holdings<M>, NoMemory>
         ensures letters { IfOk result (λ l. (l.kept.items ≡ []) × (l.aside.items ≡ [])) }
-        ensures others { IfOk result (λ l. (l.hands.items ≡ []) × (l.ports.items ≡ []) × (l.seats.items ≡ [])) }
-        ensures letters_room { IfOk result (λ l. (vec_capacity l.kept ≡ workers) × (vec_capacity l.aside ≡ workers)) }
-        ensures room { IfOk result (λ l. (deque_capacity l.hands ≡ workers) × (vec_capacity l.ports ≡ workers) × (vec_capacity l.seats ≡ workers)) }
+        ensures others { IfOk result (λ l.
+            (l.shares.items ≡ []) × (l.ports.items ≡ []) × (l.seats.items ≡ [])) }
+        ensures letters_room { IfOk result (λ l.
+            (vec_capacity l.kept ≡ workers) × (vec_capacity l.aside ≡ workers)) }
+        ensures room { IfOk result (λ l. (deque_capacity l.shares ≡ workers)
+            × (vec_capacity l.ports ≡ workers) × (vec_capacity l.seats ≡ workers)) }
     {
-        let hands = VecDeque::with_capacity(alloc, workers)?;
+        let shares = VecDeque::with_capacity(alloc, workers)?;
         let kept = Vec::with_capacity(alloc, workers)?;
         let aside = Vec::with_capacity(alloc, workers)?;
         let ports = Vec::with_capacity(alloc, workers)?;
         let seats = Vec::with_capacity(alloc, workers)?;
-        Ok(Leavings {
-            hands,
+        Ok(Holdings {
+            shares,
             kept,
             aside,
             ports,
@@ -116,14 +122,17 @@ fn take_apart<M: VtModel>(
     alloc: Global,
     workers: Vec<Worker<M>>,
     traffic: &mut Traffic,
-) -> Result<Leavings<M>, NoMemory>
-    ensures hands { IfOk result (λ l. map (λ h. h.items) l.hands.items ≡ map (λ w. w.processes) workers.items) }
-    ensures kept { IfOk result (λ l. map (λ k. k.items) l.kept.items ≡ map (λ w. w.kept) workers.items) }
-    ensures aside { IfOk result (λ l. map (λ a. a.items) l.aside.items ≡ map (λ w. w.aside) workers.items) }
+) -> Result<Holdings<M>, NoMemory>
+    ensures shares { IfOk result (λ l.
+        map (λ h. h.items) l.shares.items ≡ map (λ w. w.processes) workers.items) }
+    ensures kept { IfOk result (λ l.
+        map (λ k. k.items) l.kept.items ≡ map (λ w. w.kept) workers.items) }
+    ensures aside { IfOk result (λ l.
+        map (λ a. a.items) l.aside.items ≡ map (λ w. w.aside) workers.items) }
     ensures ports { IfOk result (λ l. l.ports.items ≡ map (λ w. w.port) workers.items) }
     ensures seats { IfOk result (λ l. l.seats.items ≡ map (λ w. w.seat) workers.items) }
 {
-    let mut leavings = Leavings::with_capacity(alloc, workers.len())?;
+    let mut holdings = Holdings::with_capacity(alloc, workers.len())?;
     for worker in workers {
         traffic.add(&worker.traffic());
         let Desk {
@@ -136,38 +145,43 @@ fn take_apart<M: VtModel>(
             port,
             seat,
             traffic: _,
-        } = worker.leave();
-        leavings.hands.push_back_reserved(VecDeque::from(processes));
-        leavings.kept.push_reserved(kept);
-        leavings.aside.push_reserved(aside);
-        leavings.ports.push_reserved(port);
-        leavings.seats.push_reserved(seat);
+        } = worker.into_desk();
+        holdings
+            .shares
+            .push_back_reserved(VecDeque::from(processes));
+        holdings.kept.push_reserved(kept);
+        holdings.aside.push_reserved(aside);
+        holdings.ports.push_reserved(port);
+        holdings.seats.push_reserved(seat);
     }
-    Ok(leavings)
+    Ok(holdings)
 }
 
-/// So many processes in the order of their numbers: each worker in turn gives its next one.
+/// The `count` processes in the order of their numbers: the shares give one each, round and round.
 fn join_processes<M: VtModel>(
     alloc: Global,
     count: usize,
-    hands: VecDeque<VecDeque<Lp<M>>>,
+    shares: VecDeque<VecDeque<Lp<M>>>,
 ) -> Result<Vec<Lp<M>>, NoMemory>
-    requires hands { 0 < length hands.items }
-    requires complete { (q : ℕ) → q < count → slice_get (slice_index_or (map (λ h. h.items) hands.items) (q % length hands.items) []) (q / length hands.items) ≡ None → ⊥ }
+    requires some { 0 < length shares.items }
+    requires complete { (q : ℕ) → q < count
+        → of_shares (length shares.items) (map (λ h. h.items) shares.items) q ≡ None → ⊥ }
     ensures count { IfOk result (λ all. length all.items ≡ count) }
-    ensures each { IfOk result (λ all. (q : ℕ) → q < count → slice_get all.items q ≡ slice_get (slice_index_or (map (λ h. h.items) hands.items) (q % length hands.items) []) (q / length hands.items)) }
+    ensures each { IfOk result (λ all. (q : ℕ) → q < count
+        → slice_get all.items q
+        ≡ of_shares (length shares.items) (map (λ h. h.items) shares.items) q) }
 {
-    let mut hands = hands;
+    let mut shares = shares;
     let mut processes = Vec::with_capacity(alloc, count)?;
     for _process in 0..count {
-        let Some(mut hand) = hands.pop_front() else {
+        let Some(mut share) = shares.pop_front() else {
             unreachable!()
         };
-        let Some(process) = hand.pop_front() else {
+        let Some(process) = share.pop_front() else {
             unreachable!()
         };
         processes.push(process)?;
-        hands.push_back(hand)?;
+        shares.push_back(share)?;
     }
     Ok(processes)
 }
@@ -180,7 +194,10 @@ fn join_letters<B: Copy>(
     kept: &[Vec<Letter<B>>],
     aside: &[Vec<Letter<B>>],
 ) -> Result<Vec<Letter<B>>, NoMemory>
-    ensures all { IfOk result (λ all. (h : Letter B → ℕ) → weigh h all.items ≡ sum_below (length left.now) (λ i. sum_below (length left.now) (λ k. weigh h (entry left.now i k))) + weigh h (flatten (map (λ k. k.items) kept.now)) + weigh h (flatten (map (λ a. a.items) aside.now))) }
+    ensures all { IfOk result (λ all. (h : Letter B → ℕ) → weigh h all.items
+        ≡ weigh_left (length left.now) h (λ i k. entry left.now i k)
+        + weigh h (flatten (map (λ k. k.items) kept.now))
+        + weigh h (flatten (map (λ a. a.items) aside.now))) }
 {
     let mut letters = Vec::new(alloc);
     for from in 0..left.workers() {
@@ -191,9 +208,10 @@ fn join_letters<B: Copy>(
     Ok(letters)
 }
 
-/// Adds the letters of all these lists.
+/// Adds the letters of all `lists`.
 fn add_all<B: Copy>(letters: &mut Vec<Letter<B>>, lists: &[Vec<Letter<B>>]) -> Result<(), NoMemory>
-    ensures more { OnOk result (letters.new.items ≡ letters.old.items ++ flatten (map (λ l. l.items) lists.now)) }
+    ensures more { OnOk result (letters.new.items
+        ≡ letters.old.items ++ flatten (map (λ l. l.items) lists.now)) }
 {
     for list in lists {
         letters.extend_from_slice(list)?;
@@ -201,13 +219,15 @@ fn add_all<B: Copy>(letters: &mut Vec<Letter<B>>, lists: &[Vec<Letter<B>>]) -> R
     Ok(())
 }
 
-/// Adds the letters that one sender left in the rings.
+/// Adds the letters from worker `from` that are left in the rings.
 fn add_sent<B: Copy>(
     letters: &mut Vec<Letter<B>>,
     left: &Left<B>,
     from: usize,
 ) -> Result<(), NoMemory>
-    ensures more { OnOk result ((h : Letter B → ℕ) → weigh h letters.new.items ≡ weigh h letters.old.items + sum_below (length left.now) (λ k. weigh h (entry left.now from k))) }
+    ensures more { OnOk result ((h : Letter B → ℕ) → weigh h letters.new.items
+        ≡ weigh h letters.old.items
+        + sum_below (length left.now) (λ k. weigh h (entry left.now from k))) }
 {
     for to in 0..left.workers() {
         letters.extend_from_slice(left.between(from, to))?;

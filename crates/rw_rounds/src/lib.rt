@@ -3,44 +3,34 @@
 //!
 //! A [`Worker`] owns every process whose number is its own modulo the number of workers. In each turn it takes up what the
 //! others sent, executes ahead of them as far as the window lets it, and sends what its processes give out through rings;
-//! on the board it notes the time of each letter that it sends. It takes no lock and never waits.
+//! on the board it notes the time of each letter that it sends. It takes no lock and never waits. What it does in a turn is
+//! in `desk.rt`.
 //!
-//! [`run_round`] lets each worker take its turns in a thread of its own, joins what they leave and commits what is final;
-//! [`run`] makes rounds until nothing is outstanding. How one round leads to the next is in `specs/Rounds.antt`.
+//! [`run_round`] sets the workers up, lets each take its turns in a thread of its own, gathers what they hold at the end and
+//! commits what is final; [`run`] makes rounds until nothing is outstanding. How one round leads to the next is in
+//! `specs/Rounds.antt`.
 //!
 //! Worked examples: `rw_tests/src/relay_rounds.rt` and `photo_rounds.rt`.
 
-mod closing;
-mod dealing;
-mod dealing_out;
 mod desk;
-mod executing;
-mod gate;
 mod gathering;
-mod places;
 mod plan;
-mod posting;
-mod receiving;
 mod round;
 mod running;
+mod setting_up;
 mod sim;
 mod stop;
 mod threads;
-mod traffic;
-mod turning;
 mod worker;
-mod worker_round;
 
-pub use gate::{Gate, Open};
 pub use plan::Plan;
-pub use round::run_round;
+pub use round::{Gate, Open, run_round};
 pub use running::run;
 pub use rw_board::{Board, Seat};
 pub use rw_exchange::Port;
 pub use rw_lp::Lp;
 pub use rw_vt::{Letter, Model, Outcome, Refusal};
 pub use rw_world::World;
-pub use sim::Sim;
+pub use sim::{Sim, Traffic};
 pub use stop::Stop;
-pub use traffic::Traffic;
 pub use worker::Worker;

@@ -4,21 +4,34 @@ ghost use Rattle.rw_rounds.specs.Plans.{IsInRanges};
 ghost use Rattle.rw_rounds.specs.Rounds.{Round, Rounded};
 ghost use Rattle.rw_rounds.specs.Stops.{EndsRound};
 
-use crate::dealing_out::deal_out;
-use crate::gate::Gate;
 use crate::gathering::{all_done, gather};
 use crate::plan::Plan;
-use crate::sim::Sim;
+use crate::setting_up::set_up;
+use crate::sim::{Sim, Traffic};
 use crate::stop::Stop;
-use crate::threads::{may_move, run_each};
-use crate::traffic::Traffic;
-use crate::worker_round::WorkerRound;
+use crate::threads::{Job, may_move, run_each};
+use crate::worker::Worker;
+use rw_board::Board;
 use rw_exchange::Port;
-use rw_vt::Model as VtModel;
+use rw_vt::{Model as VtModel, Refusal};
 use rw_world::{Parts, Step, World, every_exchange, every_floor, every_sound_world, every_step};
 use std::alloc::Global;
 use std::sync::Wait;
 use std::thread::Threads;
+
+/// For tests: what each worker passes before each of its turns, so that a test may hold some back.
+pub trait Gate {
+    /// Lets worker `worker` pass to its turn `turn`, both counted from 0.
+    fn pass(&self, worker: u32, turn: u32);
+}
+
+/// The gate through which all pass at once.
+#[derive(Clone, Copy, Debug)]
+pub struct Open;
+
+impl Gate for Open {
+    fn pass(&self, _worker: u32, _turn: u32) {}
+}
 
 /// Makes one round: each worker takes its turns in a thread of its own, and when all are done, what is final is committed.
 ///
@@ -58,7 +71,7 @@ where
     })
 }
 
-/// Deals the parts out to the workers, runs these, and joins what they leave to parts again. Gives the least time noted too.
+/// Splits the parts among the workers, runs these, and joins what they hold to parts again. Gives the least time noted too.
 fn go_round<M, G, R>(
     rt: &R,
     alloc: Global,
@@ -88,7 +101,7 @@ where
         initial,
     } = parts;
     let count = processes.len();
-    let (board, workers) = deal_out(alloc, plan, collected, processes, letters)?;
+    let (board, workers) = set_up(alloc, plan, collected, processes, letters)?;
     let work = WorkerRound {
         alloc,
         model: &model,
@@ -111,4 +124,34 @@ where
         initial,
     };
     Ok((parts, gathered.floor))
+}
+
+/// The whole round of one worker: as many turns as `turns` says, and then its closing.
+#[derive(Drop)]
+pub(crate) struct WorkerRound<'a, M: VtModel, G> {
+    pub(crate) alloc: Global,
+    pub(crate) model: &'a M,
+    pub(crate) board: &'a Board,
+    pub(crate) gate: &'a G,
+    pub(crate) turns: u32,
+}
+
+impl<'a, M: VtModel, G: Gate> Job<Worker<M>> for WorkerRound<'a, M, G> {
+    ghost use Rattle.rw_rounds.specs.Rounds.{TookRound};
+    ghost use Rattle.rw_rounds.specs.Seated.{IsSeated};
+
+    ghost Takes = { λ r w. IsSeated M.Model M.Body.cmp r.model.now r.board.now w };
+
+    ghost Gives = { λ r before after.
+        TookRound M.Model M.Body.cmp r.model.now r.turns before after };
+
+    fn run(&self, worker: Worker<M>) -> Result<Worker<M>, Refusal> {
+        let mut worker = worker;
+        for turn in 0..self.turns {
+            self.gate.pass(worker.number(), turn);
+            let (next, _executed) = worker.turn(self.alloc, self.model, self.board)?;
+            worker = next;
+        }
+        Ok(worker.close(self.board))
+    }
 }

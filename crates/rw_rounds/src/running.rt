@@ -4,12 +4,10 @@ ghost use Rattle.rw_world.specs.Calls.{system_of};
 ghost use Rattle.rw_world.specs.WorldState.{floor};
 ghost use Rattle.rw_rounds.specs.Plans.{IsInRanges};
 
-use crate::gate::Gate;
 use crate::plan::Plan;
-use crate::round::run_round;
-use crate::sim::Sim;
+use crate::round::{Gate, run_round};
+use crate::sim::{Sim, Traffic};
 use crate::stop::Stop;
-use crate::traffic::Traffic;
 use rw_lp::Lp;
 use rw_vt::{END, Model as VtModel, NoMemory, Outcome};
 use rw_world::{World, every_sound_world};
@@ -44,7 +42,8 @@ where
     M::Undo: Send,
     G: Gate + Sync,
     R: Threads + Wait + Sync,
-    ensures outcome { IfOk result (λ r. IsOutcome (system_of M.Model M.Body.cmp world) (2 ^ 40) (map (λ j. j.items) r.0.journals.items) r.0.states.items) }
+    ensures outcome { IfOk result (λ r. IsOutcome (system_of M.Model M.Body.cmp world) (2 ^ 40)
+        (map (λ j. j.items) r.0.journals.items) r.0.states.items) }
     ensures plan { (result ≡ Err Stop.BadPlan) ↔ (IsInRanges plan → ⊥) }
 {
     let mut sim = Sim::open(world, plan)?;
@@ -63,7 +62,8 @@ where
 fn outcome<M: VtModel + Drop>(alloc: Global, world: World<M>) -> Result<Outcome<M>, NoMemory>
     requires floor { 2 ^ 40 ≤ floor world.world }
     requires collected { 2 ^ 40 ≤ world.world.collected }
-    ensures outcome { IfOk result (λ o. IsOutcome (system_of M.Model M.Body.cmp world) (2 ^ 40) (map (λ j. j.items) o.journals.items) o.states.items) }
+    ensures outcome { IfOk result (λ o. IsOutcome (system_of M.Model M.Body.cmp world) (2 ^ 40)
+        (map (λ j. j.items) o.journals.items) o.states.items) }
 {
     // What the world promises of every world of the model.
     every_sound_world::<M>();
@@ -71,9 +71,11 @@ fn outcome<M: VtModel + Drop>(alloc: Global, world: World<M>) -> Result<Outcome<
     outcomes(alloc, parts.processes)
 }
 
-/// The committed events and the state of each of these processes.
+/// The committed events and the state of each of the processes.
 fn outcomes<M: VtModel>(alloc: Global, processes: Vec<Lp<M>>) -> Result<Outcome<M>, NoMemory>
-    ensures { IfOk result (λ o. (map (λ j. j.items) o.journals.items ≡ map (λ x. x.process.committed) processes.items) × (o.states.items ≡ map (λ x. x.process.state) processes.items)) }
+    ensures { IfOk result (λ o.
+        (map (λ j. j.items) o.journals.items ≡ map (λ x. x.process.committed) processes.items)
+        × (o.states.items ≡ map (λ x. x.process.state) processes.items)) }
 {
     let count = processes.len();
     let mut journals = Vec::with_capacity(alloc, count)?;

@@ -4,7 +4,6 @@ ghost use Rattle.rw_rounds.specs.declared.stop.Stop.TheVariants.{BadPlan};
 
 use crate::plan::Plan;
 use crate::stop::Stop;
-use crate::traffic::Traffic;
 use rw_vt::Model as VtModel;
 use rw_world::World;
 use std::marker::Model;
@@ -30,13 +29,14 @@ impl<M: VtModel> Model for Sim<M> {
 }
 
 impl<M: VtModel + Drop> Sim<M> {
-    /// A run of this world by this plan, before its first round. Takes no memory.
+    /// A run of `world` by `plan`, before its first round. Takes no memory.
     ///
     /// # Errors
     ///
     /// `BadPlan`, exactly where a field of the plan is out of its range.
     pub fn open(world: World<M>, plan: Plan) -> Result<Sim<M>, Stop>
-        ensures holds { IfOk result (λ s. s ≡ record { simulation = world; plan = plan; floor = 0 }) }
+        ensures holds { IfOk result (λ s.
+            s ≡ record { simulation = world; plan = plan; floor = 0 }) }
         ensures plan { (result ≡ Err Stop.BadPlan) ↔ (IsInRanges plan → ⊥) }
         ensures others { IfErr result (λ s. s ≡ BadPlan) }
     {
@@ -75,5 +75,31 @@ impl<M: VtModel + Drop> Sim<M> {
             traffic: _,
         } = self;
         world
+    }
+}
+
+/// What rounds did, in counts modulo 2^64. No theorem speaks of it.
+#[derive(Clone, Copy, Debug, Default, PartialEq, Eq)]
+pub struct Traffic {
+    /// Rounds.
+    pub rounds: u64,
+    /// Events executed, also those that were undone later.
+    pub executed: u64,
+    /// Events undone.
+    pub undone: u64,
+    /// Letters received through rings.
+    pub ring: u64,
+    /// Letters kept or set aside at ends of rounds.
+    pub kept: u64,
+}
+
+impl Traffic {
+    /// Adds the counts of `more`.
+    pub(crate) fn add(&mut self, more: &Traffic) {
+        self.rounds = self.rounds.wrapping_add(more.rounds);
+        self.executed = self.executed.wrapping_add(more.executed);
+        self.undone = self.undone.wrapping_add(more.undone);
+        self.ring = self.ring.wrapping_add(more.ring);
+        self.kept = self.kept.wrapping_add(more.kept);
     }
 }

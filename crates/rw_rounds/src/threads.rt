@@ -10,39 +10,39 @@ use std::sync::Wait;
 use std::thread;
 use std::thread::{Promise, Threads};
 
-/// Something that may be done in many threads at once, in each with a thing of its own.
+/// A job that many threads may do at once, each with an input of its own.
 pub(crate) trait Job<T> {
-    /// With which things it may be done.
+    /// With which inputs it may be done.
     ghost Takes: { Self → T → Type 0 };
 
-    /// What becomes of a thing.
+    /// What becomes of an input.
     ghost Gives: { Self → T → T → Type 0 };
 
-    /// Does it with one thing.
-    fn run(&self, thing: T) -> Result<T, Refusal>
-        requires takes { Takes self.now thing }
-        ensures gives { IfOk result (λ done. Gives self.now thing done) };
+    /// Does the job with one input.
+    fn run(&self, input: T) -> Result<T, Refusal>
+        requires takes { Takes self.now input }
+        ensures gives { IfOk result (λ done. Gives self.now input done) };
 }
 
-/// What a thread promises: that the job is done with its thing. For contracts alone.
+/// What a thread promises: that the job is done with its input. For contracts alone.
 struct Began<J, T> {
     job: Snapshot<J>,
-    thing: Snapshot<T>,
+    input: Snapshot<T>,
 }
 
 impl<J, T> Drop for Began<J, T> {
     fn drop(self) {
-        let Began { job: _, thing: _ } = self;
+        let Began { job: _, input: _ } = self;
     }
 }
 
 impl<J: Job<T>, T> Promise<Result<T, Refusal>> for Began<J, T> {
     ghost use Rattle.std.specs.Prelude.{IfOk};
 
-    ghost kept_by = { λ p r. IfOk r (λ done. J.Gives p.job.value p.thing.value done) };
+    ghost kept_by = { λ p r. IfOk r (λ done. J.Gives p.job.value p.input.value done) };
 }
 
-/// Does the job with each thing in a thread of its own, and gives what came of each, in order.
+/// Does the job with each input in a thread of its own, and gives what came of each, in order.
 ///
 /// # Errors
 ///
@@ -50,36 +50,40 @@ impl<J: Job<T>, T> Promise<Result<T, Refusal>> for Began<J, T> {
 pub(crate) fn run_each<J, T, R>(
     rt: &R,
     alloc: Global,
-    things: Vec<T>,
+    inputs: Vec<T>,
     job: &J,
 ) -> Result<Vec<Result<T, Refusal>>, Stop>
 where
     J: Job<T> + Sync,
     T: Send + Drop,
     R: Threads + Wait + Sync,
-    requires takes { All (λ t. J.Takes job.now t) things.items }
-    ensures count { IfOk result (λ rs. length rs.items ≡ length things.items) }
-    ensures each { IfOk result (λ rs. (i : ℕ) (d : _) (e : _) → i < length things.items → IfOk (slice_index_or rs.items i e) (λ done. J.Gives job.now (slice_index_or things.items i d) done)) }
+    requires takes { All (λ t. J.Takes job.now t) inputs.items }
+    ensures count { IfOk result (λ rs. length rs.items ≡ length inputs.items) }
+    ensures each { IfOk result (λ rs. (i : ℕ) (d : _) (e : _) → i < length inputs.items
+        → IfOk (slice_index_or rs.items i e)
+        (λ done. J.Gives job.now (slice_index_or inputs.items i d) done)) }
     ensures others { IfErr result (λ stop. EndsRound stop) }
 {
     thread::scope(
         thread::scope_env(),
         rt,
         move |scope| -> Result<Vec<Result<T, Refusal>>, Stop>
-            requires takes { All (λ t. J.Takes job.now t) things.items }
-            ensures count { IfOk result (λ rs. length rs.items ≡ length things.items) }
-            ensures each { IfOk result (λ rs. (i : ℕ) (d : _) (e : _) → i < length things.items → IfOk (slice_index_or rs.items i e) (λ done. J.Gives job.entry.now (slice_index_or things.items i d) done)) }
+            requires takes { All (λ t. J.Takes job.now t) inputs.items }
+            ensures count { IfOk result (λ rs. length rs.items ≡ length inputs.items) }
+            ensures each { IfOk result (λ rs. (i : ℕ) (d : _) (e : _) → i < length inputs.items
+                → IfOk (slice_index_or rs.items i e)
+                (λ done. J.Gives job.entry.now (slice_index_or inputs.items i d) done)) }
             ensures others { IfErr result (λ stop. EndsRound stop) }
         {
-            let Ok(mut children) = Vec::with_capacity(alloc, things.len()) else {
+            let Ok(mut children) = Vec::with_capacity(alloc, inputs.len()) else {
                 return Err(Stop::Memory);
             };
-            for thing in things {
+            for input in inputs {
                 let promise = Began {
                     job: Snapshot::of(job),
-                    thing: Snapshot::of(&thing),
+                    input: Snapshot::of(&input),
                 };
-                let Ok(child) = scope.spawn_with(promise, move || job.run(thing)) else {
+                let Ok(child) = scope.spawn_with(promise, move || job.run(input)) else {
                     return Err(Stop::NoThread);
                 };
                 children.push_reserved(child);
@@ -92,7 +96,7 @@ where
     )
 }
 
-/// That a thing may move to another thread: a fact for the proofs of those who call it.
+/// A value of type `T` may move to another thread: a fact for the proofs of those who call it. Does nothing.
 pub(crate) fn may_move<T: Send>()
     ensures moves { IsSend T.row }
 {}

@@ -4,9 +4,9 @@ ghost use Rattle.rw_lp.specs.Sound.{IsSoundOnceCollected};
 ghost use Rattle.rw_rounds.specs.Rounds.{Closes};
 ghost use Rattle.rw_rounds.specs.Turns.{IsFit, TookTurn};
 
-use crate::desk::Desk;
+use crate::desk::{Bench, Desk};
 use crate::plan::Plan;
-use crate::traffic::Traffic;
+use crate::sim::Traffic;
 use rw_board::{Board, Seat};
 use rw_exchange::Port;
 use rw_lp::Lp;
@@ -21,7 +21,9 @@ use std::marker::Model;
 #[derive(Drop)]
 pub struct Worker<M: VtModel> {
     desk: Desk<M>,
-    inbox: Vec<Letter<M::Body>>,
+    /// Before the first turn the letters that are on their way to the worker's processes; afterwards an empty list, whose
+    /// memory each turn uses.
+    at_hand: Vec<Letter<M::Body>>,
 }
 
 impl<M: VtModel> Model for Worker<M> {
@@ -29,7 +31,19 @@ impl<M: VtModel> Model for Worker<M> {
 
     ghost Value = { WorkerState M M.State M.Body };
 
-    ghost view = { λ w. record { role = record { number = w.desk.number; plan = w.desk.plan; collected = w.desk.collected }; processes = w.desk.processes.items; inbox = w.inbox.items; kept = w.desk.kept.items; aside = w.desk.aside.items; port = w.desk.port; seat = w.desk.seat } };
+    ghost view = { λ w. record {
+      role = record {
+        number = w.desk.number;
+        plan = w.desk.plan;
+        collected = w.desk.collected;
+      };
+      processes = w.desk.processes.items;
+      inbox = w.at_hand.items;
+      kept = w.desk.kept.items;
+      aside = w.desk.aside.items;
+      port = w.desk.port;
+      seat = w.desk.seat;
+    } };
 }
 
 impl<M: VtModel> Worker<M> {
@@ -46,7 +60,15 @@ impl<M: VtModel> Worker<M> {
         seat: Seat,
         collected: u64,
     ) -> Worker<M>
-        ensures is { result ≡ record { role = record { number = number; plan = plan.now; collected = collected }; processes = processes.items; inbox = inbox.items; kept = []; aside = []; port = port; seat = seat } }
+        ensures is { result ≡ record {
+          role = record { number = number; plan = plan.now; collected = collected };
+          processes = processes.items;
+          inbox = inbox.items;
+          kept = [];
+          aside = [];
+          port = port;
+          seat = seat;
+        } }
     {
         let desk = Desk {
             number,
@@ -59,7 +81,10 @@ impl<M: VtModel> Worker<M> {
             seat,
             traffic: Traffic::default(),
         };
-        Worker { desk, inbox }
+        Worker {
+            desk,
+            at_hand: inbox,
+        }
     }
 
     /// Takes one turn, and gives how many events were executed, at most the plan's `batch`.
@@ -81,40 +106,44 @@ impl<M: VtModel> Worker<M> {
     pub fn turn(self, alloc: Global, model: &M, board: &Board) -> Result<(Worker<M>, u64), Refusal>
         requires fit { IsFit M.Model M.Body.cmp model.now self }
         requires board { self.seat.board ≡ board.now.board }
-        ensures turn { IfOk result (λ r. TookTurn (rules M.Model M.Body.cmp model.now) self r.0 r.1) }
+        ensures turn { IfOk result (λ r.
+            TookTurn (rules M.Model M.Body.cmp model.now) self r.0 r.1) }
         ensures fit { IfOk result (λ r. IsFit M.Model M.Body.cmp model.now r.0) }
     {
-        let Worker { mut desk, inbox } = self;
+        let Worker {
+            mut desk,
+            mut at_hand,
+        } = self;
+        let bench = Bench {
+            alloc,
+            model,
+            board,
+        };
         // What every process promises.
         soundness(&desk.processes);
-        let executed = desk.turn(alloc, model, board, inbox)?;
-        let worker = Worker {
-            desk,
-            inbox: Vec::new(alloc),
-        };
-        Ok((worker, executed))
+        let executed = desk.turn(&bench, &mut at_hand)?;
+        Ok((Worker { desk, at_hand }, executed))
     }
 
-    /// Notes the least time of the worker's processes and the time of each kept letter: what it leaves behind after its last
-    /// turn. Takes no memory.
+    /// Notes the least time of the worker's processes and the time of each kept letter, after its last turn. Takes no memory.
     pub(crate) fn close(self, board: &Board) -> Worker<M>
         requires board { self.seat.board ≡ board.now.board }
         ensures closes { (m : M) → Closes (rules M.Model M.Body.cmp m) self result }
     {
-        let Worker { mut desk, inbox } = self;
+        let Worker { mut desk, at_hand } = self;
         desk.close(board);
-        Worker { desk, inbox }
+        Worker { desk, at_hand }
     }
 
     /// What the worker worked on. Takes no memory.
-    pub(crate) fn leave(self) -> Desk<M>
+    pub(crate) fn into_desk(self) -> Desk<M>
         ensures processes { result.processes.items ≡ self.processes }
         ensures kept { result.kept.items ≡ self.kept }
         ensures aside { result.aside.items ≡ self.aside }
         ensures port { result.port ≡ self.port }
         ensures seat { result.seat ≡ self.seat }
     {
-        let Worker { desk, inbox: _ } = self;
+        let Worker { desk, at_hand: _ } = self;
         desk
     }
 
@@ -125,8 +154,8 @@ impl<M: VtModel> Worker<M> {
         self.desk.number
     }
 
-    /// What the worker did so far: executions, undoings, letters received through rings, and letters that it holds back. Takes
-    /// no memory.
+    /// What the worker did so far: executions, undoings, letters received through rings, and letters that it keeps or set
+    /// aside. Takes no memory.
     pub(crate) fn traffic(&self) -> Traffic {
         let mut traffic = self.desk.traffic;
         traffic.kept = (self.desk.kept.len() as u64).wrapping_add(self.desk.aside.len() as u64);
@@ -136,7 +165,8 @@ impl<M: VtModel> Worker<M> {
 
 /// Each process is sound wherever it has collected, as [`Lp::soundness`] says. Does nothing.
 fn soundness<M: VtModel>(processes: &[Lp<M>])
-    ensures { (place : ℕ) (l : LogicalProcess M M.State M.Body) → slice_get processes.now place ≡ Some l → IsSoundOnceCollected M.Model M.Body.cmp l }
+    ensures { (place : ℕ) (l : LogicalProcess M M.State M.Body)
+        → slice_get processes.now place ≡ Some l → IsSoundOnceCollected M.Model M.Body.cmp l }
 {
     for process in processes {
         process.soundness();

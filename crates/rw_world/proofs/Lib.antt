@@ -23,5 +23,4 @@ pub mod Runs
 pub mod Openings
 pub mod Exactly
 pub mod Quiet
-pub mod PutBack
 pub mod Floors

@@ -14,7 +14,6 @@ mod drawing;
 mod least;
 mod opening;
 mod parts;
-mod places;
 mod step;
 mod turns;
 mod world;

@@ -7,9 +7,8 @@ ghost use Rattle.rw_world.specs.Calls.{collected, world_of, IsWhole, ExecutesAt,
 
 use crate::least::{least_of_letters, least_of_processes};
 use crate::parts::Parts;
-use crate::places::put_back;
 use crate::step::Step;
-use rw_lp::{Answer, Lp, StepFault};
+use rw_lp::{Answer, Lp, StepFault, put_back};
 use rw_vt::{Model as VtModel, Refusal};
 use std::alloc::Global;
 

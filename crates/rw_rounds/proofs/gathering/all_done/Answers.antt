@@ -1,5 +1,5 @@
 use Rattle.std.proofs.Common.{◌≡◌, ◌∷◌, length, sym, ap, ◌∙◌, arith, Ok}
-use Rattle.rw_rounds.proofs.Hands.{one_done}
+use Rattle.rw_rounds.proofs.Shares.{one_done}
 use Rattle.rw_rounds.proofs.gathering.all_done.Goals as goal
 
 pub loop-worker-preserved : goal.loop-worker-preserved

@@ -1,33 +1,33 @@
 use Rattle.std.proofs.Common.{◌≡◌, [], ◌∷◌, ◌++◌, length, map, sym, ap, ◌∙◌, arith}
 use Rattle.std.proofs.lemmas.List.{length-map}
-use Rattle.rw_rounds.proofs.Hands.{one_done, piece_done, all_walked}
+use Rattle.rw_rounds.proofs.Shares.{one_done, piece_done, all_walked}
 use Rattle.rw_rounds.proofs.gathering.take_apart.Goals as goal
 
 pub loop-worker-preserved : goal.loop-worker-preserved
 loop-worker-preserved g c =
     let known = c.loop-worker.invariant in
-    let l = c.loop-worker.leavings in
+    let l = c.loop-worker.holdings in
     let w = c.in-Some.worker in
     let rest' = c.next.new.self.rest.items in
     let r : c.loop-worker.worker-iterator.rest.items ≡ w ∷ rest' = c.in-Some.ensures.steps.0 in
-    let its = c.leave-processes.ensures in
+    let its = c.into_desk-processes.ensures in
     record {
-      hands_room = (c.push_back_reserved.ensures.capacity ∙ known.hands_room.0, omega (arith, ap length r, c.push_back_reserved.ensures.len, known.hands_room.1));
+      shares_room = (c.push_back_reserved.ensures.capacity ∙ known.shares_room.0, omega (arith, ap length r, c.push_back_reserved.ensures.len, known.shares_room.1));
       kept_room = (c.push_reserved.ensures.capacity ∙ known.kept_room.0, omega (arith, ap length r, c.push_reserved.ensures.len, known.kept_room.1));
       aside_room = (c.push_reserved-in-loop-worker.ensures.capacity ∙ known.aside_room.0, omega (arith, ap length r, c.push_reserved-in-loop-worker.ensures.len, known.aside_room.1));
       ports_room = (c.push_reserved-in-loop-worker-2.ensures.capacity ∙ known.ports_room.0, omega (arith, ap length r, c.push_reserved-in-loop-worker-2.ensures.len, known.ports_room.1));
       seats_room = (c.push_reserved-in-loop-worker-3.ensures.capacity ∙ known.seats_room.0, omega (arith, ap length r, c.push_reserved-in-loop-worker-3.ensures.len, known.seats_room.1));
-      hands = one_done (λ h. h.items) l.hands.items _ _ (map (λ w. w.processes) rest') _ w.processes c.from.result known.hands (ap (map (λ w. w.processes)) r) (c.from.ensures.0 ∙ its.processes) c.push_back_reserved.ensures.items;
-      kept = one_done (λ k. k.items) l.kept.items _ _ (map (λ w. w.kept) rest') _ w.kept c.leave-processes.result.kept known.kept (ap (map (λ w. w.kept)) r) its.kept c.push_reserved.ensures.items;
-      aside = one_done (λ a. a.items) l.aside.items _ _ (map (λ w. w.aside) rest') _ w.aside c.leave-processes.result.aside known.aside (ap (map (λ w. w.aside)) r) its.aside c.push_reserved-in-loop-worker.ensures.items;
+      shares = one_done (λ h. h.items) l.shares.items _ _ (map (λ w. w.processes) rest') _ w.processes c.from.result known.shares (ap (map (λ w. w.processes)) r) (c.from.ensures.0 ∙ its.processes) c.push_back_reserved.ensures.items;
+      kept = one_done (λ k. k.items) l.kept.items _ _ (map (λ w. w.kept) rest') _ w.kept c.into_desk-processes.result.kept known.kept (ap (map (λ w. w.kept)) r) its.kept c.push_reserved.ensures.items;
+      aside = one_done (λ a. a.items) l.aside.items _ _ (map (λ w. w.aside) rest') _ w.aside c.into_desk-processes.result.aside known.aside (ap (map (λ w. w.aside)) r) its.aside c.push_reserved-in-loop-worker.ensures.items;
       ports = piece_done l.ports.items _ _ (map (λ w. w.port) rest') _ (w.port ∷ []) known.ports (ap (map (λ w. w.port)) r) (c.push_reserved-in-loop-worker-2.ensures.items ∙ ap (λ p. l.ports.items ++ p ∷ []) its.port);
       seats = piece_done l.seats.items _ _ (map (λ w. w.seat) rest') _ (w.seat ∷ []) known.seats (ap (map (λ w. w.seat)) r) (c.push_reserved-in-loop-worker-3.ensures.items ∙ ap (λ s. l.seats.items ++ s ∷ []) its.seat);
     }
 
-pub returns-clause-hands : goal.returns-clause-hands
-returns-clause-hands g c =
+pub returns-clause-shares : goal.returns-clause-shares
+returns-clause-shares g c =
     let rest = c.loop-worker.worker-iterator.rest in
-    all_walked _ (map (λ w. w.processes) rest.items) _ c.loop-worker.invariant.hands (length-map rest.items (λ w. w.processes) ∙ (sym rest.ok.0 ∙ c.in-None.ensures.steps.0))
+    all_walked _ (map (λ w. w.processes) rest.items) _ c.loop-worker.invariant.shares (length-map rest.items (λ w. w.processes) ∙ (sym rest.ok.0 ∙ c.in-None.ensures.steps.0))
 
 pub returns-clause-kept : goal.returns-clause-kept
 returns-clause-kept g c =

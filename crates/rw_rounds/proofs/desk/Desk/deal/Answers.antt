@@ -13,10 +13,10 @@ use Rattle.rw_rounds.proofs.desk.Desk.deal.Goals as goal
 pub loop-letter-init : goal.loop-letter-init
 loop-letter-init g c = record {
   works =
-      subst (λ ls. Works (rules g.M.Model g.M.Body.Ord.cmp c.args.model.now) (role_of c.args.self.now) (desk_of c.args.self.now) (desk_of c.args.self.now) c.args.letters.items ls 0) (sym c.reverse.ensures.items)
-      (works_reordered (rules g.M.Model g.M.Body.Ord.cmp c.args.model.now) (role_of c.args.self.now) (desk_of c.args.self.now) c.args.letters.items (reverse c.args.letters.items) refl (λ h. weigh_reverse h c.args.letters.items));
+      subst (λ ls. Works (rules g.M.Model g.M.Body.Ord.cmp c.args.bench.now.model.now) (role_of c.args.self.now) (desk_of c.args.self.now) (desk_of c.args.self.now) c.args.at_hand.now.items ls 0) (sym c.reverse.ensures.items)
+      (works_reordered (rules g.M.Model g.M.Body.Ord.cmp c.args.bench.now.model.now) (role_of c.args.self.now) (desk_of c.args.self.now) c.args.at_hand.now.items (reverse c.args.at_hand.now.items) refl (λ h. weigh_reverse h c.args.at_hand.now.items));
   fit = c.requires.fit;
-  fair = subst (Every (IsFair (rules g.M.Model g.M.Body.Ord.cmp c.args.model.now) c.args.self.now.collected)) (sym c.reverse.ensures.items) (every_reverse (IsFair (rules g.M.Model g.M.Body.Ord.cmp c.args.model.now) c.args.self.now.collected) c.args.letters.items c.requires.fair);
+  fair = subst (Every (IsFair (rules g.M.Model g.M.Body.Ord.cmp c.args.bench.now.model.now) c.args.self.now.collected)) (sym c.reverse.ensures.items) (every_reverse (IsFair (rules g.M.Model g.M.Body.Ord.cmp c.args.bench.now.model.now) c.args.self.now.collected) c.args.at_hand.now.items c.requires.fair);
   board = c.requires.board;
   fewer = omega arith;
 }
@@ -24,22 +24,22 @@ loop-letter-init g c = record {
 pub arrive-requires-clause-fair : goal.arrive-requires-clause-fair
 arrive-requires-clause-fair g c =
     let known = c.loop-letter.invariant in
-    let all = subst (Every (IsFair (rules g.M.Model g.M.Body.Ord.cmp c.args.model.now) c.args.self.now.collected)) c.in-Some.ensures.items known.fair in
-    let one = every_back (IsFair (rules g.M.Model g.M.Body.Ord.cmp c.args.model.now) c.args.self.now.collected) c.pop.new.self.items (c.in-Some.letter ∷ []) all in
-    subst (λ k. IsFair (rules g.M.Model g.M.Body.Ord.cmp c.args.model.now) k c.in-Some.letter) (sym (ap (λ k. k.collected) known.works.after)) one.0
+    let all = subst (Every (IsFair (rules g.M.Model g.M.Body.Ord.cmp c.args.bench.now.model.now) c.args.self.now.collected)) c.in-Some.ensures.items known.fair in
+    let one = every_back (IsFair (rules g.M.Model g.M.Body.Ord.cmp c.args.bench.now.model.now) c.args.self.now.collected) c.pop.new.self.items (c.in-Some.letter ∷ []) all in
+    subst (λ k. IsFair (rules g.M.Model g.M.Body.Ord.cmp c.args.bench.now.model.now) k c.in-Some.letter) (sym (ap (λ k. k.collected) known.works.after)) one.0
 
 pub loop-letter-preserved-in-Continue-1 : goal.loop-letter-preserved-in-Continue-1
 loop-letter-preserved-in-Continue-1 g c =
     let known = c.loop-letter.invariant in
     let before = c.loop-letter.self in
     let collected = ap (λ k. k.collected) known.works.after in
-    let all = subst (Every (IsFair (rules g.M.Model g.M.Body.Ord.cmp c.args.model.now) c.args.self.now.collected)) c.in-Some.ensures.items known.fair in
-    let rest = every_front (IsFair (rules g.M.Model g.M.Body.Ord.cmp c.args.model.now) c.args.self.now.collected) c.pop.new.self.items (c.in-Some.letter ∷ []) all in
-    let one = subst (λ ls. Works (rules g.M.Model g.M.Body.Ord.cmp c.args.model.now) (role_of before) (desk_of before) (desk_of c.arrive.new.self) ls c.arrive.new.out.items 0) (sym c.in-Some.ensures.items) c.in_ok-arrive.ensures.works in
+    let all = subst (Every (IsFair (rules g.M.Model g.M.Body.Ord.cmp c.args.bench.now.model.now) c.args.self.now.collected)) c.in-Some.ensures.items known.fair in
+    let rest = every_front (IsFair (rules g.M.Model g.M.Body.Ord.cmp c.args.bench.now.model.now) c.args.self.now.collected) c.pop.new.self.items (c.in-Some.letter ∷ []) all in
+    let one = subst (λ ls. Works (rules g.M.Model g.M.Body.Ord.cmp c.args.bench.now.model.now) (role_of before) (desk_of before) (desk_of c.arrive.new.self) ls c.arrive.new.out.items 0) (sym c.in-Some.ensures.items) c.in_ok-arrive.ensures.works in
     record {
-      works = works_then (rules g.M.Model g.M.Body.Ord.cmp c.args.model.now) (role_of c.args.self.now) (desk_of c.args.self.now) (desk_of before) (desk_of c.arrive.new.self) c.args.letters.items c.loop-letter.at_hand.items c.arrive.new.out.items 0 0 known.works one;
+      works = works_then (rules g.M.Model g.M.Body.Ord.cmp c.args.bench.now.model.now) (role_of c.args.self.now) (desk_of c.args.self.now) (desk_of before) (desk_of c.arrive.new.self) c.args.at_hand.now.items c.loop-letter.at_hand.items c.arrive.new.out.items 0 0 known.works one;
       fit = c.in_ok-arrive.ensures.fit;
-      fair = subst (λ k. Every (IsFair (rules g.M.Model g.M.Body.Ord.cmp c.args.model.now) k) c.arrive.new.out.items) collected (c.in_ok-arrive.ensures.fair (subst (λ k. Every (IsFair (rules g.M.Model g.M.Body.Ord.cmp c.args.model.now) k) c.pop.new.self.items) (sym collected) rest));
+      fair = subst (λ k. Every (IsFair (rules g.M.Model g.M.Body.Ord.cmp c.args.bench.now.model.now) k) c.arrive.new.out.items) collected (c.in_ok-arrive.ensures.fair (subst (λ k. Every (IsFair (rules g.M.Model g.M.Body.Ord.cmp c.args.bench.now.model.now) k) c.pop.new.self.items) (sym collected) rest));
       board = c.in_ok-arrive.ensures.works.same_board ∙ known.board;
       fewer = omega (arith, c.in_ok-arrive.ensures.fewer, known.fewer);
     }
@@ -49,16 +49,16 @@ loop-letter-preserved g c =
     let laws : Laws g.M.Model g.M.Body.Ord.cmp = record { total = g.met.M.Body.Ord.total; same = g.met.M.Model.same; keeps = g.met.M.Model.keeps; future = g.met.M.Model.future; ranges = g.met.M.Model.ranges } in
     let known = c.loop-letter.invariant in
     let before = c.loop-letter.self in
-    let all = subst (Every (IsFair (rules g.M.Model g.M.Body.Ord.cmp c.args.model.now) c.args.self.now.collected)) c.in-Some.ensures.items known.fair in
-    let posted = c.in_ok-post.ensures.works c.args.model.now in
-    let more = works_more (rules g.M.Model g.M.Body.Ord.cmp c.args.model.now) (role_of before) (desk_of before) (desk_of c.post.new.self) c.pop.new.self.items (c.in-Some.letter ∷ []) [] 0 posted in
+    let all = subst (Every (IsFair (rules g.M.Model g.M.Body.Ord.cmp c.args.bench.now.model.now) c.args.self.now.collected)) c.in-Some.ensures.items known.fair in
+    let posted = c.in_ok-post.ensures.works in
+    let more = works_more (rules g.M.Model g.M.Body.Ord.cmp c.args.bench.now.model.now) (role_of before) (desk_of before) (desk_of c.post.new.self) c.pop.new.self.items (c.in-Some.letter ∷ []) [] 0 posted in
     let one =
-    subst (λ ls. Works (rules g.M.Model g.M.Body.Ord.cmp c.args.model.now) (role_of before) (desk_of before) (desk_of c.post.new.self) ls c.pop.new.self.items 0) (sym c.in-Some.ensures.items)
-    (subst (λ ls. Works (rules g.M.Model g.M.Body.Ord.cmp c.args.model.now) (role_of before) (desk_of before) (desk_of c.post.new.self) (c.pop.new.self.items ++ c.in-Some.letter ∷ []) ls 0) (append-nil c.pop.new.self.items) more) in
+    subst (λ ls. Works (rules g.M.Model g.M.Body.Ord.cmp c.args.bench.now.model.now) (role_of before) (desk_of before) (desk_of c.post.new.self) ls c.pop.new.self.items 0) (sym c.in-Some.ensures.items)
+    (subst (λ ls. Works (rules g.M.Model g.M.Body.Ord.cmp c.args.bench.now.model.now) (role_of before) (desk_of before) (desk_of c.post.new.self) (c.pop.new.self.items ++ c.in-Some.letter ∷ []) ls 0) (append-nil c.pop.new.self.items) more) in
     record {
-      works = works_then (rules g.M.Model g.M.Body.Ord.cmp c.args.model.now) (role_of c.args.self.now) (desk_of c.args.self.now) (desk_of before) (desk_of c.post.new.self) c.args.letters.items c.loop-letter.at_hand.items c.pop.new.self.items 0 0 known.works one;
-      fit = fit_after laws c.args.model.now (role_of before) (desk_of before) (desk_of c.post.new.self) (c.in-Some.letter ∷ []) [] 0 known.fit posted;
-      fair = every_front (IsFair (rules g.M.Model g.M.Body.Ord.cmp c.args.model.now) c.args.self.now.collected) c.pop.new.self.items (c.in-Some.letter ∷ []) all;
+      works = works_then (rules g.M.Model g.M.Body.Ord.cmp c.args.bench.now.model.now) (role_of c.args.self.now) (desk_of c.args.self.now) (desk_of before) (desk_of c.post.new.self) c.args.at_hand.now.items c.loop-letter.at_hand.items c.pop.new.self.items 0 0 known.works one;
+      fit = fit_after laws c.args.bench.now.model.now (role_of before) (desk_of before) (desk_of c.post.new.self) (c.in-Some.letter ∷ []) [] 0 known.fit posted;
+      fair = every_front (IsFair (rules g.M.Model g.M.Body.Ord.cmp c.args.bench.now.model.now) c.args.self.now.collected) c.pop.new.self.items (c.in-Some.letter ∷ []) all;
       board = posted.same_board ∙ known.board;
       fewer = omega (arith, known.fewer, ap (λ v. dones v.items) c.in_ok-post.ensures.processes);
     }

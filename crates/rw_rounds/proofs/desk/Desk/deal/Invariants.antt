@@ -7,12 +7,12 @@ use Rattle.rw_rounds.proofs.desk.Desk.deal.Given as goal
 
 abbrev pub invariant-loop-letter : goal.invariant-loop-letter
 invariant-loop-letter g l = record {
-  works : Works (rules g.M.Model g.M.Body.Ord.cmp l.model) (role_of l.fn.self) (desk_of l.fn.self) (desk_of l.self) l.fn.letters.items l.at_hand.items 0;
-  fit : IsFitAndSound g.M.Model g.M.Body.Ord.cmp l.model (desk_of l.self);
-  fair : Every (IsFair (rules g.M.Model g.M.Body.Ord.cmp l.model) l.fn.self.collected) l.at_hand.items;
-  board : l.self.seat.board ≡ l.board.board;
+  works : Works (rules g.M.Model g.M.Body.Ord.cmp l.bench.model.now) (role_of l.fn.self) (desk_of l.fn.self) (desk_of l.self) l.fn.at_hand.items l.at_hand.items 0;
+  fit : IsFitAndSound g.M.Model g.M.Body.Ord.cmp l.bench.model.now (desk_of l.self);
+  fair : Every (IsFair (rules g.M.Model g.M.Body.Ord.cmp l.bench.model.now) l.fn.self.collected) l.at_hand.items;
+  board : l.self.seat.board ≡ l.bench.board.now.board;
   fewer : dones l.self.processes.items ≤ dones l.fn.self.processes.items;
 }
 
 abbrev pub decreases-loop-letter : goal.decreases-loop-letter
-decreases-loop-letter g l = sizes (rules g.M.Model g.M.Body.Ord.cmp l.model) l.self.processes.items + length l.at_hand.items
+decreases-loop-letter g l = sizes (rules g.M.Model g.M.Body.Ord.cmp l.bench.model.now) l.self.processes.items + length l.at_hand.items

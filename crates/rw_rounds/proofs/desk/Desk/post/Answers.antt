@@ -7,12 +7,12 @@ use Rattle.rw_rounds.proofs.Adding.{works_sent, works_kept}
 use Rattle.rw_rounds.proofs.desk.Desk.post.Goals as goal
 
 pub returns-in-Ok-clause-works : goal.returns-in-Ok-clause-works
-returns-in-Ok-clause-works g c = λ m.
+returns-in-Ok-clause-works g c =
     let other : is_own (role_of c.args.self.now) c.args.letter ≡ false = ne_eqb (owner (role_of c.args.self.now) c.args.letter) c.args.self.now.number c.requires.other in
-    works_sent (rules g.M.Model g.M.Body.Ord.cmp m) (role_of c.args.self.now) (desk_of c.args.self.now) _ refl refl refl c.args.letter other refl refl (omega arith) c.requires.port.1.2 refl c.in-Ok.ensures.ok c.in-Ok.ensures.same c.note.ensures.noted
+    works_sent (rules g.M.Model g.M.Body.Ord.cmp c.args.bench.now.model.now) (role_of c.args.self.now) (desk_of c.args.self.now) _ refl refl refl c.args.letter other refl refl (omega arith) c.requires.port.1.2 refl c.in-Ok.ensures.ok c.in-Ok.ensures.same c.note.ensures.noted
 
 pub returns-in_ok-push-in-Err-clause-works : goal.returns-in_ok-push-in-Err-clause-works
-returns-in_ok-push-in-Err-clause-works g c = λ m.
+returns-in_ok-push-in-Err-clause-works g c =
     let other : is_own (role_of c.args.self.now) c.args.letter ≡ false = ne_eqb (owner (role_of c.args.self.now) c.args.letter) c.args.self.now.number c.requires.other in
     let kept : c.push.new.self.items ≡ c.args.self.now.kept.items ++ c.args.letter ∷ [] = c.in_ok-push-in-Err.ensures.items ∙ ap (λ l. c.args.self.now.kept.items ++ l ∷ []) c.in-Err.ensures.err.0 in
-    works_kept (rules g.M.Model g.M.Body.Ord.cmp m) (role_of c.args.self.now) (desk_of c.args.self.now) _ refl refl refl c.args.letter other refl refl kept c.in-Err.ensures.err.1 refl
+    works_kept (rules g.M.Model g.M.Body.Ord.cmp c.args.bench.now.model.now) (role_of c.args.self.now) (desk_of c.args.self.now) _ refl refl refl c.args.letter other refl refl kept c.in-Err.ensures.err.1 refl

@@ -12,42 +12,42 @@ use Rattle.rw_rounds.proofs.desk.Desk.receive_one.Goals as goal
 
 pub returns-in_default-clause-works : goal.returns-in_default-clause-works
 returns-in_default-clause-works g c =
-    subst (λ p. Works (rules g.M.Model g.M.Body.Ord.cmp c.args.model.now) (role_of c.args.self.now) (desk_of c.args.self.now) (record (desk_of c.args.self.now) { port = p }) [] [] 0) (sym c.in_default.ensures.none) (works_none (rules g.M.Model g.M.Body.Ord.cmp c.args.model.now) (role_of c.args.self.now) (desk_of c.args.self.now) [] refl)
+    subst (λ p. Works (rules g.M.Model g.M.Body.Ord.cmp c.args.bench.now.model.now) (role_of c.args.self.now) (desk_of c.args.self.now) (record (desk_of c.args.self.now) { port = p }) [] [] 0) (sym c.in_default.ensures.none) (works_none (rules g.M.Model g.M.Body.Ord.cmp c.args.bench.now.model.now) (role_of c.args.self.now) (desk_of c.args.self.now) [] refl)
 
 pub deal-requires-clause-fair : goal.deal-requires-clause-fair
 deal-requires-clause-fair g c =
     let x = c.args.self.now in
-    let pass : passes (rules g.M.Model g.M.Body.Ord.cmp c.args.model.now) (role_of x) c.in-Some.letter ≡ true = sym c.passes.ensures.passes ∙ c.if-passes.true in
-    let items : c.push.new.self.items ≡ c.in-Some.letter ∷ [] = c.in_ok-push.ensures.items ∙ ap (λ l. l ++ c.in-Some.letter ∷ []) c.new-letters.ensures.items in
-    subst (Every (IsFair (rules g.M.Model g.M.Body.Ord.cmp c.args.model.now) x.collected)) (sym items) (passes_fair (rules g.M.Model g.M.Body.Ord.cmp c.args.model.now) (role_of x) c.in-Some.letter pass, tt)
+    let pass : passes (rules g.M.Model g.M.Body.Ord.cmp c.args.bench.now.model.now) (role_of x) c.in-Some.letter ≡ true = sym c.passes.ensures.passes ∙ c.if-passes.true in
+    let items : c.push.new.self.items ≡ c.in-Some.letter ∷ [] = c.in_ok-push.ensures.items ∙ ap (λ l. l ++ c.in-Some.letter ∷ []) c.requires.none in
+    subst (Every (IsFair (rules g.M.Model g.M.Body.Ord.cmp c.args.bench.now.model.now) x.collected)) (sym items) (passes_fair (rules g.M.Model g.M.Body.Ord.cmp c.args.bench.now.model.now) (role_of x) c.in-Some.letter pass, tt)
 
 pub returns-in_ok-deal-clause-works : goal.returns-in_ok-deal-clause-works
 returns-in_ok-deal-clause-works g c =
     let x = c.args.self.now in
-    let pass : passes (rules g.M.Model g.M.Body.Ord.cmp c.args.model.now) (role_of x) c.in-Some.letter ≡ true = sym c.passes.ensures.passes ∙ c.if-passes.true in
-    let items : c.push.new.self.items ≡ c.in-Some.letter ∷ [] = c.in_ok-push.ensures.items ∙ ap (λ l. l ++ c.in-Some.letter ∷ []) c.new-letters.ensures.items in
-    let came = works_received (rules g.M.Model g.M.Body.Ord.cmp c.args.model.now) (role_of x) (desk_of x) (record (desk_of x) { port = c.receive.new.self }) refl refl refl c.in-Some.letter c.args.from c.requires.other.0 c.requires.fit.fit.wide.3 refl refl c.in-Some.ensures.some c.in-Some.ensures.same refl pass (passes_own (rules g.M.Model g.M.Body.Ord.cmp c.args.model.now) (role_of x) c.in-Some.letter pass) refl in
-    let dealt = subst (λ ls. Works (rules g.M.Model g.M.Body.Ord.cmp c.args.model.now) (role_of x) (record (desk_of x) { port = c.receive.new.self }) (desk_of c.deal.new.self) ls [] 0) items c.in_ok-deal.ensures.works in
-    works_then (rules g.M.Model g.M.Body.Ord.cmp c.args.model.now) (role_of x) (desk_of x) (record (desk_of x) { port = c.receive.new.self }) (desk_of c.deal.new.self) [] (c.in-Some.letter ∷ []) [] 0 0 came dealt
+    let pass : passes (rules g.M.Model g.M.Body.Ord.cmp c.args.bench.now.model.now) (role_of x) c.in-Some.letter ≡ true = sym c.passes.ensures.passes ∙ c.if-passes.true in
+    let items : c.push.new.self.items ≡ c.in-Some.letter ∷ [] = c.in_ok-push.ensures.items ∙ ap (λ l. l ++ c.in-Some.letter ∷ []) c.requires.none in
+    let came = works_received (rules g.M.Model g.M.Body.Ord.cmp c.args.bench.now.model.now) (role_of x) (desk_of x) (record (desk_of x) { port = c.receive.new.self }) refl refl refl c.in-Some.letter c.args.from c.requires.other.0 c.requires.fit.fit.wide.3 refl refl c.in-Some.ensures.some c.in-Some.ensures.same refl pass (passes_own (rules g.M.Model g.M.Body.Ord.cmp c.args.bench.now.model.now) (role_of x) c.in-Some.letter pass) refl in
+    let dealt = subst (λ ls. Works (rules g.M.Model g.M.Body.Ord.cmp c.args.bench.now.model.now) (role_of x) (record (desk_of x) { port = c.receive.new.self }) (desk_of c.deal.new.self) ls [] 0) items c.in_ok-deal.ensures.works in
+    works_then (rules g.M.Model g.M.Body.Ord.cmp c.args.bench.now.model.now) (role_of x) (desk_of x) (record (desk_of x) { port = c.receive.new.self }) (desk_of c.deal.new.self) [] (c.in-Some.letter ∷ []) [] 0 0 came dealt
 
 pub returns-in_ok-push-2-clause-works : goal.returns-in_ok-push-2-clause-works
 returns-in_ok-push-2-clause-works g c =
     let x = c.args.self.now in
-    let fails : passes (rules g.M.Model g.M.Body.Ord.cmp c.args.model.now) (role_of x) c.in-Some.letter ≡ false = sym c.passes.ensures.passes ∙ c.if-passes.false in
-    works_set_aside (rules g.M.Model g.M.Body.Ord.cmp c.args.model.now) (role_of x) (desk_of x) _ refl refl refl c.in-Some.letter c.args.from c.requires.other.0 c.requires.fit.fit.wide.3 refl refl c.in-Some.ensures.some c.in-Some.ensures.same refl fails c.in_ok-push-2.ensures.items
+    let fails : passes (rules g.M.Model g.M.Body.Ord.cmp c.args.bench.now.model.now) (role_of x) c.in-Some.letter ≡ false = sym c.passes.ensures.passes ∙ c.if-passes.false in
+    works_set_aside (rules g.M.Model g.M.Body.Ord.cmp c.args.bench.now.model.now) (role_of x) (desk_of x) _ refl refl refl c.in-Some.letter c.args.from c.requires.other.0 c.requires.fit.fit.wide.3 refl refl c.in-Some.ensures.some c.in-Some.ensures.same refl fails c.in_ok-push-2.ensures.items
 
 pub returns-in_default-clause-fit : goal.returns-in_default-clause-fit
 returns-in_default-clause-fit g c =
-    subst (λ p. IsFitAndSound g.M.Model g.M.Body.Ord.cmp c.args.model.now (record (desk_of c.args.self.now) { port = p })) (sym c.in_default.ensures.none) c.requires.fit
+    subst (λ p. IsFitAndSound g.M.Model g.M.Body.Ord.cmp c.args.bench.now.model.now (record (desk_of c.args.self.now) { port = p })) (sym c.in_default.ensures.none) c.requires.fit
 
 pub deal-requires-clause-fit : goal.deal-requires-clause-fit
 deal-requires-clause-fit g c =
     let laws : Laws g.M.Model g.M.Body.Ord.cmp = record { total = g.met.M.Body.Ord.total; same = g.met.M.Model.same; keeps = g.met.M.Model.keeps; future = g.met.M.Model.future; ranges = g.met.M.Model.ranges } in
     let x = c.args.self.now in
-    fit_with_port laws c.args.model.now (desk_of x) c.receive.new.self x.aside.items c.in-Some.ensures.same c.requires.fit
+    fit_with_port laws c.args.bench.now.model.now (desk_of x) c.receive.new.self x.aside.items c.in-Some.ensures.same c.requires.fit
 
 pub returns-in_ok-push-2-clause-fit : goal.returns-in_ok-push-2-clause-fit
 returns-in_ok-push-2-clause-fit g c =
     let laws : Laws g.M.Model g.M.Body.Ord.cmp = record { total = g.met.M.Body.Ord.total; same = g.met.M.Model.same; keeps = g.met.M.Model.keeps; future = g.met.M.Model.future; ranges = g.met.M.Model.ranges } in
     let x = c.args.self.now in
-    fit_with_port laws c.args.model.now (desk_of x) c.receive.new.self c.push-else-passes.new.self.items c.in-Some.ensures.same c.requires.fit
+    fit_with_port laws c.args.bench.now.model.now (desk_of x) c.receive.new.self c.push-else-passes.new.self.items c.in-Some.ensures.same c.requires.fit

@@ -9,6 +9,6 @@ pub returns : goal.returns
 returns g c =
     let x = c.self.inside in
     record {
-      closes = λ m. subst (λ w. Closes (rules g.M.Model g.M.Body.Ord.cmp m) w (record (desk_of c.close.new.self) { inbox = x.inbox.items })) c.self.view_is
-          (closes_with_inbox (rules g.M.Model g.M.Body.Ord.cmp m) (desk_of x.desk) (desk_of c.close.new.self) x.inbox.items (c.close.ensures.closes m));
+      closes = λ m. subst (λ w. Closes (rules g.M.Model g.M.Body.Ord.cmp m) w (record (desk_of c.close.new.self) { inbox = x.at_hand.items })) c.self.view_is
+          (closes_with_inbox (rules g.M.Model g.M.Body.Ord.cmp m) (desk_of x.desk) (desk_of c.close.new.self) x.at_hand.items (c.close.ensures.closes m));
     }

@@ -14,20 +14,20 @@ turn-requires-clause-fit g c =
     let x = c.self.inside in
     let own = subst (IsFit g.M.Model g.M.Body.Ord.cmp c.args.model.now) (sym c.self.view_is) c.requires.fit in
     fit_and_sound g.M.Model g.M.Body.Ord.cmp c.args.model.now (desk_of x.desk)
-    (fit_without_inbox laws c.args.model.now (record (desk_of x.desk) { inbox = x.inbox.items }) own)
+    (fit_without_inbox laws c.args.model.now (record (desk_of x.desk) { inbox = x.at_hand.items }) own)
     (λ place l there. c.soundness.ensures place l (ap (λ ls. slice_get ls place) c.deref.ensures.value ∙ there))
 
 pub returns-clause-fit : goal.returns-clause-fit
 returns-clause-fit g c =
-    subst (λ ls. IsFit g.M.Model g.M.Body.Ord.cmp c.args.model.now (record (desk_of c.turn.new.self) { inbox = ls })) (sym c.new.ensures.items) c.in_ok-executed.ensures.fit.fit
+    subst (λ ls. IsFit g.M.Model g.M.Body.Ord.cmp c.args.model.now (record (desk_of c.turn.new.self) { inbox = ls })) (sym c.in_ok-executed.ensures.none_left) c.in_ok-executed.ensures.fit.fit
 
 pub returns-clause-turn : goal.returns-clause-turn
 returns-clause-turn g c =
     let x = c.self.inside in
     let y = rules g.M.Model g.M.Body.Ord.cmp c.args.model.now in
-    let before = record (desk_of x.desk) { inbox = x.inbox.items } in
+    let before = record (desk_of x.desk) { inbox = x.at_hand.items } in
     let own = subst (IsFit g.M.Model g.M.Body.Ord.cmp c.args.model.now) (sym c.self.view_is) c.requires.fit in
     let its = c.in_ok-executed.ensures in
     let taken = turn_taken y before (desk_of c.turn.new.self) c.in_ok-executed.executed own.inbox_own its.works its.within its.held_back in
-    subst (λ a. TookTurn y a (record (desk_of c.turn.new.self) { inbox = c.new.result.items }) c.in_ok-executed.executed) c.self.view_is
-    (subst (λ i. TookTurn y before (record (desk_of c.turn.new.self) { inbox = i }) c.in_ok-executed.executed) (sym c.new.ensures.items) taken)
+    subst (λ a. TookTurn y a (record (desk_of c.turn.new.self) { inbox = c.turn.new.at_hand.items }) c.in_ok-executed.executed) c.self.view_is
+    (subst (λ i. TookTurn y before (record (desk_of c.turn.new.self) { inbox = i }) c.in_ok-executed.executed) (sym c.in_ok-executed.ensures.none_left) taken)
