@@ -106,7 +106,8 @@ fn retag(
 ) -> Result<(), NoMemory>
     ensures { OnOk result (Retags owners.old owners.new
         (λ b. has_block b section.now)
-        (λ b. if is_vanishing device_vanishes virtual_vanishes section.now b then None else Some tag)) }
+        (λ b. if is_vanishing device_vanishes virtual_vanishes section.now b then None
+        else Some tag)) }
 {
     tag_all(owners, section, tag)?;
     untag(owners, section.active(Kind::Device), device_vanishes);
@@ -271,8 +272,8 @@ impl Sections {
         requires there { section < length self.old }
         requires within { position ≤ length (section_in self.old section).sealed }
         requires absent { IsAbsent serial self.old }
-        ensures put { OnOk result
-            (self.new ≡ sections_changing self.old section (section_gaining position (serial, kind))) }
+        ensures put { OnOk result (self.new ≡ sections_changing self.old section
+            (section_gaining position (serial, kind))) }
         ensures refused { OnErr result (self.new ≡ []) }
     {
         let mut list = mem::replace(&mut self.list, Vec::new(self.alloc));

@@ -132,10 +132,12 @@ impl Queue {
         device_vanished: bool,
         virtual_vanished: bool,
     ) -> Result<(), NoMemory>
-        requires { IsUndoable (Merge section upper_sealed lower_device lower_virtual
-            device_vanished virtual_vanished) self.old }
-        ensures { OnOk result (self.new ≡ undo_of (Merge section upper_sealed lower_device lower_virtual
-            device_vanished virtual_vanished) self.old) }
+        requires { IsUndoable
+            (Merge section upper_sealed lower_device lower_virtual device_vanished virtual_vanished)
+            self.old }
+        ensures { OnOk result (self.new ≡ undo_of
+            (Merge section upper_sealed lower_device lower_virtual device_vanished virtual_vanished)
+            self.old) }
     {
         self.part(
             section,
