@@ -16,8 +16,8 @@ tag_in tags i = slice_index_or tags i 0
 
 -- whether the tag that a block has, if any, is the tag
 abbrev pub is_tag : Option Tag → Tag → Bool
-is_tag None t = false
-is_tag (Some u) t = nat_eq u t
+is_tag None tag = false
+is_tag (Some other) tag = nat_eq other tag
 
 -- no section has the block
 abbrev pub IsAbsent : Serial → List SectionState → Type 0
@@ -57,24 +57,28 @@ Retags before after test tag =
     (b : Serial) → get nat_eq after b ≡ (if test b then tag b else get nat_eq before b)
 
 -- ---- how sections change
--- the blocks of s, parted into those of u and those of l
+-- the upper section has the blocks of the whole one that the lower does not have
 abbrev pub Parts : SectionState → SectionState → SectionState → Type 0
-Parts s u l = (b : Serial) → has_block b u ≡ (has_block b s && not (has_block b l))
+Parts whole upper lower =
+    (b : Serial) → has_block b upper ≡ (has_block b whole && not (has_block b lower))
 
--- each block of l is one of s, or of no section
+-- each block of the lower section is one of the whole, or of no section
 abbrev pub ComesFrom : SectionState → SectionState → List SectionState → Type 0
-ComesFrom l s ss = (b : Serial) → has_block b l ≡ true → (has_block b s ≡ true) ⊎ IsAbsent b ss
+ComesFrom lower whole ss =
+    (b : Serial) → has_block b lower ≡ true → (has_block b whole ≡ true) ⊎ IsAbsent b ss
 
--- whether the block is an active one of l that vanishes
+-- whether the block is an active one of the section that vanishes
 abbrev pub is_vanishing : Bool → Bool → SectionState → Serial → Bool
-is_vanishing device virtual_block l b =
-    (device && nat_eq l.active_device b) || (virtual_block && nat_eq l.active_virtual b)
+is_vanishing device virtual_block s b =
+    (device && nat_eq s.active_device b) || (virtual_block && nat_eq s.active_virtual b)
 
--- j holds the blocks of u, and those of l but for the ones that vanish
+-- the joined section has the blocks of the upper one, and those of the lower but for the ones that are gone
 abbrev pub Joins : SectionState → SectionState → (Serial → Bool) → SectionState → Type 0
-Joins u l gone j = (b : Serial) → has_block b j ≡ (has_block b u || (has_block b l && not (gone b)))
+Joins upper lower gone joined =
+    (b : Serial)
+    → has_block b joined ≡ (has_block b upper || (has_block b lower && not (gone b)))
 
--- what the section that takes over the next one's blocks holds is theirs, but for the ones that vanish
+-- the section that takes over the next one's blocks has them, but for the ones that vanish
 abbrev pub JoinsNext : List SectionState → Section → Bool → Bool → Type 0
 JoinsNext ss i device_vanishes virtual_vanishes =
     let upper = section_in ss i in

@@ -60,8 +60,9 @@ IsJoined count device virtual_block device_vanished virtual_vanished s =
 abbrev pub undo_of : Mark → QueueState → QueueState
 undo_of (Add o) q = after_remove q o
 undo_of (Remove o r) q = with_row q o r
-undo_of (Rehome o h p) q = with_row q o (record { size = (row_or q o).size; home = h; place = p })
-undo_of (Replace o p) q = with_row q o (record (row_or q o) { place = p })
+undo_of (Rehome o home place) q =
+    with_row q o (record { size = (row_or q o).size; home = home; place = place })
+undo_of (Replace o place) q = with_row q o (record (row_or q o) { place = place })
 undo_of (Seal i kind) q =
     record q {
       sections = sections_changing q.sections i (section_unsealing kind);
@@ -78,15 +79,18 @@ undo_of (Split i) q =
           (section_appending lower.sealed (section_at q i));
       next = q.next - 2;
     }
-undo_of (Merge i n d v device_vanished virtual_vanished) q =
-    record q { sections = parted_at q.sections i n d v device_vanished virtual_vanished }
+undo_of (Merge i count device virtual_block device_vanished virtual_vanished) q =
+    record q {
+      sections =
+          parted_at q.sections i count device virtual_block device_vanished virtual_vanished;
+    }
 
 -- what the mark speaks of is there
 abbrev pub Matches : Mark → QueueState → Type 0
 Matches (Add o) q = IsSome (row_at q o)
 Matches (Remove o r) q = row_at q o ≡ None
-Matches (Rehome o h p) q = IsSome (row_at q o)
-Matches (Replace o p) q = IsSome (row_at q o)
+Matches (Rehome o home place) q = IsSome (row_at q o)
+Matches (Replace o place) q = IsSome (row_at q o)
 Matches (Seal i kind) q =
     (i < length q.sections)
     × (IsSomeAnd (slice_get (section_at q i).sealed 0) (λ e. e.1 ≡ kind))
@@ -96,10 +100,10 @@ Matches (Split i) q =
     (i + 1 < length q.sections)
     × ((section_at q (i + 1)).active_device + 2 ≡ q.next)
     × ((section_at q (i + 1)).active_virtual + 1 ≡ q.next)
-Matches (Merge i n d v device_vanished virtual_vanished) q =
+Matches (Merge i count device virtual_block device_vanished virtual_vanished) q =
     (i < length q.sections)
-    × (n ≤ length (section_at q i).sealed)
-    × IsJoined n d v device_vanished virtual_vanished (section_at q i)
+    × (count ≤ length (section_at q i).sealed)
+    × IsJoined count device virtual_block device_vanished virtual_vanished (section_at q i)
 
 -- the mark can be undone on this state: it is loose, and so is the state before
 pub record IsUndoable (m : Mark) (q : QueueState) : Type 0 where

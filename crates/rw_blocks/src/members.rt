@@ -6,20 +6,20 @@ use rw_vt::NoMemory;
 use std::alloc::Global;
 use std::collections::{BTreeSet, HashMap};
 
-/// The objects of one block, in rising order, and the sum of their sizes.
+/// What one block holds: its objects, in rising order, and the sum of their sizes.
 #[derive(Drop)]
-pub struct Held {
+pub struct Contents {
     bytes: u64,
     objects: BTreeSet<u64>,
 }
 
-impl Held {
+impl Contents {
     /// No object.
-    fn new(alloc: Global) -> Held
+    fn new(alloc: Global) -> Contents
         ensures bytes { result.bytes ≡ 0 }
         ensures objects { result.objects.keys ≡ [] }
     {
-        Held {
+        Contents {
             bytes: 0,
             objects: BTreeSet::new(alloc),
         }
@@ -66,7 +66,7 @@ impl Held {
 #[derive(Drop)]
 pub struct Members {
     alloc: Global,
-    blocks: HashMap<u64, Held>,
+    blocks: HashMap<u64, Contents>,
 }
 
 #[tactic(auto, unfolding(crate::specs::Members::bytes_at, crate::specs::Members::objects_at))]
@@ -87,7 +87,7 @@ impl Members {
         ensures { result ≡ bytes_at self.now serial }
     {
         match self.blocks.get(&serial) {
-            Some(held) => held.bytes,
+            Some(contents) => contents.bytes,
             None => 0,
         }
     }
@@ -97,7 +97,7 @@ impl Members {
         ensures { result ≡ slice_get (objects_at self.now serial) 0 }
     {
         match self.blocks.get(&serial) {
-            Some(held) => held.objects.first().copied(),
+            Some(contents) => contents.objects.first().copied(),
             None => None,
         }
     }
@@ -116,11 +116,11 @@ impl Members {
         ensures same_objects { OnErr result (SameObjects self.old self.new) }
     {
         match self.blocks.get_mut(&serial) {
-            Some(held) => held.add(object, size)?,
+            Some(contents) => contents.add(object, size)?,
             None => {
-                let mut held = Held::new(self.alloc);
-                held.add(object, size)?;
-                self.blocks.insert(serial, held)?;
+                let mut contents = Contents::new(self.alloc);
+                contents.add(object, size)?;
+                self.blocks.insert(serial, contents)?;
             }
         }
         Ok(())
@@ -134,9 +134,9 @@ impl Members {
             (λ objects. objects_without objects object) }
     {
         let mut idle = false;
-        if let Some(held) = self.blocks.get_mut(&serial) {
-            held.take(object, size);
-            idle = held.is_idle();
+        if let Some(contents) = self.blocks.get_mut(&serial) {
+            contents.take(object, size);
+            idle = contents.is_idle();
         }
         if idle {
             self.blocks.remove(&serial);

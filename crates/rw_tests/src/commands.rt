@@ -94,8 +94,9 @@ fn a_run_in_rounds_tells_what_they_did(rt: HostRuntime) -> Result<(), AllocError
         ),
     ] {
         let mut err = Vec::new(alloc);
-        assert_eq!(rt; ripqwarp(&rt, alloc, words, trace, &mut err)?, (0, 409));
-        assert!(rt; err.as_slice() == told.as_bytes());
+        let answer = ripqwarp(&rt, alloc, words, trace, &mut err)?;
+        assert_eq!(rt; answer, (0, 409), "for {words}");
+        assert!(rt; err.as_slice() == told.as_bytes(), "for {words}");
     }
     Ok(())
 }

@@ -397,7 +397,7 @@ fn a_promoted_object_is_written_again(rt: HostRuntime) -> Result<(), Fail> {
 }
 
 #[test]
-fn a_virtual_victim(rt: HostRuntime) -> Result<(), Fail> {
+fn an_eviction_takes_a_virtual_block_too(rt: HostRuntime) -> Result<(), Fail> {
     let queue = with_sealed_virtual(rt.alloc())?;
     to_and_fro(
         &rt,
@@ -465,7 +465,7 @@ fn targets(queue: &Queue) -> [u32; 4]
 }
 
 #[test]
-fn levels_and_targets(rt: HostRuntime) -> Result<(), Fail> {
+fn an_object_has_a_level_and_a_level_its_target(rt: HostRuntime) -> Result<(), Fail> {
     let queue = split(&rt, rt.alloc())?;
     assert!(rt; levels(&queue) == [Some(1), Some(1), Some(2), Some(2), None]);
     assert!(rt; targets(&queue) == [1, 0, 0, 0]);

@@ -423,7 +423,8 @@ fn sections_are_merged_to_one(rt: HostRuntime) -> Result<(), Fail> {
     to_and_fro(&rt, rt.alloc(), SPLIT, &FOUR_SECTIONS, queue)
 }
 
-/// What a queue answers of a block: the first object whose home it is, the first whose place it is, its bytes, its section.
+/// What a queue answers of a block: the first object whose home it is, the first whose place it is, its bytes, its
+/// section.
 type Block = (Option<u64>, Option<u64>, u64, Option<usize>);
 
 /// The blocks of the three sections by their serials; there are no blocks 4 and 5 any more.
@@ -443,6 +444,7 @@ const BLOCKS: [Block; 13] = [
     (None, None, 0, Some(1)),
 ];
 
+/// The answers for the block with the serial.
 fn block(queue: &Queue, serial: u64) -> Block
     requires { IsLoose queue.now }
 {
@@ -455,7 +457,7 @@ fn block(queue: &Queue, serial: u64) -> Block
 }
 
 #[test]
-fn questions_of_blocks(rt: HostRuntime) -> Result<(), Fail> {
+fn a_block_answers_for_its_rows(rt: HostRuntime) -> Result<(), Fail> {
     let queue = three_sections(&rt, rt.alloc())?;
     for (serial, want) in (0..).zip(&BLOCKS) {
         assert!(rt; block(&queue, serial) == *want, "of block {serial}");
@@ -473,7 +475,7 @@ fn has_bytes(queue: &Queue, want: &[(u64, u64)]) -> bool
 }
 
 #[test]
-fn questions_of_sections(rt: HostRuntime) -> Result<(), Fail> {
+fn a_section_answers_its_bytes_and_those_below(rt: HostRuntime) -> Result<(), Fail> {
     let queue = three_sections(&rt, rt.alloc())?;
     assert!(rt; has_bytes(&queue, &[(24, 6), (6, 0), (0, 0)]));
     Ok(())
@@ -487,7 +489,7 @@ fn whole(queue: &Queue) -> (u64, Option<(usize, usize)>, usize)
 }
 
 #[test]
-fn questions_of_the_whole(rt: HostRuntime) -> Result<(), Fail> {
+fn a_queue_answers_for_all_its_blocks(rt: HostRuntime) -> Result<(), Fail> {
     let queue = three_sections(&rt, rt.alloc())?;
     assert!(rt; queue.shape() == (4, 10, 8));
     assert!(rt; whole(&queue) == (30, Some((2, 1)), 4));
