@@ -52,8 +52,8 @@ pub record IsLoose (q : QueueState) : Type 0 where
 abbrev pub is_sealed_virtual : QueueState → Serial → Bool
 is_sealed_virtual q b = list_any (λ s. list_any (is_block Virtual b) s.sealed) q.sections
 
-abbrev pub devices_among : List (Serial × Kind) → Count
-devices_among es = count_by (λ e. is_kind Device e.1) es
+abbrev pub device_count_of : List (Serial × Kind) → Count
+device_count_of es = count_by (λ e. is_kind Device e.1) es
 
 abbrev pub devices_in : SectionState → Count
 devices_in s = count_by (λ e. is_kind Device e.1) s.sealed

@@ -8,7 +8,7 @@ use Rattle.rw_blocks.specs.declared.Place.{Place}
 use Rattle.rw_blocks.specs.State.{QueueState, SectionState, section_in, section_at, active_of, row_or, rows_with, rows_without}
 use Rattle.rw_blocks.specs.Sums.{bytes_held}
 
--- the section's active block of the kind has room for so many bytes more
+-- the section's active block of the kind has room for z bytes more
 abbrev pub HasRoom : Kind → QueueState → Section → Size → Type 0
 HasRoom kind q i z = bytes_held kind q (active_of kind (section_at q i)) + z ≤ q.shape.block
 
@@ -83,7 +83,7 @@ after_split q i keep =
       next = q.next + 2;
     }
 
--- the section with these sealed blocks behind its own
+-- the section with more sealed blocks behind its own
 abbrev pub section_appending : List (Serial × Kind) → SectionState → SectionState
 section_appending blocks s = record s { sealed = s.sealed ++ blocks }
 

@@ -47,11 +47,11 @@ pub record IsLastSealed (q : QueueState) (i : Section) (p : Position) : Type 0 w
   pub nothing_behind : NoneSealedBehind i q.sections
 
 -- ---- the fill of a block, said of its kind
--- as one of whichever kind it is there, the block holds these bytes
+-- where there is a block of a kind with the serial, it holds z bytes as one of that kind
 abbrev pub IsHeldOfKind : QueueState → Serial → Size → Type 0
 IsHeldOfKind q b z = (kind : Kind) → count kind q b ≡ 1 → z ≡ bytes_held kind q b
 
--- as the active block of the kind, of whichever section it is that, the block holds these bytes
+-- where the serial is that of a section's active block of a kind, that holds z bytes as one of the kind
 abbrev pub IsHeldWhereActive : QueueState → Serial → Size → Type 0
 IsHeldWhereActive q b z =
     (kind : Kind) (i : Section)

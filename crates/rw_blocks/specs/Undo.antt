@@ -24,9 +24,9 @@ abbrev pub section_gaining : Position → Serial × Kind → SectionState → Se
 section_gaining p e s = record s { sealed = insert s.sealed p e }
 
 -- the blocks without the first one, unless that vanished
-abbrev pub drop_unless : Bool → List (Serial × Kind) → List (Serial × Kind)
-drop_unless true es = es
-drop_unless false es = drop 1 es
+abbrev pub rest_unless : Bool → List (Serial × Kind) → List (Serial × Kind)
+rest_unless true es = es
+rest_unless false es = drop 1 es
 
 -- the lower one of two sections that were merged; the upper one had `count` sealed blocks
 abbrev pub lower_of : Count → Serial → Serial → Bool → Bool → SectionState → SectionState
@@ -34,7 +34,7 @@ lower_of count device virtual_block device_vanished virtual_vanished s =
     record {
       active_device = device;
       active_virtual = virtual_block;
-      sealed = drop_unless virtual_vanished (drop_unless device_vanished (drop count s.sealed));
+      sealed = rest_unless virtual_vanished (rest_unless device_vanished (drop count s.sealed));
     }
 
 -- the sections, of which the one with the number is parted in two
@@ -116,6 +116,6 @@ pub record Undoes (m : Mark) (before after : QueueState) : Type 0 where
   pub can : IsUndoable m after
   pub back : undo_of m after ≡ before
 
--- whatever state the mark takes the one after back to, it is this one
+-- q is whatever state the mark takes the one after back to
 abbrev pub IsWhatWasBefore : Mark → QueueState → QueueState → Type 0
 IsWhatWasBefore m after q = (before : QueueState) → Undoes m before after → q ≡ before

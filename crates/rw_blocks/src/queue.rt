@@ -248,6 +248,7 @@ impl Queue {
     }
 }
 
+/// The sum of the numbers.
 fn sum(numbers: &[u64]) -> u64
     requires { sum numbers.now < 2 ^ 64 }
     ensures { result ≡ sum numbers.now }

@@ -1,7 +1,7 @@
 // One section of a queue: its two active blocks, and its sealed blocks from front to back.
 ghost use Rattle.std.specs.Prelude.{◌≡◌, ◌<◌, ◌≤◌, [], ◌∷◌, length, OnOk, IfOk, drop, slice_get, Some};
 ghost use Rattle.rw_blocks.specs.State.{active_of, new_section};
-ghost use Rattle.rw_blocks.specs.Loose.{devices_in, devices_among};
+ghost use Rattle.rw_blocks.specs.Loose.{devices_in, device_count_of};
 ghost use Rattle.rw_blocks.specs.Primitives.{with_active, section_sealing, section_losing, section_appending, section_joining, upper_of, rest_of};
 ghost use Rattle.rw_blocks.specs.Undo.{section_unsealing, section_gaining, lower_of};
 
@@ -24,7 +24,7 @@ pub struct Section {
 impl Model for Section {
     ghost use Rattle.std.specs.Prelude.{◌≡◌};
     ghost use Rattle.rw_blocks.specs.State.{SectionState};
-    ghost use Rattle.rw_blocks.specs.Loose.{devices_among};
+    ghost use Rattle.rw_blocks.specs.Loose.{device_count_of};
 
     ghost Value = { SectionState };
 
@@ -35,12 +35,12 @@ impl Model for Section {
     } };
 
     // how many of the sealed blocks are device blocks
-    ghost invariant = { λ s. s.devices ≡ devices_among s.sealed.items };
+    ghost invariant = { λ s. s.devices ≡ device_count_of s.sealed.items };
 }
 
 /// How many of the blocks are device blocks.
 fn device_count(sealed: &VecDeque<(u64, Kind)>) -> usize
-    ensures { result ≡ devices_among sealed.now.items }
+    ensures { result ≡ device_count_of sealed.now.items }
 {
     sealed
         .iter()
@@ -49,7 +49,7 @@ fn device_count(sealed: &VecDeque<(u64, Kind)>) -> usize
 }
 
 impl Section {
-    /// The section with these active blocks, and nothing sealed.
+    /// The section whose active blocks are `active_device` and `active_virtual`, with nothing sealed.
     pub fn new(alloc: Global, active_device: u64, active_virtual: u64) -> Self
         ensures { result ≡ new_section active_device active_virtual }
     {
@@ -97,7 +97,7 @@ impl Section {
     ///
     /// # Errors
     ///
-    /// [`NoMemory`] where memory was refused; nothing is said of the section then. So with all that follow.
+    /// [`NoMemory`] where memory was refused; nothing is said of the section then. The changes below say the same.
     pub fn seal(&mut self, kind: Kind, fresh: u64) -> Result<(), NoMemory>
         ensures { OnOk result (self.new ≡ section_sealing kind fresh self.old) }
     {
@@ -157,7 +157,8 @@ impl Section {
         Ok(())
     }
 
-    /// Keeps the first `keep` sealed blocks, and gives the others to a new section with these active blocks.
+    /// Keeps the first `keep` sealed blocks, and gives the others to a new section, whose active blocks are
+    /// `active_device` and `active_virtual`.
     pub fn split(
         &mut self,
         keep: usize,
@@ -219,8 +220,9 @@ impl Section {
         Ok(())
     }
 
-    /// Undoes `join`: keeps the first `upper_sealed` sealed blocks, and gives the section below back, with these active
-    /// blocks. They were joined as sealed ones but for those that vanished.
+    /// Undoes `join`: keeps the first `upper_sealed` sealed blocks, and gives the section below back, whose active
+    /// blocks were `active_device` and `active_virtual`. Those that did not vanish stand first among the other sealed
+    /// ones.
     pub fn part(
         &mut self,
         upper_sealed: usize,

@@ -73,7 +73,7 @@ fn place_of(tags: &[u64], tag: u64) -> Option<usize>
 ///
 /// # Errors
 ///
-/// [`NoMemory`] where memory was refused; nothing is said of the tags then. So with the functions that follow.
+/// [`NoMemory`] where memory was refused; nothing is said of the tags then. `tag_sealed` and `retag` say the same.
 fn tag_all(owners: &mut HashMap<u64, u64>, section: &Section, tag: u64) -> Result<(), NoMemory>
     ensures { OnOk result
         (Retags owners.old owners.new (λ b. has_block b section.now) (λ b. Some tag)) }

@@ -27,7 +27,7 @@ fn drain<T: Drop>(
     Ok(left)
 }
 
-// What is left in a ring, or nothing where there is none.
+// What is left in a ring; nothing where there is no ring.
 fn rest<T: Drop>(
     alloc: Global,
     out: Option<Producer<T>>,

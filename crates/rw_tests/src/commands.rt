@@ -54,7 +54,7 @@ impl Source for Given {
     }
 }
 
-/// Does what these words ask of a trace; the exit status, and how many bytes are then written.
+/// Does what `text`, a command line, asks of a trace; its exit status, and how many bytes are then written.
 fn ripqwarp<E: Write, R: Threads + Wait + Sync>(
     rt: &R,
     alloc: Global,

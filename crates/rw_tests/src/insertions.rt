@@ -21,8 +21,8 @@ enum Call {
     Promote(u64),
 }
 
-/// What a call answers beside its trail: rows that left, rows written again, block writes, splits and merges, or whether
-/// the place changed.
+/// What a call answers beside its trail: rows that left, rows written again, block writes, splits and merges, or
+/// whether the place changed.
 #[derive(Clone, Copy, Debug, PartialEq, Eq)]
 enum Answer {
     Counts([u64; 5]),
@@ -97,8 +97,8 @@ fn follow<R: Abort>(
     Ok(trail)
 }
 
-/// Makes the calls, each of which is as its example says, and rewinds them, the last one first, back to the state before
-/// them.
+/// Makes the calls, each of which is as its example says, and rewinds them, the last one first, back to the state
+/// before them.
 fn replay<R: Abort>(
     rt: &R,
     alloc: Global,

@@ -1,7 +1,6 @@
 // The primitives of a queue of blocks, as steps: run forwards with each state compared, and undone mark by mark.
 ghost use Rattle.std.specs.Prelude.{◌≡◌, ◌≤◌, ◌<◌, ◌+◌, ◌∷◌, [], length, OnOk, IfOk, IfSome, IsTrue, slice_get, Some};
-ghost use Rattle.rw_blocks.specs.State.{section_at, active_of};
-ghost use Rattle.rw_blocks.specs.Sums.{bytes_held};
+ghost use Rattle.rw_blocks.specs.Primitives.{HasRoom};
 ghost use Rattle.rw_blocks.specs.Loose.{IsLoose, IsFree};
 ghost use Rattle.rw_blocks.specs.Undo.{Undoes};
 
@@ -28,7 +27,7 @@ enum Step {
 fn fits(queue: &Queue, section: usize, kind: Kind, size: u64) -> bool
     requires { IsLoose queue.now }
     ensures there { IsTrue result → section < length queue.now.sections }
-    ensures fits { IsTrue result → bytes_held kind queue.now (active_of kind (section_at queue.now section)) + size ≤ queue.now.shape.block }
+    ensures fits { IsTrue result → HasRoom kind queue.now section size }
 {
     if section >= queue.sections() {
         return false;
@@ -465,7 +464,7 @@ fn a_block_answers_for_its_rows(rt: HostRuntime) -> Result<(), Fail> {
     Ok(())
 }
 
-/// Whether a queue has these bytes in its sections, and below each of them.
+/// Whether `want` has, for each section of a queue, its bytes and those below it.
 fn has_bytes(queue: &Queue, want: &[(u64, u64)]) -> bool
     requires { IsLoose queue.now }
 {

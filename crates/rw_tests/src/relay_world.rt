@@ -15,14 +15,16 @@ use std::test::Fail;
 
 // A parcel to station 0 with one hop left.
 fn coming() -> Event<Parcel>
-    ensures { result ≡ record { time = 5; source = 0; number = 0; to = 0; body = record { hops = 1 } } }
+    ensures { result
+        ≡ record { time = 5; source = 0; number = 0; to = 0; body = record { hops = 1 } } }
 {
     parcel(5, 0, 0, 0, 1)
 }
 
 // A parcel to station 1 with none left.
 fn later() -> Event<Parcel>
-    ensures { result ≡ record { time = 20; source = 0; number = 0; to = 1; body = record { hops = 0 } } }
+    ensures { result
+        ≡ record { time = 20; source = 0; number = 0; to = 1; body = record { hops = 0 } } }
 {
     parcel(20, 0, 0, 1, 0)
 }

@@ -57,7 +57,7 @@ IsGood edges fields zero = (n : ℕ) × Writes fields 0 n × (n ≤ MAX_TIME)
 IsGood edges fields (suc zero) = (n : ℕ) × Writes fields 1 n × (n < edges)
 IsGood edges fields (suc (suc c)) = (n : ℕ) × Writes fields (c + 2) n
 
--- the columns to the left of this one are good
+-- the columns to the left of one are good
 abbrev pub GoodBefore : ℕ → Fields → ℕ → Type 0
 GoodBefore edges fields zero = ⊤
 GoodBefore edges fields (suc c) = GoodBefore edges fields c × IsGood edges fields c
@@ -96,7 +96,7 @@ pub record IsTrace (edges most : ℕ) (recs : List Fields) (rows : List Row) : T
   pub written : WriteRows edges body rows
   pub few : length rows ≤ most
 
--- the first fault among these records: behind good rows a record that is wrong, or one too many
+-- the first fault among records behind the header: behind good rows a record that is wrong, or one too many
 pub record IsFirstFault (edges most : ℕ) (recs : List Fields) (e : TraceFault) : Type 0 where
   pub good : List Fields
   pub bad : Fields
