@@ -1,12 +1,12 @@
 -- Blocks of a kind: whether they are there, and what they hold.
-use Rattle.std.proofs.Common.{◌≡◌, ℕ, ◌≤◌, ◌<◌, List, [], ◌∷◌, refl, arith, Bool, true, false, cond, inl, inr, nat_eq, ap, ◌∙◌, length}
-use Rattle.std.specs.Prelude.{sum_by, ◌||◌, ◌&&◌}
+use Rattle.std.proofs.Common.{◌≡◌, ℕ, ◌≤◌, ◌<◌, List, [], ◌∷◌, refl, arith, Bool, true, false, cond, inl, inr, ap, ◌∙◌, length}
+use Rattle.std.specs.Prelude.{sum_by, ◌||◌}
 use Rattle.std.specs.List.{list_any}
 use Rattle.std.proofs.lemmas.List.Sums.{sum_by-cons}
 use Rattle.std.proofs.lemmas.Bool.{cases_lt}
 use Rattle.rw_blocks.specs.declared.Kind.{Kind}
 use Rattle.rw_blocks.specs.declared.Kind.TheVariants.{Device, Virtual}
-use Rattle.rw_blocks.specs.State.{QueueState, SectionState, blocks_of, active_of, section_at}
+use Rattle.rw_blocks.specs.State.{QueueState, blocks_of, active_of, section_at}
 use Rattle.rw_blocks.proofs.Kept.{active-once}
 use Rattle.rw_blocks.specs.Sums.{is_block, has_kind, bytes_held, fill}
 use Rattle.rw_blocks.specs.Loose.{IsLoose, count, count_in}

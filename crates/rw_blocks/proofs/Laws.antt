@@ -11,8 +11,8 @@ use Rattle.rw_blocks.specs.declared.Mark.TheVariants.{Add, Remove, Rehome, Repla
 use Rattle.rw_blocks.specs.State.{QueueState, SectionState, no_section, section_at, row_at}
 use Rattle.rw_blocks.specs.Sums.{bytes_held}
 use Rattle.rw_blocks.specs.Loose.{IsLoose}
-use Rattle.rw_blocks.specs.Primitives.{with_row, after_add, after_remove, after_rehome, after_replace, after_seal, after_take_out, after_split, after_merge, section_joining, block_unless}
-use Rattle.rw_blocks.specs.Undo.{undo_of, upper_of, lower_of, section_unsealing, Matches, Undoes}
+use Rattle.rw_blocks.specs.Primitives.{with_row, after_add, after_remove, after_rehome, after_replace, after_seal, after_take_out, after_split, after_merge, section_joining, block_unless, upper_of}
+use Rattle.rw_blocks.specs.Undo.{undo_of, lower_of, section_unsealing, Matches, Undoes}
 use Rattle.rw_vt.proofs.Entries.{lookup-insert_entry, lookup-remove_entry, remove_entry-insert_entry, insert_entry-insert_entry, insert_entry-same, insert_entry-remove_entry}
 
 -- between two loose states a mark that fits and leads back undoes

@@ -12,22 +12,23 @@ use Rattle.std.proofs.lemmas.List.Sums.{sum_by-cons, get_or-le-sum_by, sum_by-se
 use Rattle.rw_blocks.specs.declared.Kind.{Kind}
 use Rattle.rw_blocks.specs.declared.Kind.TheVariants.{Device, Virtual}
 use Rattle.rw_blocks.specs.declared.Place.{Place}
-use Rattle.rw_blocks.specs.State.{QueueState, SectionState, no_section, blocks_of}
+use Rattle.rw_blocks.specs.State.{QueueState, SectionState, no_section, blocks_of, section_in}
 use Rattle.rw_blocks.specs.Sums.{has_block, has_serial}
 use Rattle.rw_blocks.specs.Loose.{IsLoose, count, count_in}
-use Rattle.rw_blocks.specs.Primitives.{section_joining, block_unless}
-use Rattle.rw_blocks.specs.Undo.{upper_of, lower_of}
+use Rattle.rw_blocks.specs.Primitives.{section_joining, block_unless, upper_of, joined_at}
+use Rattle.rw_blocks.specs.Undo.{lower_of, parted_at}
 use Rattle.rw_blocks.specs.Index.{bytes_of, place_of}
-use Rattle.rw_blocks.specs.Tags.{section_in, IsAbsent, Parts, ComesFrom, Joins, vanishes}
-use Rattle.rw_blocks.specs.Weights.{among, weight_in, parted_at, joined_at, with_sections, IsWeighed}
+use Rattle.rw_blocks.specs.Tags.{IsAbsent, Parts, ComesFrom, Joins, is_vanishing}
+use Rattle.rw_blocks.specs.Weights.{bytes_where, weight_in, with_sections, IsWeighed}
 use Rattle.rw_blocks.proofs.Serials.{serials, serials-cons, kinds, either_kind}
 use Rattle.rw_blocks.proofs.Laws.{got}
 use Rattle.rw_blocks.proofs.Moved.{vanished, count-after_take_out}
 use Rattle.rw_blocks.proofs.Grown.{at_block, count_in-cons}
-use Rattle.rw_blocks.specs.Primitives.{after_take_out, with_section}
+use Rattle.rw_blocks.specs.Primitives.{after_take_out, sections_changing}
+use Rattle.rw_blocks.specs.Undo.{section_gaining}
 use Rattle.rw_blocks.proofs.Filed.{by_test}
 use Rattle.rw_blocks.proofs.Tagged.{insert_old, remove_old, before_insert, after_insert, low, high}
-use Rattle.rw_blocks.proofs.Weighed.{among-same, among-two}
+use Rattle.rw_blocks.proofs.Weighed.{bytes_where-same, bytes_where-two}
 use Rattle.rw_blocks.proofs.Present.{any-count, times, has-times, absent-none, all-places, times-joining, gone-times, Joins-once, Parts-once}
 
 -- ---- rows
@@ -90,10 +91,10 @@ once-beside q i b loose lt = omega (arith, two Device, two Virtual, loose.distin
         omega (arith, f, sum_by-remove (count_in kind b) q.sections (i + 1) no_section lt, get_or-le-sum_by (count_in kind b) xs i no_section (omega arith))
 
 module _ (q : QueueState) (i : ℕ) (m w : Bool) (next : ℕ) (loose : IsLoose q) (lt : i + 1 < length q.sections) (after : IsLoose (with_sections q (joined_at q.sections i m w) next)) where
-  pub joins-at : Joins (section_in q.sections i) (section_in q.sections (i + 1)) (vanishes m w (section_in q.sections (i + 1))) (section_joining m w (section_in q.sections i) (section_in q.sections (i + 1)))
+  pub joins-at : Joins (section_in q.sections i) (section_in q.sections (i + 1)) (is_vanishing m w (section_in q.sections (i + 1))) (section_joining m w (section_in q.sections i) (section_in q.sections (i + 1)))
   joins-at = Joins-once m w (section_in q.sections i) (section_in q.sections (i + 1)) (λ b. once-beside q i b loose lt)
 
-  -- no row's place vanishes
+  -- no row's place is_vanishing
   stays : (p : ℕ) → 1 ≤ count Device (with_sections q (joined_at q.sections i m w) next) p + count Virtual (with_sections q (joined_at q.sections i m w) next) p
       → vanished m w (section_in q.sections (i + 1)) Device p + vanished m w (section_in q.sections (i + 1)) Virtual p ≡ 0
   stays p there =
@@ -108,7 +109,7 @@ module _ (q : QueueState) (i : ℕ) (m w : Bool) (next : ℕ) (loose : IsLoose q
 
   pub weight-joined : weight_in q.rows (section_joining m w (section_in q.sections i) (section_in q.sections (i + 1))) ≡ weight_in q.rows (section_in q.sections i) + weight_in q.rows (section_in q.sections (i + 1))
   weight-joined =
-      among-two q.rows (λ b. has_block b (section_joining m w u l)) (λ b. has_block b u) (λ b. has_block b l)
+      bytes_where-two q.rows (λ b. has_block b (section_joining m w u l)) (λ b. has_block b u) (λ b. has_block b l)
       (λ k d lt'.
       let p : ℕ = (get_or (values_of q.rows) k d).place in
       let none = stays p (all-places _ after k d lt') in
@@ -187,7 +188,7 @@ module _ (q : QueueState) (i n d v : ℕ) (m w : Bool) (next : ℕ) (loose : IsL
 
   pub weight-parted : weight_in q.rows (section_in q.sections i) ≡ weight_in q.rows (upper_of n (section_in q.sections i)) + weight_in q.rows (lower_of n d v m w (section_in q.sections i))
   weight-parted =
-      among-two q.rows (λ b. has_block b (section_in q.sections i)) (λ b. has_block b (upper_of n (section_in q.sections i))) (λ b. has_block b (lower_of n d v m w (section_in q.sections i)))
+      bytes_where-two q.rows (λ b. has_block b (section_in q.sections i)) (λ b. has_block b (upper_of n (section_in q.sections i))) (λ b. has_block b (lower_of n d v m w (section_in q.sections i)))
       (λ k e lt'.
       let p : ℕ = (get_or (values_of q.rows) k e).place in
       let none = remains p (all-places q loose k e lt') in
@@ -206,14 +207,14 @@ module _ (q : QueueState) (i n d v : ℕ) (m w : Bool) (next : ℕ) (loose : IsL
       never a b e = grind (arith, nat_tests)
 
   -- the lower section holds the rows of the sealed blocks that it takes
-  pub weight-lower : among q.rows (λ b. list_any (has_serial b) (drop n (section_in q.sections i).sealed)) ≡ weight_in q.rows (lower_of n d v m w (section_in q.sections i))
+  pub weight-lower : bytes_where q.rows (λ b. list_any (has_serial b) (drop n (section_in q.sections i).sealed)) ≡ weight_in q.rows (lower_of n d v m w (section_in q.sections i))
   weight-lower =
-      among-same q.rows (λ b. list_any (has_serial b) (drop n (section_in q.sections i).sealed)) (λ b. has_block b (lower_of n d v m w (section_in q.sections i)))
+      bytes_where-same q.rows (λ b. list_any (has_serial b) (drop n (section_in q.sections i).sealed)) (λ b. has_block b (lower_of n d v m w (section_in q.sections i)))
       (λ k e lt'.
       let p : ℕ = (get_or (values_of q.rows) k e).place in
       let l : SectionState = lower_of n d v m w (section_in q.sections i) in
       let none = remains p (all-places q loose k e lt') in
-      let gone : vanishes m w l p ≡ false = gone-times m w l p ∙ (ap (nat_lt 0) none ∙ le-ltb 0 0 (omega arith)) in
+      let gone : is_vanishing m w l p ≡ false = gone-times m w l p ∙ (ap (nat_lt 0) none ∙ le-ltb 0 0 (omega arith)) in
       ap (λ (es : List (ℕ × Kind)). list_any (has_serial p) es) tail ∙ whole m w l.active_device l.active_virtual l.sealed p gone)
     where
       -- what is behind the upper part
@@ -307,13 +308,13 @@ IsWeighed-join rows ss bs i y s old lt is =
         ]
 
 -- ---- blocks of a list, each once
-bytes_of-block : (rows : List (ℕ × Place)) (b : ℕ) → among rows (λ p. nat_eq b p) ≡ bytes_of place_of b rows
-bytes_of-block rows b = among-same rows (λ p. nat_eq b p) (λ p. nat_eq p b) (λ k d lt. swapped b (get_or (values_of rows) k d).place)
+bytes_of-block : (rows : List (ℕ × Place)) (b : ℕ) → bytes_where rows (λ p. nat_eq b p) ≡ bytes_of place_of b rows
+bytes_of-block rows b = bytes_where-same rows (λ p. nat_eq b p) (λ p. nat_eq p b) (λ k d lt. swapped b (get_or (values_of rows) k d).place)
   where
     swapped : (x y : ℕ) → nat_eq x y ≡ nat_eq y x
     swapped x y = by_test (nat_eq x y) (λ h. h ∙ sym (eq-eqb y x (sym (eqb-true x y h)))) (λ h. h ∙ sym (ne_eqb y x (λ e. let g : nat_eq x y ≡ true = eq-eqb x y (sym e) in let bad : true ≡ false = sym g ∙ h in absurd (cc))))
 
-pub weight-blocks : (rows : List (ℕ × Place)) (es : List (ℕ × Kind)) → ((b : ℕ) → serials b es ≤ 1) → sum_by (λ e. bytes_of place_of e.0 rows) es ≡ among rows (λ b. list_any (has_serial b) es)
+pub weight-blocks : (rows : List (ℕ × Place)) (es : List (ℕ × Kind)) → ((b : ℕ) → serials b es ≤ 1) → sum_by (λ e. bytes_of place_of e.0 rows) es ≡ bytes_where rows (λ b. list_any (has_serial b) es)
 weight-blocks rows [] once = nothing (values_of rows)
   where
     nothing : (rs : List Place) → 0 ≡ sum_by (λ (r : Place). cond false r.size 0) rs
@@ -321,8 +322,8 @@ weight-blocks rows [] once = nothing (values_of rows)
     nothing (r ∷ rs) = omega (arith, nothing rs, sum_by-cons (λ (x : Place). cond false x.size 0) r rs)
 weight-blocks rows (e ∷ es) once =
     let rest = weight-blocks rows es (λ b. omega (arith, once b, serials-cons b e es)) in
-    let two : among rows (λ b. list_any (has_serial b) (e ∷ es)) ≡ among rows (λ b. nat_eq e.0 b) + among rows (λ b. list_any (has_serial b) es) =
-    among-two rows (λ b. list_any (has_serial b) (e ∷ es)) (λ b. nat_eq e.0 b) (λ b. list_any (has_serial b) es) (λ k d lt. refl)
+    let two : bytes_where rows (λ b. list_any (has_serial b) (e ∷ es)) ≡ bytes_where rows (λ b. nat_eq e.0 b) + bytes_where rows (λ b. list_any (has_serial b) es) =
+    bytes_where-two rows (λ b. list_any (has_serial b) (e ∷ es)) (λ b. nat_eq e.0 b) (λ b. list_any (has_serial b) es) (λ k d lt. refl)
     (λ k d lt. apart (get_or (values_of rows) k d).place (once (get_or (values_of rows) k d).place)) in
     omega (arith, sum_by-cons (λ (x : ℕ × Kind). bytes_of place_of x.0 rows) e es, rest, two, bytes_of-block rows e.0)
   where
@@ -375,7 +376,7 @@ taken-once q i p loose lt inside =
     ap (has_block e.0) (sym (get_or-set_same q.sections i t no_section lt)) ∙ absent i (omega (arith, length-set q.sections i t))
 
 -- a block that is put into a section of a loose queue was in none
-pub put-none : (q : QueueState) (i p b : ℕ) (kind : Kind) → IsLoose (with_section q i (record (section_in q.sections i) { sealed = insert (section_in q.sections i).sealed p (b, kind) })) → i < length q.sections
+pub put-none : (q : QueueState) (i p b : ℕ) (kind : Kind) → IsLoose (record q { sections = sections_changing q.sections i (section_gaining p (b, kind)) }) → i < length q.sections
     → count Device q b + count Virtual q b ≡ 0
 put-none q i p b kind after lt =
     let s : SectionState = section_in q.sections i in

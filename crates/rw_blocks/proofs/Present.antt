@@ -8,11 +8,11 @@ use Rattle.std.proofs.lemmas.Bool.Decides.{nat_tests}
 use Rattle.std.proofs.lemmas.List.Sums.{sum_by-cons, get_or-le-sum_by, sum_by-le}
 use Rattle.rw_blocks.specs.declared.Kind.TheVariants.{Device, Virtual}
 use Rattle.rw_blocks.specs.declared.Place.{Place}
-use Rattle.rw_blocks.specs.State.{QueueState, SectionState, no_section, blocks_of, row_at}
+use Rattle.rw_blocks.specs.State.{QueueState, SectionState, no_section, blocks_of, row_at, section_in}
 use Rattle.rw_blocks.specs.Sums.{has_block, has_serial}
 use Rattle.rw_blocks.specs.Loose.{IsLoose, count, count_in}
 use Rattle.rw_blocks.specs.Primitives.{section_joining}
-use Rattle.rw_blocks.specs.Tags.{section_in, IsAbsent, Parts, Joins, vanishes}
+use Rattle.rw_blocks.specs.Tags.{IsAbsent, Parts, Joins, is_vanishing}
 use Rattle.rw_blocks.proofs.Serials.{kinds}
 use Rattle.rw_blocks.proofs.Kept.{of_row}
 use Rattle.std.proofs.lemmas.List.{get_or_default}
@@ -77,7 +77,7 @@ all-places q loose k d lt = place-there q (get_or (values_of q.rows) k d) (loose
 pub times-joining : (m n : Bool) (u l : SectionState) (b : ℕ) → times b (section_joining m n u l) + (vanished m n l Device b + vanished m n l Virtual b) ≡ times b u + times b l
 times-joining m n u l b = omega (arith, count_in-section_joining m n u l Device b, count_in-section_joining m n u l Virtual b)
 
-pub gone-times : (m n : Bool) (l : SectionState) (b : ℕ) → vanishes m n l b ≡ nat_lt 0 (vanished m n l Device b + vanished m n l Virtual b)
+pub gone-times : (m n : Bool) (l : SectionState) (b : ℕ) → is_vanishing m n l b ≡ nat_lt 0 (vanished m n l Device b + vanished m n l Virtual b)
 gone-times true true l b = pair (nat_eq l.active_device b) (nat_eq l.active_virtual b)
   where
     pair : (c d : Bool) → (c || d) ≡ nat_lt 0 ((cond {A = ℕ} (c && true) 1 0 + cond {A = ℕ} (d && false) 1 0) + (cond {A = ℕ} (c && false) 1 0 + cond {A = ℕ} (d && true) 1 0))
@@ -109,7 +109,7 @@ joins-by j v u l sum once le = grind (arith, nat_tests)
 parts-by : (s v u l : ℕ) → s + v ≡ u + l → u + l ≤ 1 → v ≤ l → nat_lt 0 u ≡ (nat_lt 0 s && not (nat_lt 0 l))
 parts-by s v u l sum once le = grind (arith, nat_tests)
 
-pub Joins-once : (m n : Bool) (u l : SectionState) → ((b : ℕ) → times b u + times b l ≤ 1) → Joins u l (vanishes m n l) (section_joining m n u l)
+pub Joins-once : (m n : Bool) (u l : SectionState) → ((b : ℕ) → times b u + times b l ≤ 1) → Joins u l (is_vanishing m n l) (section_joining m n u l)
 Joins-once m n u l once b =
     let v : ℕ = vanished m n l Device b + vanished m n l Virtual b in
     rw (has-times b (section_joining m n u l), has-times b u, has-times b l, gone-times m n l b)

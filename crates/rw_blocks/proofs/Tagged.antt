@@ -5,10 +5,10 @@ use Rattle.std.specs.List.{position_or_len}
 use Rattle.std.proofs.lemmas.List.Sums.{position_or_len_is, passes_at_first, fails_before_first}
 use Rattle.std.proofs.lemmas.Bool.{cond-false, ltb-false, ltb-true, lt-ltb, le-ltb, eq-eqb, ne_eqb, eqb-true, eqb-false, cases_eq, cases_lt, or_parts}
 use Rattle.std.proofs.lemmas.List.Edits.{length-insert, length-remove, get_or-insert_below, get_or-insert_at, get_or-insert_above, get_or-remove_below, get_or-remove_above}
-use Rattle.rw_blocks.specs.State.{SectionState, no_section}
+use Rattle.rw_blocks.specs.State.{SectionState, no_section, section_in}
 use Rattle.rw_blocks.specs.Sums.{has_block}
 use Rattle.std.specs.List.{list_any}
-use Rattle.rw_blocks.specs.Tags.{section_in, tag_in, is_tag, IsAbsent, IsOnlyIn, IsTagged, Parts, ComesFrom, Joins}
+use Rattle.rw_blocks.specs.Tags.{tag_in, is_tag, IsAbsent, IsOnlyIn, IsTagged, Parts, ComesFrom, Joins}
 use Rattle.rw_blocks.proofs.Filed.{by_test}
 
 -- ---- tags

@@ -11,10 +11,10 @@ use Rattle.std.proofs.lemmas.List.Sums.{sum_by-cons, sum_by-le-sum_by}
 use Rattle.std.proofs.lemmas.List.Elements.{All-tail}
 use Rattle.std.proofs.lemmas.Map.Entries.{sum_by-insert_entry, sum_by-remove_entry}
 use Rattle.rw_blocks.specs.declared.Place.{Place}
-use Rattle.rw_blocks.specs.State.{QueueState, SectionState, no_section}
+use Rattle.rw_blocks.specs.State.{QueueState, SectionState, no_section, section_in}
 use Rattle.rw_blocks.specs.Sums.{has_block, bytes_in, size_of, below}
-use Rattle.rw_blocks.specs.Tags.{section_in, IsOnlyIn}
-use Rattle.rw_blocks.specs.Weights.{among, weight_in, IsWeighed}
+use Rattle.rw_blocks.specs.Tags.{IsOnlyIn}
+use Rattle.rw_blocks.specs.Weights.{bytes_where, weight_in, IsWeighed}
 use Rattle.rw_blocks.proofs.Sums.{sum_by-filter}
 
 pub bytes_in-weight : (q : QueueState) (s : SectionState) → bytes_in q s ≡ weight_in q.rows s
@@ -24,8 +24,8 @@ part_le : (t : Bool) (n : ℕ) → cond t n 0 ≤ n
 part_le true n = omega arith
 part_le false n = omega arith
 
-pub among-le : (rows : List (ℕ × Place)) (f : ℕ → Bool) → among rows f ≤ size_of (values_of rows)
-among-le rows f = sum_by-le-sum_by (λ r. cond (f r.place) r.size 0) (λ r. r.size) (values_of rows) (λ r. part_le (f r.place) r.size)
+pub bytes_where-le : (rows : List (ℕ × Place)) (f : ℕ → Bool) → bytes_where rows f ≤ size_of (values_of rows)
+bytes_where-le rows f = sum_by-le-sum_by (λ r. cond (f r.place) r.size 0) (λ r. r.size) (values_of rows) (λ r. part_le (f r.place) r.size)
 
 -- ---- tests that agree on the rows, and a test that is parted in two
 same_sum : (f g : Place → ℕ) (rs : List Place) → All (λ r. f r ≡ g r) rs → sum_by f rs ≡ sum_by g rs
@@ -38,14 +38,14 @@ two_sums f g h [] all = refl
 two_sums f g h (r ∷ rs) all =
     omega (arith, sum_by-cons f r rs, sum_by-cons g r rs, sum_by-cons h r rs, all 0 r (omega arith), two_sums f g h rs (All-tail (λ r. f r ≡ g r + h r) r rs all))
 
-pub among-same : (rows : List (ℕ × Place)) (f g : ℕ → Bool) → All (λ r. f r.place ≡ g r.place) (values_of rows) → among rows f ≡ among rows g
-among-same rows f g all =
+pub bytes_where-same : (rows : List (ℕ × Place)) (f g : ℕ → Bool) → All (λ r. f r.place ≡ g r.place) (values_of rows) → bytes_where rows f ≡ bytes_where rows g
+bytes_where-same rows f g all =
     same_sum (λ r. cond (f r.place) r.size 0) (λ r. cond (g r.place) r.size 0) (values_of rows)
     (λ k d lt. ap (λ c. cond c (get_or (values_of rows) k d).size 0) (all k d lt))
 
 -- what passes f passes one of g and h, and never both
-pub among-two : (rows : List (ℕ × Place)) (f g h : ℕ → Bool) → All (λ r. f r.place ≡ (g r.place || h r.place)) (values_of rows) → All (λ r. (g r.place && h r.place) ≡ false) (values_of rows) → among rows f ≡ among rows g + among rows h
-among-two rows f g h either never =
+pub bytes_where-two : (rows : List (ℕ × Place)) (f g h : ℕ → Bool) → All (λ r. f r.place ≡ (g r.place || h r.place)) (values_of rows) → All (λ r. (g r.place && h r.place) ≡ false) (values_of rows) → bytes_where rows f ≡ bytes_where rows g + bytes_where rows h
+bytes_where-two rows f g h either never =
     two_sums (λ r. cond (f r.place) r.size 0) (λ r. cond (g r.place) r.size 0) (λ r. cond (h r.place) r.size 0) (values_of rows)
     (λ k d lt. one (f (get_or (values_of rows) k d).place) (g (get_or (values_of rows) k d).place) (h (get_or (values_of rows) k d).place) (get_or (values_of rows) k d).size (either k d lt) (never k d lt))
   where
@@ -56,12 +56,12 @@ among-two rows f g h either never =
     one a false false n e apart = rw e refl
 
 -- ---- rows come and go
-weight-insert : (rows : List (ℕ × Place)) (f : ℕ → Bool) (o : ℕ) (r : Place) → IsStrictlySortedBy nat_cmp (keys_of rows) → lookup (is_at (nat_cmp o)) rows ≡ None → among (insert_entry nat_cmp rows o r) f ≡ among rows f + cond (f r.place) r.size 0
+weight-insert : (rows : List (ℕ × Place)) (f : ℕ → Bool) (o : ℕ) (r : Place) → IsStrictlySortedBy nat_cmp (keys_of rows) → lookup (is_at (nat_cmp o)) rows ≡ None → bytes_where (insert_entry nat_cmp rows o r) f ≡ bytes_where rows f + cond (f r.place) r.size 0
 weight-insert rows f o r s none =
     let sum = rw none at (sum_by-insert_entry (λ (x : Place). cond (f x.place) x.size 0) nat_cmp_total rows o r s) in
     omega (arith, sum)
 
-weight-remove : (rows : List (ℕ × Place)) (f : ℕ → Bool) (o : ℕ) (r : Place) → lookup (is_at (nat_cmp o)) rows ≡ Some r → among (remove_entry (is_at (nat_cmp o)) rows) f + cond (f r.place) r.size 0 ≡ among rows f
+weight-remove : (rows : List (ℕ × Place)) (f : ℕ → Bool) (o : ℕ) (r : Place) → lookup (is_at (nat_cmp o)) rows ≡ Some r → bytes_where (remove_entry (is_at (nat_cmp o)) rows) f + cond (f r.place) r.size 0 ≡ bytes_where rows f
 weight-remove rows f o r is = rw is at (sum_by-remove_entry (λ (x : Place). cond (f x.place) x.size 0) (is_at (nat_cmp o)) rows)
 
 pub IsWeighed-insert : (rows : List (ℕ × Place)) (ss : List SectionState) (bs : List ℕ) (o i n : ℕ) (r : Place) → IsWeighed rows ss bs → IsStrictlySortedBy nat_cmp (keys_of rows) → lookup (is_at (nat_cmp o)) rows ≡ None → i < length ss
@@ -130,7 +130,7 @@ IsWeighed-set rows ss bs i s w lt same =
       each = λ j lt'. elim (cases_eq i j) [
         | inl e ↦
             let P : ℕ → Type 0 = λ k. get_or bs k 0 ≡ weight_in rows (section_in (set ss i s) k) in
-            subst P e (w.each i lt ∙ (sym (among-same rows (λ b. has_block b s) (λ b. has_block b (section_in ss i)) same) ∙ ap (weight_in rows) (sym (get_or-set_same ss i s no_section lt))))
+            subst P e (w.each i lt ∙ (sym (bytes_where-same rows (λ b. has_block b s) (λ b. has_block b (section_in ss i)) same) ∙ ap (weight_in rows) (sym (get_or-set_same ss i s no_section lt))))
         | inr a ↦ w.each j (omega arith) ∙ ap (weight_in rows) (sym (get_or-set_other ss i j s no_section (λ e. a (sym e))))
       ];
     }

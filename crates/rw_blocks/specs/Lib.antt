@@ -1,3 +1,4 @@
+-- what public contracts say
 pub mod Words
 pub mod State
 pub mod Sums
@@ -5,6 +6,7 @@ pub mod Loose
 pub mod Primitives
 pub mod Undo
 pub mod Questions
+-- what the types inside the queue keep, and what is said between them: no public contract speaks of it
 pub mod Members
 pub mod Index
 pub mod RowMap

@@ -1,11 +1,11 @@
 -- Loose and well-formed queues.
-use Rattle.std.specs.Prelude.{◌≡◌, ◌+◌, ◌≤◌, ◌^◌, Bool, true, List, length, count_by, sum_by, All, ◌⊎◌}
+use Rattle.std.specs.Prelude.{◌≡◌, ◌+◌, ◌≤◌, Bool, true, List, length, count_by, sum_by, All, ◌⊎◌}
 use Rattle.std.specs.List.{list_any}
 use Rattle.std.specs.List.Sorted.{IsStrictlySortedBy}
 use Rattle.std.specs.Ordering.{nat_cmp}
 use Rattle.std.specs.Map.{values_of, keys_of}
 use Rattle.rw_vt.specs.Words.{Count}
-use Rattle.rw_blocks.specs.Words.{Serial}
+use Rattle.rw_blocks.specs.Words.{Serial, most_bytes}
 use Rattle.rw_blocks.specs.declared.Kind.{Kind}
 use Rattle.rw_blocks.specs.declared.Kind.TheVariants.{Device, Virtual}
 use Rattle.rw_blocks.specs.declared.Place.{Place}
@@ -44,7 +44,7 @@ pub record IsLoose (q : QueueState) : Type 0 where
   pub places : All (IsPlaced q) (values_of q.rows)
   pub sizes : All (IsSized q) (values_of q.rows)
   pub fills : (kind : Kind) (b : Serial) → count kind q b ≡ 1 → bytes_held kind q b ≤ q.shape.block
-  pub within : total q ≤ 2 ^ 48
+  pub within : total q ≤ most_bytes
   -- the rows stand in the order of their objects, one for each
   pub ordered : IsStrictlySortedBy nat_cmp (keys_of q.rows)
 
@@ -52,8 +52,8 @@ pub record IsLoose (q : QueueState) : Type 0 where
 abbrev pub is_sealed_virtual : QueueState → Serial → Bool
 is_sealed_virtual q b = list_any (λ s. list_any (is_block Virtual b) s.sealed) q.sections
 
-abbrev pub devices_among : List (Serial × Kind) → Count
-devices_among es = count_by (λ e. is_kind Device e.1) es
+abbrev pub device_count_of : List (Serial × Kind) → Count
+device_count_of es = count_by (λ e. is_kind Device e.1) es
 
 abbrev pub devices_in : SectionState → Count
 devices_in s = count_by (λ e. is_kind Device e.1) s.sealed

@@ -2,10 +2,11 @@
 use Rattle.std.specs.Prelude.{◌≡◌, ◌+◌, ◌<◌, List, [], ◌∷◌, Option, Some, None, length, find, position, nat_eq}
 use Rattle.std.specs.Option.{option_map}
 use Rattle.rw_vt.specs.Words.{Position}
-use Rattle.rw_blocks.specs.Words.{Object, Section, Serial}
+use Rattle.rw_blocks.specs.Words.{Object, Section, Serial, Size}
 use Rattle.rw_blocks.specs.declared.Kind.{Kind}
-use Rattle.rw_blocks.specs.State.{QueueState, SectionState, section_at}
-use Rattle.rw_blocks.specs.Sums.{has_block}
+use Rattle.rw_blocks.specs.State.{QueueState, SectionState, section_in, section_at, active_of}
+use Rattle.rw_blocks.specs.Sums.{bytes_held, has_block}
+use Rattle.rw_blocks.specs.Loose.{count}
 
 -- the least object whose home, or whose place, the block is
 abbrev pub first_home : QueueState → Serial → Option Object
@@ -18,6 +19,7 @@ first_place q b = option_map (λ e. e.0) (find (λ e. nat_eq e.1.place b) q.rows
 abbrev pub section_of : QueueState → Serial → Option Section
 section_of q b = position (has_block b) q.sections
 
+-- ---- the last sealed block
 -- the last block of the list, or the one so far
 abbrev pub last_or : Option (Serial × Kind) → List (Serial × Kind) → Option (Serial × Kind)
 last_or so_far [] = so_far
@@ -31,8 +33,28 @@ last_from so_far (s ∷ ss) = last_from (last_or so_far s.sealed) ss
 abbrev pub last_block : QueueState → Option (Serial × Kind)
 last_block q = last_from None q.sections
 
+-- no section has a sealed block, or none behind the one with the number
+abbrev pub NoneSealed : List SectionState → Type 0
+NoneSealed ss = (j : Section) → j < length ss → (section_in ss j).sealed ≡ []
+
+abbrev pub NoneSealedBehind : Section → List SectionState → Type 0
+NoneSealedBehind i ss = (j : Section) → i < j → j < length ss → (section_in ss j).sealed ≡ []
+
 -- the last position of a section's sealed list, behind which no section has a sealed block
 pub record IsLastSealed (q : QueueState) (i : Section) (p : Position) : Type 0 where
   pub there : i < length q.sections
   pub last : p + 1 ≡ length (section_at q i).sealed
-  pub nothing_behind : (j : Section) → i < j → j < length q.sections → (section_at q j).sealed ≡ []
+  pub nothing_behind : NoneSealedBehind i q.sections
+
+-- ---- the fill of a block, said of its kind
+-- where there is a block of a kind with the serial, it holds z bytes as one of that kind
+abbrev pub IsHeldOfKind : QueueState → Serial → Size → Type 0
+IsHeldOfKind q b z = (kind : Kind) → count kind q b ≡ 1 → z ≡ bytes_held kind q b
+
+-- where the serial is that of a section's active block of a kind, that holds z bytes as one of the kind
+abbrev pub IsHeldWhereActive : QueueState → Serial → Size → Type 0
+IsHeldWhereActive q b z =
+    (kind : Kind) (i : Section)
+    → i < length q.sections
+    → b ≡ active_of kind (section_at q i)
+    → z ≡ bytes_held kind q b

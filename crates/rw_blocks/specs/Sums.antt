@@ -22,7 +22,7 @@ rows_homed q b = filter (λ r. nat_eq r.home b) (values_of q.rows)
 abbrev pub rows_placed : QueueState → Serial → List Place
 rows_placed q b = filter (λ r. nat_eq r.place b) (values_of q.rows)
 
--- what a block holds as one of the kind: a device block the rows whose home it is, a virtual block those whose place it is
+-- the bytes that a block holds as one of the kind: a device block is the home of their rows, a virtual one the place
 abbrev pub bytes_held : Kind → QueueState → Serial → Size
 bytes_held Device q b = size_of (rows_homed q b)
 bytes_held Virtual q b = size_of (rows_placed q b)
@@ -54,7 +54,8 @@ has_kind kind q b = list_any (λ s. list_any (is_block kind b) (blocks_of s)) q.
 -- the fill of a block, 0 where there is no such block
 abbrev pub fill : QueueState → Serial → Size
 fill q b =
-    if has_kind Device q b then bytes_held Device q b else (if has_kind Virtual q b then bytes_held Virtual q b else 0)
+    if has_kind Device q b then bytes_held Device q b
+    else (if has_kind Virtual q b then bytes_held Virtual q b else 0)
 
 -- ---- sections
 -- the rows whose place is one of the section's blocks

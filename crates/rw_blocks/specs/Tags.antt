@@ -1,19 +1,23 @@
--- What the index of the blocks by section says: each section has a tag of its own, and each block the tag of its section.
-use Rattle.std.specs.Prelude.{◌≡◌, ◌<◌, Bool, true, false, List, Option, Some, None, nat_eq, length, slice_index_or, not, ◌&&◌, ◌||◌, ◌⊎◌}
+-- What the index of the blocks by section says: each section has a tag of its own, and each block its section's tag.
+use Rattle.std.specs.Prelude.{◌≡◌, ◌<◌, ◌+◌, Bool, true, false, if◌then◌else◌, List, Option, Some, None, nat_eq, length, slice_index_or, not, ◌&&◌, ◌||◌, ◌⊎◌}
+use Rattle.std.specs.HashMap.{get, HashMap}
+use Rattle.std.specs.declared.hash.FoldHasher.{FoldHasher}
+use Rattle.std.specs.declared.hash.BuildHasherDefault.{BuildHasherDefault}
+use Rattle.rw_vt.specs.Words.{Position}
 use Rattle.rw_blocks.specs.Words.{Section, Serial, Tag}
-use Rattle.rw_blocks.specs.State.{SectionState, no_section}
+use Rattle.rw_blocks.specs.declared.Kind.{Kind}
+use Rattle.rw_blocks.specs.State.{SectionState, section_in, sealed_in, active_of}
 use Rattle.rw_blocks.specs.Sums.{has_block}
-
-abbrev pub section_in : List SectionState → Section → SectionState
-section_in ss i = slice_index_or ss i no_section
+use Rattle.rw_blocks.specs.Primitives.{section_losing, section_joining}
+use Rattle.rw_blocks.specs.Undo.{section_unsealing}
 
 abbrev pub tag_in : List Tag → Section → Tag
 tag_in tags i = slice_index_or tags i 0
 
 -- whether the tag that a block has, if any, is the tag
 abbrev pub is_tag : Option Tag → Tag → Bool
-is_tag None t = false
-is_tag (Some u) t = nat_eq u t
+is_tag None tag = false
+is_tag (Some other) tag = nat_eq other tag
 
 -- no section has the block
 abbrev pub IsAbsent : Serial → List SectionState → Type 0
@@ -21,29 +25,74 @@ IsAbsent b ss = (i : Section) → i < length ss → has_block b (section_in ss i
 
 -- no section but the one with the number has the block
 abbrev pub IsOnlyIn : Section → Serial → List SectionState → Type 0
-IsOnlyIn i b ss = (j : Section) → j < length ss → (i ≡ j → ⊥) → has_block b (section_in ss j) ≡ false
+IsOnlyIn i b ss =
+    (j : Section) → j < length ss → (i ≡ j → ⊥) → has_block b (section_in ss j) ≡ false
 
-pub record IsTagged (ss : List SectionState) (tags : List Tag) (owner : Serial → Option Tag) : Type 0 where
+pub record IsTagged
+    (ss : List SectionState) (tags : List Tag) (owner : Serial → Option Tag) : Type 0 where
   pub long : length tags ≡ length ss
   -- a section has the blocks that have its tag
-  pub found : (i : Section) (b : Serial) → i < length ss → has_block b (section_in ss i) ≡ is_tag (owner b) (tag_in tags i)
+  pub found :
+      (i : Section) (b : Serial)
+      → i < length ss
+      → has_block b (section_in ss i) ≡ is_tag (owner b) (tag_in tags i)
   -- no two sections have one tag
-  pub apart : (i j : Section) → i < length ss → j < length ss → (i ≡ j → ⊥) → nat_eq (tag_in tags i) (tag_in tags j) ≡ false
+  pub apart :
+      (i j : Section)
+      → i < length ss
+      → j < length ss
+      → (i ≡ j → ⊥)
+      → nat_eq (tag_in tags i) (tag_in tags j) ≡ false
   -- a block that no section has has no tag
   pub others : (b : Serial) → IsAbsent b ss → owner b ≡ None
 
--- the blocks of s, parted into those of u and those of l
+-- ---- how tags change
+-- the tag of each block that has one
+abbrev pub Owners : Type 0
+Owners = HashMap Serial Tag (BuildHasherDefault FoldHasher)
+
+-- the blocks that pass the test get this tag, or none, and the others keep theirs
+abbrev pub Retags : Owners → Owners → (Serial → Bool) → (Serial → Option Tag) → Type 0
+Retags before after test tag =
+    (b : Serial) → get nat_eq after b ≡ (if test b then tag b else get nat_eq before b)
+
+-- ---- how sections change
+-- the upper section has the blocks of the whole one that the lower does not have
 abbrev pub Parts : SectionState → SectionState → SectionState → Type 0
-Parts s u l = (b : Serial) → has_block b u ≡ (has_block b s && not (has_block b l))
+Parts whole upper lower =
+    (b : Serial) → has_block b upper ≡ (has_block b whole && not (has_block b lower))
 
--- each block of l is one of s, or of no section
+-- each block of the lower section is one of the whole, or of no section
 abbrev pub ComesFrom : SectionState → SectionState → List SectionState → Type 0
-ComesFrom l s ss = (b : Serial) → has_block b l ≡ true → (has_block b s ≡ true) ⊎ IsAbsent b ss
+ComesFrom lower whole ss =
+    (b : Serial) → has_block b lower ≡ true → (has_block b whole ≡ true) ⊎ IsAbsent b ss
 
--- whether an active block of l vanishes
-abbrev pub vanishes : Bool → Bool → SectionState → Serial → Bool
-vanishes device virtual_block l b = (device && nat_eq l.active_device b) || (virtual_block && nat_eq l.active_virtual b)
+-- whether the block is an active one of the section that vanishes
+abbrev pub is_vanishing : Bool → Bool → SectionState → Serial → Bool
+is_vanishing device virtual_block s b =
+    (device && nat_eq s.active_device b) || (virtual_block && nat_eq s.active_virtual b)
 
--- j holds the blocks of u, and those of l but for the ones that vanish
+-- the joined section has the blocks of the upper one, and those of the lower but for the ones that are gone
 abbrev pub Joins : SectionState → SectionState → (Serial → Bool) → SectionState → Type 0
-Joins u l gone j = (b : Serial) → has_block b j ≡ (has_block b u || (has_block b l && not (gone b)))
+Joins upper lower gone joined =
+    (b : Serial)
+    → has_block b joined ≡ (has_block b upper || (has_block b lower && not (gone b)))
+
+-- the section that takes over the next one's blocks has them, but for the ones that vanish
+abbrev pub JoinsNext : List SectionState → Section → Bool → Bool → Type 0
+JoinsNext ss i device_vanishes virtual_vanishes =
+    let upper = section_in ss i in
+    let lower = section_in ss (i + 1) in
+    Joins
+    upper
+    lower
+    (is_vanishing device_vanishes virtual_vanishes lower)
+    (section_joining device_vanishes virtual_vanishes upper lower)
+
+-- the active block of the kind is none of the section's once the front one is active again
+abbrev pub IsGoneOnceUnsealed : Kind → SectionState → Type 0
+IsGoneOnceUnsealed kind s = has_block (active_of kind s) (section_unsealing kind s) ≡ false
+
+-- no other block of the section has the serial of the sealed one at the position
+abbrev pub IsOnceIn : Position → SectionState → Type 0
+IsOnceIn p s = has_block (sealed_in s p).0 (section_losing p s) ≡ false

@@ -1,5 +1,5 @@
 -- What the numbers of a queue are.
-use Rattle.std.specs.Prelude.{ℕ}
+use Rattle.std.specs.Prelude.{ℕ, ◌^◌}
 
 -- an object, by its number
 abbrev pub Object : Type 0
@@ -20,3 +20,7 @@ Section = ℕ
 -- a number by which the index tells a section: no other one has it
 abbrev pub Tag : Type 0
 Tag = ℕ
+
+-- all rows of a queue together hold no more bytes than these
+abbrev pub most_bytes : Size
+most_bytes = 2 ^ 48

@@ -9,12 +9,14 @@
 //! Worked examples: `rw_tests/src/primitives.rt`.
 
 mod members;
+mod primitives;
 mod queue;
 mod row_map;
 mod rows;
 mod section;
 mod sections;
 mod shape;
+mod undo;
 
 pub use queue::Queue;
 pub use rw_vt::NoMemory;

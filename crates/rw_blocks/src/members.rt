@@ -1,33 +1,31 @@
 // Which objects belong to each block, and their bytes.
-ghost use Rattle.std.specs.Prelude.{◌≡◌, ◌<◌, ◌≤◌, ◌+◌, ◌^◌, ℕ, [], OnOk, OnErr, cond, nat_eq, slice_get, IsTrue};
-ghost use Rattle.std.specs.Ordering.{nat_cmp};
-ghost use Rattle.std.specs.BTreeMap.{is_at};
-ghost use Rattle.std.specs.BTreeSet.{insert_key};
-ghost use Rattle.std.specs.Set.{remove_key};
-ghost use Rattle.rw_blocks.specs.Members.{bytes_at, objects_at};
+ghost use Rattle.std.specs.Prelude.{◌≡◌, ◌<◌, ◌≤◌, ◌+◌, ◌^◌, ℕ, [], OnOk, OnErr, slice_get, IsTrue};
+ghost use Rattle.rw_blocks.specs.Members.{bytes_at, objects_at, objects_with, objects_without, GainsBytes, LosesBytes, ChangesObjects, SameBytes, SameObjects};
 
 use rw_vt::NoMemory;
 use std::alloc::Global;
 use std::collections::{BTreeSet, HashMap};
 
-/// The objects of one block, in rising order, and the sum of their sizes.
+/// What one block holds: its objects, in rising order, and the sum of their sizes.
 #[derive(Drop)]
-pub struct Held {
+pub struct Contents {
     bytes: u64,
     objects: BTreeSet<u64>,
 }
 
-impl Held {
-    fn new(alloc: Global) -> Held
+impl Contents {
+    /// No object.
+    fn new(alloc: Global) -> Contents
         ensures bytes { result.bytes ≡ 0 }
         ensures objects { result.objects.keys ≡ [] }
     {
-        Held {
+        Contents {
             bytes: 0,
             objects: BTreeSet::new(alloc),
         }
     }
 
+    /// Whether there is no object, and no byte.
     fn is_idle(&self) -> bool
         ensures bytes { IsTrue result → self.now.bytes ≡ 0 }
         ensures objects { IsTrue result → self.now.objects.keys ≡ [] }
@@ -35,10 +33,16 @@ impl Held {
         self.bytes == 0 && self.objects.is_empty()
     }
 
+    /// An object of `size` bytes comes.
+    ///
+    /// # Errors
+    ///
+    /// [`NoMemory`] where memory was refused; all is then as it was.
     fn add(&mut self, object: u64, size: u64) -> Result<(), NoMemory>
         requires { self.old.bytes + size < 2 ^ 64 }
         ensures bytes { OnOk result (self.new.bytes ≡ self.old.bytes + size) }
-        ensures objects { OnOk result (self.new.objects.keys ≡ insert_key nat_cmp self.old.objects.keys object) }
+        ensures objects { OnOk result
+            (self.new.objects.keys ≡ objects_with self.old.objects.keys object) }
         ensures same_bytes { OnErr result (self.new.bytes ≡ self.old.bytes) }
         ensures same_objects { OnErr result (self.new.objects.keys ≡ self.old.objects.keys) }
     {
@@ -47,10 +51,11 @@ impl Held {
         Ok(())
     }
 
+    /// An object of `size` bytes leaves.
     fn take(&mut self, object: u64, size: u64)
         requires { size ≤ self.old.bytes }
         ensures bytes { self.new.bytes + size ≡ self.old.bytes }
-        ensures objects { self.new.objects.keys ≡ remove_key (is_at (nat_cmp object)) self.old.objects.keys }
+        ensures objects { self.new.objects.keys ≡ objects_without self.old.objects.keys object }
     {
         self.objects.remove(&object);
         self.bytes -= size;
@@ -61,11 +66,12 @@ impl Held {
 #[derive(Drop)]
 pub struct Members {
     alloc: Global,
-    blocks: HashMap<u64, Held>,
+    blocks: HashMap<u64, Contents>,
 }
 
 #[tactic(auto, unfolding(crate::specs::Members::bytes_at, crate::specs::Members::objects_at))]
 impl Members {
+    /// No block has any object.
     pub fn new(alloc: Global) -> Members
         ensures bytes { (b : ℕ) → bytes_at result b ≡ 0 }
         ensures objects { (b : ℕ) → objects_at result b ≡ [] }
@@ -76,55 +82,61 @@ impl Members {
         }
     }
 
-    /// The bytes of the block's objects.
+    /// The bytes of the block's objects, 0 where it has none.
     pub fn bytes(&self, serial: u64) -> u64
         ensures { result ≡ bytes_at self.now serial }
     {
         match self.blocks.get(&serial) {
-            Some(held) => held.bytes,
+            Some(contents) => contents.bytes,
             None => 0,
         }
     }
 
-    /// The least of the block's objects.
+    /// The least of the block's objects. `None` exactly where it has none.
     pub fn first(&self, serial: u64) -> Option<u64>
         ensures { result ≡ slice_get (objects_at self.now serial) 0 }
     {
         match self.blocks.get(&serial) {
-            Some(held) => held.objects.first().copied(),
+            Some(contents) => contents.objects.first().copied(),
             None => None,
         }
     }
 
-    /// An object comes to the block. Refused memory leaves all as it was.
+    /// An object of `size` bytes comes to the block.
+    ///
+    /// # Errors
+    ///
+    /// [`NoMemory`] where memory was refused; all is then as it was.
     pub fn add(&mut self, serial: u64, object: u64, size: u64) -> Result<(), NoMemory>
         requires { bytes_at self.old serial + size < 2 ^ 64 }
-        ensures bytes { OnOk result ((b : ℕ) → bytes_at self.new b ≡ bytes_at self.old b + cond (nat_eq serial b) size 0) }
-        ensures objects { OnOk result ((b : ℕ) → objects_at self.new b ≡ cond (nat_eq serial b) (insert_key nat_cmp (objects_at self.old b) object) (objects_at self.old b)) }
-        ensures same_bytes { OnErr result ((b : ℕ) → bytes_at self.new b ≡ bytes_at self.old b) }
-        ensures same_objects { OnErr result ((b : ℕ) → objects_at self.new b ≡ objects_at self.old b) }
+        ensures bytes { OnOk result (GainsBytes self.old self.new serial size) }
+        ensures objects { OnOk result
+            (ChangesObjects self.old self.new serial (λ objects. objects_with objects object)) }
+        ensures same_bytes { OnErr result (SameBytes self.old self.new) }
+        ensures same_objects { OnErr result (SameObjects self.old self.new) }
     {
         match self.blocks.get_mut(&serial) {
-            Some(held) => held.add(object, size)?,
+            Some(contents) => contents.add(object, size)?,
             None => {
-                let mut held = Held::new(self.alloc);
-                held.add(object, size)?;
-                self.blocks.insert(serial, held)?;
+                let mut contents = Contents::new(self.alloc);
+                contents.add(object, size)?;
+                self.blocks.insert(serial, contents)?;
             }
         }
         Ok(())
     }
 
-    /// An object leaves the block.
+    /// An object of `size` bytes leaves the block.
     pub fn take(&mut self, serial: u64, object: u64, size: u64)
         requires { size ≤ bytes_at self.old serial }
-        ensures bytes { (b : ℕ) → bytes_at self.new b + cond (nat_eq serial b) size 0 ≡ bytes_at self.old b }
-        ensures objects { (b : ℕ) → objects_at self.new b ≡ cond (nat_eq serial b) (remove_key (is_at (nat_cmp object)) (objects_at self.old b)) (objects_at self.old b) }
+        ensures bytes { LosesBytes self.old self.new serial size }
+        ensures objects { ChangesObjects self.old self.new serial
+            (λ objects. objects_without objects object) }
     {
         let mut idle = false;
-        if let Some(held) = self.blocks.get_mut(&serial) {
-            held.take(object, size);
-            idle = held.is_idle();
+        if let Some(contents) = self.blocks.get_mut(&serial) {
+            contents.take(object, size);
+            idle = contents.is_idle();
         }
         if idle {
             self.blocks.remove(&serial);

@@ -1,8 +1,6 @@
 // The rows by object.
 ghost use Rattle.std.specs.Prelude.{◌≡◌, [], OnOk, OnErr, None, Some};
-ghost use Rattle.std.specs.Ordering.{nat_cmp};
-ghost use Rattle.std.specs.Map.{lookup, remove_entry};
-ghost use Rattle.std.specs.BTreeMap.{insert_entry, is_at};
+ghost use Rattle.rw_blocks.specs.State.{row_in, rows_with, rows_without};
 
 use crate::Place;
 use rw_vt::NoMemory;
@@ -28,6 +26,7 @@ impl Model for RowMap {
 }
 
 impl RowMap {
+    /// No row.
     pub fn new(alloc: Global) -> RowMap
         ensures { result ≡ [] }
     {
@@ -36,33 +35,38 @@ impl RowMap {
         }
     }
 
+    /// The row of an object. `None` exactly where it has none.
     pub fn get(&self, object: u64) -> Option<Place>
-        ensures { result ≡ lookup (is_at (nat_cmp object)) self.now }
+        ensures { result ≡ row_in self.now object }
     {
         self.rows.get(&object).copied()
     }
 
-    /// The object has this row from now on. Refused memory leaves the rows as they were.
+    /// The object has this row from now on.
+    ///
+    /// # Errors
+    ///
+    /// [`NoMemory`] where memory was refused; the rows are then as they were.
     pub fn insert(&mut self, object: u64, row: Place) -> Result<(), NoMemory>
-        ensures put { OnOk result (self.new ≡ insert_entry nat_cmp self.old object row) }
+        ensures put { OnOk result (self.new ≡ rows_with self.old object row) }
         ensures same { OnErr result (self.new ≡ self.old) }
     {
         self.rows.insert(object, row)?;
         Ok(())
     }
 
-    /// The row of an object goes, if it has one.
+    /// The row of an object goes. `None` exactly where it had none.
     pub fn remove(&mut self, object: u64) -> Option<Place>
-        ensures row { result ≡ lookup (is_at (nat_cmp object)) self.old }
-        ensures rest { self.new ≡ remove_entry (is_at (nat_cmp object)) self.old }
+        ensures row { result ≡ row_in self.old object }
+        ensures rest { self.new ≡ rows_without self.old object }
     {
         self.rows.remove(&object)
     }
 
-    /// The row of an object, which is this one, gets another place.
+    /// The row of an object, which is `row`, gets another place.
     pub fn set_place(&mut self, object: u64, row: Place, place: u64)
-        requires { lookup (is_at (nat_cmp object)) self.old ≡ Some row }
-        ensures { self.new ≡ insert_entry nat_cmp self.old object (record row { place = place }) }
+        requires { row_in self.old object ≡ Some row }
+        ensures { self.new ≡ rows_with self.old object (record row { place = place }) }
     {
         let found = self.rows.get_mut(&object).unwrap();
         *found = Place { place, ..row };

@@ -2,9 +2,9 @@
 ghost use Rattle.std.specs.Prelude.{◌≡◌, ◌<◌, ◌+◌, ◌^◌, ℕ, [], Some, None, OnOk, OnErr, IsSome, find, nat_eq, ◌≢◌};
 ghost use Rattle.std.specs.Option.{option_map};
 ghost use Rattle.std.specs.Ordering.{nat_cmp};
-ghost use Rattle.std.specs.Map.{lookup, remove_entry, values_of, keys_of};
+ghost use Rattle.std.specs.Map.{values_of, keys_of};
 ghost use Rattle.std.specs.List.Sorted.{IsStrictlySortedBy};
-ghost use Rattle.std.specs.BTreeMap.{insert_entry, is_at};
+ghost use Rattle.rw_blocks.specs.State.{row_in, rows_with, rows_without};
 ghost use Rattle.rw_blocks.specs.Sums.{size_of};
 ghost use Rattle.rw_blocks.specs.Index.{bytes_of, home_of, place_of};
 
@@ -40,6 +40,7 @@ impl Model for Rows {
 
 #[tactic(auto, using(crate::proofs::Filed::filed_laws))]
 impl Rows {
+    /// No row.
     pub fn new(alloc: Global) -> Rows
         ensures { result ≡ [] }
     {
@@ -51,8 +52,9 @@ impl Rows {
         }
     }
 
+    /// The row of an object. `None` exactly where it has none.
     pub fn get(&self, object: u64) -> Option<Place>
-        ensures { result ≡ lookup (is_at (nat_cmp object)) self.now }
+        ensures { result ≡ row_in self.now object }
     {
         self.rows.get(object)
     }
@@ -78,25 +80,29 @@ impl Rows {
         self.places.bytes(serial)
     }
 
-    /// The least object whose home is the block.
+    /// The least object whose home is the block. `None` exactly where there is none.
     pub fn first_home(&self, serial: u64) -> Option<u64>
         ensures { result ≡ option_map (λ e. e.0) (find (λ e. nat_eq e.1.home serial) self.now) }
     {
         self.homes.first(serial)
     }
 
-    /// The least object whose place is the block.
+    /// The least object whose place is the block. `None` exactly where there is none.
     pub fn first_place(&self, serial: u64) -> Option<u64>
         ensures { result ≡ option_map (λ e. e.0) (find (λ e. nat_eq e.1.place serial) self.now) }
     {
         self.places.first(serial)
     }
 
-    /// A row comes, of an object that has none. Refused memory leaves the rows as they were.
+    /// A row comes, of an object that has none.
+    ///
+    /// # Errors
+    ///
+    /// [`NoMemory`] where memory was refused; the rows are then as they were.
     pub fn add(&mut self, object: u64, row: Place) -> Result<(), NoMemory>
-        requires new { lookup (is_at (nat_cmp object)) self.old ≡ None }
+        requires new { row_in self.old object ≡ None }
         requires room { size_of (values_of self.old) + row.size < 2 ^ 64 }
-        ensures added { OnOk result (self.new ≡ insert_entry nat_cmp self.old object row) }
+        ensures added { OnOk result (self.new ≡ rows_with self.old object row) }
         ensures same { OnErr result (self.new ≡ self.old) }
         ensures ordered { IsStrictlySortedBy nat_cmp (keys_of self.old) }
     {
@@ -117,9 +123,9 @@ impl Rows {
 
     /// The row of an object goes, which has one.
     pub fn remove(&mut self, object: u64) -> Place
-        requires { IsSome (lookup (is_at (nat_cmp object)) self.old) }
-        ensures row { lookup (is_at (nat_cmp object)) self.old ≡ Some result }
-        ensures rest { self.new ≡ remove_entry (is_at (nat_cmp object)) self.old }
+        requires { IsSome (row_in self.old object) }
+        ensures row { row_in self.old object ≡ Some result }
+        ensures rest { self.new ≡ rows_without self.old object }
     {
         let row = self.rows.remove(object).unwrap();
         let Place { size, home, place } = row;
@@ -129,11 +135,16 @@ impl Rows {
         row
     }
 
-    /// The row of an object, which is this one, gets another place. Refused memory leaves the rows as they were.
+    /// The row of an object, which is `row`, gets another place.
+    ///
+    /// # Errors
+    ///
+    /// [`NoMemory`] where memory was refused; the rows are then as they were.
     pub fn replace(&mut self, object: u64, row: Place, place: u64) -> Result<(), NoMemory>
-        requires row { lookup (is_at (nat_cmp object)) self.old ≡ Some row }
+        requires row { row_in self.old object ≡ Some row }
         requires other { row.place ≢ place }
-        ensures replaced { OnOk result (self.new ≡ insert_entry nat_cmp self.old object (record row { place = place })) }
+        ensures replaced { OnOk result
+            (self.new ≡ rows_with self.old object (record row { place = place })) }
         ensures same { OnErr result (self.new ≡ self.old) }
     {
         self.places.add(place, object, row.size)?;

@@ -1,13 +1,13 @@
 // The sections of a queue from head to tail, with an index of their blocks.
-ghost use Rattle.std.specs.Prelude.{◌≡◌, ◌<◌, ◌≤◌, ◌+◌, ℕ, [], ◌∷◌, ◌++◌, length, Some, None, OnOk, OnErr, IfOk, IfSome, IsNone, cond, ◌||◌, ◌&&◌, nat_eq, position, slice_get, slice_set, slice_index_or, sum_by, insert, remove, take, drop, true, false, ◌^◌};
-ghost use Rattle.std.specs.HashMap.{get};
-ghost use Rattle.rw_blocks.specs.State.{active_of};
+ghost use Rattle.std.specs.Prelude.{◌≡◌, ◌<◌, ◌≤◌, ◌+◌, [], ◌∷◌, length, Some, None, OnOk, OnErr, IfOk, IfSome, IsNone, if◌then◌else◌, ◌&&◌, nat_eq, position, slice_get, sum_by, true, false, ◌^◌};
+ghost use Rattle.rw_blocks.specs.State.{active_of, section_in, new_section};
 ghost use Rattle.std.specs.List.{list_any};
 ghost use Rattle.rw_blocks.specs.Sums.{has_block, has_serial};
 ghost use Rattle.rw_blocks.specs.Loose.{devices_in};
-ghost use Rattle.rw_blocks.specs.Primitives.{section_sealing, section_joining};
-ghost use Rattle.rw_blocks.specs.Undo.{section_unsealing, upper_of, lower_of};
-ghost use Rattle.rw_blocks.specs.Tags.{section_in, IsAbsent, IsOnlyIn, Parts, ComesFrom, Joins, vanishes};
+ghost use Rattle.rw_blocks.specs.Primitives.{sections_changing, section_sealing, section_losing, upper_of, joined_at};
+ghost use Rattle.rw_blocks.specs.Undo.{section_unsealing, section_gaining, lower_of, parted_at};
+ghost use Rattle.rw_blocks.specs.Questions.{NoneSealed, NoneSealedBehind};
+ghost use Rattle.rw_blocks.specs.Tags.{IsAbsent, IsOnlyIn, Retags, Parts, ComesFrom, JoinsNext, is_vanishing, IsGoneOnceUnsealed, IsOnceIn};
 
 use crate::Kind;
 use crate::section::Section;
@@ -40,10 +40,11 @@ impl Model for Sections {
 
     ghost view = { λ s. s.list.items };
 
-    ghost invariant = { λ s. 0 < length s.list.items → IsTagged s.list.items s.tags.items (λ b. get nat_eq s.owners b) };
+    ghost invariant = { λ s. 0 < length s.list.items
+        → IsTagged s.list.items s.tags.items (λ b. get nat_eq s.owners b) };
 }
 
-/// A tag that none of these is.
+/// The least number that is none of `tags`.
 fn free_tag(tags: &[u64]) -> u64
     ensures { list_any (nat_eq result) tags.now ≡ false }
 {
@@ -54,12 +55,14 @@ fn free_tag(tags: &[u64]) -> u64
     tag
 }
 
+/// Whether the tag is one of `tags`.
 fn is_used(tags: &[u64], tag: u64) -> bool
     ensures { result ≡ list_any (nat_eq tag) tags.now }
 {
     tags.iter().any(|t| tag == *t)
 }
 
+/// Where the tag stands in `tags`. `None` exactly where it is none of them.
 fn place_of(tags: &[u64], tag: u64) -> Option<usize>
     ensures { result ≡ position (λ t. nat_eq t tag) tags.now }
 {
@@ -67,8 +70,13 @@ fn place_of(tags: &[u64], tag: u64) -> Option<usize>
 }
 
 /// Each block of the section gets the tag.
+///
+/// # Errors
+///
+/// [`NoMemory`] where memory was refused; nothing is said of the tags then. `tag_sealed` and `retag` say the same.
 fn tag_all(owners: &mut HashMap<u64, u64>, section: &Section, tag: u64) -> Result<(), NoMemory>
-    ensures { OnOk result ((b : ℕ) → get nat_eq owners.new b ≡ cond (has_block b section.now) (Some tag) (get nat_eq owners.old b)) }
+    ensures { OnOk result
+        (Retags owners.old owners.new (λ b. has_block b section.now) (λ b. Some tag)) }
 {
     tag_sealed(owners, section, tag)?;
     owners.insert(section.active(Kind::Device), tag)?;
@@ -76,8 +84,10 @@ fn tag_all(owners: &mut HashMap<u64, u64>, section: &Section, tag: u64) -> Resul
     Ok(())
 }
 
+/// Each sealed block of the section gets the tag.
 fn tag_sealed(owners: &mut HashMap<u64, u64>, section: &Section, tag: u64) -> Result<(), NoMemory>
-    ensures { OnOk result ((b : ℕ) → get nat_eq owners.new b ≡ cond (list_any (has_serial b) section.now.sealed) (Some tag) (get nat_eq owners.old b)) }
+    ensures { OnOk result (Retags owners.old owners.new
+        (λ b. list_any (has_serial b) section.now.sealed) (λ b. Some tag)) }
 {
     for position in 0..section.sealed() {
         let (serial, _) = section.sealed_at(position);
@@ -94,7 +104,10 @@ fn retag(
     device_vanishes: bool,
     virtual_vanishes: bool,
 ) -> Result<(), NoMemory>
-    ensures { OnOk result ((b : ℕ) → get nat_eq owners.new b ≡ cond (has_block b section.now) (cond (vanishes device_vanishes virtual_vanishes section.now b) None (Some tag)) (get nat_eq owners.old b)) }
+    ensures { OnOk result (Retags owners.old owners.new
+        (λ b. has_block b section.now)
+        (λ b. if is_vanishing device_vanishes virtual_vanishes section.now b then None
+        else Some tag)) }
 {
     tag_all(owners, section, tag)?;
     untag(owners, section.active(Kind::Device), device_vanishes);
@@ -104,7 +117,7 @@ fn retag(
 
 /// The block gets no tag, where it vanishes.
 fn untag(owners: &mut HashMap<u64, u64>, serial: u64, vanishes: bool)
-    ensures { (b : ℕ) → get nat_eq owners.new b ≡ cond (vanishes && nat_eq serial b) None (get nat_eq owners.old b) }
+    ensures { Retags owners.old owners.new (λ b. vanishes && nat_eq serial b) (λ b. None) }
 {
     if vanishes {
         owners.remove(&serial);
@@ -130,6 +143,7 @@ impl Sections {
         self.list[section].active(kind)
     }
 
+    /// How many sealed blocks the section has.
     pub fn sealed(&self, section: usize) -> usize
         requires { section < length self.now }
         ensures { result ≡ length (section_in self.now section).sealed }
@@ -137,6 +151,7 @@ impl Sections {
         self.list[section].sealed()
     }
 
+    /// A sealed block of the section: its serial and its kind.
     pub fn sealed_at(&self, section: usize, position: usize) -> (u64, Kind)
         requires there { section < length self.now }
         requires sealed { position < length (section_in self.now section).sealed }
@@ -145,12 +160,12 @@ impl Sections {
         self.list[section].sealed_at(position)
     }
 
-    /// Where the last sealed block stands, as section and position.
+    /// Where the last sealed block stands, as section and position. `None` exactly where no block is sealed.
     pub fn last_sealed(&self) -> Option<(usize, usize)>
         ensures there { IfSome result (λ at. at.0 < length self.now) }
         ensures last { IfSome result (λ at. at.1 + 1 ≡ length (section_in self.now at.0).sealed) }
-        ensures behind { IfSome result (λ at. (j : ℕ) → at.0 < j → j < length self.now → (section_in self.now j).sealed ≡ []) }
-        ensures none { IsNone result → (j : ℕ) → j < length self.now → (section_in self.now j).sealed ≡ [] }
+        ensures behind { IfSome result (λ at. NoneSealedBehind at.0 self.now) }
+        ensures none { IsNone result → NoneSealed self.now }
     {
         let section = self.list.iter().rposition(|s| s.sealed() > 0)?;
         Some((section, self.list[section].sealed() - 1))
@@ -164,7 +179,7 @@ impl Sections {
         self.list.iter().map(|s| s.sealed_devices()).sum()
     }
 
-    /// The section that has the block.
+    /// The section that has the block. `None` exactly where there is none.
     pub fn section_of(&self, serial: u64) -> Option<usize>
         ensures first { result ≡ position (has_block serial) self.now }
         ensures there { IfSome result (λ i. i < length self.now) }
@@ -182,9 +197,13 @@ impl Sections {
 
 /// Changes.
 impl Sections {
-    /// One section with these active blocks.
+    /// One section, whose active blocks are `device` and `virtual_block`.
+    ///
+    /// # Errors
+    ///
+    /// [`NoMemory`] where memory was refused. With the changes below no section is left then.
     pub fn new(alloc: Global, device: u64, virtual_block: u64) -> Result<Sections, NoMemory>
-        ensures { IfOk result (λ s. s ≡ record { active_device = device; active_virtual = virtual_block; sealed = [] } ∷ []) }
+        ensures { IfOk result (λ s. s ≡ new_section device virtual_block ∷ []) }
     {
         let mut owners = HashMap::new(alloc);
         let section = Section::new(alloc, device, virtual_block);
@@ -205,7 +224,8 @@ impl Sections {
     pub fn seal(&mut self, section: usize, kind: Kind, fresh: u64) -> Result<(), NoMemory>
         requires there { section < length self.old }
         requires fresh { IsAbsent fresh self.old }
-        ensures sealed { OnOk result (self.new ≡ slice_set self.old section (section_sealing kind fresh (section_in self.old section))) }
+        ensures sealed { OnOk result
+            (self.new ≡ sections_changing self.old section (section_sealing kind fresh)) }
         ensures refused { OnErr result (self.new ≡ []) }
     {
         let mut list = mem::replace(&mut self.list, Vec::new(self.alloc));
@@ -220,8 +240,8 @@ impl Sections {
     pub fn unseal(&mut self, section: usize, kind: Kind)
         requires there { section < length self.old }
         requires some { 0 < length (section_in self.old section).sealed }
-        requires gone { has_block (active_of kind (section_in self.old section)) (section_unsealing kind (section_in self.old section)) ≡ false }
-        ensures { self.new ≡ slice_set self.old section (section_unsealing kind (section_in self.old section)) }
+        requires gone { IsGoneOnceUnsealed kind (section_in self.old section) }
+        ensures { self.new ≡ sections_changing self.old section (section_unsealing kind) }
     {
         let active = self.list[section].active(kind);
         self.list[section].unseal(kind);
@@ -232,9 +252,9 @@ impl Sections {
     pub fn take_out(&mut self, section: usize, position: usize) -> (u64, Kind)
         requires there { section < length self.old }
         requires sealed { position < length (section_in self.old section).sealed }
-        requires once { has_block (slice_index_or (section_in self.old section).sealed position (0, Kind.Device)).0 (record (section_in self.old section) { sealed = remove (section_in self.old section).sealed position }) ≡ false }
+        requires once { IsOnceIn position (section_in self.old section) }
         ensures block { slice_get (section_in self.old section).sealed position ≡ Some result }
-        ensures rest { self.new ≡ slice_set self.old section (record (section_in self.old section) { sealed = remove (section_in self.old section).sealed position }) }
+        ensures rest { self.new ≡ sections_changing self.old section (section_losing position) }
     {
         let (serial, kind) = self.list[section].take_out(position);
         self.owners.remove(&serial);
@@ -252,7 +272,8 @@ impl Sections {
         requires there { section < length self.old }
         requires within { position ≤ length (section_in self.old section).sealed }
         requires absent { IsAbsent serial self.old }
-        ensures put { OnOk result (self.new ≡ slice_set self.old section (record (section_in self.old section) { sealed = insert (section_in self.old section).sealed position (serial, kind) })) }
+        ensures put { OnOk result (self.new ≡ sections_changing self.old section
+            (section_gaining position (serial, kind))) }
         ensures refused { OnErr result (self.new ≡ []) }
     {
         let mut list = mem::replace(&mut self.list, Vec::new(self.alloc));
@@ -262,9 +283,9 @@ impl Sections {
         Ok(())
     }
 
-    /// Parts a section in two: the upper one keeps its active blocks and its first sealed blocks, and the lower one has
-    /// these active blocks and the other sealed ones, of which the first is dropped for each of the active ones that
-    /// did not vanish.
+    /// Parts a section in two: the upper one keeps its active blocks and its first `upper_sealed` sealed blocks. The
+    /// lower one has `device` and `virtual_block` as active blocks, and the other sealed ones, of which the first is
+    /// dropped for each of the active ones that did not vanish.
     pub fn part(
         &mut self,
         section: usize,
@@ -276,9 +297,16 @@ impl Sections {
     ) -> Result<(), NoMemory>
         requires there { section < length self.old }
         requires within { upper_sealed ≤ length (section_in self.old section).sealed }
-        requires parts { Parts (section_in self.old section) (upper_of upper_sealed (section_in self.old section)) (lower_of upper_sealed device virtual_block device_vanished virtual_vanished (section_in self.old section)) }
-        requires from { ComesFrom (lower_of upper_sealed device virtual_block device_vanished virtual_vanished (section_in self.old section)) (section_in self.old section) self.old }
-        ensures parted { OnOk result (self.new ≡ insert (slice_set self.old section (upper_of upper_sealed (section_in self.old section))) (section + 1) (lower_of upper_sealed device virtual_block device_vanished virtual_vanished (section_in self.old section))) }
+        requires parts { Parts (section_in self.old section)
+            (upper_of upper_sealed (section_in self.old section))
+            (lower_of upper_sealed device virtual_block device_vanished virtual_vanished
+            (section_in self.old section)) }
+        requires from { ComesFrom
+            (lower_of upper_sealed device virtual_block device_vanished virtual_vanished
+            (section_in self.old section))
+            (section_in self.old section) self.old }
+        ensures parted { OnOk result (self.new ≡ parted_at self.old section
+            upper_sealed device virtual_block device_vanished virtual_vanished) }
         ensures refused { OnErr result (self.new ≡ []) }
     {
         let mut list = mem::replace(&mut self.list, Vec::new(self.alloc));
@@ -297,7 +325,8 @@ impl Sections {
         Ok(())
     }
 
-    /// Joins a section with the next one, whose active blocks vanish where it says so.
+    /// Joins a section with the next one, of whose active blocks the device block vanishes where `device_vanishes`, and
+    /// the virtual one where `virtual_vanishes`.
     pub fn join(
         &mut self,
         section: usize,
@@ -305,8 +334,9 @@ impl Sections {
         virtual_vanishes: bool,
     ) -> Result<(), NoMemory>
         requires there { section + 1 < length self.old }
-        requires joins { Joins (section_in self.old section) (section_in self.old (section + 1)) (vanishes device_vanishes virtual_vanishes (section_in self.old (section + 1))) (section_joining device_vanishes virtual_vanishes (section_in self.old section) (section_in self.old (section + 1))) }
-        ensures joined { OnOk result (self.new ≡ slice_set (remove self.old (section + 1)) section (section_joining device_vanishes virtual_vanishes (section_in self.old section) (section_in self.old (section + 1)))) }
+        requires joins { JoinsNext self.old section device_vanishes virtual_vanishes }
+        ensures joined { OnOk result
+            (self.new ≡ joined_at self.old section device_vanishes virtual_vanishes) }
         ensures refused { OnErr result (self.new ≡ []) }
     {
         let mut list = mem::replace(&mut self.list, Vec::new(self.alloc));

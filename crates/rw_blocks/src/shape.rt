@@ -1,6 +1,6 @@
 // The shape of a queue.
 ghost use Rattle.std.specs.Prelude.{◌≡◌, ◌↔◌, IsSome, IfSome};
-ghost use Rattle.rw_blocks.specs.State.{IsShape};
+ghost use Rattle.rw_blocks.specs.State.{IsShape, limits_of};
 
 use std::marker::Model;
 
@@ -13,11 +13,11 @@ pub struct Shape {
 }
 
 impl Model for Shape {
-    ghost use Rattle.rw_blocks.specs.State.{Limits, IsShape};
+    ghost use Rattle.rw_blocks.specs.State.{Limits, IsShape, limits_of};
 
     ghost Value = { Limits };
 
-    ghost view = { λ s. record { sections = s.sections; block = s.block; blocks = s.blocks } };
+    ghost view = { λ s. limits_of s.sections s.block s.blocks };
 
     ghost invariant = { λ s. IsShape s.sections s.block s.blocks };
 
@@ -34,11 +34,12 @@ impl Shape {
     /// The most sealed device blocks.
     pub const MAX_BLOCKS: u64 = 65_536;
 
-    /// The shape with at most `sections` sections (1 to 16), blocks of `block` bytes (1 to 268435456) and at most
-    /// `blocks` sealed device blocks (1 to 65536). `None` exactly where one of the three is out of its range.
+    /// The shape with at most `sections` sections (1 to [`MAX_SECTIONS`](Shape::MAX_SECTIONS)), blocks of `block` bytes
+    /// (1 to [`MAX_BLOCK`](Shape::MAX_BLOCK)) and at most `blocks` sealed device blocks (1 to
+    /// [`MAX_BLOCKS`](Shape::MAX_BLOCKS)). `None` exactly where one of the three is out of its range.
     pub fn new(sections: u64, block: u64, blocks: u64) -> Option<Shape>
         ensures in_range { IsSome result ↔ IsShape sections block blocks }
-        ensures shape { IfSome result (λ s. s ≡ record { sections = sections; block = block; blocks = blocks }) }
+        ensures shape { IfSome result (λ s. s ≡ limits_of sections block blocks) }
     {
         if (1..=Self::MAX_SECTIONS).contains(&sections)
             && (1..=Self::MAX_BLOCK).contains(&block)

@@ -10,7 +10,7 @@ use Rattle.rw_board.specs.declared.rule.View.{View}
 use Rattle.rw_vt.specs.declared.event.TheConstants.{END}
 use Rattle.rw_board.specs.Least.{least}
 use Rattle.rw_board.specs.Seats.{SeatState, all_noted}
-use Rattle.rw_board.specs.Rule.{view, least_of_all, weights, KeepsRule, Notes, Reads, with_one_less, of_one, both, nobody}
+use Rattle.rw_board.specs.Rule.{view, least_of_all, weights, KeepsRule, Notes, Reads, with_one_less, new_view, joined_view, spent_view}
 
 pub least-END : (xs : List ℕ) → least xs ≤ END
 least-END [] = le_refl END
@@ -68,16 +68,16 @@ set_there (x ∷ xs) zero v w e = refl
 set_there (x ∷ xs) (suc k) v w e = set_there xs k v w e
 
 -- where another seat has noted as little, what is left of a spent seat counts for nothing
-all_spend : (vs : List View) (k j : ℕ) (w b : View) → j ≢ k → get_elem? vs k ≡ some w → get_elem? vs j ≡ some b → least b.noted ≤ least w.noted → least_of_all (set vs k nobody) ≡ least_of_all vs
+all_spend : (vs : List View) (k j : ℕ) (w b : View) → j ≢ k → get_elem? vs k ≡ some w → get_elem? vs j ≡ some b → least b.noted ≤ least w.noted → least_of_all (set vs k spent_view) ≡ least_of_all vs
 all_spend vs k j w b apart at there h =
-    let here : get_elem? (set vs k nobody) j ≡ some b = set_else vs k j nobody apart ∙ there in
-    let low : least_of_all (set vs k nobody) ≤ least b.noted = at_most (set vs k nobody) j b here in
-    let up : least_of_all (set vs k nobody) ≤ least_of_all vs = at_least (least_of_all (set vs k nobody)) vs (all-END (set vs k nobody))
+    let here : get_elem? (set vs k spent_view) j ≡ some b = set_else vs k j spent_view apart ∙ there in
+    let low : least_of_all (set vs k spent_view) ≤ least b.noted = at_most (set vs k spent_view) j b here in
+    let up : least_of_all (set vs k spent_view) ≤ least_of_all vs = at_least (least_of_all (set vs k spent_view)) vs (all-END (set vs k spent_view))
     (λ i v e. dite (ℕ_discrete i k)
-    (λ same. let s : some w ≡ some v = sym at ∙ (ap (get_elem? vs) (sym same) ∙ e) in subst (λ (z : View). least_of_all (set vs k nobody) ≤ least z.noted) (some-injective w v s) (omega arith))
-    (λ other. at_most (set vs k nobody) i v (set_else vs k i nobody other ∙ e))) in
-    let down : least_of_all vs ≤ least_of_all (set vs k nobody) = at_least (least_of_all vs) (set vs k nobody) (all-END vs)
-    (each_set (λ (u : View). least_of_all vs ≤ least u.noted) vs k nobody (all-END vs) (λ i v e. at_most vs i v e)) in omega arith
+    (λ same. let s : some w ≡ some v = sym at ∙ (ap (get_elem? vs) (sym same) ∙ e) in subst (λ (z : View). least_of_all (set vs k spent_view) ≤ least z.noted) (some-injective w v s) (omega arith))
+    (λ other. at_most (set vs k spent_view) i v (set_else vs k i spent_view other ∙ e))) in
+    let down : least_of_all vs ≤ least_of_all (set vs k spent_view) = at_least (least_of_all vs) (set vs k spent_view) (all-END vs)
+    (each_set (λ (u : View). least_of_all vs ≤ least u.noted) vs k spent_view (all-END vs) (λ i v e. at_most vs i v e)) in omega arith
 
 -- one seat alone
 each_one : (P : View → Type 0) (w : View) → P w → (j : ℕ) (v : View) → get_elem? (w ∷ []) j ≡ some v → P v
@@ -140,9 +140,9 @@ module _ {S : Type 0} where
         (refl, omega arith, omega arith, omega arith),
       )
 
-  pub splits : (n id : ℕ) (v : View) → 1 < v.weight → Splits {S = S} (KeepsRule n) id v (with_one_less v) (of_one v)
+  pub splits : (n id : ℕ) (v : View) → 1 < v.weight → Splits {S = S} (KeepsRule n) id v (with_one_less v) (new_view v)
   splits n id v heavy s kept at =
-      let l : View = with_one_less v in let r : View = of_one v in
+      let l : View = with_one_less v in let r : View = new_view v in
       let new : least l.noted ≡ min (least v.noted) END = omega (arith, least-END v.noted) in
       let one : least_of_all (set s.views id l) ≡ least_of_all s.views = omega (arith, all_set s.views id END v l at new, all-END s.views) in
       let all : least_of_all (set s.views id l ++ r ∷ []) ≡ least_of_all s.views = all_snoc (set s.views id l) r refl ∙ one in
@@ -157,36 +157,36 @@ module _ {S : Type 0} where
         whole = omega (arith, weights_set s.views id v l at, weights_snoc (set s.views id l) r, kept.whole);
       }
 
-  pub joins : (n id other : ℕ) (v w : View) → 0 < v.weight → 0 < w.weight → Joins {S = S} (KeepsRule n) id v other w (both v w) nobody
+  pub joins : (n id other : ℕ) (v w : View) → 0 < v.weight → 0 < w.weight → Joins {S = S} (KeepsRule n) id v other w (joined_view v w) spent_view
   joins n id other v w heavy weighty s kept at apart there =
-      let b : View = both v w in let vs : List View = set s.views id b in
+      let b : View = joined_view v w in let vs : List View = set s.views id b in
       let was : get_elem? s.views other ≡ some w = sym (set_else s.views id other b apart) ∙ there in
       let new : least b.noted ≡ min (least v.noted) (least w.noted) = least-append v.noted w.noted in
       let first : least_of_all vs ≡ min (least_of_all s.views) (least w.noted) = all_set s.views id (least w.noted) v b at new in
       let low : least_of_all s.views ≤ least w.noted = at_most s.views other w was in
-      let then : least_of_all (set vs other nobody) ≡ least_of_all vs = all_spend vs other id w b (λ e. apart (sym e)) there (set_there s.views id v b at) (omega arith) in
-      let all : least_of_all (set vs other nobody) ≡ least_of_all s.views = omega arith in
+      let then : least_of_all (set vs other spent_view) ≡ least_of_all vs = all_spend vs other id w b (λ e. apart (sym e)) there (set_there s.views id v b at) (omega arith) in
+      let all : least_of_all (set vs other spent_view) ≡ least_of_all s.views = omega arith in
       let one : least_of_all s.views ≤ v.read = kept.bound id v at heavy in
       let two : least_of_all s.views ≤ w.read = kept.bound other w was weighty in record {
         word = kept.word ∙ ap (λ (x : ℕ). x ∷ []) (sym all);
-        bound = each_set (λ (u : View). 0 < u.weight → least_of_all (set vs other nobody) ≤ u.read) vs other nobody (λ z. absurd (omega arith))
-            (each_set (λ (u : View). 0 < u.weight → least_of_all (set vs other nobody) ≤ u.read) s.views id b (λ _. omega arith)
+        bound = each_set (λ (u : View). 0 < u.weight → least_of_all (set vs other spent_view) ≤ u.read) vs other spent_view (λ z. absurd (omega arith))
+            (each_set (λ (u : View). 0 < u.weight → least_of_all (set vs other spent_view) ≤ u.read) s.views id b (λ _. omega arith)
             (λ j u e h. let c : least_of_all s.views ≤ u.read = kept.bound j u e h in omega arith));
-        spent = each_set (λ (u : View). u.weight ≡ 0 → u.noted ≡ []) vs other nobody (λ _. refl)
+        spent = each_set (λ (u : View). u.weight ≡ 0 → u.noted ≡ []) vs other spent_view (λ _. refl)
             (each_set (λ (u : View). u.weight ≡ 0 → u.noted ≡ []) s.views id b (λ z. absurd (omega arith)) kept.spent);
-        whole = omega (arith, weights_set s.views id v b at, weights_set vs other w nobody there, kept.whole);
+        whole = omega (arith, weights_set s.views id v b at, weights_set vs other w spent_view there, kept.whole);
       }
 
   -- a seat with the whole weight has noted all that counts
   pub all_own : (n id : ℕ) (v : View) (s : State S View) → Seen (KeepsRule n) id v s → v.weight ≡ n → least_of_all s.views ≡ least v.noted
   all_own n id v s seen whole =
       let kept : KeepsRule n s = seen.0 in
-      let others : weights (set s.views id nobody) ≡ 0 = omega (arith, weights_set s.views id v nobody seen.1, kept.whole) in
+      let others : weights (set s.views id spent_view) ≡ 0 = omega (arith, weights_set s.views id v spent_view seen.1, kept.whole) in
       let up : least_of_all s.views ≤ least v.noted = at_most s.views id v seen.1 in
       let down : least v.noted ≤ least_of_all s.views = at_least (least v.noted) s.views (least-END v.noted)
       (λ j u e. dite (ℕ_discrete j id)
       (λ same. let t : some v ≡ some u = sym seen.1 ∙ (ap (get_elem? s.views) (sym same) ∙ e) in subst (λ (z : View). least v.noted ≤ least z.noted) (some-injective v u t) (le_refl (least v.noted)))
-      (λ other. let light : u.weight ≤ weights (set s.views id nobody) = weight_within (set s.views id nobody) j u (set_else s.views id j nobody other ∙ e) in
+      (λ other. let light : u.weight ≤ weights (set s.views id spent_view) = weight_within (set s.views id spent_view) j u (set_else s.views id j spent_view other ∙ e) in
       subst (λ (xs : List ℕ). least v.noted ≤ least xs) (sym (kept.spent j u e (omega arith))) (least-END v.noted))) in omega arith
 
   -- what the word is at the end

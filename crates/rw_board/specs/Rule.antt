@@ -1,4 +1,4 @@
--- The rule of the board's one word, and the steps that keep it.
+-- The rule of the board's one word, and the steps that keep it. No contract of a function speaks of it.
 use Rattle.std.specs.Prelude.{◌≡◌, ℕ, ◌+◌, ◌-◌, ◌<◌, ◌≤◌, min, List, [], ◌∷◌, ◌++◌}
 use mathlib.Core.Option.{some}
 use lib.ListN.{get_elem?}
@@ -20,11 +20,15 @@ abbrev pub weights : List View → Count
 weights [] = 0
 weights (v ∷ vs) = v.weight + weights vs
 
--- The rule for n seats: the word is the least of END and of all notes, and at most the last reading of each seat that is not
--- spent; a seat of weight 0 is spent and has noted nothing; the weights add up to n
+-- The rule for n seats: the word is the least of END and of all notes, and at most the last reading of each seat that
+-- is not spent; a seat of weight 0 is spent and has noted nothing; the weights add up to n
 pub record KeepsRule {S : Type 0} (n : Count) (s : State S View) : Type 0 where
   pub word : s.words ≡ least_of_all s.views ∷ []
-  pub bound : (k : ℕ) (v : View) → get_elem? s.views k ≡ some v → 0 < v.weight → least_of_all s.views ≤ v.read
+  pub bound :
+      (k : ℕ) (v : View)
+      → get_elem? s.views k ≡ some v
+      → 0 < v.weight
+      → least_of_all s.views ≤ v.read
   pub spent : (k : ℕ) (v : View) → get_elem? s.views k ≡ some v → v.weight ≡ 0 → v.noted ≡ []
   pub whole : weights s.views ≡ n
 
@@ -35,24 +39,28 @@ module _ {S : Type 0} where
 
   -- a load: the caller has read the word, which is no later than END, than what it noted and than what it read before
   abbrev pub Reads : Step S → Me S View → Time → Me S View → Type 0
-  Reads st m found w = (w ≡ (view m.0.noted found m.0.weight, m.1)) × (found ≤ END) × (found ≤ least m.0.noted) × (found ≤ m.0.read)
+  Reads st m found w =
+      (w ≡ (view m.0.noted found m.0.weight, m.1))
+      × (found ≤ END)
+      × (found ≤ least m.0.noted)
+      × (found ≤ m.0.read)
 
 -- the first seat, which has the whole weight
-abbrev pub of_all : Count → View
-of_all n = view [] END n
+abbrev pub whole_view : Count → View
+whole_view n = view [] END n
 
 -- what is left of a seat that gives a new one a weight of one
 abbrev pub with_one_less : View → View
 with_one_less v = view v.noted v.read (v.weight - 1)
 
 -- the new seat
-abbrev pub of_one : View → View
-of_one v = view [] END 1
+abbrev pub new_view : View → View
+new_view v = view [] END 1
 
 -- a seat that takes over what another has noted, and the lesser of the two last readings
-abbrev pub both : View → View → View
-both v w = view (v.noted ++ w.noted) (min v.read w.read) (v.weight + w.weight)
+abbrev pub joined_view : View → View → View
+joined_view v w = view (v.noted ++ w.noted) (min v.read w.read) (v.weight + w.weight)
 
 -- a spent seat
-abbrev pub nobody : View
-nobody = view [] END 0
+abbrev pub spent_view : View
+spent_view = view [] END 0

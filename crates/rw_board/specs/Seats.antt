@@ -4,12 +4,12 @@ use Rattle.atomic_table.specs.Seated.{TableId}
 use Rattle.rw_vt.specs.Words.{Count, Time}
 use Rattle.rw_vt.specs.declared.event.TheConstants.{END}
 
--- which board it is, and how many seats it was opened with
+-- a board: which one it is, and how many seats it was opened with
 pub record BoardState : Type 0 where
   pub board : TableId
   pub seats : Count
 
--- which board it belongs to, the times that it noted, in order, and its last reading
+-- a seat: which board it belongs to, the times that it noted, in order, and its last reading
 pub record SeatState : Type 0 where
   pub board : TableId
   pub noted : List Time
@@ -23,7 +23,7 @@ new_seat board = record { board = board; noted = []; read = END }
 abbrev pub having_noted : SeatState → Time → SeatState
 having_noted seat time = record seat { noted = seat.noted ++ time ∷ [] }
 
--- the seat, once it has read this
+-- the seat, once it has read the time
 abbrev pub having_read : SeatState → Time → SeatState
 having_read seat found = record seat { read = found }
 

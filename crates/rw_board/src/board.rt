@@ -25,7 +25,9 @@ impl Model for Board {
 
     ghost view = { λ b. record { board = b.table.shared.table_id; seats = b.table.shared.key } };
 
-    ghost invariant = { λ b. (b.table.shared.table_id.words ≡ 1) × (b.table.shared.table_id.slots ≡ 0) × (1 ≤ b.table.shared.key) };
+    ghost invariant = { λ b. (b.table.shared.table_id.words ≡ 1)
+        × (b.table.shared.table_id.slots ≡ 0)
+        × (1 ≤ b.table.shared.key) };
 }
 
 /// The right to note times on one board and to read it, for one thread at a time.
@@ -42,7 +44,11 @@ impl Model for Seat {
 
     ghost Value = { SeatState };
 
-    ghost view = { λ s. record { board = s.inner.table_id; noted = s.inner.me.0.noted; read = s.inner.me.0.read } };
+    ghost view = { λ s. record {
+      board = s.inner.table_id;
+      noted = s.inner.me.0.noted;
+      read = s.inner.me.0.read;
+    } };
 
     ghost invariant = { λ s. (s.inner.me.1 ≡ []) × (s.inner.me.0.weight ≡ 1) };
 }
@@ -61,8 +67,8 @@ impl Board {
     /// Reads the word: the least of [`END`] and of all times noted so far, by any seat.
     ///
     /// Proved is that the reading is never above `END`, above a time that this seat noted or above one of its earlier
-    /// readings, and never below what [`close`] gives; that other seats' notes are seen is tested. One atomic step; takes
-    /// no memory and never waits.
+    /// readings, and never below what [`close`] gives; that other seats' notes are seen is tested. One atomic step;
+    /// takes no memory and never waits.
     pub fn floor(&self, seat: &mut Seat) -> u64
         requires board { seat.old.board ≡ self.now.board }
         ensures end { result ≤ END }
@@ -74,11 +80,16 @@ impl Board {
     }
 }
 
-/// A board on which nothing is noted yet, and its seats, 1 to 16 of them.
+/// The most seats of a board.
+pub const MAX_SEATS: usize = 16;
+
+/// A board on which nothing is noted yet, and its `seats` seats, 1 to [`MAX_SEATS`] of them.
 ///
-/// Refused only where memory is.
+/// # Errors
+///
+/// [`NoMemory`] where memory was refused.
 pub fn open(alloc: Global, seats: usize) -> Result<(Board, Vec<Seat>), NoMemory>
-    requires seats { (1 ≤ seats) × (seats ≤ 16) }
+    requires seats { (1 ≤ seats) × (seats ≤ MAX_SEATS) }
     ensures board { IfOk result (λ opened. opened.0.seats ≡ seats) }
     ensures count { IfOk result (λ opened. vec_len opened.1 ≡ seats) }
     ensures new { IfOk result (λ opened. All (λ s. s ≡ new_seat opened.0.board) opened.1.items) }

@@ -1,5 +1,5 @@
 //! What is always true of the board's word, and what each atomic step does to it.
-ghost use Rattle.rw_board.specs.Rule.{KeepsRule, Notes, Reads, of_all, with_one_less, of_one, both, nobody};
+ghost use Rattle.rw_board.specs.Rule.{KeepsRule, Notes, Reads, whole_view, with_one_less, new_view, joined_view, spent_view};
 
 use atomic_table::{Join, Play, Split, TableRule};
 use std::collections::LinkedList;
@@ -19,7 +19,7 @@ pub(crate) struct LeastNoted;
 impl TableRule<(), View, u64> for LeastNoted {
     ghost holds = { KeepsRule };
 
-    ghost first = { of_all };
+    ghost first = { whole_view };
 }
 
 /// The step of a seat that notes a time.
@@ -42,14 +42,14 @@ pub(crate) struct OneSeat;
 impl Split<View> for OneSeat {
     ghost left = { with_one_less };
 
-    ghost right = { of_one };
+    ghost right = { new_view };
 }
 
 /// One seat takes over what another has noted and read, and its weight.
 pub(crate) struct Gather;
 
 impl Join<View> for Gather {
-    ghost both = { both };
+    ghost both = { joined_view };
 
-    ghost spent = { nobody };
+    ghost spent = { spent_view };
 }

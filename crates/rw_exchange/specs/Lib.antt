@@ -1,2 +1,4 @@
-pub mod Rings
+-- what public contracts say
 pub mod Ports
+-- the ends of rings, of which only private contracts and a port's invariant speak
+pub mod Rings

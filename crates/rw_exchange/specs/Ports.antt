@@ -4,8 +4,8 @@ use Rattle.std.specs.List.{All}
 use Rattle.rw_vt.specs.Words.{Count, Worker}
 use Rattle.rw_exchange.specs.Rings.{Ring, AllButOwn, cell}
 
--- A worker's port: the rings to and from each worker, all that went through this end of each, oldest first, and how many
--- slots of the ring to each worker the port knows to be free
+-- A worker's port: the rings to and from each worker, all that went through this end of each, oldest first, and how
+-- many slots of the ring to each worker the port knows to be free
 pub record PortState (T : Type 0) : Type 0 where
   pub worker : Worker
   pub capacity : Count
@@ -26,14 +26,15 @@ module _ {T : Type 0} where
   abbrev pub free_to : PortState T → Worker → Count
   free_to p k = slice_index_or p.free k 0
 
-  -- the port, once it has sent the letter to the worker k, and then knows of so many free slots there
+  -- the port, once it has sent the letter to the worker k, and then knows of `free` free slots there
   abbrev pub having_sent : PortState T → Worker → T → Count → PortState T
   having_sent p k x free =
       record p { sent = slice_set p.sent k (sent_to p k ++ x ∷ []); free = slice_set p.free k free }
 
   -- the port, once it has received the letter from the worker k
   abbrev pub having_received : PortState T → Worker → T → PortState T
-  having_received p k x = record p { received = slice_set p.received k (received_from p k ++ x ∷ []) }
+  having_received p k x =
+      record p { received = slice_set p.received k (received_from p k ++ x ∷ []) }
 
   -- k is one of the other workers
   abbrev pub IsOther : PortState T → Worker → Type 0
@@ -43,18 +44,24 @@ module _ {T : Type 0} where
   abbrev pub IsNew : PortState T → Type 0
   IsNew p = ((k : Worker) → sent_to p k ≡ []) × ((k : Worker) → received_from p k ≡ [])
 
-  -- the port has this many lists of letters, and as many places for rings
-  abbrev pub IsWide : Count → PortState T → Type 0
-  IsWide n p = (length p.out ≡ n) × (length p.into ≡ n) × (length p.sent ≡ n) × (length p.received ≡ n)
+  -- the port knows of n free slots of the ring to each other worker
+  abbrev pub KnowsFreeToEach : Count → PortState T → Type 0
+  KnowsFreeToEach n p = (k : Worker) → IsOther p k → free_to p k ≡ n
 
-  -- q is p, perhaps after it has sent and received more
-  pub record SamePort (p q : PortState T) : Type 0 where
-    pub worker : q.worker ≡ p.worker
-    pub capacity : q.capacity ≡ p.capacity
-    pub out : q.out ≡ p.out
-    pub into : q.into ≡ p.into
-    pub sent : length q.sent ≡ length p.sent
-    pub received : length q.received ≡ length p.received
+  -- the port has n lists of letters each way, and as many places for rings
+  abbrev pub IsWide : Count → PortState T → Type 0
+  IsWide n p =
+      (length p.out ≡ n) × (length p.into ≡ n)
+      × (length p.sent ≡ n) × (length p.received ≡ n)
+
+  -- the port is the same before and after, perhaps once it has sent and received more
+  pub record SamePort (before after : PortState T) : Type 0 where
+    pub worker : after.worker ≡ before.worker
+    pub capacity : after.capacity ≡ before.capacity
+    pub out : after.out ≡ before.out
+    pub into : after.into ≡ before.into
+    pub sent : length after.sent ≡ length before.sent
+    pub received : length after.received ≡ length before.received
 
 -- the list of row i and column j
 abbrev pub entry : {X : Type 0} → List (List (List X)) → ℕ → ℕ → List X
@@ -75,18 +82,48 @@ module _ {T : Type 0} where
   abbrev pub received_between : List (PortState T) → Worker → Worker → List T
   received_between ps i j = entry (map (λ p. p.received) ps) j i
 
-  -- These are all ports of one opening, in order: port i has a ring to each other worker and none to itself, and the ring from
-  -- i to j is the one that port j has from i
+  -- what is left in the rings between n workers is what was sent and not received, letter by letter and in order
+  abbrev pub IsLeftOf : Count → List (PortState T) → List (List (List T)) → Type 0
+  IsLeftOf n ps left =
+      (from to : Worker)
+      → from < n
+      → to < n
+      → received_between ps from to ++ entry left from to ≡ sent_between ps from to
+
+  -- of n workers nothing is left from one to itself
+  abbrev pub NoneToItself : Count → List (List (List T)) → Type 0
+  NoneToItself n left = (i : Worker) → i < n → entry left i i ≡ []
+
+  -- These are all ports of one opening, in order: port i has a ring to each other worker and none to itself, and the
+  -- ring from i to j is the one that port j has from i
   pub record IsOpening (ps : List (PortState T)) : Type 0 where
-    pub numbered : (i : Worker) (d : PortState T) → i < length ps → (slice_index_or ps i d).worker ≡ i
+    pub numbered :
+        (i : Worker) (d : PortState T) → i < length ps → (slice_index_or ps i d).worker ≡ i
     pub wide : All (IsWide (length ps)) ps
     pub others : (i : Worker) → i < length ps → AllButOwn i (slice_index_or (outs_of ps) i [])
-    pub paired : (i j : Worker) → i < length ps → j < length ps → cell (outs_of ps) i j ≡ cell (intos_of ps) j i
+    pub paired :
+        (i j : Worker)
+        → i < length ps
+        → j < length ps
+        → cell (outs_of ps) i j ≡ cell (intos_of ps) j i
 
   -- the same ports in the same order, perhaps after they have sent and received more
   abbrev pub AreSamePorts : List (PortState T) → List (PortState T) → Type 0
-  AreSamePorts ps qs = (length qs ≡ length ps) × ((i : Worker) (d : PortState T) → i < length ps → SamePort (slice_index_or ps i d) (slice_index_or qs i d))
+  AreSamePorts before after =
+      (length after ≡ length before)
+      × ((i : Worker) (d : PortState T)
+      → i < length before
+      → SamePort (slice_index_or before i d) (slice_index_or after i d))
 
   -- whatever goes through them, they are all ports of one opening
   abbrev pub StayAnOpening : List (PortState T) → Type 0
   StayAnOpening ps = (later : List (PortState T)) → AreSamePorts ps later → IsOpening later
+
+-- ---- for private contracts
+-- of each of n rings in a row, what came out at one place of the columns, followed by what is left, is what went in
+abbrev pub IsLeftOfRow :
+    {T : Type 0} → Count → ℕ → List (List (List T)) → List (List T) → List (List T) → Type 0
+IsLeftOfRow n place received left sent =
+    (j : ℕ)
+    → j < n
+    → entry received j place ++ slice_index_or left j [] ≡ slice_index_or sent j []

@@ -1,5 +1,5 @@
 -- A ring, and what its ends show.
-use Rattle.std.specs.Prelude.{◌≡◌, ℕ, ◌<◌, ◌==◌, not, List, [], ◌∷◌, ◌++◌, map, length, slice_index_or, Option, Some, None, is_some, Vec}
+use Rattle.std.specs.Prelude.{◌≡◌, ◌≢◌, ℕ, ◌<◌, ◌==◌, not, List, [], ◌∷◌, ◌++◌, map, length, slice_index_or, slice_set, Option, Some, None, IsSome, is_some, Vec}
 use Rattle.std.specs.List.{All}
 use Rattle.std.specs.declared.alloc.Global.{Global}
 use denote.RawPtr.{Ptr}
@@ -8,72 +8,98 @@ use Rattle.rtrb.specs.declared.producer.Producer.{Producer}
 use Rattle.rtrb.specs.declared.consumer.Consumer.{Consumer}
 use Rattle.rtrb.specs.Ring as ring
 
--- which ring it is: where its words and its slots lie, and the names of what its ends know
+-- a ring, by what tells it from others: where its words and its slots lie, and the names of what its ends know
 abbrev pub Ring : Type 0
 Ring = Ptr × (Ptr × (ℕ × (ℕ × ℕ)))
 
--- An end of a ring, or none
+-- an end of a ring where letters go in, or where they come out, or none
+abbrev pub Out : Type 0 → Type 0
+Out T = Option (Producer T Global AnyItems)
+
+abbrev pub In : Type 0 → Type 0
+In T = Option (Consumer T Global AnyItems)
+
+-- the ends where the letters of one worker go in, and those where its letters come out
+abbrev pub Row : Type 0 → Type 0
+Row T = Vec (Out T) Global
+
+abbrev pub Column : Type 0 → Type 0
+Column T = Vec (In T) Global
+
+-- ---- an end of a ring, or none
 
 module _ {T : Type 0} where
-  abbrev pub out_ring : Option (Producer T Global AnyItems) → Option Ring
+  abbrev pub out_ring : Out T → Option Ring
   out_ring None = None
   out_ring (Some p) = Some (p.end.words, (p.end.slots, p.end.names))
 
-  abbrev pub in_ring : Option (Consumer T Global AnyItems) → Option Ring
+  abbrev pub in_ring : In T → Option Ring
   in_ring None = None
   in_ring (Some c) = Some (c.end.words, (c.end.slots, c.end.names))
 
   -- all that went into it, oldest first
-  abbrev pub out_sent : Option (Producer T Global AnyItems) → List T
+  abbrev pub out_sent : Out T → List T
   out_sent None = []
   out_sent (Some p) = ring.sent p
 
   -- how many of its slots are known to be free where letters go in
-  abbrev pub out_free : Option (Producer T Global AnyItems) → ℕ
+  abbrev pub out_free : Out T → ℕ
   out_free None = 0
   out_free (Some p) = ring.known_free p
 
   -- all that came out of it, oldest first
-  abbrev pub in_received : Option (Consumer T Global AnyItems) → List T
+  abbrev pub in_received : In T → List T
   in_received None = []
   in_received (Some c) = ring.received c
 
   -- the ring, where there is one, has this capacity
-  abbrev pub HasCapacity : ℕ → Option (Producer T Global AnyItems) → Type 0
+  abbrev pub HasCapacity : ℕ → Out T → Type 0
   HasCapacity n None = Unit {0}
   HasCapacity n (Some p) = ring.producer_capacity p ≡ n
 
   -- all n slots of the ring, where there is one, are known to be free
-  abbrev pub KnowsFree : ℕ → Option (Producer T Global AnyItems) → Type 0
+  abbrev pub KnowsFree : ℕ → Out T → Type 0
   KnowsFree n None = Unit {0}
   KnowsFree n (Some p) = ring.known_free p ≡ n
 
   -- an end through which nothing went
-  abbrev pub NothingSent : Option (Producer T Global AnyItems) → Type 0
+  abbrev pub NothingSent : Out T → Type 0
   NothingSent x = out_sent x ≡ []
 
-  abbrev pub NothingReceived : Option (Consumer T Global AnyItems) → Type 0
+  abbrev pub NothingReceived : In T → Type 0
   NothingReceived x = in_received x ≡ []
 
--- The ends of one worker, and those of several
+-- ---- the ends of one worker, and those of several
 
 module _ {T : Type 0} where
-  abbrev pub out_rings : List (Option (Producer T Global AnyItems)) → List (Option Ring)
+  -- there is an end each way for every worker but this one
+  abbrev pub HasEnds : ℕ → List (Out T) → List (In T) → Type 0
+  HasEnds own outs ins =
+      (k : ℕ)
+      → k < length outs
+      → k ≢ own
+      → IsSome (slice_index_or outs k None) × IsSome (slice_index_or ins k None)
+
+  -- nothing came out of any end
+  abbrev pub NothingReceivedAtAll : List (Column T) → Type 0
+  NothingReceivedAtAll columns = All (λ (c : Column T). All NothingReceived c.items) columns
+
+  abbrev pub out_rings : List (Out T) → List (Option Ring)
   out_rings xs = map out_ring xs
 
-  abbrev pub in_rings : List (Option (Consumer T Global AnyItems)) → List (Option Ring)
+  abbrev pub in_rings : List (In T) → List (Option Ring)
   in_rings xs = map in_ring xs
 
-  abbrev pub out_table : List (Vec (Option (Producer T Global AnyItems)) Global) → List (List (Option Ring))
+  abbrev pub out_table : List (Row T) → List (List (Option Ring))
   out_table rows = map (λ r. map out_ring r.items) rows
 
-  abbrev pub in_table : List (Vec (Option (Consumer T Global AnyItems)) Global) → List (List (Option Ring))
+  abbrev pub in_table : List (Column T) → List (List (Option Ring))
   in_table rows = map (λ r. map in_ring r.items) rows
 
-  abbrev pub sent_table : List (Vec (Option (Producer T Global AnyItems)) Global) → List (List (List T))
+  abbrev pub sent_table : List (Row T) → List (List (List T))
   sent_table rows = map (λ r. map out_sent r.items) rows
 
-  abbrev pub received_table : List (Vec (Option (Consumer T Global AnyItems)) Global) → List (List (List T))
+  abbrev pub received_table : List (Column T) → List (List (List T))
   received_table rows = map (λ r. map in_received r.items) rows
 
 -- each element goes behind the list of its number
@@ -82,6 +108,14 @@ push_each [] xs = []
 push_each (c ∷ cs) [] = c ∷ cs
 push_each (c ∷ cs) (x ∷ xs) = (c ++ x ∷ []) ∷ push_each cs xs
 
+-- the lists, of which the one with the number has one element more
+abbrev pub lists_with : {X : Type 0} → List (List X) → ℕ → X → List (List X)
+lists_with lists k x = slice_set lists k (slice_index_or lists k [] ++ x ∷ [])
+
+-- every list but the one with the number is the same
+abbrev pub SameBut : {X : Type 0} → ℕ → List (List X) → List (List X) → Type 0
+SameBut j before after = (k : ℕ) → k ≢ j → slice_index_or after k [] ≡ slice_index_or before k []
+
 -- there is a ring to each number but this one
 abbrev pub AllButOwn : ℕ → List (Option Ring) → Type 0
 AllButOwn own xs = (k : ℕ) → k < length xs → is_some (slice_index_or xs k None) ≡ not (k == own)
@@ -89,6 +123,14 @@ AllButOwn own xs = (k : ℕ) → k < length xs → is_some (slice_index_or xs k 
 -- the cell of row i and column j
 abbrev pub cell : {X : Type 0} → List (List (Option X)) → ℕ → ℕ → Option X
 cell rows i j = slice_index_or (slice_index_or rows i []) j None
+
+-- each of the first n lists has a place with the number
+abbrev pub HasPlace : {X : Type 0} → ℕ → ℕ → List (List X) → Type 0
+HasPlace n place lists = (j : ℕ) → j < n → place < length (slice_index_or lists j [])
+
+-- the rings in a row of n are those at one place of each of the lists
+abbrev pub IsAtPlace : ℕ → ℕ → List (Option Ring) → List (List (Option Ring)) → Type 0
+IsAtPlace n place row lists = (j : ℕ) → j < n → slice_index_or row j None ≡ cell lists j place
 
 -- Rings by sender and by receiver: m senders so far, and n receivers
 pub record AreCrossed (n m : ℕ) (rows columns : List (List (Option Ring))) : Type 0 where

@@ -1,18 +1,19 @@
 //! The rings of an opening, before they are dealt to ports.
-ghost use Rattle.std.specs.Prelude.{◌≡◌, ◌≢◌, ℕ, ◌+◌, ◌≤◌, ◌<◌, ◌==◌, not, [], ◌∷◌, ◌++◌, length, map, slice_set, slice_index_or, is_some, All, IfOk, OnOk, vec_len};
-ghost use Rattle.rw_exchange.specs.Rings.{out_ring, in_ring, out_rings, in_table, HasCapacity, KnowsFree, NothingSent, NothingReceived, AllButOwn, push_each};
+ghost use Rattle.std.specs.Prelude.{◌≡◌, ◌<◌, length, is_some, All, IfOk, OnOk, vec_len};
+ghost use Rattle.rw_exchange.specs.Rings.{out_ring, in_ring, out_rings, in_table, HasCapacity, KnowsFree, NothingSent, NothingReceived, NothingReceivedAtAll, AllButOwn, push_each, lists_with};
 
 use rtrb::{Consumer, Producer, RingBuffer};
 use rw_vt::NoMemory;
 use std::alloc::Global;
 
-// Both ends of a new ring, or of none.
+// Both ends of a new ring, or of none where none is wanted.
 fn ends<T: Drop>(
     alloc: Global,
     wanted: bool,
     capacity: usize,
 ) -> Result<(Option<Producer<T>>, Option<Consumer<T>>), NoMemory>
-    ensures ring { IfOk result (λ r. (out_ring r.0 ≡ in_ring r.1) × (is_some (out_ring r.0) ≡ wanted)) }
+    ensures ring { IfOk result (λ r. out_ring r.0 ≡ in_ring r.1) }
+    ensures wanted { IfOk result (λ r. is_some (out_ring r.0) ≡ wanted) }
     ensures capacity { IfOk result (λ r. HasCapacity capacity r.0) }
     ensures free { IfOk result (λ r. KnowsFree capacity r.0) }
     ensures new { IfOk result (λ r. NothingSent r.0 × NothingReceived r.1) }
@@ -24,7 +25,7 @@ fn ends<T: Drop>(
     Ok((Some(producer), Some(consumer)))
 }
 
-// Puts an end behind the others of its column.
+// Puts an end behind the others of column `k`.
 fn push_at<T: Drop>(
     columns: &mut Vec<Vec<Option<Consumer<T>>>>,
     k: usize,
@@ -32,8 +33,11 @@ fn push_at<T: Drop>(
 ) -> Result<(), NoMemory>
     requires { k < vec_len columns.old }
     ensures length { vec_len columns.new ≡ vec_len columns.old }
-    ensures rings { OnOk result (in_table columns.new.items ≡ slice_set (in_table columns.old.items) k (slice_index_or (in_table columns.old.items) k [] ++ in_ring end ∷ [])) }
-    ensures received { OnOk result (NothingReceived end → All (λ c. All NothingReceived c.items) columns.old.items → All (λ c. All NothingReceived c.items) columns.new.items) }
+    ensures rings { OnOk result
+        (in_table columns.new.items ≡ lists_with (in_table columns.old.items) k (in_ring end)) }
+    ensures received { OnOk result (NothingReceived end
+        → NothingReceivedAtAll columns.old.items
+        → NothingReceivedAtAll columns.new.items) }
 {
     let column = &mut columns[k];
     column.reserve(1)?;
@@ -48,14 +52,15 @@ pub(crate) fn row<T: Drop>(
     own: usize,
     capacity: usize,
 ) -> Result<Vec<Option<Producer<T>>>, NoMemory>
-    requires { All (λ c. All NothingReceived c.items) columns.old.items }
+    requires { NothingReceivedAtAll columns.old.items }
     ensures length { IfOk result (λ r. vec_len r ≡ vec_len columns.old) }
-    ensures rings { IfOk result (λ r. in_table columns.new.items ≡ push_each (in_table columns.old.items) (out_rings r.items)) }
+    ensures rings { IfOk result (λ r. in_table columns.new.items
+        ≡ push_each (in_table columns.old.items) (out_rings r.items)) }
     ensures others { IfOk result (λ r. AllButOwn own (out_rings r.items)) }
     ensures capacity { IfOk result (λ r. All (HasCapacity capacity) r.items) }
     ensures free { IfOk result (λ r. All (KnowsFree capacity) r.items) }
     ensures sent { IfOk result (λ r. All NothingSent r.items) }
-    ensures received { IfOk result (λ r. All (λ c. All NothingReceived c.items) columns.new.items) }
+    ensures received { IfOk result (λ r. NothingReceivedAtAll columns.new.items) }
 {
     let count = columns.len();
     let mut row = Vec::with_capacity(alloc, count)?;

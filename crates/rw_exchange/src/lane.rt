@@ -13,7 +13,11 @@ pub(crate) fn push<T: Copy>(lane: &mut Option<Producer<T>>, letter: T) -> Result
     ensures free { OnOk result (out_free lane.old ≤ out_free lane.new + 1) }
     ensures full { OnErr result ((out_free lane.old ≡ 0) × (out_free lane.new ≡ 0)) }
     ensures known { 0 < out_free lane.old → IsOk result }
-    ensures capacity { (n : ℕ) → HasCapacity n lane.old → HasCapacity n lane.new × (length (out_sent lane.old) < n → IsOk result) }
+    ensures capacity { (n : ℕ) → HasCapacity n lane.old → HasCapacity n lane.new }
+    ensures succeeds { (n : ℕ)
+        → HasCapacity n lane.old
+        → length (out_sent lane.old) < n
+        → IsOk result }
 {
     match lane {
         Some(producer) => match producer.push(letter) {

@@ -37,8 +37,8 @@ impl<B: Copy> Left<B> {
         self.lists.len()
     }
 
-    /// The letters that were left on the way from one worker to another, oldest first; none where there is no such
-    /// worker. Takes no memory.
+    /// The letters that were left on the way from one worker to another, oldest first; none where one of the two does
+    /// not exist. Takes no memory.
     pub fn between(&self, from: usize, to: usize) -> &[Letter<B>]
         ensures letters { result.now ≡ entry self.now from to }
     {

@@ -1,7 +1,7 @@
 //! The ports of an opening.
-ghost use Rattle.std.specs.Prelude.{◌≡◌, ℕ, ◌+◌, ◌≤◌, ◌<◌, [], length, map, All, IfOk, vec_len};
-ghost use Rattle.rw_exchange.specs.Ports.{IsNew, IsOpening, IsOther, StayAnOpening, free_to};
-ghost use Rattle.rw_exchange.specs.Rings.{out_table, in_table, HasCapacity, KnowsFree, NothingSent, NothingReceived, AreCrossed};
+ghost use Rattle.std.specs.Prelude.{◌≡◌, ◌≤◌, [], All, IfOk, vec_len};
+ghost use Rattle.rw_exchange.specs.Ports.{IsNew, IsOpening, KnowsFreeToEach, StayAnOpening};
+ghost use Rattle.rw_exchange.specs.Rings.{out_table, in_table, HasCapacity, KnowsFree, NothingSent, NothingReceivedAtAll, AreCrossed};
 
 use crate::Port;
 use crate::build::row;
@@ -9,7 +9,7 @@ use rtrb::{Consumer, Producer};
 use rw_vt::NoMemory;
 use std::alloc::Global;
 
-// Columns with no end yet.
+// `count` columns with no end yet.
 fn empty<T: Drop>(alloc: Global, count: usize) -> Result<Vec<Vec<Option<Consumer<T>>>>, NoMemory>
     ensures { IfOk result (λ c. (vec_len c ≡ count) × All (λ v. v.items ≡ []) c.items) }
 {
@@ -26,11 +26,12 @@ fn tables<T: Drop>(
     count: usize,
     capacity: usize,
 ) -> Result<(Vec<Vec<Option<Producer<T>>>>, Vec<Vec<Option<Consumer<T>>>>), NoMemory>
-    ensures crossed { IfOk result (λ r. AreCrossed count count (out_table r.0.items) (in_table r.1.items)) }
+    ensures crossed { IfOk result (λ r.
+        AreCrossed count count (out_table r.0.items) (in_table r.1.items)) }
     ensures capacity { IfOk result (λ r. All (λ v. All (HasCapacity capacity) v.items) r.0.items) }
     ensures free { IfOk result (λ r. All (λ v. All (KnowsFree capacity) v.items) r.0.items) }
     ensures sent { IfOk result (λ r. All (λ v. All NothingSent v.items) r.0.items) }
-    ensures received { IfOk result (λ r. All (λ v. All NothingReceived v.items) r.1.items) }
+    ensures received { IfOk result (λ r. NothingReceivedAtAll r.1.items) }
 {
     let mut columns = empty(alloc, count)?;
     let mut rows = Vec::with_capacity(alloc, count)?;
@@ -40,23 +41,32 @@ fn tables<T: Drop>(
     Ok((rows, columns))
 }
 
-/// One port for each of 1 to 16 workers, in order, with a ring of 1 to 4096 slots for each ordered pair of different
-/// workers. Each port knows that all slots of its rings are free.
+/// The most workers that rings join.
+pub const MAX_WORKERS: usize = 16;
+
+/// The most slots of a ring.
+pub const MAX_CAPACITY: usize = 4096;
+
+/// One port for each of `workers` workers, 1 to [`MAX_WORKERS`] of them, in order, with a ring of `capacity` slots, 1
+/// to [`MAX_CAPACITY`], for each ordered pair of different workers. Each port knows that all slots of its rings are
+/// free. All memory of the rings is taken here.
 ///
-/// Refused only where memory is. All memory of the rings is taken here.
+/// # Errors
+///
+/// [`NoMemory`] where memory was refused.
 pub fn open<B: Copy>(
     alloc: Global,
     workers: usize,
     capacity: usize,
 ) -> Result<Vec<Port<B>>, NoMemory>
-    requires workers { (1 ≤ workers) × (workers ≤ 16) }
-    requires capacity { (1 ≤ capacity) × (capacity ≤ 4096) }
+    requires workers { (1 ≤ workers) × (workers ≤ MAX_WORKERS) }
+    requires capacity { (1 ≤ capacity) × (capacity ≤ MAX_CAPACITY) }
     ensures count { IfOk result (λ ports. vec_len ports ≡ workers) }
     ensures opening { IfOk result (λ ports. IsOpening ports.items) }
     ensures stays { IfOk result (λ ports. StayAnOpening ports.items) }
     ensures new { IfOk result (λ ports. All IsNew ports.items) }
     ensures capacity { IfOk result (λ ports. All (λ port. port.capacity ≡ capacity) ports.items) }
-    ensures free { IfOk result (λ ports. All (λ port. (k : ℕ) → IsOther port k → free_to port k ≡ capacity) ports.items) }
+    ensures free { IfOk result (λ ports. All (KnowsFreeToEach capacity) ports.items) }
 {
     let (rows, columns) = tables(alloc, workers, capacity)?;
     let mut columns = columns.into_iter();

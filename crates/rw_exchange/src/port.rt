@@ -1,6 +1,6 @@
 //! A worker's port.
 ghost use Rattle.std.specs.Prelude.{◌≡◌, ◌≢◌, ℕ, ◌+◌, ◌<◌, ◌≤◌, length, map, slice_index_or, All, IsSome, IsOk, OnOk, OnErr, IfErr, IfSome, IfNone};
-ghost use Rattle.rw_exchange.specs.Rings.{out_rings, in_rings, out_sent, out_free, in_received, HasCapacity};
+ghost use Rattle.rw_exchange.specs.Rings.{out_rings, in_rings, out_sent, out_free, in_received, HasCapacity, HasEnds};
 ghost use Rattle.rw_exchange.specs.Ports.{IsOther, SamePort, sent_to, free_to, having_sent, having_received};
 
 use crate::lane;
@@ -11,8 +11,8 @@ use std::marker::Model;
 /// One worker's ends of the rings between it and each other worker.
 ///
 /// A contract sees the worker, the capacity of the rings, which rings they are, all letters that were sent to and
-/// received from each worker, and how many slots of the ring to each worker the port knows to be free. A port may move to a
-/// thread of its own.
+/// received from each worker, and how many slots of the ring to each worker the port knows to be free. A port may move
+/// to a thread of its own.
 #[derive(Drop)]
 pub struct Port<B> {
     worker: usize,
@@ -22,17 +22,25 @@ pub struct Port<B> {
 }
 
 impl<B> Model for Port<B> {
-    ghost use Rattle.std.specs.Prelude.{◌≡◌, ◌≢◌, ℕ, ◌<◌, length, map, slice_index_or, None, IsSome, All};
+    ghost use Rattle.std.specs.Prelude.{◌≡◌, length, map, All};
     ghost use Rattle.rw_vt.specs.declared.event.Letter.{Letter};
     ghost use Rattle.rw_exchange.specs.Ports.{PortState};
-    ghost use Rattle.rw_exchange.specs.Rings.{out_ring, in_ring, out_sent, out_free, in_received, HasCapacity};
+    ghost use Rattle.rw_exchange.specs.Rings.{out_ring, in_ring, out_sent, out_free, in_received, HasCapacity, HasEnds};
 
     ghost Value = { PortState (Letter B) };
 
-    ghost view = { λ p. record { worker = p.worker; capacity = p.capacity; out = map out_ring p.outs.items; into = map in_ring p.ins.items; sent = map out_sent p.outs.items; received = map in_received p.ins.items; free = map out_free p.outs.items } };
+    ghost view = { λ p. record {
+      worker = p.worker;
+      capacity = p.capacity;
+      out = map out_ring p.outs.items;
+      into = map in_ring p.ins.items;
+      sent = map out_sent p.outs.items;
+      received = map in_received p.ins.items;
+      free = map out_free p.outs.items;
+    } };
 
     ghost invariant = { λ p. (length p.ins.items ≡ length p.outs.items)
-        × ((k : ℕ) → k < length p.outs.items → k ≢ p.worker → IsSome (slice_index_or p.outs.items k None) × IsSome (slice_index_or p.ins.items k None))
+        × HasEnds p.worker p.outs.items p.ins.items
         × All (HasCapacity p.capacity) p.outs.items };
 }
 
@@ -45,11 +53,12 @@ impl<B: Copy> Port<B> {
         ins: Vec<Option<Consumer<Letter<B>>>>,
     ) -> Port<B>
         requires same { length ins.items ≡ length outs.items }
-        requires others { (k : ℕ) → k < length outs.items → k ≢ worker → IsSome (slice_index_or outs.items k None) × IsSome (slice_index_or ins.items k None) }
+        requires others { HasEnds worker outs.items ins.items }
         requires capacity { All (HasCapacity capacity) outs.items }
         ensures numbers { (result.worker ≡ worker) × (result.capacity ≡ capacity) }
         ensures rings { (result.out ≡ out_rings outs.items) × (result.into ≡ in_rings ins.items) }
-        ensures lists { (result.sent ≡ map out_sent outs.items) × (result.received ≡ map in_received ins.items) }
+        ensures sent { result.sent ≡ map out_sent outs.items }
+        ensures received { result.received ≡ map in_received ins.items }
         ensures free { result.free ≡ map out_free outs.items }
     {
         Port {
@@ -67,8 +76,10 @@ impl<B: Copy> Port<B> {
         Vec<Option<Producer<Letter<B>>>>,
         Vec<Option<Consumer<Letter<B>>>>,
     )
-        ensures rings { (out_rings result.0.items ≡ self.out) × (in_rings result.1.items ≡ self.into) }
-        ensures lists { (map out_sent result.0.items ≡ self.sent) × (map in_received result.1.items ≡ self.received) }
+        ensures out { out_rings result.0.items ≡ self.out }
+        ensures into { in_rings result.1.items ≡ self.into }
+        ensures sent { map out_sent result.0.items ≡ self.sent }
+        ensures received { map in_received result.1.items ≡ self.received }
     {
         let Port {
             worker: _,
@@ -94,11 +105,15 @@ impl<B: Copy> Port<B> {
         self.outs.len()
     }
 
-    /// Sends a letter to another worker, or hands it back where the port knows of no free slot on the ring to it.
+    /// Sends a letter to another worker.
     ///
-    /// A letter takes one of the slots that are known to be free, and the port may learn of more. It succeeds while fewer
-    /// letters were sent to that worker in all than the ring has slots. That a slot which the receiver frees is seen is
-    /// tested, not proved. Takes no memory and never waits.
+    /// A letter takes one of the slots that are known to be free, and the port may learn of more. It succeeds while
+    /// fewer letters were sent to that worker in all than the ring has slots. That a slot which the receiver frees is
+    /// seen is tested, not proved. Takes no memory and never waits.
+    ///
+    /// # Errors
+    ///
+    /// The letter itself where the port knows of no free slot on the ring to that worker; the port is then as it was.
     pub fn send(&mut self, to: usize, letter: Letter<B>) -> Result<(), Letter<B>>
         requires other { IsOther self.old to }
         ensures ok { OnOk result (self.new ≡ having_sent self.old to letter (free_to self.new to)) }

@@ -1,15 +1,15 @@
 //! What is left in the rings at the end.
-ghost use Rattle.std.specs.Prelude.{◌≡◌, ◌≢◌, ℕ, ◌+◌, ◌≤◌, ◌<◌, [], ◌∷◌, ◌++◌, length, map, slice_index_or, All, IfOk, OnOk, vec_len};
+ghost use Rattle.std.specs.Prelude.{◌≡◌, ◌≢◌, ℕ, ◌<◌, [], ◌++◌, length, map, slice_index_or, All, IfOk, OnOk, vec_len};
 ghost use Rattle.rtrb.specs.Ring.{sent, received, IsPair, SameConsumer};
-ghost use Rattle.rw_exchange.specs.Ports.{entry, IsOpening, outs_of, intos_of, sent_between, received_between};
-ghost use Rattle.rw_exchange.specs.Rings.{cell, out_ring, in_ring, out_rings, out_sent, in_received, out_table, in_table, sent_table, received_table};
+ghost use Rattle.rw_exchange.specs.Ports.{entry, IsOpening, outs_of, intos_of, IsLeftOf, IsLeftOfRow, NoneToItself};
+ghost use Rattle.rw_exchange.specs.Rings.{cell, out_ring, in_ring, out_rings, out_sent, in_received, out_table, in_table, sent_table, received_table, SameBut, HasPlace, IsAtPlace};
 
 use crate::{Left, Port};
 use rtrb::{Consumer, Producer};
 use rw_vt::{Letter, NoMemory};
 use std::alloc::Global;
 
-// What is left in a ring whose ends are both here.
+// What is left in a ring, from both its ends.
 fn drain<T: Drop>(
     alloc: Global,
     producer: &mut Producer<T>,
@@ -27,7 +27,7 @@ fn drain<T: Drop>(
     Ok(left)
 }
 
-// What is left in a ring, or nothing where there is none.
+// What is left in a ring; nothing where there is no ring.
 fn rest<T: Drop>(
     alloc: Global,
     out: Option<Producer<T>>,
@@ -43,7 +43,7 @@ fn rest<T: Drop>(
     }
 }
 
-// The same for the end of row j and place i.
+// What is left in a ring from worker `i` to worker `j`, whose other end is at place `i` of column `j`.
 fn rest_at<T: Drop>(
     alloc: Global,
     out: Option<Producer<T>>,
@@ -51,13 +51,17 @@ fn rest_at<T: Drop>(
     j: usize,
     i: usize,
 ) -> Result<Vec<T>, NoMemory>
-    requires within { (j < vec_len columns.old) × (i < length (slice_index_or (in_table columns.old.items) j [])) }
+    requires column { j < vec_len columns.old }
+    requires place { i < length (slice_index_or (in_table columns.old.items) j []) }
     requires paired { out_ring out ≡ cell (in_table columns.old.items) j i }
     ensures length { vec_len columns.new ≡ vec_len columns.old }
     ensures rings { in_table columns.new.items ≡ in_table columns.old.items }
-    ensures fifo { IfOk result (λ v. entry (received_table columns.old.items) j i ++ v.items ≡ out_sent out) }
-    ensures rows { (k : ℕ) → k ≢ j → slice_index_or (received_table columns.new.items) k [] ≡ slice_index_or (received_table columns.old.items) k [] }
-    ensures places { (k : ℕ) → k ≢ i → entry (received_table columns.new.items) j k ≡ entry (received_table columns.old.items) j k }
+    ensures fifo { IfOk result (λ v.
+        entry (received_table columns.old.items) j i ++ v.items ≡ out_sent out) }
+    ensures rows { SameBut j (received_table columns.old.items) (received_table columns.new.items) }
+    ensures places { SameBut i
+        (slice_index_or (received_table columns.old.items) j [])
+        (slice_index_or (received_table columns.new.items) j []) }
 {
     let column = &mut columns[j];
     rest(alloc, out, &mut column[i])
@@ -71,12 +75,18 @@ fn gather<T: Drop>(
     own: usize,
 ) -> Result<Vec<Vec<T>>, NoMemory>
     requires length { vec_len row ≡ vec_len columns.old }
-    requires deep { (j : ℕ) → j < vec_len row → own < length (slice_index_or (in_table columns.old.items) j []) }
-    requires paired { (j : ℕ) → j < vec_len row → slice_index_or (out_rings row.items) j None ≡ cell (in_table columns.old.items) j own }
+    requires deep { HasPlace (vec_len row) own (in_table columns.old.items) }
+    requires paired { IsAtPlace (vec_len row) own
+        (out_rings row.items) (in_table columns.old.items) }
     ensures rings { OnOk result (in_table columns.new.items ≡ in_table columns.old.items) }
     ensures length { IfOk result (λ l. vec_len l ≡ vec_len row) }
-    ensures fifo { IfOk result (λ l. (j : ℕ) → j < vec_len row → entry (received_table columns.old.items) j own ++ slice_index_or (map (λ v. v.items) l.items) j [] ≡ slice_index_or (map out_sent row.items) j []) }
-    ensures others { OnOk result ((j i : ℕ) → i ≢ own → entry (received_table columns.new.items) j i ≡ entry (received_table columns.old.items) j i) }
+    ensures fifo { IfOk result (λ l. IsLeftOfRow (vec_len row) own
+        (received_table columns.old.items)
+        (map (λ v. v.items) l.items)
+        (map out_sent row.items)) }
+    ensures others { OnOk result ((j : ℕ) → SameBut own
+        (slice_index_or (received_table columns.old.items) j [])
+        (slice_index_or (received_table columns.new.items) j [])) }
 {
     let mut lists = Vec::with_capacity(alloc, row.len())?;
     for out in row {
@@ -97,8 +107,11 @@ fn parts<B: Copy>(
     ),
     NoMemory,
 >
-    ensures rings { IfOk result (λ r. (out_table r.0.items ≡ outs_of ports.items) × (in_table r.1.items ≡ intos_of ports.items)) }
-    ensures lists { IfOk result (λ r. (sent_table r.0.items ≡ map (λ f. f.sent) ports.items) × (received_table r.1.items ≡ map (λ f. f.received) ports.items)) }
+    ensures out { IfOk result (λ r. out_table r.0.items ≡ outs_of ports.items) }
+    ensures into { IfOk result (λ r. in_table r.1.items ≡ intos_of ports.items) }
+    ensures sent { IfOk result (λ r. sent_table r.0.items ≡ map (λ p. p.sent) ports.items) }
+    ensures received { IfOk result (λ r.
+        received_table r.1.items ≡ map (λ p. p.received) ports.items) }
 {
     let mut rows = Vec::with_capacity(alloc, ports.len())?;
     let mut columns = Vec::with_capacity(alloc, ports.len())?;
@@ -112,14 +125,18 @@ fn parts<B: Copy>(
 
 /// Ends an opening, given all its ports in order: the letters that are still in the rings.
 ///
-/// For each ordered pair of workers, what was received followed by what is left is what was sent, letter by letter and in
-/// order. Refused only where memory is; the letters that were left are then gone.
+/// For each ordered pair of workers, what was received followed by what is left is what was sent, letter by letter and
+/// in order.
+///
+/// # Errors
+///
+/// [`NoMemory`] where memory was refused; the letters that were left are then gone.
 pub fn settle<B: Copy>(alloc: Global, ports: Vec<Port<B>>) -> Result<Left<B>, NoMemory>
     requires opening { IsOpening ports.items }
     ensures count { IfOk result (λ left. length left ≡ vec_len ports) }
     ensures wide { IfOk result (λ left. All (λ row. length row ≡ vec_len ports) left) }
-    ensures fifo { IfOk result (λ left. (from to : ℕ) → from < vec_len ports → to < vec_len ports → received_between ports.items from to ++ entry left from to ≡ sent_between ports.items from to) }
-    ensures own { IfOk result (λ left. (worker : ℕ) → worker < vec_len ports → entry left worker worker ≡ []) }
+    ensures fifo { IfOk result (λ left. IsLeftOf (vec_len ports) ports.items left) }
+    ensures own { IfOk result (λ left. NoneToItself (vec_len ports) left) }
 {
     let mut lists = Vec::with_capacity(alloc, ports.len())?;
     let (rows, mut columns) = parts(alloc, ports)?;

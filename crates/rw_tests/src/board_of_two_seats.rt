@@ -23,8 +23,8 @@ fn closes_at_the_end_without_a_note(rt: HostRuntime) -> Result<(), Fail> {
     Ok(())
 }
 
-// Notes a time and reads the board. Its signature is the point: it is given a board and a seat, and no handle of the runtime.
-// What may wait, as for a lock, would need one, so no lock is round the board.
+// Notes a time and reads the board. Its signature is the point: it is given a board and a seat, and no handle of the
+// runtime. What may wait, as for a lock, would need one, so no lock is round the board.
 fn note_and_read(board: &Board, seat: &mut Seat, time: u64) -> u64
     requires board { seat.old.board ≡ board.now.board }
 {

@@ -54,7 +54,7 @@ impl Source for Given {
     }
 }
 
-/// Does what these words ask of a trace; the exit status, and how many bytes are then written.
+/// Does what `text`, a command line, asks of a trace; its exit status, and how many bytes are then written.
 fn ripqwarp<E: Write, R: Threads + Wait + Sync>(
     rt: &R,
     alloc: Global,
@@ -94,8 +94,9 @@ fn a_run_in_rounds_tells_what_they_did(rt: HostRuntime) -> Result<(), AllocError
         ),
     ] {
         let mut err = Vec::new(alloc);
-        assert_eq!(rt; ripqwarp(&rt, alloc, words, trace, &mut err)?, (0, 409));
-        assert!(rt; err.as_slice() == told.as_bytes());
+        let answer = ripqwarp(&rt, alloc, words, trace, &mut err)?;
+        assert_eq!(rt; answer, (0, 409), "for {words}");
+        assert!(rt; err.as_slice() == told.as_bytes(), "for {words}");
     }
     Ok(())
 }

@@ -34,8 +34,8 @@ pub enum Line<'a, B> {
     Gives(Call<B>, &'a [Letter<B>]),
     /// The call is refused like this and gives out nothing.
     Refuses(Call<B>, StepFault),
-    /// Nothing is committed, these events are processed, this one is the next, and nothing outstanding is earlier than this
-    /// time.
+    /// Nothing is committed, these events are processed, this one is the next, and nothing outstanding is earlier
+    /// than this time.
     Ahead(&'a [Event<B>], Option<Event<B>>, u64),
     /// These events are committed, and nothing is left to do.
     Settled(&'a [Event<B>]),
@@ -160,8 +160,8 @@ impl<M: Model + Copy> Desk<M> {
     }
 }
 
-/// Makes a call. A letter that is not valid here is answered as of no process, and a collection above what is outstanding as
-/// above the floor.
+/// Makes a call. A letter that is not valid here is answered as of no process, and a collection above what is
+/// outstanding as above the floor.
 fn make<M: Model + Copy>(
     alloc: Global,
     model: &M,

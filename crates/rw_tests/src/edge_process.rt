@@ -1,6 +1,6 @@
 // One edge process of the photo caches. With nothing stored it executes two requests ahead, a fill comes late and is
-// cancelled again, an anti-message comes before its message, and the past is committed. Where it stores, a fill that nobody
-// awaits is stored and taken back.
+// cancelled again, an anti-message comes before its message, and the past is committed. Where it stores, a fill that
+// nobody awaits is stored and taken back.
 use crate::desk::Call::{Arrive, Collect, Deliver, ExecuteNext, UndoOne};
 use crate::desk::Line::{Ahead, Gives, Settled};
 use crate::desk::{Desk, Line};
@@ -119,7 +119,8 @@ fn ends(
     }
 }
 
-/// The counters of an edge that has missed so many requests, of which some were coalesced, and some are late.
+/// The counters of an edge that has had `requests` requests, each a miss, of which `coalesced` were coalesced and
+/// `late` are late.
 fn missed(requests: u64, coalesced: u64, late: u64) -> Counters {
     Counters {
         requests,

@@ -21,8 +21,8 @@ enum Call {
     Promote(u64),
 }
 
-/// What a call answers beside its trail: rows that left, rows written again, block writes, splits and merges, or whether
-/// the place changed.
+/// What a call answers beside its trail: rows that left, rows written again, block writes, splits and merges, or
+/// whether the place changed.
 #[derive(Clone, Copy, Debug, PartialEq, Eq)]
 enum Answer {
     Counts([u64; 5]),
@@ -97,8 +97,8 @@ fn follow<R: Abort>(
     Ok(trail)
 }
 
-/// Makes the calls, each of which is as its example says, and rewinds them, the last one first, back to the state before
-/// them.
+/// Makes the calls, each of which is as its example says, and rewinds them, the last one first, back to the state
+/// before them.
 fn replay<R: Abort>(
     rt: &R,
     alloc: Global,
@@ -397,7 +397,7 @@ fn a_promoted_object_is_written_again(rt: HostRuntime) -> Result<(), Fail> {
 }
 
 #[test]
-fn a_virtual_victim(rt: HostRuntime) -> Result<(), Fail> {
+fn an_eviction_takes_a_virtual_block_too(rt: HostRuntime) -> Result<(), Fail> {
     let queue = with_sealed_virtual(rt.alloc())?;
     to_and_fro(
         &rt,
@@ -465,7 +465,7 @@ fn targets(queue: &Queue) -> [u32; 4]
 }
 
 #[test]
-fn levels_and_targets(rt: HostRuntime) -> Result<(), Fail> {
+fn an_object_has_a_level_and_a_level_its_target(rt: HostRuntime) -> Result<(), Fail> {
     let queue = split(&rt, rt.alloc())?;
     assert!(rt; levels(&queue) == [Some(1), Some(1), Some(2), Some(2), None]);
     assert!(rt; targets(&queue) == [1, 0, 0, 0]);

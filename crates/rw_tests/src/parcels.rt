@@ -12,7 +12,13 @@ use std::test::Fail;
 
 /// A parcel on its way to a station: from outside (source 0), from station 0 (source 1) or from station 1 (source 2).
 pub fn parcel(time: u64, source: u32, number: u64, to: u32, hops: u32) -> Event<Parcel>
-    ensures { result ≡ record { time = time; source = source; number = number; to = to; body = record { hops = hops } } }
+    ensures { result ≡ record {
+      time = time;
+      source = source;
+      number = number;
+      to = to;
+      body = record { hops = hops };
+    } }
 {
     Event {
         time,

@@ -16,8 +16,8 @@ const TRACE: &[u8] = b"time,edge,object,size\n5,0,7,4\n22,0,7,4\n";
 /// How often a worker looks at a gate where the other one is to come: for some seconds.
 const PATIENCE: u64 = 4_000_000_000;
 
-/// A gate for two workers. Worker 1 may begin once worker 0 has come to its turn 1; worker 0 may go on in its turns 1 and 2
-/// once worker 1 has come to its turns 0 and 1. Who waits for too long is let go, which is a miss.
+/// A gate for two workers. Worker 1 may begin once worker 0 has come to its turn 1; worker 0 may go on in its turns 1
+/// and 2 once worker 1 has come to its turns 0 and 1. Who waits for too long is let go, which is a miss.
 #[derive(Drop)]
 struct Handshake {
     /// For each worker, one more than the greatest turn that it came to.

@@ -3,7 +3,7 @@ use std::alloc::Global;
 use std::io;
 use std::io::{ErrorKind, Write};
 
-/// A writer that takes at most so many bytes a write, and is interrupted from one of its writes on, counted from 0, or
+/// A writer that takes at most `most` bytes a write, and is interrupted from write `fails_in` on, counted from 0, or
 /// fails at its flush.
 #[derive(Drop)]
 pub struct Pipe {

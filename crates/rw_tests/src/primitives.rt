@@ -1,7 +1,6 @@
 // The primitives of a queue of blocks, as steps: run forwards with each state compared, and undone mark by mark.
 ghost use Rattle.std.specs.Prelude.{◌≡◌, ◌≤◌, ◌<◌, ◌+◌, ◌∷◌, [], length, OnOk, IfOk, IfSome, IsTrue, slice_get, Some};
-ghost use Rattle.rw_blocks.specs.State.{section_at, active_of};
-ghost use Rattle.rw_blocks.specs.Sums.{bytes_held};
+ghost use Rattle.rw_blocks.specs.Primitives.{HasRoom};
 ghost use Rattle.rw_blocks.specs.Loose.{IsLoose, IsFree};
 ghost use Rattle.rw_blocks.specs.Undo.{Undoes};
 
@@ -28,7 +27,7 @@ enum Step {
 fn fits(queue: &Queue, section: usize, kind: Kind, size: u64) -> bool
     requires { IsLoose queue.now }
     ensures there { IsTrue result → section < length queue.now.sections }
-    ensures fits { IsTrue result → bytes_held kind queue.now (active_of kind (section_at queue.now section)) + size ≤ queue.now.shape.block }
+    ensures fits { IsTrue result → HasRoom kind queue.now section size }
 {
     if section >= queue.sections() {
         return false;
@@ -423,7 +422,8 @@ fn sections_are_merged_to_one(rt: HostRuntime) -> Result<(), Fail> {
     to_and_fro(&rt, rt.alloc(), SPLIT, &FOUR_SECTIONS, queue)
 }
 
-/// What a queue answers of a block: the first object whose home it is, the first whose place it is, its bytes, its section.
+/// What a queue answers of a block: the first object whose home it is, the first whose place it is, its bytes, its
+/// section.
 type Block = (Option<u64>, Option<u64>, u64, Option<usize>);
 
 /// The blocks of the three sections by their serials; there are no blocks 4 and 5 any more.
@@ -443,6 +443,7 @@ const BLOCKS: [Block; 13] = [
     (None, None, 0, Some(1)),
 ];
 
+/// The answers for the block with the serial.
 fn block(queue: &Queue, serial: u64) -> Block
     requires { IsLoose queue.now }
 {
@@ -455,7 +456,7 @@ fn block(queue: &Queue, serial: u64) -> Block
 }
 
 #[test]
-fn questions_of_blocks(rt: HostRuntime) -> Result<(), Fail> {
+fn a_block_answers_for_its_rows(rt: HostRuntime) -> Result<(), Fail> {
     let queue = three_sections(&rt, rt.alloc())?;
     for (serial, want) in (0..).zip(&BLOCKS) {
         assert!(rt; block(&queue, serial) == *want, "of block {serial}");
@@ -463,7 +464,7 @@ fn questions_of_blocks(rt: HostRuntime) -> Result<(), Fail> {
     Ok(())
 }
 
-/// Whether a queue has these bytes in its sections, and below each of them.
+/// Whether `want` has, for each section of a queue, its bytes and those below it.
 fn has_bytes(queue: &Queue, want: &[(u64, u64)]) -> bool
     requires { IsLoose queue.now }
 {
@@ -473,7 +474,7 @@ fn has_bytes(queue: &Queue, want: &[(u64, u64)]) -> bool
 }
 
 #[test]
-fn questions_of_sections(rt: HostRuntime) -> Result<(), Fail> {
+fn a_section_answers_its_bytes_and_those_below(rt: HostRuntime) -> Result<(), Fail> {
     let queue = three_sections(&rt, rt.alloc())?;
     assert!(rt; has_bytes(&queue, &[(24, 6), (6, 0), (0, 0)]));
     Ok(())
@@ -487,7 +488,7 @@ fn whole(queue: &Queue) -> (u64, Option<(usize, usize)>, usize)
 }
 
 #[test]
-fn questions_of_the_whole(rt: HostRuntime) -> Result<(), Fail> {
+fn a_queue_answers_for_all_its_blocks(rt: HostRuntime) -> Result<(), Fail> {
     let queue = three_sections(&rt, rt.alloc())?;
     assert!(rt; queue.shape() == (4, 10, 8));
     assert!(rt; whole(&queue) == (30, Some((2, 1)), 4));

@@ -1,6 +1,6 @@
-// What a queue of blocks holds, as one line: for each section `S0 {2, 1, [0d, 3v]}`, its number, its active device block, its
-// active virtual block, and its sealed blocks from the front, device or virtual; then for each object `1 (6, 0, 3)`, its size, its
-// home and its place; then `next 4`, the next serial.
+// What a queue of blocks holds, as one line: for each section `S0 {2, 1, [0d, 3v]}`, its number, its active device
+// block, its active virtual block, and its sealed blocks from the front, device or virtual; then for each object `1
+// (6, 0, 3)`, its size, its home and its place; then `next 4`, the next serial.
 ghost use Rattle.std.specs.Prelude.{◌<◌, length};
 
 use rw_blocks::{Kind, NoMemory, Queue};

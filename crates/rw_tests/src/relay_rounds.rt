@@ -99,8 +99,10 @@ fn rounds_lead_to_the_outcome_in_order(rt: HostRuntime) -> Result<(), Fail> {
     let want = in_order(alloc)?;
     for (seed, of) in (0..).zip(PLANS) {
         let plan = plan(of, 1_048_576);
-        assert!(rt; lead(&rt, alloc, drawn(alloc, seed)?, plan, &want));
-        assert!(rt; lead(&rt, alloc, opened(alloc, u64::MAX)?, plan, &want));
+        let from_drawn = lead(&rt, alloc, drawn(alloc, seed)?, plan, &want);
+        assert!(rt; from_drawn, "plan {seed}, from a world that was drawn");
+        let from_opened = lead(&rt, alloc, opened(alloc, u64::MAX)?, plan, &want);
+        assert!(rt; from_opened, "plan {seed}");
     }
     Ok(())
 }

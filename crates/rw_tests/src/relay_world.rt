@@ -10,18 +10,21 @@ use rw_world::{
     every_step, every_way,
 };
 use std::alloc::Global;
+use std::process::Abort;
 use std::test::Fail;
 
 // A parcel to station 0 with one hop left.
 fn coming() -> Event<Parcel>
-    ensures { result ≡ record { time = 5; source = 0; number = 0; to = 0; body = record { hops = 1 } } }
+    ensures { result
+        ≡ record { time = 5; source = 0; number = 0; to = 0; body = record { hops = 1 } } }
 {
     parcel(5, 0, 0, 0, 1)
 }
 
 // A parcel to station 1 with none left.
 fn later() -> Event<Parcel>
-    ensures { result ≡ record { time = 20; source = 0; number = 0; to = 1; body = record { hops = 0 } } }
+    ensures { result
+        ≡ record { time = 20; source = 0; number = 0; to = 1; body = record { hops = 0 } } }
 {
     parcel(20, 0, 0, 1, 0)
 }
@@ -72,30 +75,19 @@ const COMMITS: [(Step, Answer); 4] = [
 ];
 
 /// Makes the steps, each of which is answered as it says.
-fn follow(
+fn follow<R: Abort>(
+    rt: &R,
     alloc: Global,
     world: World<Relay>,
     steps: &[(Step, Answer)],
 ) -> Result<World<Relay>, Fail> {
     let mut world = world;
-    for (step, want) in steps {
-        world = makes(alloc, world, *step, *want)?;
+    for (row, (step, want)) in steps.iter().enumerate() {
+        let (next, answer) = world.apply(alloc, *step)?;
+        assert!(rt; answer == *want, "row {row}");
+        world = next;
     }
     Ok(world)
-}
-
-fn makes(
-    alloc: Global,
-    world: World<Relay>,
-    step: Step,
-    want: Answer,
-) -> Result<World<Relay>, Fail> {
-    let (world, answer) = world.apply(alloc, step)?;
-    if answer == want {
-        Ok(world)
-    } else {
-        Err(Fail::from("another answer"))
-    }
 }
 
 /// What a world shows of itself: the least time of what is outstanding, and whether nothing is left to do.
@@ -111,14 +103,14 @@ fn begins_at_its_least_event(rt: HostRuntime) -> Result<(), Fail> {
 }
 
 /// The world to which the steps lead.
-fn finished(alloc: Global) -> Result<World<Relay>, Fail> {
-    let world = follow(alloc, opened(alloc)?, &STEPS)?;
+fn finished<R: Abort>(rt: &R, alloc: Global) -> Result<World<Relay>, Fail> {
+    let world = follow(rt, alloc, opened(alloc)?, &STEPS)?;
     Ok(World::put(world.take()))
 }
 
 #[test]
 fn runs_ahead_and_back(rt: HostRuntime) -> Result<(), Fail> {
-    let world = finished(rt.alloc())?;
+    let world = finished(&rt, rt.alloc())?;
     assert!(rt; outlook(&world) == (END, true));
     assert!(rt; world.journal(1).is_empty());
     Ok(())
@@ -134,7 +126,7 @@ fn is_committed(world: &World<Relay>) -> bool {
 
 #[test]
 fn a_finished_world_is_committed(rt: HostRuntime) -> Result<(), Fail> {
-    let world = follow(rt.alloc(), finished(rt.alloc())?, &COMMITS)?;
+    let world = follow(&rt, rt.alloc(), finished(&rt, rt.alloc())?, &COMMITS)?;
     assert!(rt; outlook(&world) == (END, true));
     assert!(rt; is_committed(&world));
     Ok(())
@@ -183,7 +175,7 @@ fn draws_the_steps(rt: HostRuntime) -> Result<(), Fail> {
 }
 
 #[test]
-fn states_the_laws(_rt: HostRuntime) {
+fn the_laws_are_stated_of_the_relay(_rt: HostRuntime) {
     every_step::<Relay>();
     every_sound_world::<Relay>();
     every_floor::<Relay>();

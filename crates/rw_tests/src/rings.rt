@@ -229,8 +229,8 @@ impl Trader {
     }
 }
 
-// All that one worker does, in its thread. Its signature is a point too: it sends and receives with its port and no handle of
-// the runtime. What may wait, as for a lock, would need one, so no lock is round the ports.
+// All that one worker does, in its thread. Its signature is a point too: it sends and receives with its port and no
+// handle of the runtime. What may wait, as for a lock, would need one, so no lock is round the ports.
 fn trade(alloc: Global, port: Port<u64>) -> Result<Trader, NoMemory>
     ensures same { IfOk result (λ t. SamePort port t.port) }
 {
@@ -247,7 +247,10 @@ fn trade_all<R: Threads + Sync>(
     ports: Vec<Port<u64>>,
 ) -> Result<Vec<Result<Trader, NoMemory>>, AllocError>
     ensures count { IfOk result (λ ts. vec_len ts ≡ vec_len ports) }
-    ensures same { IfOk result (λ ts. (i : ℕ) (d : _) (e : _) → i < vec_len ports → IfOk (slice_index_or ts.items i e) (λ t. SamePort (slice_index_or ports.items i d) t.port)) }
+    ensures same { IfOk result (λ ts. (i : ℕ) (d : _) (e : _)
+        → i < vec_len ports
+        → IfOk (slice_index_or ts.items i e) (λ t.
+        SamePort (slice_index_or ports.items i d) t.port)) }
 {
     thread::map_vec(
         rt,

@@ -1,19 +1,14 @@
 // Traces: what is read from their bytes, and the fault of each that is refused.
-use rw_trace::{Row, TraceFault, read, read_up_to};
+use rw_trace::{MAX_ROWS, Row, TraceFault, read, read_up_to};
 use std::alloc::Global;
 use std::test::Fail;
 
-/// Whether a body behind the header, with one edge, is read as this text.
-fn is_read(alloc: Global, body: &[u8], most: u64, want: &str) -> Result<bool, Fail> {
+/// What is read from a body behind the header, with one edge and at most `most` rows.
+fn reading(alloc: Global, body: &[u8], most: u64) -> Result<String, Fail> {
     let mut bytes = Vec::from_slice(alloc, b"time,edge,object,size\n")?;
     bytes.extend_from_slice(body)?;
-    let answer = read_up_to(alloc, bytes.as_slice(), 1, most.min(16_777_216));
-    is_told(alloc, &answer, want)
-}
-
-fn is_told(alloc: Global, answer: &Result<Vec<Row>, TraceFault>, want: &str) -> Result<bool, Fail> {
-    let text = told(alloc, answer)?;
-    Ok(text.as_str() == want)
+    let answer = read_up_to(alloc, bytes.as_slice(), 1, most.min(MAX_ROWS));
+    told(alloc, &answer)
 }
 
 /// The text of an answer: what each row holds, or the fault's line.
@@ -80,9 +75,10 @@ const BODIES: [(&[u8], &str); 24] = [
 ];
 
 #[test]
-fn bodies(rt: HostRuntime) -> Result<(), Fail> {
-    for (body, want) in &BODIES {
-        assert!(rt; is_read(rt.alloc(), body, 16_777_216, want)?, "for {want}");
+fn a_body_gives_its_rows_or_its_first_fault(rt: HostRuntime) -> Result<(), Fail> {
+    for (row, (body, want)) in BODIES.iter().enumerate() {
+        let text = reading(rt.alloc(), body, MAX_ROWS)?;
+        assert_eq!(rt; text.as_str(), *want, "row {row}");
     }
     Ok(())
 }
@@ -98,17 +94,15 @@ const HEADERS: [(&[u8], &str); 6] = [
 ];
 
 #[test]
-fn headers(rt: HostRuntime) -> Result<(), Fail> {
-    for (bytes, want) in &HEADERS {
-        assert!(rt;
-            is_told(rt.alloc(), &read(rt.alloc(), bytes, 1), want)?,
-            "for {want}"
-        );
+fn a_header_is_its_four_words(rt: HostRuntime) -> Result<(), Fail> {
+    for (row, (bytes, want)) in HEADERS.iter().enumerate() {
+        let text = told(rt.alloc(), &read(rt.alloc(), bytes, 1))?;
+        assert_eq!(rt; text.as_str(), *want, "row {row}");
     }
     Ok(())
 }
 
-/// Bodies of which only so many rows are taken.
+/// Bodies behind the header, each with the most rows that are taken and with what is read.
 const LIMITS: [(&[u8], u64, &str); 7] = [
     (b"5,0,7,4\n6,0,7,4\n", 2, "5 0 7 4;6 0 7 4;"),
     (b"5,0,7,4\n6,0,7,4\n7,0,7,4\n", 2, "trace: too many rows"),
@@ -120,15 +114,17 @@ const LIMITS: [(&[u8], u64, &str); 7] = [
 ];
 
 #[test]
-fn limits(rt: HostRuntime) -> Result<(), Fail> {
-    for (body, most, want) in &LIMITS {
-        assert!(rt; is_read(rt.alloc(), body, *most, want)?, "for {want}");
+fn one_row_too_many_is_told(rt: HostRuntime) -> Result<(), Fail> {
+    for (row, (body, most, want)) in LIMITS.iter().enumerate() {
+        let text = reading(rt.alloc(), body, *most)?;
+        assert_eq!(rt; text.as_str(), *want, "row {row}");
     }
     Ok(())
 }
 
 #[test]
 fn memory_is_told(rt: HostRuntime) -> Result<(), Fail> {
-    assert!(rt; is_told(rt.alloc(), &Err(TraceFault::Memory), "memory")?);
+    let text = told(rt.alloc(), &Err(TraceFault::Memory))?;
+    assert_eq!(rt; text.as_str(), "memory");
     Ok(())
 }

@@ -3,101 +3,117 @@ use Rattle.std.specs.Prelude.{◌≡◌, ◌≢◌, ◌⊎◌, zero, suc, ◌<�
 use Rattle.std.specs.Char.{is_ascii_digit}
 use Rattle.std.specs.List.{AllPass}
 use Rattle.csv.specs.Records.{field_at}
+use Rattle.rw_trace.specs.Words.{Text, Fields}
 use Rattle.rw_trace.specs.Trace.{is_header}
 use Rattle.rw_trace.specs.declared.Row.{Row}
 use Rattle.rw_trace.specs.declared.TraceFault.{TraceFault}
 use Rattle.rw_trace.specs.declared.TraceFault.TheVariants as fault
+use Rattle.rw_trace.specs.declared.TheConstants.{MAX_TIME, MAX_SIZE, MAX_DIGITS}
 
 -- the value of decimal digits, of which the last counts ones
-unfoldable pub decimal : List ℕ → ℕ
+unfoldable pub decimal : Text → ℕ
 decimal [] = 0
 decimal (b ∷ bs) = (b - 48) * 10 ^ length bs + decimal bs
 
 -- a field writes a number: 1 to 20 ASCII digits, of a value below 2 ^ 64
-pub record IsNumber (f : List ℕ) (n : ℕ) : Type 0 where
+pub record IsNumber (f : Text) (n : ℕ) : Type 0 where
   pub some : 1 ≤ length f
-  pub few : length f ≤ 20
+  pub few : length f ≤ MAX_DIGITS
   pub digits : AllPass is_ascii_digit f
   pub value : n ≡ decimal f
   pub fits : n < 2 ^ 64
 
 -- a column writes a number
-abbrev pub Writes : List (List ℕ) → ℕ → ℕ → Type 0
+abbrev pub Writes : Fields → ℕ → ℕ → Type 0
 Writes fields column n = IsSomeAnd (field_at fields column) (λ f. IsNumber f n)
 
 -- a record writes a row
-pub record WritesRow (edges : ℕ) (fields : List (List ℕ)) (row : Row) : Type 0 where
+pub record WritesRow (edges : ℕ) (fields : Fields) (row : Row) : Type 0 where
   pub four : length fields ≡ 4
   pub time : Writes fields 0 row.time
   pub edge : Writes fields 1 row.edge
   pub object : Writes fields 2 row.object
   pub size : Writes fields 3 row.size
-  pub time_within : row.time ≤ 549755813888
+  pub time_within : row.time ≤ MAX_TIME
   pub edge_within : row.edge < edges
   pub size_above : 1 ≤ row.size
-  pub size_within : row.size ≤ 4294967295
+  pub size_within : row.size ≤ MAX_SIZE
 
--- a row whose numbers are in their ranges: a time of at most 2 ^ 39 ticks, one of the edges, a size of 1 to 2 ^ 32 - 1 bytes
+-- a row whose numbers are in their ranges: a time of at most 2^39 ticks, one of the edges, 1 to 2^32 - 1 bytes
 pub record IsRow (edges : ℕ) (row : Row) : Type 0 where
-  pub time : row.time ≤ 549755813888
+  pub time : row.time ≤ MAX_TIME
   pub edge : row.edge < edges
   pub object : row.object < 2 ^ 64
   pub some : 1 ≤ row.size
-  pub few : row.size ≤ 4294967295
+  pub few : row.size ≤ MAX_SIZE
 
 -- a column writes no number
-abbrev pub Lacks : List (List ℕ) → ℕ → Type 0
+abbrev pub Lacks : Fields → ℕ → Type 0
 Lacks fields column = (n : ℕ) → ¬ (Writes fields column n)
 
 -- a column writes a number in its range, with another column to its right
-abbrev pub IsGood : ℕ → List (List ℕ) → ℕ → Type 0
-IsGood edges fields zero = (n : ℕ) × Writes fields 0 n × (n ≤ 549755813888)
+abbrev pub IsGood : ℕ → Fields → ℕ → Type 0
+IsGood edges fields zero = (n : ℕ) × Writes fields 0 n × (n ≤ MAX_TIME)
 IsGood edges fields (suc zero) = (n : ℕ) × Writes fields 1 n × (n < edges)
 IsGood edges fields (suc (suc c)) = (n : ℕ) × Writes fields (c + 2) n
 
--- the columns to the left of this one are good
-abbrev pub GoodBefore : ℕ → List (List ℕ) → ℕ → Type 0
+-- the columns to the left of one are good
+abbrev pub GoodBefore : ℕ → Fields → ℕ → Type 0
 GoodBefore edges fields zero = ⊤
 GoodBefore edges fields (suc c) = GoodBefore edges fields c × IsGood edges fields c
 
 -- what is first wrong in row n: its length, then its columns from the left, in each the number before the range
-abbrev pub IsWrong : ℕ → ℕ → List (List ℕ) → TraceFault → Type 0
+abbrev pub IsWrong : ℕ → ℕ → Fields → TraceFault → Type 0
 IsWrong edges n fields (fault.RowLength k) = (k ≡ n) × (length fields ≢ 4)
-IsWrong edges n fields (fault.Number k c) = (k ≡ n) × (length fields ≡ 4) × (c < 4) × GoodBefore edges fields c × Lacks fields c
-IsWrong edges n fields (fault.TimeRange k) = (k ≡ n) × (length fields ≡ 4) × (m : ℕ) × Writes fields 0 m × (549755813888 < m)
-IsWrong edges n fields (fault.EdgeRange k) = (k ≡ n) × (length fields ≡ 4) × GoodBefore edges fields 1 × (m : ℕ) × Writes fields 1 m × (edges ≤ m)
-IsWrong edges n fields (fault.SizeRange k) = (k ≡ n) × (length fields ≡ 4) × GoodBefore edges fields 3 × (m : ℕ) × Writes fields 3 m × ((m ≡ 0) ⊎ (4294967295 < m))
+IsWrong edges n fields (fault.Number k c) =
+    (k ≡ n) × (length fields ≡ 4) × (c < 4) × GoodBefore edges fields c × Lacks fields c
+IsWrong edges n fields (fault.TimeRange k) =
+    (k ≡ n) × (length fields ≡ 4)
+    × ((m : ℕ) × Writes fields 0 m × (MAX_TIME < m))
+IsWrong edges n fields (fault.EdgeRange k) =
+    (k ≡ n) × (length fields ≡ 4) × GoodBefore edges fields 1
+    × ((m : ℕ) × Writes fields 1 m × (edges ≤ m))
+IsWrong edges n fields (fault.SizeRange k) =
+    (k ≡ n) × (length fields ≡ 4) × GoodBefore edges fields 3
+    × ((m : ℕ) × Writes fields 3 m × ((m ≡ 0) ⊎ (MAX_SIZE < m)))
 IsWrong edges n fields fault.Header = ⊥
 IsWrong edges n fields fault.TooManyRows = ⊥
 IsWrong edges n fields fault.Memory = ⊥
 
 -- each record writes a row, in turn
-unfoldable pub WriteRows : ℕ → List (List (List ℕ)) → List Row → Type 0
+unfoldable pub WriteRows : ℕ → List Fields → List Row → Type 0
 WriteRows edges [] [] = ⊤
 WriteRows edges [] (w ∷ ws) = ⊥
 WriteRows edges (r ∷ rs) [] = ⊥
 WriteRows edges (r ∷ rs) (w ∷ ws) = WritesRow edges r w × WriteRows edges rs ws
 
 -- the header, and then a record for each of at most `most` rows
-pub record IsTrace (edges most : ℕ) (recs : List (List (List ℕ))) (rows : List Row) : Type 0 where
-  pub head : List (List ℕ)
-  pub body : List (List (List ℕ))
+pub record IsTrace (edges most : ℕ) (recs : List Fields) (rows : List Row) : Type 0 where
+  pub head : Fields
+  pub body : List Fields
   pub parts : recs ≡ head ∷ body
   pub headed : is_header head ≡ true
   pub written : WriteRows edges body rows
   pub few : length rows ≤ most
 
--- the first fault among these records: behind good rows a record that is wrong, or one too many
-pub record IsFirstFault (edges most : ℕ) (recs : List (List (List ℕ))) (e : TraceFault) : Type 0 where
-  pub good : List (List (List ℕ))
-  pub bad : List (List ℕ)
-  pub rest : List (List (List ℕ))
+-- the first fault among records behind the header: behind good rows a record that is wrong, or one too many
+pub record IsFirstFault (edges most : ℕ) (recs : List Fields) (e : TraceFault) : Type 0 where
+  pub good : List Fields
+  pub bad : Fields
+  pub rest : List Fields
   pub parts : recs ≡ good ++ (bad ∷ rest)
   pub rows : List Row
   pub written : WriteRows edges good rows
-  pub told : ((length rows < most) × IsWrong edges (length rows) bad e) ⊎ ((length rows ≡ most) × (e ≡ fault.TooManyRows))
+  pub told :
+      ((length rows < most) × IsWrong edges (length rows) bad e)
+      ⊎ ((length rows ≡ most) × (e ≡ fault.TooManyRows))
 
 -- why a trace is refused: its header, or else the first fault among the records behind it
-abbrev pub IsFaultOf : ℕ → ℕ → List (List (List ℕ)) → TraceFault → Type 0
+abbrev pub IsFaultOf : ℕ → ℕ → List Fields → TraceFault → Type 0
 IsFaultOf edges most [] e = e ≡ fault.Header
-IsFaultOf edges most (h ∷ body) e = MatchBool (is_header h) (IsFirstFault edges most body e) (e ≡ fault.Header)
+IsFaultOf edges most (h ∷ body) e =
+    MatchBool (is_header h) (IsFirstFault edges most body e) (e ≡ fault.Header)
+
+-- the records are no trace
+abbrev pub IsNoTrace : ℕ → ℕ → List Fields → Type 0
+IsNoTrace edges most recs = (rows : List Row) → ¬ (IsTrace edges most recs rows)

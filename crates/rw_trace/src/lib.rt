@@ -2,18 +2,17 @@
 //! The rows of a trace, read from the bytes of a CSV text.
 //!
 //! The records are those that the `csv` crate gives: comma and double quote, nothing trimmed, a byte order mark at the
-//! start taken off. The first one is the header `time,edge,object,size`; each further one is a row. What a trace means is
-//! `trace_of` of `specs/Trace.antt`; `specs/Laws.antt` says the same in the words of the format.
+//! start taken off. The first one is the header `time,edge,object,size`; each further one is a row. What a trace means
+//! is `trace_of` of `specs/Trace.antt`; `specs/Laws.antt` says the same in the words of the format.
 //!
 //! Worked examples: `rw_tests/src/traces.rt`.
 
-ghost use Rattle.std.specs.Prelude.{All, List, ◌≡◌, ◌≢◌, ◌≤◌, ◌^◌, ◌∷◌, [], Ok, Err, Some, IfOk, IfSome, length, IfErr, MatchBool, MatchResult, true};
+ghost use Rattle.std.specs.Prelude.{All, ◌≡◌, ◌≢◌, ◌≤◌, ◌∷◌, [], Ok, Err, Some, IfOk, IfSome, length, IfErr, MatchBool, MatchResult, true};
 ghost use Rattle.csv.specs.Reading.{error_kind, stops_reader};
 ghost use Rattle.csv.specs.Records.{fields_of};
-ghost use Rattle.rw_trace.specs.Laws.{IsFaultOf, IsFirstFault, IsNumber, IsRow, IsTrace, IsWrong, Lacks, WriteRows, Writes, WritesRow};
+ghost use Rattle.rw_trace.specs.Laws.{IsFaultOf, IsFirstFault, IsNoTrace, IsNumber, IsRow, IsTrace, IsWrong, Lacks, WriteRows, Writes, WritesRow};
 ghost use Rattle.rw_trace.specs.Trace.{column_of, is_header, is_text_at, number_of, row_of, rows_of, trace_of};
 ghost use Rattle.rw_trace.specs.Unread.{Steady, records_of, unread};
-ghost use Rattle.rw_trace.specs.declared.Row.{Row};
 ghost use Rattle.rw_trace.specs.declared.TraceFault.TheVariants.{Memory, Number};
 
 use csv::{ByteRecord, Error, ErrorKind, Reader, ReaderBuilder};
@@ -22,13 +21,13 @@ use std::alloc::Global;
 /// One request of a trace.
 #[derive(Clone, Copy, PartialEq, Eq, Debug)]
 pub struct Row {
-    /// When, in ticks: at most 2^39.
+    /// When, in ticks: at most [`MAX_TIME`].
     pub time: u64,
     /// At which edge cache, from 0.
     pub edge: u32,
     /// For which object.
     pub object: u64,
-    /// The object's size in bytes: 1 to 2^32 - 1.
+    /// The object's size in bytes: 1 to [`MAX_SIZE`].
     pub size: u64,
 }
 
@@ -41,16 +40,16 @@ pub enum TraceFault {
     /// The row has not four fields.
     #[error("trace: row {0}: length")]
     RowLength(u64),
-    /// The field at this row and column is not 1 to 20 ASCII digits of a value below 2^64.
+    /// The field at this row and column is not 1 to [`MAX_DIGITS`] ASCII digits of a value below 2^64.
     #[error("trace: row {0} column {1}: number")]
     Number(u64, u64),
-    /// The row's time is over 2^39.
+    /// The row's time is over [`MAX_TIME`].
     #[error("trace: row {0}: time")]
     TimeRange(u64),
     /// The row's edge is not below the number of edges.
     #[error("trace: row {0}: edge")]
     EdgeRange(u64),
-    /// The row's size is 0 or over 2^32 - 1.
+    /// The row's size is 0 or over [`MAX_SIZE`].
     #[error("trace: row {0}: size")]
     SizeRange(u64),
     /// There are more rows than the reader takes, and no earlier one is at fault.
@@ -61,19 +60,20 @@ pub enum TraceFault {
     Memory,
 }
 
-/// The greatest time of a row, in ticks.
-const MAX_TIME: u64 = 1 << 39;
+/// The greatest time of a row, in ticks: 2^39.
+pub const MAX_TIME: u64 = 1 << 39;
 
-/// The greatest size of a row, in bytes.
-const MAX_SIZE: u64 = (1 << 32) - 1;
+/// The greatest size of a row, in bytes: 2^32 - 1.
+pub const MAX_SIZE: u64 = (1 << 32) - 1;
 
-/// The most rows that `read` takes.
-const MAX_ROWS: u64 = 1 << 24;
+/// The most rows that [`read`] takes: 2^24.
+pub const MAX_ROWS: u64 = 1 << 24;
 
 /// The most digits of a number.
-const MAX_DIGITS: usize = 20;
+pub const MAX_DIGITS: usize = 20;
 
-/// The number that a field writes in 1 to 20 ASCII digits, below 2^64; None where it writes none. Takes no memory.
+/// The number that a field writes in 1 to [`MAX_DIGITS`] ASCII digits, below 2^64. `None` exactly where it writes none.
+/// Takes no memory.
 #[tactic(auto, using(crate::proofs::Numbers::number_rules), unfolding(crate::specs::Trace::number_of))]
 pub fn number(field: &[u8]) -> Option<u64>
     ensures value { result ≡ number_of field.now }
@@ -92,12 +92,13 @@ pub fn number(field: &[u8]) -> Option<u64>
     Some(value)
 }
 
-/// The number at a column of a row.
+/// The number at a column of a row, or `Number` where the field is not there or writes none.
 #[tactic(auto, unfolding(crate::specs::Trace::column_of))]
 fn number_at(fields: &ByteRecord, row: u64, column: u8) -> Result<u64, TraceFault>
     ensures value { result ≡ column_of row column (fields_of fields.now) }
     ensures law { IfOk result (λ n. Writes (fields_of fields.now) column n) }
-    ensures wrong { IfErr result (λ e. (e ≡ Number row column) × Lacks (fields_of fields.now) column) }
+    ensures wrong { IfErr result (λ e.
+        (e ≡ Number row column) × Lacks (fields_of fields.now) column) }
 {
     let fault = TraceFault::Number(row, u64::from(column));
     match fields.get(usize::from(column)) {
@@ -106,7 +107,7 @@ fn number_at(fields: &ByteRecord, row: u64, column: u8) -> Result<u64, TraceFaul
     }
 }
 
-/// The row that a record writes.
+/// The row that a record writes, or what is first wrong in it.
 #[tactic(auto, unfolding(crate::specs::Trace::row_of))]
 fn row_at(fields: &ByteRecord, edges: u32, row: u64) -> Result<Row, TraceFault>
     ensures value { result ≡ row_of edges row (fields_of fields.now) }
@@ -137,7 +138,7 @@ fn row_at(fields: &ByteRecord, edges: u32, row: u64) -> Result<Row, TraceFault>
     })
 }
 
-/// Whether a field is this text.
+/// Whether the field at a column is `text`.
 #[tactic(auto, unfolding(crate::specs::Trace::is_text_at))]
 fn is_field(fields: &ByteRecord, column: usize, text: &[u8]) -> bool
     ensures { result ≡ is_text_at column text.now (fields_of fields.now) }
@@ -171,11 +172,13 @@ fn refusal(error: Error) -> TraceFault
     }
 }
 
-/// The next record into `fields`, and whether there was one.
+/// The next record into `fields`, and whether there was one. `Memory` where memory was refused.
 fn next(reader: &mut Reader<&[u8]>, fields: &mut ByteRecord) -> Result<bool, TraceFault>
     requires { Steady reader.old }
     ensures steady { IfOk result (λ found. found ≡ true → Steady reader.new) }
-    ensures gives { IfOk result (λ found. MatchBool found (unread reader.old ≡ fields_of fields.new ∷ unread reader.new) (unread reader.old ≡ [])) }
+    ensures gives { IfOk result (λ found. MatchBool found
+        (unread reader.old ≡ fields_of fields.new ∷ unread reader.new)
+        (unread reader.old ≡ [])) }
     ensures refused { IfErr result (λ e. e ≡ Memory) }
 {
     match reader.read_byte_record(fields) {
@@ -184,7 +187,7 @@ fn next(reader: &mut Reader<&[u8]>, fields: &mut ByteRecord) -> Result<bool, Tra
     }
 }
 
-/// A reader of the records of these bytes.
+/// A reader of the records of `bytes`.
 #[tactic(auto, unfolding(crate::specs::Unread::unread))]
 fn open(alloc: Global, bytes: &[u8]) -> Reader<&[u8]>
     ensures steady { Steady result }
@@ -207,9 +210,11 @@ fn rows_left(
 ) -> Result<Vec<Row>, TraceFault>
     requires { Steady reader.old }
     ensures rows { IfOk result (λ v. rows_of edges most 0 (unread reader.old) ≡ Ok v.items) }
-    ensures law { IfOk result (λ v. WriteRows edges (unread reader.old) v.items × (length v.items ≤ most)) }
+    ensures law { IfOk result (λ v.
+        WriteRows edges (unread reader.old) v.items × (length v.items ≤ most)) }
     ensures ranges { IfOk result (λ v. All (IsRow edges) v.items) }
-    ensures fault { IfErr result (λ e. e ≢ Memory → rows_of edges most 0 (unread reader.old) ≡ Err e) }
+    ensures fault { IfErr result (λ e.
+        e ≢ Memory → rows_of edges most 0 (unread reader.old) ≡ Err e) }
     ensures first { IfErr result (λ e. e ≢ Memory → IsFirstFault edges most (unread reader.old) e) }
 {
     let mut rows = Vec::new(alloc);
@@ -228,10 +233,13 @@ fn rows_left(
     Ok(rows)
 }
 
-/// The rows of a trace, or its first fault, where row `most` and all behind it are one row too many.
+/// The rows of a trace, where row `most` and all behind it are one row too many.
 ///
-/// The first faulty row answers; within it first its length, then its columns from the left, in each the number before
-/// its range. `Memory` is answered where a request for memory was refused, and nothing is said of the trace then.
+/// # Errors
+///
+/// The first fault of the trace: that of the first faulty row, within it first its length, then its columns from the
+/// left, in each the number before its range. `Memory` where a request for memory was refused; nothing is said of the
+/// trace then.
 #[tactic(auto, unfolding(crate::specs::Trace::trace_of))]
 pub fn read_up_to(
     alloc: Global,
@@ -239,12 +247,13 @@ pub fn read_up_to(
     edges: u32,
     most: u64,
 ) -> Result<Vec<Row>, TraceFault>
-    requires { most ≤ 2 ^ 24 }
+    requires { most ≤ MAX_ROWS }
     ensures rows { IfOk result (λ v. trace_of edges most (records_of bytes.now) ≡ Ok v.items) }
     ensures law { IfOk result (λ v. IsTrace edges most (records_of bytes.now) v.items) }
     ensures ranges { IfOk result (λ v. All (IsRow edges) v.items) }
-    ensures fault { IfErr result (λ e. e ≢ Memory → trace_of edges most (records_of bytes.now) ≡ Err e) }
-    ensures refused { IfErr result (λ e. e ≢ Memory → (rows : List Row) → ¬ (IsTrace edges most (records_of bytes.now) rows)) }
+    ensures fault { IfErr result (λ e.
+        e ≢ Memory → trace_of edges most (records_of bytes.now) ≡ Err e) }
+    ensures refused { IfErr result (λ e. e ≢ Memory → IsNoTrace edges most (records_of bytes.now)) }
     ensures first { IfErr result (λ e. e ≢ Memory → IsFaultOf edges most (records_of bytes.now) e) }
 {
     let mut reader = open(alloc, bytes);
@@ -258,14 +267,21 @@ pub fn read_up_to(
     rows_left(alloc, &mut reader, &mut fields, edges, most)
 }
 
-/// The rows of a trace of at most 2^24 rows, or its first fault, as [`read_up_to`] gives them.
+/// The rows of a trace of at most [`MAX_ROWS`] rows.
+///
+/// # Errors
+///
+/// The first fault of the trace, or `Memory`, as [`read_up_to`] answers them.
 pub fn read(alloc: Global, bytes: &[u8], edges: u32) -> Result<Vec<Row>, TraceFault>
-    ensures rows { IfOk result (λ v. trace_of edges (2 ^ 24) (records_of bytes.now) ≡ Ok v.items) }
-    ensures fault { IfErr result (λ e. e ≢ Memory → trace_of edges (2 ^ 24) (records_of bytes.now) ≡ Err e) }
-    ensures law { IfOk result (λ v. IsTrace edges (2 ^ 24) (records_of bytes.now) v.items) }
+    ensures rows { IfOk result (λ v. trace_of edges MAX_ROWS (records_of bytes.now) ≡ Ok v.items) }
+    ensures fault { IfErr result (λ e.
+        e ≢ Memory → trace_of edges MAX_ROWS (records_of bytes.now) ≡ Err e) }
+    ensures law { IfOk result (λ v. IsTrace edges MAX_ROWS (records_of bytes.now) v.items) }
     ensures ranges { IfOk result (λ v. All (IsRow edges) v.items) }
-    ensures refused { IfErr result (λ e. e ≢ Memory → (rows : List Row) → ¬ (IsTrace edges (2 ^ 24) (records_of bytes.now) rows)) }
-    ensures first { IfErr result (λ e. e ≢ Memory → IsFaultOf edges (2 ^ 24) (records_of bytes.now) e) }
+    ensures refused { IfErr result (λ e.
+        e ≢ Memory → IsNoTrace edges MAX_ROWS (records_of bytes.now)) }
+    ensures first { IfErr result (λ e.
+        e ≢ Memory → IsFaultOf edges MAX_ROWS (records_of bytes.now) e) }
 {
     read_up_to(alloc, bytes, edges, MAX_ROWS)
 }

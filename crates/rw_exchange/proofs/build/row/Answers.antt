@@ -34,9 +34,9 @@ loop-k-preserved g c =
       columns = c.in_ok-push_at.ensures.length ∙ inv.columns;
       length = omega (arith, c.push_reserved.ensures.len, inv.length);
       room = c.push_reserved.ensures.capacity ∙ inv.room;
-      rings = row_more _ _ (out_rings xs) (out_ring x) c.loop-k.k (in_table c.args.columns.now.items) inv.rings long wide (c.in_ok-push_at.ensures.rings ∙ ap (λ o. set (in_table c.loop-k.columns.items) c.loop-k.k (get_or (in_table c.loop-k.columns.items) c.loop-k.k [] ++ o ∷ [])) (sym c.in_ok-producer.ensures.ring.0))
+      rings = row_more _ _ (out_rings xs) (out_ring x) c.loop-k.k (in_table c.args.columns.now.items) inv.rings long wide (c.in_ok-push_at.ensures.rings ∙ ap (λ o. set (in_table c.loop-k.columns.items) c.loop-k.k (get_or (in_table c.loop-k.columns.items) c.loop-k.k [] ++ o ∷ [])) (sym c.in_ok-producer.ensures.ring))
           ∙ ap (push_each (in_table c.args.columns.now.items)) (sym rings);
-      others = subst (AllButOwn c.args.own) (sym rings) (all_but_more c.args.own (out_rings xs) (out_ring x) inv.others (c.in_ok-producer.ensures.ring.1 ∙ ap (λ n. not (n == c.args.own)) (sym long)));
+      others = subst (AllButOwn c.args.own) (sym rings) (all_but_more c.args.own (out_rings xs) (out_ring x) inv.others (c.in_ok-producer.ensures.wanted ∙ ap (λ n. not (n == c.args.own)) (sym long)));
       capacity = All-same (HasCapacity c.args.capacity) _ _ items (All-push (HasCapacity c.args.capacity) xs x inv.capacity c.in_ok-producer.ensures.capacity);
       free = All-same (KnowsFree c.args.capacity) _ _ items (All-push (KnowsFree c.args.capacity) xs x inv.free c.in_ok-producer.ensures.free);
       sent = All-same NothingSent _ _ items (All-push NothingSent xs x inv.sent c.in_ok-producer.ensures.new.0);

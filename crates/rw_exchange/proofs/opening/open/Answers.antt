@@ -62,15 +62,15 @@ loop-outs-preserved g c =
       into = moves_on (λ v. in_rings v.items) (λ f. f.into) ports _ _ _ _ ins c.of-port.result inv.into q c.of-port.ensures.rings.1 more;
       numbered = numbered_more ports _ c.of-port.result inv.numbered (c.of-port.ensures.numbers.0 ∙ (c.len.ensures ∙ c.loop-outs.ports.ok.0)) more;
       new = All-same IsNew _ _ more (All-push IsNew ports c.of-port.result inv.new (
-        (λ k. ap (λ z. get_or z k []) c.of-port.ensures.lists.0 ∙ all_nothing out_sent outs.items some_sent k),
-        (λ k. ap (λ z. get_or z k []) c.of-port.ensures.lists.1 ∙ all_nothing in_received ins.items some_got k),
+        (λ k. ap (λ z. get_or z k []) c.of-port.ensures.sent ∙ all_nothing out_sent outs.items some_sent k),
+        (λ k. ap (λ z. get_or z k []) c.of-port.ensures.received ∙ all_nothing in_received ins.items some_got k),
       ));
       same = All-same (λ p. p.capacity ≡ c.args.capacity) _ _ more (All-push (λ p. p.capacity ≡ c.args.capacity) ports c.of-port.result inv.same c.of-port.ensures.numbers.1);
       knows = All-same (λ p. (k : ℕ) → IsOther p k → free_to p k ≡ c.args.capacity) _ _ more (All-push (λ p. (k : ℕ) → IsOther p k → free_to p k ≡ c.args.capacity) ports c.of-port.result inv.knows
           (all_free c.args.capacity outs.items c.of-port.result some_free c.of-port.ensures.rings.0 c.of-port.ensures.free (λ k lt other. (others_there g (goal.at.loop-outs-preserved g c).After-len k lt (λ e. other (e ∙ sym c.of-port.ensures.numbers.0))).0)));
       lists = All-same (λ p. (length p.sent ≡ length p.out) × (length p.received ≡ length p.into)) _ _ more (All-push (λ p. (length p.sent ≡ length p.out) × (length p.received ≡ length p.into)) ports c.of-port.result inv.lists (
-        ap length c.of-port.ensures.lists.0 ∙ (length-map outs.items out_sent ∙ (sym (length-map outs.items out_ring) ∙ ap length (sym c.of-port.ensures.rings.0))),
-        ap length c.of-port.ensures.lists.1 ∙ (length-map ins.items in_received ∙ (sym (length-map ins.items in_ring) ∙ ap length (sym c.of-port.ensures.rings.1))),
+        ap length c.of-port.ensures.sent ∙ (length-map outs.items out_sent ∙ (sym (length-map outs.items out_ring) ∙ ap length (sym c.of-port.ensures.rings.0))),
+        ap length c.of-port.ensures.received ∙ (length-map ins.items in_received ∙ (sym (length-map ins.items in_ring) ∙ ap length (sym c.of-port.ensures.rings.1))),
       ));
       capacity = All-tail (λ v. All (HasCapacity c.args.capacity) v.items) outs _ (All-same (λ v. All (HasCapacity c.args.capacity) v.items) _ _ (sym r) inv.capacity);
       free = All-tail (λ v. All (KnowsFree c.args.capacity) v.items) outs _ (All-same (λ v. All (KnowsFree c.args.capacity) v.items) _ _ (sym r) inv.free);

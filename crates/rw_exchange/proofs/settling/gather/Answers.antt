@@ -50,14 +50,21 @@ rest_at-requires-clause-paired g c =
     let within : n < vec_len c.args.row = omega (arith, ap length r, inv.count) in
     sym ring ∙ (c.requires.paired n within ∙ (ap (λ t. cell t n c.args.own) (sym inv.rings) ∙ ap (λ k. cell (in_table c.loop-out.columns.items) k c.args.own) (sym at)))
 
-pub rest_at-requires-clause-within : goal.rest_at-requires-clause-within
-rest_at-requires-clause-within g c =
+pub rest_at-requires-clause-column : goal.rest_at-requires-clause-column
+rest_at-requires-clause-column g c =
     let inv = c.loop-out.invariant in
     let n = vec_len c.loop-out.lists in
     let r = c.in-Some.ensures.steps.0 in
     let at : c.len-in-loop-out.result ≡ n = c.len-in-loop-out.ensures in
     let within : n < vec_len c.args.row = omega (arith, ap length r, inv.count) in
-    let deep = c.requires.deep n within in (
-      omega (arith, inv.columns, c.requires.length),
-      subst (λ k. c.args.own < length (get_or (in_table c.loop-out.columns.items) k [])) (sym at) (subst (λ t. c.args.own < length (get_or t n [])) (sym inv.rings) deep),
-    )
+    omega (arith, inv.columns, c.requires.length)
+
+pub rest_at-requires-clause-place : goal.rest_at-requires-clause-place
+rest_at-requires-clause-place g c =
+    let inv = c.loop-out.invariant in
+    let n = vec_len c.loop-out.lists in
+    let r = c.in-Some.ensures.steps.0 in
+    let at : c.len-in-loop-out.result ≡ n = c.len-in-loop-out.ensures in
+    let within : n < vec_len c.args.row = omega (arith, ap length r, inv.count) in
+    let deep = c.requires.deep n within in
+    subst (λ k. c.args.own < length (get_or (in_table c.loop-out.columns.items) k [])) (sym at) (subst (λ t. c.args.own < length (get_or t n [])) (sym inv.rings) deep)

@@ -14,7 +14,7 @@ gather-requires-clause-length g c =
     let many : length c.args.ports.items ≡ vec_len c.args.ports = sym c.args.ports.ok.0 in
     let within : n < length c.args.ports.items = omega (arith, ap length r, inv.count) in
     let fit = row_here c.args.ports.items c.in_ok-rows.rows.items c.loop-row.yielded c.loop-row.row-iterator.rest.items c.next.new.self.rest.items c.loop-row.columns.items c.in-Some.row n c.requires.opening
-    c.in_ok-rows.ensures.rings.0 (inv.rings ∙ c.in_ok-rows.ensures.rings.1) (inv.walked ∙ c.into_iter-row-iterator.ensures.into_iter_gives.0) r inv.done within in
+    c.in_ok-rows.ensures.out (inv.rings ∙ c.in_ok-rows.ensures.into) (inv.walked ∙ c.into_iter-row-iterator.ensures.into_iter_gives.0) r inv.done within in
     let long : vec_len c.in-Some.row ≡ vec_len c.args.ports = c.in-Some.row.ok.0 ∙ (sym (length-map c.in-Some.row.items out_ring) ∙ (fit.0 ∙ many)) in
     let at : c.len-in-loop-row.result ≡ n = c.len-in-loop-row.ensures in
     long ∙ (sym many ∙ (sym fit.1 ∙ (length-map c.loop-row.columns.items (λ v. in_rings v.items) ∙ sym c.loop-row.columns.ok.0)))
@@ -27,7 +27,7 @@ gather-requires-clause-deep g c j lt =
     let many : length c.args.ports.items ≡ vec_len c.args.ports = sym c.args.ports.ok.0 in
     let within : n < length c.args.ports.items = omega (arith, ap length r, inv.count) in
     let fit = row_here c.args.ports.items c.in_ok-rows.rows.items c.loop-row.yielded c.loop-row.row-iterator.rest.items c.next.new.self.rest.items c.loop-row.columns.items c.in-Some.row n c.requires.opening
-    c.in_ok-rows.ensures.rings.0 (inv.rings ∙ c.in_ok-rows.ensures.rings.1) (inv.walked ∙ c.into_iter-row-iterator.ensures.into_iter_gives.0) r inv.done within in
+    c.in_ok-rows.ensures.out (inv.rings ∙ c.in_ok-rows.ensures.into) (inv.walked ∙ c.into_iter-row-iterator.ensures.into_iter_gives.0) r inv.done within in
     let long : vec_len c.in-Some.row ≡ vec_len c.args.ports = c.in-Some.row.ok.0 ∙ (sym (length-map c.in-Some.row.items out_ring) ∙ (fit.0 ∙ many)) in
     let at : c.len-in-loop-row.result ≡ n = c.len-in-loop-row.ensures in
     subst (λ z. z < length (get_or (in_table c.loop-row.columns.items) j [])) (sym at) (fit.2 j (omega arith))
@@ -40,7 +40,7 @@ gather-requires-clause-paired g c j lt =
     let many : length c.args.ports.items ≡ vec_len c.args.ports = sym c.args.ports.ok.0 in
     let within : n < length c.args.ports.items = omega (arith, ap length r, inv.count) in
     let fit = row_here c.args.ports.items c.in_ok-rows.rows.items c.loop-row.yielded c.loop-row.row-iterator.rest.items c.next.new.self.rest.items c.loop-row.columns.items c.in-Some.row n c.requires.opening
-    c.in_ok-rows.ensures.rings.0 (inv.rings ∙ c.in_ok-rows.ensures.rings.1) (inv.walked ∙ c.into_iter-row-iterator.ensures.into_iter_gives.0) r inv.done within in
+    c.in_ok-rows.ensures.out (inv.rings ∙ c.in_ok-rows.ensures.into) (inv.walked ∙ c.into_iter-row-iterator.ensures.into_iter_gives.0) r inv.done within in
     let long : vec_len c.in-Some.row ≡ vec_len c.args.ports = c.in-Some.row.ok.0 ∙ (sym (length-map c.in-Some.row.items out_ring) ∙ (fit.0 ∙ many)) in
     let at : c.len-in-loop-row.result ≡ n = c.len-in-loop-row.ensures in
     fit.3 j (omega arith) ∙ ap (λ z. cell (in_table c.loop-row.columns.items) j z) (sym at)
@@ -53,7 +53,7 @@ loop-row-preserved g c =
     let many : length c.args.ports.items ≡ vec_len c.args.ports = sym c.args.ports.ok.0 in
     let within : n < length c.args.ports.items = omega (arith, ap length r, inv.count) in
     let fit = row_here c.args.ports.items c.in_ok-rows.rows.items c.loop-row.yielded c.loop-row.row-iterator.rest.items c.next.new.self.rest.items c.loop-row.columns.items c.in-Some.row n c.requires.opening
-    c.in_ok-rows.ensures.rings.0 (inv.rings ∙ c.in_ok-rows.ensures.rings.1) (inv.walked ∙ c.into_iter-row-iterator.ensures.into_iter_gives.0) r inv.done within in
+    c.in_ok-rows.ensures.out (inv.rings ∙ c.in_ok-rows.ensures.into) (inv.walked ∙ c.into_iter-row-iterator.ensures.into_iter_gives.0) r inv.done within in
     let long : vec_len c.in-Some.row ≡ vec_len c.args.ports = c.in-Some.row.ok.0 ∙ (sym (length-map c.in-Some.row.items out_ring) ∙ (fit.0 ∙ many)) in
     let at : c.len-in-loop-row.result ≡ n = c.len-in-loop-row.ensures in
     let row = c.in-Some.row in
@@ -90,5 +90,5 @@ returns-clause-own g c i lt =
     let inv = c.loop-row.invariant in
     let zero : length c.loop-row.row-iterator.rest.items ≡ 0 = sym c.loop-row.row-iterator.rest.ok.0 ∙ c.in-None.ensures.steps.0 in
     let fifo = inv.fifo i i (omega (arith, inv.count)) lt in
-    ap (λ t. entry t i i) c.of.ensures ∙ none_left c.args.ports.items c.in_ok-rows.rows.items i _ _ c.requires.opening c.in_ok-rows.ensures.rings.0 (subst (λ z. i < z) c.args.ports.ok.0 lt)
+    ap (λ t. entry t i i) c.of.ensures ∙ none_left c.args.ports.items c.in_ok-rows.rows.items i _ _ c.requires.opening c.in_ok-rows.ensures.out (subst (λ z. i < z) c.args.ports.ok.0 lt)
     (fifo ∙ ap (λ z. entry (sent_table z) i i) c.into_iter-row-iterator.ensures.into_iter_gives.0)

@@ -3,13 +3,12 @@ use Rattle.std.specs.Prelude.{remove}
 use Rattle.std.specs.Map.{values_of}
 use Rattle.std.proofs.lemmas.List.{get_or_default}
 use Rattle.std.proofs.lemmas.List.Edits.{length-remove, get_or-remove_below}
-use Rattle.rw_blocks.specs.State.{QueueState, SectionState}
+use Rattle.rw_blocks.specs.State.{QueueState, SectionState, section_in}
 use Rattle.rw_blocks.specs.Sums.{has_block, size_of}
 use Rattle.rw_blocks.specs.Loose.{IsLoose}
-use Rattle.rw_blocks.specs.Primitives.{section_joining}
-use Rattle.rw_blocks.specs.Tags.{section_in}
-use Rattle.rw_blocks.specs.Weights.{IsWeighed, weight_in, joined_at, with_sections}
-use Rattle.rw_blocks.proofs.Weighed.{among-le}
+use Rattle.rw_blocks.specs.Primitives.{section_joining, joined_at}
+use Rattle.rw_blocks.specs.Weights.{IsWeighed, weight_in, with_sections}
+use Rattle.rw_blocks.proofs.Weighed.{bytes_where-le}
 use Rattle.rw_blocks.proofs.Parting.{joins-at, weight-joined, IsWeighed-join}
 use Rattle.rw_blocks.proofs.queue.Queue.join.Goals as goal
 
@@ -45,7 +44,7 @@ overflow_add-index_mut c =
     let s : SectionState = section_joining c.args.device_vanishes c.args.virtual_vanishes (section_in q.sections i) (section_in q.sections (i + 1)) in
     let sum : weight_in q.rows s ≡ weight_in q.rows (section_in q.sections i) + weight_in q.rows (section_in q.sections (i + 1)) =
     weight-joined q i c.args.device_vanishes c.args.virtual_vanishes c.requires.after.0 loose within after in
-    let le : weight_in q.rows s ≤ size_of (values_of q.rows) = among-le q.rows (λ b. has_block b s) in
+    let le : weight_in q.rows s ≤ size_of (values_of q.rows) = bytes_where-le q.rows (λ b. has_block b s) in
     let few : size_of (values_of q.rows) ≤ 2 ^ 48 = loose.within in
     omega (arith, upper, lower, u, l, sum, le, few)
 

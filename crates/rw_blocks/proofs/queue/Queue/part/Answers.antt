@@ -4,13 +4,12 @@ use Rattle.std.specs.List.{list_any}
 use Rattle.std.proofs.lemmas.List.{get_or_default}
 use Rattle.std.proofs.lemmas.List.Edits.{get_or-insert_below}
 use Rattle.rw_blocks.specs.declared.Place.{Place}
-use Rattle.rw_blocks.specs.State.{QueueState, SectionState}
+use Rattle.rw_blocks.specs.State.{QueueState, SectionState, section_in}
 use Rattle.rw_blocks.specs.Sums.{has_serial}
 use Rattle.rw_blocks.specs.Loose.{IsLoose}
-use Rattle.rw_blocks.specs.Primitives.{section_joining}
-use Rattle.rw_blocks.specs.Undo.{upper_of, lower_of}
-use Rattle.rw_blocks.specs.Tags.{section_in}
-use Rattle.rw_blocks.specs.Weights.{IsWeighed, among, weight_in, parted_at, with_sections}
+use Rattle.rw_blocks.specs.Primitives.{section_joining, upper_of}
+use Rattle.rw_blocks.specs.Undo.{lower_of, parted_at}
+use Rattle.rw_blocks.specs.Weights.{IsWeighed, bytes_where, weight_in, with_sections}
 use Rattle.rw_blocks.proofs.Parting.{parts-at, from-at, weight-parted, weight-lower, IsWeighed-part}
 use Rattle.rw_blocks.proofs.queue.Queue.part.Goals as goal
 
@@ -88,7 +87,7 @@ overflow_sub-index_mut c =
     let sum : weight_in rows s ≡ weight_in rows u + weight_in rows l = weight-parted q i n d v m w next loose lt after inside joins in
     let taken : x ≡ weight_in rows l =
     c.weight_from-lower.ensures
-    ∙ (ap (λ (z : QueueState). among z.rows (λ b. list_any (has_serial b) (drop n (section_in z.sections i).sealed))) (sym c.self.view_is)
+    ∙ (ap (λ (z : QueueState). bytes_where z.rows (λ b. list_any (has_serial b) (drop n (section_in z.sections i).sealed))) (sym c.self.view_is)
     ∙ weight-lower q i n d v m w next loose lt after inside joins) in
     omega (arith, read, each, sum, taken)
 
@@ -126,7 +125,7 @@ invariant_of-self-2 c =
     let sum : weight_in rows s ≡ weight_in rows u + weight_in rows l = weight-parted q i n d v m w next loose lt after inside joins in
     let taken : x ≡ weight_in rows l =
     c.weight_from-lower.ensures
-    ∙ (ap (λ (z : QueueState). among z.rows (λ b. list_any (has_serial b) (drop n (section_in z.sections i).sealed))) (sym c.self.view_is)
+    ∙ (ap (λ (z : QueueState). bytes_where z.rows (λ b. list_any (has_serial b) (drop n (section_in z.sections i).sealed))) (sym c.self.view_is)
     ∙ weight-lower q i n d v m w next loose lt after inside joins) in (
       c.self.invariant.0,
       λ some. rw (c.in_ok-part.ensures.parted, items)

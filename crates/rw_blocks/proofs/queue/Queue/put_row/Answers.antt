@@ -5,11 +5,11 @@ use Rattle.std.specs.Map.{lookup, values_of}
 use Rattle.std.specs.BTreeMap.{is_at}
 use Rattle.std.proofs.lemmas.List.{get_or_default}
 use Rattle.rw_blocks.specs.declared.Place.{Place}
-use Rattle.rw_blocks.specs.State.{QueueState, SectionState}
+use Rattle.rw_blocks.specs.State.{QueueState, SectionState, section_in}
 use Rattle.rw_blocks.specs.Sums.{has_block, size_of}
-use Rattle.rw_blocks.specs.Tags.{section_in, IsOnlyIn}
+use Rattle.rw_blocks.specs.Tags.{IsOnlyIn}
 use Rattle.rw_blocks.specs.Weights.{weight_in, IsWeighed}
-use Rattle.rw_blocks.proofs.Weighed.{IsWeighed-insert, among-le}
+use Rattle.rw_blocks.proofs.Weighed.{IsWeighed-insert, bytes_where-le}
 use Rattle.rw_blocks.proofs.queue.Queue.put_row.Goals as goal
 
 pub overflow_add-index_mut : goal.overflow_add-index_mut
@@ -24,7 +24,7 @@ overflow_add-index_mut c =
     let long : length bs ≡ length ss = w.long in
     let read : c.index_mut.result.now ≡ get_or bs i 0 = c.index_mut.ensures.value ∙ get_or_default bs i c.index_mut.result.now 0 (omega arith) in
     let each : get_or bs i 0 ≡ weight_in rows (section_in ss i) = w.each i within in
-    let le : weight_in rows (section_in ss i) ≤ size_of (values_of rows) = among-le rows (λ b. has_block b (section_in ss i)) in
+    let le : weight_in rows (section_in ss i) ≤ size_of (values_of rows) = bytes_where-le rows (λ b. has_block b (section_in ss i)) in
     let whole : size_of (values_of rows) ≡ size_of (values_of c.args.self.now.rows) = ap (λ (z : QueueState). size_of (values_of z.rows)) c.self.view_is in
     let room = c.requires.room in
     omega (arith, read, each, le, whole, room)

@@ -6,20 +6,20 @@ use Rattle.std.specs.BTreeMap.{is_at}
 use Rattle.std.proofs.lemmas.List.{get_or_default}
 use Rattle.rw_vt.proofs.Entries.{insert_entry-same, lookup-remove_entry, sorted-remove_entry}
 use Rattle.rw_blocks.specs.declared.Place.{Place}
-use Rattle.rw_blocks.specs.State.{QueueState, SectionState, row_at, section_at}
+use Rattle.rw_blocks.specs.State.{QueueState, SectionState, row_at, section_at, section_in}
 use Rattle.rw_blocks.specs.Sums.{has_block, size_of}
 use Rattle.rw_blocks.specs.Loose.{IsLoose}
 use Rattle.rw_blocks.specs.Undo.{Undoes}
 use Rattle.rw_blocks.specs.declared.Mark.TheVariants.{Replace}
 use Rattle.rw_blocks.specs.Primitives.{with_row, after_replace}
-use Rattle.rw_blocks.specs.Tags.{section_in, IsOnlyIn}
+use Rattle.rw_blocks.specs.Tags.{IsOnlyIn}
 use Rattle.rw_blocks.specs.Weights.{weight_in, IsWeighed}
 use Rattle.rw_blocks.proofs.Laws.{Undoes-after_replace}
 use Rattle.rw_blocks.proofs.Kept.{IsLoose-after_replace}
 use Rattle.rw_blocks.proofs.Present.{row-there}
 use Rattle.rw_blocks.proofs.Filed.{write-again}
 use Rattle.rw_blocks.proofs.Moving.{room-again}
-use Rattle.rw_blocks.proofs.Weighed.{IsWeighed-insert, IsWeighed-remove, row-le-weight, among-le}
+use Rattle.rw_blocks.proofs.Weighed.{IsWeighed-insert, IsWeighed-remove, row-le-weight, bytes_where-le}
 use Rattle.rw_blocks.proofs.queue.Queue.replace_row.Goals as goal
 
 at_some : (o : Option ℕ) (i : ℕ) (P : ℕ → Type 0) → o ≡ Some i → IfSome o P → P i
@@ -88,7 +88,7 @@ overflow_add-index_mut c =
     let long' : length (set bs j y) ≡ length bs = length-set bs j y in
     let read' : c.index_mut-2.result.now ≡ get_or (set bs j y) i 0 = c.index_mut-2.ensures.value ∙ get_or_default (set bs j y) i c.index_mut-2.result.now 0 (omega arith) in
     let each' : get_or (set bs j y) i 0 ≡ weight_in (remove_entry (is_at (nat_cmp o)) rows) (section_in ss i) = w'.each i lt in
-    let few : weight_in (remove_entry (is_at (nat_cmp o)) rows) (section_in ss i) ≤ size_of (values_of (remove_entry (is_at (nat_cmp o)) rows)) = among-le (remove_entry (is_at (nat_cmp o)) rows) (λ b. has_block b (section_in ss i)) in
+    let few : weight_in (remove_entry (is_at (nat_cmp o)) rows) (section_in ss i) ≤ size_of (values_of (remove_entry (is_at (nat_cmp o)) rows)) = bytes_where-le (remove_entry (is_at (nat_cmp o)) rows) (λ b. has_block b (section_in ss i)) in
     let room = room-again q o r loose is in
     omega (arith, read', each', few, room)
 

@@ -2,11 +2,10 @@ use Rattle.std.proofs.Common.{arith, sym, ap, subst, ◌≡◌, ◌∙◌, ◌<�
 use Rattle.std.specs.Prelude.{◌||◌, All}
 use Rattle.std.specs.Map.{values_of}
 use Rattle.std.proofs.lemmas.Grind.{common_steps}
-use Rattle.rw_blocks.specs.State.{QueueState, SectionState}
+use Rattle.rw_blocks.specs.State.{QueueState, SectionState, section_in}
 use Rattle.rw_blocks.specs.Sums.{has_block}
 use Rattle.rw_blocks.specs.Loose.{IsLoose}
 use Rattle.rw_blocks.specs.Primitives.{section_sealing}
-use Rattle.rw_blocks.specs.Tags.{section_in}
 use Rattle.rw_blocks.proofs.Laws.{Undoes-after_seal}
 use Rattle.rw_blocks.proofs.Grown.{IsLoose-after_seal}
 use Rattle.rw_blocks.proofs.Present.{absent-none}

@@ -5,10 +5,9 @@ use Rattle.std.proofs.lemmas.Bool.{ne_eqb}
 use Rattle.std.proofs.lemmas.Grind.{common_steps}
 use Rattle.rw_blocks.specs.declared.Kind.{Kind}
 use Rattle.rw_blocks.specs.declared.Kind.TheVariants.{Device}
-use Rattle.rw_blocks.specs.State.{QueueState, SectionState, section_at}
+use Rattle.rw_blocks.specs.State.{QueueState, SectionState, section_at, section_in}
 use Rattle.rw_blocks.specs.Sums.{has_block}
 use Rattle.rw_blocks.specs.Loose.{IsLoose, IsFree}
-use Rattle.rw_blocks.specs.Tags.{section_in}
 use Rattle.rw_blocks.proofs.Laws.{Undoes-after_take_out}
 use Rattle.rw_blocks.proofs.Moved.{IsLoose-after_take_out}
 use Rattle.rw_blocks.proofs.Holding.{has_block-remove}

@@ -3,10 +3,10 @@ use Rattle.std.specs.Prelude.{◌||◌, All, IsSomeAnd, slice_get}
 use Rattle.std.specs.Map.{values_of}
 use Rattle.rw_blocks.specs.declared.Kind.{Kind}
 use Rattle.rw_blocks.specs.declared.Mark.TheVariants.{Seal}
-use Rattle.rw_blocks.specs.State.{QueueState, SectionState, no_section, active_of}
+use Rattle.rw_blocks.specs.State.{QueueState, SectionState, no_section, active_of, section_in}
 use Rattle.rw_blocks.specs.Sums.{has_block}
 use Rattle.rw_blocks.specs.Undo.{undo_of, IsUndoable, section_unsealing}
-use Rattle.rw_blocks.specs.Tags.{section_in, IsAbsent}
+use Rattle.rw_blocks.specs.Tags.{IsAbsent}
 use Rattle.rw_blocks.proofs.Present.{absent-none}
 use Rattle.rw_blocks.proofs.Holding.{has_block-unsealing}
 use Rattle.rw_blocks.proofs.Parting.{unused}

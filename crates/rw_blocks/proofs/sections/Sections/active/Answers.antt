@@ -1,8 +1,8 @@
 use Rattle.std.proofs.Common.{arith, ap, subst, ◌∙◌, ◌≡◌, ◌<◌, List, length, true}
 use Rattle.std.proofs.lemmas.Grind.{common_steps}
-use Rattle.rw_blocks.specs.State.{SectionState}
+use Rattle.rw_blocks.specs.State.{SectionState, section_in}
 use Rattle.rw_blocks.specs.Sums.{has_block}
-use Rattle.rw_blocks.specs.Tags.{section_in, IsOnlyIn}
+use Rattle.rw_blocks.specs.Tags.{IsOnlyIn}
 use Rattle.rw_blocks.proofs.Tagged.{IsTagged-only}
 use Rattle.rw_blocks.proofs.sections.Sections.active.Goals as goal
 

@@ -4,10 +4,10 @@ use Rattle.std.specs.HashMap.{get}
 use Rattle.std.proofs.lemmas.Grind.{common_steps}
 use Rattle.std.proofs.lemmas.List.{get_or_default}
 use Rattle.std.proofs.lemmas.List.Edits.{get_or-remove_below}
-use Rattle.rw_blocks.specs.State.{SectionState, no_section}
+use Rattle.rw_blocks.specs.State.{SectionState, no_section, section_in}
 use Rattle.rw_blocks.specs.Sums.{has_block}
 use Rattle.rw_blocks.specs.Primitives.{section_joining}
-use Rattle.rw_blocks.specs.Tags.{section_in, tag_in, IsTagged, Joins, vanishes}
+use Rattle.rw_blocks.specs.Tags.{tag_in, IsTagged, Joins, is_vanishing}
 use Rattle.rw_blocks.proofs.Tagged.{IsTagged-join}
 use Rattle.rw_blocks.proofs.sections.Sections.join.Goals as goal
 
@@ -22,7 +22,7 @@ invariant_of-self-2 c = λ some.
     let long = t.long in
     let u : SectionState = section_in ss i in
     let l : SectionState = section_in ss (i + 1) in
-    let gone : ℕ → Bool = vanishes c.args.device_vanishes c.args.virtual_vanishes l in
+    let gone : ℕ → Bool = is_vanishing c.args.device_vanishes c.args.virtual_vanishes l in
     let items : c.replace-list.result.items ≡ ss = cc in
     let list : c.remove-lower.new.self.items ≡ remove ss (i + 1) = grind (arith, common_steps) in
     let lower : c.remove-lower.result ≡ l = grind (arith, common_steps, get_or_default {X = SectionState}) in
@@ -34,10 +34,10 @@ invariant_of-self-2 c = λ some.
     let is : c.join.new.self ≡ section_joining c.args.device_vanishes c.args.virtual_vanishes u l =
     c.in_ok-join.ensures ∙ (ap (λ (z : SectionState). section_joining c.args.device_vanishes c.args.virtual_vanishes z c.remove-lower.result) upper ∙ ap (λ (z : SectionState). section_joining c.args.device_vanishes c.args.virtual_vanishes u z) lower) in
     let joins : Joins u l gone (section_joining c.args.device_vanishes c.args.virtual_vanishes u l) =
-    subst (λ (zs : List SectionState). Joins (section_in zs i) (section_in zs (i + 1)) (vanishes c.args.device_vanishes c.args.virtual_vanishes (section_in zs (i + 1))) (section_joining c.args.device_vanishes c.args.virtual_vanishes (section_in zs i) (section_in zs (i + 1)))) (sym view) c.requires.joins in
+    subst (λ (zs : List SectionState). Joins (section_in zs i) (section_in zs (i + 1)) (is_vanishing c.args.device_vanishes c.args.virtual_vanishes (section_in zs (i + 1))) (section_joining c.args.device_vanishes c.args.virtual_vanishes (section_in zs i) (section_in zs (i + 1)))) (sym view) c.requires.joins in
     let owner : (b : ℕ) → get nat_eq c.retag.new.owners b ≡ cond (has_block b l) (cond (gone b) None (Some (tag_in tags i))) (get nat_eq c.self.inside.owners b) =
     λ b. c.in_ok-retag.ensures b
-    ∙ (ap (λ (z : SectionState). cond (has_block b z) (cond (vanishes c.args.device_vanishes c.args.virtual_vanishes z b) None (Some c.index-tag.result.now)) (get nat_eq c.self.inside.owners b)) lower
+    ∙ (ap (λ (z : SectionState). cond (has_block b z) (cond (is_vanishing c.args.device_vanishes c.args.virtual_vanishes z b) None (Some c.index-tag.result.now)) (get nat_eq c.self.inside.owners b)) lower
     ∙ ap (λ (y : ℕ). cond (has_block b l) (cond (gone b) None (Some y)) (get nat_eq c.self.inside.owners b)) tag) in
     rw (list, is, new-tags)
     (IsTagged-join ss tags (λ b. get nat_eq c.self.inside.owners b) (λ b. get nat_eq c.retag.new.owners b) gone i (section_joining c.args.device_vanishes c.args.virtual_vanishes u l) t within joins owner)

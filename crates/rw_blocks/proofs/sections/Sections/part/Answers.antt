@@ -4,12 +4,13 @@ use Rattle.std.specs.List.{list_any}
 use Rattle.std.specs.HashMap.{get}
 use Rattle.std.proofs.lemmas.Grind.{common_steps}
 use Rattle.std.proofs.lemmas.List.{get_or_default}
-use Rattle.rw_blocks.specs.State.{SectionState}
+use Rattle.rw_blocks.specs.State.{SectionState, section_in}
 use Rattle.rw_blocks.specs.Sums.{has_block}
-use Rattle.rw_blocks.specs.Undo.{upper_of, lower_of}
-use Rattle.rw_blocks.specs.Tags.{section_in, IsTagged, Parts, ComesFrom}
+use Rattle.rw_blocks.specs.Undo.{lower_of}
+use Rattle.rw_blocks.specs.Tags.{IsTagged, Parts, ComesFrom}
 use Rattle.rw_blocks.proofs.Tagged.{IsTagged-part}
 use Rattle.rw_blocks.proofs.sections.Sections.part.Goals as goal
+use Rattle.rw_blocks.specs.Primitives.{upper_of}
 
 pub invariant_of-self-2 : goal.invariant_of-self-2
 invariant_of-self-2 c = λ some.

@@ -3,9 +3,9 @@ use Rattle.std.specs.Prelude.{insert}
 use Rattle.std.specs.HashMap.{get}
 use Rattle.std.proofs.lemmas.Grind.{common_steps}
 use Rattle.std.proofs.lemmas.List.{get_or_default}
-use Rattle.rw_blocks.specs.State.{SectionState}
+use Rattle.rw_blocks.specs.State.{SectionState, section_in}
 use Rattle.rw_blocks.specs.Sums.{has_block}
-use Rattle.rw_blocks.specs.Tags.{section_in, tag_in, IsTagged, IsAbsent}
+use Rattle.rw_blocks.specs.Tags.{tag_in, IsTagged, IsAbsent}
 use Rattle.rw_blocks.proofs.Holding.{has_block-insert}
 use Rattle.rw_blocks.proofs.Tagged.{IsTagged-claim}
 use Rattle.rw_blocks.proofs.sections.Sections.put_back.Goals as goal

@@ -1,10 +1,10 @@
 use Rattle.std.proofs.Common.{arith, sym, ap, subst, ◌∙◌, ◌≡◌, ◌<◌, ℕ, List, length, set, nat_eq}
 use Rattle.std.specs.HashMap.{get}
 use Rattle.std.proofs.lemmas.Grind.{common_steps}
-use Rattle.rw_blocks.specs.State.{SectionState}
+use Rattle.rw_blocks.specs.State.{SectionState, section_in}
 use Rattle.rw_blocks.specs.Sums.{has_block}
 use Rattle.rw_blocks.specs.Primitives.{section_sealing}
-use Rattle.rw_blocks.specs.Tags.{section_in, tag_in, IsTagged, IsAbsent}
+use Rattle.rw_blocks.specs.Tags.{tag_in, IsTagged, IsAbsent}
 use Rattle.rw_blocks.proofs.Holding.{has_block-sealing}
 use Rattle.rw_blocks.proofs.Tagged.{IsTagged-claim}
 use Rattle.std.proofs.lemmas.List.{get_or_default}

@@ -2,9 +2,9 @@ use Rattle.std.proofs.Common.{arith, sym, ap, subst, ◌∙◌, ◌≡◌, ◌<�
 use Rattle.std.specs.Prelude.{position, Some, None, Option, nat_eq, IfSome, IsNone}
 use Rattle.std.specs.HashMap.{get}
 use Rattle.std.proofs.lemmas.Grind.{common_steps}
-use Rattle.rw_blocks.specs.State.{SectionState}
+use Rattle.rw_blocks.specs.State.{SectionState, section_in}
 use Rattle.rw_blocks.specs.Sums.{has_block}
-use Rattle.rw_blocks.specs.Tags.{IsOnlyIn, IsAbsent, section_in}
+use Rattle.rw_blocks.specs.Tags.{IsOnlyIn, IsAbsent}
 use Rattle.rw_blocks.proofs.Tagged.{position-tagged, position-untagged, only_at-position, there_at-position, here_at-position, absent_from-position}
 use Rattle.rw_blocks.proofs.sections.Sections.section_of.Goals as goal
 

@@ -5,9 +5,9 @@ use Rattle.std.proofs.lemmas.Grind.{common_steps}
 use Rattle.std.proofs.lemmas.List.{get_or_default}
 use Rattle.rw_blocks.specs.declared.Kind.{Kind}
 use Rattle.rw_blocks.specs.declared.Kind.TheVariants.{Device}
-use Rattle.rw_blocks.specs.State.{SectionState}
+use Rattle.rw_blocks.specs.State.{SectionState, section_in}
 use Rattle.rw_blocks.specs.Sums.{has_block}
-use Rattle.rw_blocks.specs.Tags.{section_in, IsTagged}
+use Rattle.rw_blocks.specs.Tags.{IsTagged}
 use Rattle.rw_blocks.proofs.Laws.{got}
 use Rattle.rw_blocks.proofs.Holding.{has_block-remove}
 use Rattle.rw_blocks.proofs.Tagged.{IsTagged-release}

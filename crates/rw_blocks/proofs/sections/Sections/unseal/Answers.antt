@@ -3,10 +3,10 @@ use Rattle.std.specs.Prelude.{◌||◌}
 use Rattle.std.specs.HashMap.{get}
 use Rattle.std.proofs.lemmas.Grind.{common_steps}
 use Rattle.std.proofs.lemmas.List.{get_or_default}
-use Rattle.rw_blocks.specs.State.{SectionState, active_of}
+use Rattle.rw_blocks.specs.State.{SectionState, active_of, section_in}
 use Rattle.rw_blocks.specs.Sums.{has_block}
 use Rattle.rw_blocks.specs.Undo.{section_unsealing}
-use Rattle.rw_blocks.specs.Tags.{section_in, IsTagged}
+use Rattle.rw_blocks.specs.Tags.{IsTagged}
 use Rattle.rw_blocks.proofs.Holding.{has_block-unsealing}
 use Rattle.rw_blocks.proofs.Tagged.{IsTagged-release}
 use Rattle.rw_blocks.proofs.sections.Sections.unseal.Goals as goal

@@ -35,7 +35,7 @@ pub returns-clause-succeeds : goal.returns-clause-succeeds
 returns-clause-succeeds g c =
     let within : c.args.to < length c.self.inside.outs.items = within_outs c.self.inside.worker c.self.inside.capacity c.self.inside.outs.items c.self.inside.ins.items c.args.self.now c.self.view_is c.args.to c.requires.other.0 in
     let had : HasCapacity c.self.inside.capacity c.index_mut.result.now = subst (HasCapacity c.self.inside.capacity) (sym c.index_mut.ensures.value) (c.self.invariant.2 c.args.to c.index_mut.result.now within) in
-    λ h. (c.push.ensures.capacity c.self.inside.capacity had).1 (subst (λ z. length z < c.self.inside.capacity) (sent_is c.self.inside.worker c.self.inside.capacity c.self.inside.outs.items c.self.inside.ins.items c.args.self.now c.self.view_is c.args.to c.index_mut.result.now within c.index_mut.ensures.value) (subst (λ z. length (sent_to c.args.self.now c.args.to) < z) (ap (λ f. f.capacity) (sym c.self.view_is)) h))
+    λ h. c.push.ensures.succeeds c.self.inside.capacity had (subst (λ z. length z < c.self.inside.capacity) (sent_is c.self.inside.worker c.self.inside.capacity c.self.inside.outs.items c.self.inside.ins.items c.args.self.now c.self.view_is c.args.to c.index_mut.result.now within c.index_mut.ensures.value) (subst (λ z. length (sent_to c.args.self.now c.args.to) < z) (ap (λ f. f.capacity) (sym c.self.view_is)) h))
 
 pub returns-clause-same : goal.returns-clause-same
 returns-clause-same g c = same_sent c.push.result c.args.self.now _ c.args.to c.args.letter (returns-clause-ok g c) (returns-clause-err g c)
