@@ -4,19 +4,19 @@ use Rattle.std.proofs.lemmas.Bool.{cases_eq}
 use Rattle.std.specs.List.Sorted.{IsStrictlySortedBy}
 use Rattle.rw_blocks.specs.declared.Kind.{Kind}
 use Rattle.rw_blocks.specs.declared.Kind.TheVariants.{Device, Virtual}
-use Rattle.rw_blocks.specs.State.{Limits, IsShape, start_of}
+use Rattle.rw_blocks.specs.State.{ShapeState, IsShape, start_of}
 use Rattle.rw_blocks.specs.Sums.{bytes_held}
 use Rattle.rw_blocks.specs.Loose.{IsLoose, IsWellFormedQueue, count}
 use Rattle.rw_blocks.proofs.Grown.{one, one-other, one-both}
 
-start-count : (l : Limits) (kind : Kind) (b : ℕ) → count kind (start_of l) b ≡ one Device 0 kind b + one Virtual 1 kind b
+start-count : (l : ShapeState) (kind : Kind) (b : ℕ) → count kind (start_of l) b ≡ one Device 0 kind b + one Virtual 1 kind b
 start-count l kind b = omega arith
 
-start-bytes_held : (l : Limits) (kind : Kind) (b : ℕ) → bytes_held kind (start_of l) b ≡ 0
+start-bytes_held : (l : ShapeState) (kind : Kind) (b : ℕ) → bytes_held kind (start_of l) b ≡ 0
 start-bytes_held l Device b = refl
 start-bytes_held l Virtual b = refl
 
-pub IsLoose-start : (l : Limits) → IsShape l.sections l.block l.blocks → IsLoose (start_of l)
+pub IsLoose-start : (l : ShapeState) → IsShape l.sections l.block l.blocks → IsLoose (start_of l)
 unfolding IsStrictlySortedBy
 IsLoose-start l shaped =
     record {
@@ -36,7 +36,7 @@ IsLoose-start l shaped =
       ordered = tt;
     }
 
-pub IsWellFormed-start : (l : Limits) → IsShape l.sections l.block l.blocks → IsWellFormedQueue (start_of l)
+pub IsWellFormed-start : (l : ShapeState) → IsShape l.sections l.block l.blocks → IsWellFormedQueue (start_of l)
 IsWellFormed-start l shaped =
     record {
       loose = IsLoose-start l shaped;

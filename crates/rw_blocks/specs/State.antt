@@ -11,13 +11,13 @@ use Rattle.rw_blocks.specs.declared.Place.{Place}
 use Rattle.rw_blocks.specs.declared.shape.TheConstants.Shape.{MAX_SECTIONS, MAX_BLOCK, MAX_BLOCKS}
 
 -- a shape: how many sections there may be, the bytes of a block, and how many device blocks may be sealed
-pub record Limits : Type 0 where
+pub record ShapeState : Type 0 where
   pub sections : Count
   pub block : Size
   pub blocks : Count
 
-abbrev pub limits_of : Count → Size → Count → Limits
-limits_of sections block blocks = record { sections = sections; block = block; blocks = blocks }
+abbrev pub shape_state : Count → Size → Count → ShapeState
+shape_state sections block blocks = record { sections = sections; block = block; blocks = blocks }
 
 -- the ranges of a shape
 abbrev pub IsShape : Count → Size → Count → Type 0
@@ -34,7 +34,7 @@ pub record SectionState : Type 0 where
 
 -- a queue: its sections from head to tail, its rows in the order of their objects, and the serial of the next block
 pub record QueueState : Type 0 where
-  pub shape : Limits
+  pub shape : ShapeState
   pub sections : List SectionState
   pub rows : List (Object × Place)
   pub next : Serial
@@ -45,7 +45,7 @@ new_section device virtual_block =
     record { active_device = device; active_virtual = virtual_block; sealed = [] }
 
 -- a queue begins with one section, whose active blocks have the serials 0 and 1
-abbrev pub start_of : Limits → QueueState
+abbrev pub start_of : ShapeState → QueueState
 start_of limits = record { shape = limits; sections = new_section 0 1 ∷ []; rows = []; next = 2 }
 
 -- ---- sections by their numbers

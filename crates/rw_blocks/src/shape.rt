@@ -1,6 +1,6 @@
 // The shape of a queue.
 ghost use Rattle.std.specs.Prelude.{◌≡◌, ◌↔◌, IsSome, IfSome};
-ghost use Rattle.rw_blocks.specs.State.{IsShape, limits_of};
+ghost use Rattle.rw_blocks.specs.State.{IsShape, shape_state};
 
 use std::marker::Model;
 
@@ -13,11 +13,11 @@ pub struct Shape {
 }
 
 impl Model for Shape {
-    ghost use Rattle.rw_blocks.specs.State.{Limits, IsShape, limits_of};
+    ghost use Rattle.rw_blocks.specs.State.{ShapeState, IsShape, shape_state};
 
-    ghost Value = { Limits };
+    ghost Value = { ShapeState };
 
-    ghost view = { λ s. limits_of s.sections s.block s.blocks };
+    ghost view = { λ s. shape_state s.sections s.block s.blocks };
 
     ghost invariant = { λ s. IsShape s.sections s.block s.blocks };
 
@@ -39,7 +39,7 @@ impl Shape {
     /// [`MAX_BLOCKS`](Shape::MAX_BLOCKS)). `None` exactly where one of the three is out of its range.
     pub fn new(sections: u64, block: u64, blocks: u64) -> Option<Shape>
         ensures in_range { IsSome result ↔ IsShape sections block blocks }
-        ensures shape { IfSome result (λ s. s ≡ limits_of sections block blocks) }
+        ensures shape { IfSome result (λ s. s ≡ shape_state sections block blocks) }
     {
         if (1..=Self::MAX_SECTIONS).contains(&sections)
             && (1..=Self::MAX_BLOCK).contains(&block)

@@ -9,7 +9,7 @@ use Rattle.atomic_table.proofs.Lists.{at_set, at_snoc, set_else}
 use Rattle.rw_board.specs.declared.rule.View.{View}
 use Rattle.rw_vt.specs.declared.event.TheConstants.{END}
 use Rattle.rw_board.specs.Least.{least}
-use Rattle.rw_board.specs.Seats.{SeatState, all_noted}
+use Rattle.rw_board.specs.Seats.{SeatState, all_notes}
 use Rattle.rw_board.specs.Rule.{view, least_of_all, weights, KeepsRule, Notes, Reads, with_one_less, new_view, joined_view, spent_view}
 
 pub least-END : (xs : List ℕ) → least xs ≤ END
@@ -200,7 +200,7 @@ module _ {S : Type 0} where
       let read : least_of_all s.views ≤ v.read = kept.bound id v seen.1 (omega arith) in (omega arith, omega arith)
 
 -- the least of all that was noted is at most the least that one seat noted. Crates above cite this
-pub least_within : (ps : List SeatState) (i : ℕ) (d : SeatState) → i < length ps → least (all_noted ps) ≤ least (get_or ps i d).noted
+pub least_within : (ps : List SeatState) (i : ℕ) (d : SeatState) → i < length ps → least (all_notes ps) ≤ least (get_or ps i d).noted
 least_within [] i d lt = absurd (omega arith)
-least_within (p ∷ ps) zero d lt = omega (arith, least-append p.noted (all_noted ps))
-least_within (p ∷ ps) (suc i) d lt = omega (arith, least-append p.noted (all_noted ps), least_within ps i d (omega arith))
+least_within (p ∷ ps) zero d lt = omega (arith, least-append p.noted (all_notes ps))
+least_within (p ∷ ps) (suc i) d lt = omega (arith, least-append p.noted (all_notes ps), least_within ps i d (omega arith))

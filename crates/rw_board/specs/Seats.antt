@@ -20,14 +20,14 @@ abbrev pub new_seat : TableId → SeatState
 new_seat board = record { board = board; noted = []; read = END }
 
 -- the seat, once it has noted the time
-abbrev pub having_noted : SeatState → Time → SeatState
-having_noted seat time = record seat { noted = seat.noted ++ time ∷ [] }
+abbrev pub after_note : SeatState → Time → SeatState
+after_note seat time = record seat { noted = seat.noted ++ time ∷ [] }
 
 -- the seat, once it has read the time
-abbrev pub having_read : SeatState → Time → SeatState
-having_read seat found = record seat { read = found }
+abbrev pub after_reading : SeatState → Time → SeatState
+after_reading seat found = record seat { read = found }
 
 -- all times noted by some seats, one seat after another
-abbrev pub all_noted : List SeatState → List Time
-all_noted [] = []
-all_noted (seat ∷ seats) = seat.noted ++ all_noted seats
+abbrev pub all_notes : List SeatState → List Time
+all_notes [] = []
+all_notes (seat ∷ seats) = seat.noted ++ all_notes seats

@@ -1,7 +1,7 @@
 //! The board and its seats.
 ghost use Rattle.std.specs.Prelude.{◌≡◌, ◌≤◌, ◌<◌, length, All, IfOk, vec_len};
 ghost use Rattle.rw_board.specs.Least.{least};
-ghost use Rattle.rw_board.specs.Seats.{new_seat, having_noted, having_read, all_noted};
+ghost use Rattle.rw_board.specs.Seats.{new_seat, after_note, after_reading, all_notes};
 
 use crate::rule::{Gather, LeastNoted, Note, OneSeat, Read, View};
 use atomic_table::Table;
@@ -57,7 +57,7 @@ impl Board {
     /// Notes a time, in ticks: from now on the word is at most that. One atomic step; takes no memory and never waits.
     pub fn note(&self, seat: &mut Seat, time: u64)
         requires board { seat.old.board ≡ self.now.board }
-        ensures noted { seat.new ≡ having_noted seat.old time }
+        ensures noted { seat.new ≡ after_note seat.old time }
     {
         self.table
             .shared
@@ -74,7 +74,7 @@ impl Board {
         ensures end { result ≤ END }
         ensures noted { result ≤ least seat.old.noted }
         ensures read { result ≤ seat.old.read }
-        ensures seat { seat.new ≡ having_read seat.old result }
+        ensures seat { seat.new ≡ after_reading seat.old result }
     {
         self.table.shared.load::<Read>(&mut seat.inner, 0)
     }
@@ -110,7 +110,7 @@ pub fn open(alloc: Global, seats: usize) -> Result<(Board, Vec<Seat>), NoMemory>
 pub fn close(board: Board, seats: Vec<Seat>) -> u64
     requires all { vec_len seats ≡ board.seats }
     requires board { All (λ s. s.board ≡ board.board) seats.items }
-    ensures least { result ≡ least (all_noted seats.items) }
+    ensures least { result ≡ least (all_notes seats.items) }
     ensures end { result ≤ END }
     ensures noted { All (λ s. result ≤ least s.noted) seats.items }
     ensures read { All (λ s. result ≤ s.read) seats.items }

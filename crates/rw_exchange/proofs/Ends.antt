@@ -7,7 +7,7 @@ use Rattle.rtrb.specs.declared.AnyItems.{AnyItems}
 use Rattle.rtrb.specs.declared.producer.Producer.{Producer}
 use Rattle.rtrb.specs.declared.consumer.Consumer.{Consumer}
 use Rattle.rw_exchange.specs.Rings.{out_ring, in_ring, out_sent, out_free, in_received}
-use Rattle.rw_exchange.specs.Ports.{PortState, SamePort, sent_to, free_to, received_from, having_sent, having_received}
+use Rattle.rw_exchange.specs.Ports.{PortState, SamePort, sent_to, free_to, received_from, after_sending, after_receiving}
 
 pub if_none_then : {X P Q : Type 0} (r : Option X) → (P → Q) → IfNone r P → IfNone r Q
 if_none_then None f p = f p
@@ -43,14 +43,14 @@ module _ {T : Type 0} where
     free_now new lt = ap (λ l. get_or l k 0) (map-set out_free outs k new) ∙ get_or-set_same (map out_free outs) k (out_free new) 0 (subst (λ (z : ℕ). k < z) (sym (length-map outs out_free)) lt)
 
     pub sends : (old new : Option (Producer T Global AnyItems)) (x : T) → k < length outs → old ≡ get_or outs k old → out_ring new ≡ out_ring old → out_sent new ≡ out_sent old ++ x ∷ []
-        → shows w n (set outs k new) ins ≡ having_sent f k x (free_to (shows w n (set outs k new) ins) k)
+        → shows w n (set outs k new) ins ≡ after_sending f k x (free_to (shows w n (set outs k new) ins) k)
     sends old new x lt at ring more =
         let now = shows w n (set outs k new) ins in
         let a = stays out_ring outs k old new lt at ring in
         let b = grows out_sent outs k old new x lt at more in
         let e : map out_free (set outs k new) ≡ set (map out_free outs) k (free_to now k) = map-set out_free outs k new ∙ ap (set (map out_free outs) k) (sym (free_now new lt)) in
-        let c : now ≡ having_sent (shows w n outs ins) k x (free_to now k) = λ i. record { worker = w; capacity = n; out = a i; into = map in_ring ins; sent = b i; received = map in_received ins; free = e i } in
-        c ∙ ap (λ h. having_sent h k x (free_to now k)) is
+        let c : now ≡ after_sending (shows w n outs ins) k x (free_to now k) = λ i. record { worker = w; capacity = n; out = a i; into = map in_ring ins; sent = b i; received = map in_received ins; free = e i } in
+        c ∙ ap (λ h. after_sending h k x (free_to now k)) is
 
     pub sends_nothing : (old new : Option (Producer T Global AnyItems)) → k < length outs → old ≡ get_or outs k old → out_ring new ≡ out_ring old → out_sent new ≡ out_sent old → out_free new ≡ out_free old → shows w n (set outs k new) ins ≡ f
     sends_nothing old new lt at ring same known =
@@ -61,12 +61,12 @@ module _ {T : Type 0} where
         c ∙ is
 
     pub receives : (old new : Option (Consumer T Global AnyItems)) (x : T) → k < length ins → old ≡ get_or ins k old → in_ring new ≡ in_ring old → in_received new ≡ in_received old ++ x ∷ []
-        → shows w n outs (set ins k new) ≡ having_received f k x
+        → shows w n outs (set ins k new) ≡ after_receiving f k x
     receives old new x lt at ring more =
         let a = stays in_ring ins k old new lt at ring in
         let b = grows in_received ins k old new x lt at more in
-        let c : shows w n outs (set ins k new) ≡ having_received (shows w n outs ins) k x = λ i. record { worker = w; capacity = n; out = map out_ring outs; into = a i; sent = map out_sent outs; received = b i; free = map out_free outs } in
-        c ∙ ap (λ h. having_received h k x) is
+        let c : shows w n outs (set ins k new) ≡ after_receiving (shows w n outs ins) k x = λ i. record { worker = w; capacity = n; out = map out_ring outs; into = a i; sent = map out_sent outs; received = b i; free = map out_free outs } in
+        c ∙ ap (λ h. after_receiving h k x) is
 
     pub receives_nothing : (old new : Option (Consumer T Global AnyItems)) → k < length ins → old ≡ get_or ins k old → in_ring new ≡ in_ring old → in_received new ≡ in_received old → shows w n outs (set ins k new) ≡ f
     receives_nothing old new lt at ring same =
@@ -85,11 +85,11 @@ module _ {T : Type 0} where
   same_still p = record { worker = refl; capacity = refl; out = refl; into = refl; sent = refl; received = refl }
 
   -- whatever a send answers, the port is the same
-  pub same_sent : (result : Result Unit T) (p q : PortState T) (k : ℕ) (x : T) → OnOk result (q ≡ having_sent p k x (free_to q k)) → IfErr result (λ y. (y ≡ x) × (q ≡ p)) → SamePort p q
+  pub same_sent : (result : Result Unit T) (p q : PortState T) (k : ℕ) (x : T) → OnOk result (q ≡ after_sending p k x (free_to q k)) → IfErr result (λ y. (y ≡ x) × (q ≡ p)) → SamePort p q
   same_sent (Ok u) p q k x ok err = subst (SamePort p) (sym ok) (record { worker = refl; capacity = refl; out = refl; into = refl; sent = length-set p.sent k (sent_to p k ++ x ∷ []); received = refl })
   same_sent (Err y) p q k x ok err = subst (SamePort p) (sym err.1) (same_still p)
 
   -- whatever a receive answers, the port is the same
-  pub same_received : (result : Option T) (p q : PortState T) (k : ℕ) → IfSome result (λ x. q ≡ having_received p k x) → IfNone result (q ≡ p) → SamePort p q
+  pub same_received : (result : Option T) (p q : PortState T) (k : ℕ) → IfSome result (λ x. q ≡ after_receiving p k x) → IfNone result (q ≡ p) → SamePort p q
   same_received (Some x) p q k some none = subst (SamePort p) (sym some) (record { worker = refl; capacity = refl; out = refl; into = refl; sent = refl; received = length-set p.received k (received_from p k ++ x ∷ []) })
   same_received None p q k some none = subst (SamePort p) (sym none) (same_still p)

@@ -27,13 +27,13 @@ module _ {T : Type 0} where
   free_to p k = slice_index_or p.free k 0
 
   -- the port, once it has sent the letter to the worker k, and then knows of `free` free slots there
-  abbrev pub having_sent : PortState T → Worker → T → Count → PortState T
-  having_sent p k x free =
+  abbrev pub after_sending : PortState T → Worker → T → Count → PortState T
+  after_sending p k x free =
       record p { sent = slice_set p.sent k (sent_to p k ++ x ∷ []); free = slice_set p.free k free }
 
   -- the port, once it has received the letter from the worker k
-  abbrev pub having_received : PortState T → Worker → T → PortState T
-  having_received p k x =
+  abbrev pub after_receiving : PortState T → Worker → T → PortState T
+  after_receiving p k x =
       record p { received = slice_set p.received k (received_from p k ++ x ∷ []) }
 
   -- k is one of the other workers

@@ -1,7 +1,7 @@
 //! A worker's port.
 ghost use Rattle.std.specs.Prelude.{◌≡◌, ◌≢◌, ℕ, ◌+◌, ◌<◌, ◌≤◌, length, map, slice_index_or, All, IsSome, IsOk, OnOk, OnErr, IfErr, IfSome, IfNone};
 ghost use Rattle.rw_exchange.specs.Rings.{out_rings, in_rings, out_sent, out_free, in_received, HasCapacity, HasEnds};
-ghost use Rattle.rw_exchange.specs.Ports.{IsOther, SamePort, sent_to, free_to, having_sent, having_received};
+ghost use Rattle.rw_exchange.specs.Ports.{IsOther, SamePort, sent_to, free_to, after_sending, after_receiving};
 
 use crate::lane;
 use rtrb::{Consumer, Producer};
@@ -116,7 +116,8 @@ impl<B: Copy> Port<B> {
     /// The letter itself where the port knows of no free slot on the ring to that worker; the port is then as it was.
     pub fn send(&mut self, to: usize, letter: Letter<B>) -> Result<(), Letter<B>>
         requires other { IsOther self.old to }
-        ensures ok { OnOk result (self.new ≡ having_sent self.old to letter (free_to self.new to)) }
+        ensures ok { OnOk result
+            (self.new ≡ after_sending self.old to letter (free_to self.new to)) }
         ensures free { OnOk result (free_to self.old to ≤ free_to self.new to + 1) }
         ensures err { IfErr result (λ back. (back ≡ letter) × (self.new ≡ self.old)) }
         ensures full { OnErr result (free_to self.new to ≡ 0) }
@@ -132,7 +133,7 @@ impl<B: Copy> Port<B> {
     /// That a letter that was sent is seen is tested, not proved. Takes no memory and never waits.
     pub fn receive(&mut self, from: usize) -> Option<Letter<B>>
         requires other { IsOther self.old from }
-        ensures some { IfSome result (λ letter. self.new ≡ having_received self.old from letter) }
+        ensures some { IfSome result (λ letter. self.new ≡ after_receiving self.old from letter) }
         ensures none { IfNone result (self.new ≡ self.old) }
         ensures same { SamePort self.old self.new }
     {

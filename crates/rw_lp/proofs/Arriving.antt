@@ -13,7 +13,7 @@ use Rattle.rw_vt.proofs.Bags.{Each-nil, Each-cons}
 use Rattle.rw_lp.specs.declared.step.StepFault.TheVariants.{StillDone}
 use Rattle.rw_lp.specs.declared.step.Answer.{Answer}
 use Rattle.rw_lp.specs.HeldMessages.{held_with, held_without}
-use Rattle.rw_lp.specs.Process.{ProcessState, Turn, Turned, Stays, split_last, is_less_than_last, undone, sends_of_last, undo_last, undo_one, annihilate, deliver_anti, deliver_message, deliver}
+use Rattle.rw_lp.specs.Process.{ProcessState, Turn, Turned, Stays, split_last, is_less_than_last, after_undoing, sends_of_last, undo_last, undo_one, annihilate, deliver_anti, deliver_message, deliver}
 use Rattle.rw_lp.proofs.WithBags.{with_bags}
 use Rattle.rw_lp.specs.Calls.{LogicalProcess, Took, IsTaken}
 use Rattle.rw_lp.specs.Arrival.{undo_times, and_undo, with_out, is_barred, Accepts, Arrived}
@@ -98,7 +98,7 @@ module _ {S B : Type 0} (y : System S B) (p : ℕ) where
       go : (r : Option (List (Event B) × Event B)) → IsSplit x.processed r → Took x z a given (undo_last y p x r) → (undo_last y p x r ≡ Turned z given) × (length z.processed < length x.processed)
       go None q t = absurd (some q)
       go (Some r) q t =
-          let is : z ≡ undone y p x r.0 r.1 x.held = t.0 in
+          let is : z ≡ after_undoing y p x r.0 r.1 x.held = t.0 in
           let front : length z.processed ≡ length r.0 = ap (λ (w : ProcessState S B). length w.processed) is in
           let whole : length x.processed ≡ length (r.0 ++ r.1 ∷ []) = ap length q in
           (ap (λ w. Turned w (letters_of true (sends_of_last y p x r.0 r.1))) (sym is) ∙ ap (Turned z) (sym t.2), omega (arith, front, whole, length-append r.0 (r.1 ∷ [])))

@@ -4,7 +4,7 @@ use Rattle.rw_vt.specs.declared.event.Event.{Event}
 use Rattle.rw_vt.specs.declared.event.Letter.{Letter}
 use Rattle.rw_vt.specs.Order.{one_if_same, copies, insert_in_order, has, without}
 use Rattle.rw_vt.specs.Letters.{letters_of, messages, antis}
-use Rattle.rw_vt.specs.System.{System, after, outs}
+use Rattle.rw_vt.specs.System.{System, state_after, sends_of}
 use Rattle.rw_vt.proofs.Sorting.{IsExactOrder, copies-append, copies-insert}
 use Rattle.rw_vt.proofs.Bags.{copies-without}
 use Rattle.rw_vt.proofs.Letters.{messages-append, antis-append, messages_sent, antis_sent, messages_unsent, antis_unsent}
@@ -14,9 +14,9 @@ use Rattle.rw_lp.specs.declared.step.Answer.TheVariants.{Done}
 use Rattle.rw_lp.specs.declared.step.StepFault.{StepFault}
 use Rattle.rw_lp.specs.declared.step.StepFault.TheVariants.{NothingToUndo}
 use Rattle.rw_lp.specs.HeldMessages.{held_messages}
-use Rattle.rw_lp.specs.Process.{ProcessState, done, Turn, Turned, Stays, split_last, executed, undone, undo_last, undo_one, sends_of_last, deliver}
+use Rattle.rw_lp.specs.Process.{ProcessState, done, Turn, Turned, Stays, split_last, after_execution, after_undoing, undo_last, undo_one, sends_of_last, deliver}
 use Rattle.rw_lp.proofs.WithBags.{with_bags}
-use Rattle.rw_lp.specs.Calls.{Took, IsTaken, came}
+use Rattle.rw_lp.specs.Calls.{Took, IsTaken, letters_taken}
 use Rattle.rw_lp.specs.Arrival.{undo_times, and_undo, with_out}
 use Rattle.rw_lp.specs.Sound.{Change}
 use Rattle.rw_lp.proofs.Splits.{IsSplit, split_is}
@@ -25,19 +25,19 @@ module _ {S B : Type 0} (y : System S B) (o : IsExactOrder y.order) (p : ℕ) wh
   count_last : (a e : Event B) (xs : List (Event B)) → copies y.order a (xs ++ e ∷ []) ≡ copies y.order a xs + one_if_same y.order a e
   count_last a e xs = omega (arith, copies-append o a xs (e ∷ []))
 
-  sent_last : (s : S) (xs : List (Event B)) (e a : Event B) → copies y.order a (outs (y.step p) s (xs ++ e ∷ [])) ≡ copies y.order a (outs (y.step p) s xs) + copies y.order a (y.step p (after (y.step p) s xs) e).1
+  sent_last : (s : S) (xs : List (Event B)) (e a : Event B) → copies y.order a (sends_of (y.step p) s (xs ++ e ∷ [])) ≡ copies y.order a (sends_of (y.step p) s xs) + copies y.order a (y.step p (state_after (y.step p) s xs) e).1
   sent_last s xs e a =
-      let sends : List (Event B) = (y.step p (after (y.step p) s xs) e).1 in
-      ap (copies y.order a) (outs-append (y.step p) s xs (e ∷ []) ∙ ap (λ l. outs (y.step p) s xs ++ l) (append-nil sends))
-      ∙ copies-append o a (outs (y.step p) s xs) sends
+      let sends : List (Event B) = (y.step p (state_after (y.step p) s xs) e).1 in
+      ap (copies y.order a) (outs-append (y.step p) s xs (e ∷ []) ∙ ap (λ l. sends_of (y.step p) s xs ++ l) (append-nil sends))
+      ∙ copies-append o a (sends_of (y.step p) s xs) sends
 
   pub unchanged : (x z : ProcessState S B) → z ≡ x → Change y p x z [] []
   unchanged x z is = subst (λ w. Change y p x w [] []) (sym is) (record { start = refl; kept = λ e. refl; sent = λ e. refl })
 
-  pub execution_balanced : (x z : ProcessState S B) (e : Event B) (rest : List (Event B)) (given : List (Letter B)) → x.state ≡ after (y.step p) x.start (done x) → x.held ≡ [] → x.pending ≡ e ∷ rest
-      → z ≡ executed y p x e rest [] → given ≡ letters_of false (y.step p x.state e).1 → Change y p x z [] given
+  pub execution_balanced : (x z : ProcessState S B) (e : Event B) (rest : List (Event B)) (given : List (Letter B)) → x.state ≡ state_after (y.step p) x.start (done x) → x.held ≡ [] → x.pending ≡ e ∷ rest
+      → z ≡ after_execution y p x e rest [] → given ≡ letters_of false (y.step p x.state e).1 → Change y p x z [] given
   execution_balanced x z e rest given fold none q is sent =
-      subst (λ w. Change y p x w [] given) (sym is) (subst (λ l. Change y p x (executed y p x e rest []) [] l) (sym sent) change)
+      subst (λ w. Change y p x w [] given) (sym is) (subst (λ l. Change y p x (after_execution y p x e rest []) [] l) (sym sent) change)
     where
       sends : List (Event B)
       sends = (y.step p x.state e).1
@@ -45,7 +45,7 @@ module _ {S B : Type 0} (y : System S B) (o : IsExactOrder y.order) (p : ℕ) wh
       more : x.committed ++ (x.processed ++ e ∷ []) ≡ done x ++ e ∷ []
       more = sym (append_assoc x.committed x.processed (e ∷ []))
 
-      change : Change y p x (executed y p x e rest []) [] (letters_of false sends)
+      change : Change y p x (after_execution y p x e rest []) [] (letters_of false sends)
       change = record {
         start = refl;
         kept = λ a.
@@ -53,15 +53,15 @@ module _ {S B : Type 0} (y : System S B) (o : IsExactOrder y.order) (p : ℕ) wh
             let p1 : copies y.order a x.pending ≡ one_if_same y.order a e + copies y.order a rest = ap (copies y.order a) q in
             omega arith;
         sent = λ a.
-            let s1 : copies y.order a (outs (y.step p) x.start (x.committed ++ (x.processed ++ e ∷ []))) ≡ copies y.order a (outs (y.step p) x.start (done x)) + copies y.order a sends =
-            ap (λ l. copies y.order a (outs (y.step p) x.start l)) more ∙ sent_last x.start (done x) e a ∙ ap (λ s. copies y.order a (outs (y.step p) x.start (done x)) + copies y.order a (y.step p s e).1) (sym fold) in
+            let s1 : copies y.order a (sends_of (y.step p) x.start (x.committed ++ (x.processed ++ e ∷ []))) ≡ copies y.order a (sends_of (y.step p) x.start (done x)) + copies y.order a sends =
+            ap (λ l. copies y.order a (sends_of (y.step p) x.start l)) more ∙ sent_last x.start (done x) e a ∙ ap (λ s. copies y.order a (sends_of (y.step p) x.start (done x)) + copies y.order a (y.step p s e).1) (sym fold) in
             let h1 : copies y.order a (held_messages x.held) ≡ 0 = ap (λ hs. copies y.order a (held_messages hs)) none in
             omega (arith, s1, h1, messages_sent y.order a sends, antis_sent y.order a sends);
       }
 
-  pub undoing_balanced : (x z : ProcessState S B) (front : List (Event B)) (e : Event B) (given : List (Letter B)) → x.processed ≡ front ++ e ∷ [] → z ≡ undone y p x front e x.held → given ≡ letters_of true (sends_of_last y p x front e) → Change y p x z [] given
+  pub undoing_balanced : (x z : ProcessState S B) (front : List (Event B)) (e : Event B) (given : List (Letter B)) → x.processed ≡ front ++ e ∷ [] → z ≡ after_undoing y p x front e x.held → given ≡ letters_of true (sends_of_last y p x front e) → Change y p x z [] given
   undoing_balanced x z front e given q is sent =
-      subst (λ w. Change y p x w [] given) (sym is) (subst (λ l. Change y p x (undone y p x front e x.held) [] l) (sym sent) change)
+      subst (λ w. Change y p x w [] given) (sym is) (subst (λ l. Change y p x (after_undoing y p x front e x.held) [] l) (sym sent) change)
     where
       sends : List (Event B)
       sends = sends_of_last y p x front e
@@ -69,15 +69,15 @@ module _ {S B : Type 0} (y : System S B) (o : IsExactOrder y.order) (p : ℕ) wh
       more : done x ≡ (x.committed ++ front) ++ e ∷ []
       more = ap (λ l. x.committed ++ l) q ∙ sym (append_assoc x.committed front (e ∷ []))
 
-      change : Change y p x (undone y p x front e x.held) [] (letters_of true sends)
+      change : Change y p x (after_undoing y p x front e x.held) [] (letters_of true sends)
       change = record {
         start = refl;
         kept = λ a.
             let d1 : copies y.order a (done x) ≡ copies y.order a (x.committed ++ front) + one_if_same y.order a e = ap (copies y.order a) more ∙ count_last a e (x.committed ++ front) in
             omega (arith, d1, copies-insert o a e x.pending);
         sent = λ a.
-            let s1 : copies y.order a (outs (y.step p) x.start (done x)) ≡ copies y.order a (outs (y.step p) x.start (x.committed ++ front)) + copies y.order a sends =
-            ap (λ l. copies y.order a (outs (y.step p) x.start l)) more ∙ sent_last x.start (x.committed ++ front) e a in
+            let s1 : copies y.order a (sends_of (y.step p) x.start (done x)) ≡ copies y.order a (sends_of (y.step p) x.start (x.committed ++ front)) + copies y.order a sends =
+            ap (λ l. copies y.order a (sends_of (y.step p) x.start l)) more ∙ sent_last x.start (x.committed ++ front) e a in
             omega (arith, s1, messages_unsent y.order a sends, antis_unsent y.order a sends);
       }
 
@@ -136,7 +136,7 @@ module _ {S B : Type 0} (y : System S B) (o : IsExactOrder y.order) (p : ℕ) wh
           stays_not : (fault : StepFault) (z : ProcessState S B) (out : List (Letter B)) → (let t : Turn S B = Stays fault in t) ≡ Turned z out → ⊥
           stays_not fault z out e = cc
       go (Some r) q t =
-          let same : undone y p x r.0 r.1 x.held ≡ z = cc in
+          let same : after_undoing y p x r.0 r.1 x.held ≡ z = cc in
           let sent : letters_of true (sends_of_last y p x r.0 r.1) ≡ out = cc in
           undoing_balanced x z r.0 r.1 out q (sym same) (sym sent)
 
@@ -163,10 +163,10 @@ module _ {S B : Type 0} (y : System S B) (o : IsExactOrder y.order) (p : ℕ) wh
       subst (λ l. Change y p x z [] l) none (unchanged x z (sym same))
   undoings_balanced (suc n) x z out is = more_balanced x z out (undo_times y p n x) (λ w given u. undoings_balanced n x w given u) is
 
-  pub arrival_balanced : (x w z : ProcessState S B) (a : Answer) (l : Letter B) (given : List (Letter B)) (n : ℕ) → undo_times y p n x ≡ Turned w given → IsTaken (deliver y.order l w) → Took w z a [] (deliver y.order l w) → Change y p w z (came a l) [] → Change y p x z (l ∷ []) given
-  arrival_balanced x w z a l given n undone taken took change =
+  pub arrival_balanced : (x w z : ProcessState S B) (a : Answer) (l : Letter B) (given : List (Letter B)) (n : ℕ) → undo_times y p n x ≡ Turned w given → IsTaken (deliver y.order l w) → Took w z a [] (deliver y.order l w) → Change y p w z (letters_taken a l) [] → Change y p x z (l ∷ []) given
+  arrival_balanced x w z a l given n after_undoing taken took change =
       subst (λ g. Change y p x z (l ∷ []) g) (append-nil given)
-      (change_then x w z [] (l ∷ []) given [] (undoings_balanced n x w given undone) (subst (λ b. Change y p w z (came b l) []) (answer (deliver y.order l w) taken took) change))
+      (change_then x w z [] (l ∷ []) given [] (undoings_balanced n x w given after_undoing) (subst (λ b. Change y p w z (letters_taken b l) []) (answer (deliver y.order l w) taken took) change))
     where
       answer : (t : Turn S B) → IsTaken t → Took w z a [] t → a ≡ Done
       answer (Stays fault) k q = absurd k

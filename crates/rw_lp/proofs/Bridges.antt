@@ -6,8 +6,8 @@ use Rattle.rw_vt.specs.Letters.{letters_of}
 use Rattle.rw_vt.specs.System.{System}
 use Rattle.rw_lp.specs.declared.step.StepFault.TheVariants.{NothingPending, Straggler, NothingToUndo}
 use Rattle.rw_lp.specs.declared.step.Answer.TheVariants.{Done, Refused}
-use Rattle.rw_lp.specs.HeldMessages.{unheld}
-use Rattle.rw_lp.specs.Process.{ProcessState, done, Stays, split_last, is_less_than_last, executed, execute_event, execute_least, execute_next, undone, sends_of_last, undo_last, undo_one}
+use Rattle.rw_lp.specs.HeldMessages.{unheld_sends}
+use Rattle.rw_lp.specs.Process.{ProcessState, done, Stays, split_last, is_less_than_last, after_execution, execute_event, execute_least, execute_next, after_undoing, sends_of_last, undo_last, undo_one}
 use Rattle.rw_lp.specs.Calls.{Took}
 use Rattle.rw_lp.proofs.Plain.{execute_plain}
 
@@ -23,16 +23,16 @@ module _ {S B : Type 0} (y : System S B) (p : ℕ) (x : ProcessState S B) where
   pub is_straggler : (e : Event B) (rest : List (Event B)) → x.pending ≡ e ∷ rest → is_less_than_last y.order e (split_last (done x)) ≡ true → Took x x (Refused Straggler) [] (execute_next y p x)
   is_straggler e rest there late =
       subst (λ es. Took x x (Refused Straggler) [] (execute_least y p x es)) (sym there)
-      (subst (λ b. Took x x (Refused Straggler) [] (cond b (Stays Straggler) (execute_event y p x e rest (unheld y.order (y.step p x.state e).1 x.held)))) (sym late) (refl, refl, refl))
+      (subst (λ b. Took x x (Refused Straggler) [] (cond b (Stays Straggler) (execute_event y p x e rest (unheld_sends y.order (y.step p x.state e).1 x.held)))) (sym late) (refl, refl, refl))
 
-  pub is_executed : (e : Event B) (rest : List (Event B)) → x.pending ≡ e ∷ rest → is_less_than_last y.order e (split_last (done x)) ≡ false → x.held ≡ [] → (z : ProcessState S B) (given : List (Letter B)) → z ≡ executed y p x e rest [] → given ≡ letters_of false (y.step p x.state e).1 → Took x z Done given (execute_next y p x)
+  pub is_executed : (e : Event B) (rest : List (Event B)) → x.pending ≡ e ∷ rest → is_less_than_last y.order e (split_last (done x)) ≡ false → x.held ≡ [] → (z : ProcessState S B) (given : List (Letter B)) → z ≡ after_execution y p x e rest [] → given ≡ letters_of false (y.step p x.state e).1 → Took x z Done given (execute_next y p x)
   is_executed e rest there late none z given is sent =
       subst (λ es. Took x z Done given (execute_least y p x es)) (sym there)
-      (subst (λ b. Took x z Done given (cond b (Stays Straggler) (execute_event y p x e rest (unheld y.order (y.step p x.state e).1 x.held)))) (sym late)
+      (subst (λ b. Took x z Done given (cond b (Stays Straggler) (execute_event y p x e rest (unheld_sends y.order (y.step p x.state e).1 x.held)))) (sym late)
       (subst (λ t. Took x z Done given t) (sym (execute_plain y x none p e rest)) (is, refl, sent)))
 
   pub nothing_to_undo : x.processed ≡ [] → Took x x (Refused NothingToUndo) [] (undo_one y p x)
   nothing_to_undo none = subst (λ o. Took x x (Refused NothingToUndo) [] (undo_last y p x o)) (sym (ap split_last none)) (refl, refl, refl)
 
-  pub is_undone : (front : List (Event B)) (e : Event B) → x.processed ≡ front ++ e ∷ [] → (z : ProcessState S B) (given : List (Letter B)) → z ≡ undone y p x front e x.held → given ≡ letters_of true (sends_of_last y p x front e) → Took x z Done given (undo_one y p x)
+  pub is_undone : (front : List (Event B)) (e : Event B) → x.processed ≡ front ++ e ∷ [] → (z : ProcessState S B) (given : List (Letter B)) → z ≡ after_undoing y p x front e x.held → given ≡ letters_of true (sends_of_last y p x front e) → Took x z Done given (undo_one y p x)
   is_undone front e there z given is sent = subst (λ o. Took x z Done given (undo_last y p x o)) (sym (ap split_last there ∙ split_push front e)) (is, refl, sent)

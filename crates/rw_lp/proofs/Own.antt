@@ -4,16 +4,16 @@ use Rattle.std.specs.declared.cmp.Ordering.{Ordering}
 use Rattle.rw_vt.specs.declared.event.Event.{Event}
 use Rattle.rw_vt.specs.declared.model.Model.{Ghosts}
 use Rattle.rw_vt.specs.Order.{event_cmp, Each, IsAscending, insert_in_order, without}
-use Rattle.rw_vt.specs.System.{after}
+use Rattle.rw_vt.specs.System.{state_after}
 use Rattle.rw_vt.proofs.Sorting.{IsExactOrder}
 use Rattle.rw_vt.proofs.Bags.{Each-insert, Each-without}
-use Rattle.rw_lp.specs.Past.{Past, IsFor, AreFor}
+use Rattle.rw_lp.specs.Past.{HistoryState, IsFor, AreFor}
 use Rattle.rw_lp.specs.Calls.{process_of, rules}
 use Rattle.rw_lp.specs.Sound.{SoundAt, HasCollected}
 
-module _ {M S B U : Type 0} (model : Ghosts M S B U) {cmp : Event B → Event B → Ordering} (x : Past M S B) (ps ds : List (Event B)) (h : AreFor model cmp x ps ds) where
+module _ {M S B U : Type 0} (model : Ghosts M S B U) {cmp : Event B → Event B → Ordering} (x : HistoryState M S B) (ps ds : List (Event B)) (h : AreFor model cmp x ps ds) where
   -- of the same process, whatever it has done
-  pub still_for : (z : Past M S B) → z.model ≡ x.model → z.number ≡ x.number → AreFor model cmp z ps ds
+  pub still_for : (z : HistoryState M S B) → z.model ≡ x.model → z.number ≡ x.number → AreFor model cmp z ps ds
   still_for z m n = record { pending = moved ps h.pending; debts = moved ds h.debts }
     where
       moved : (es : List (Event B)) → Each cmp (IsFor model x.model x.number) es → Each cmp (IsFor model z.model z.number) es
@@ -32,9 +32,9 @@ module _ {M S B U : Type 0} (model : Ghosts M S B U) {cmp : Event B → Event B 
     pub debts_more : IsFor model x.model x.number e → es ≡ insert_in_order cmp e ds → AreFor model cmp x ps es
     debts_more k is = record { pending = h.pending; debts = subst (Each cmp (IsFor model x.model x.number)) (sym is) (Each-insert o (IsFor model x.model x.number) e ds k h.debts) }
 
-pub sound_where : {M S B U : Type 0} (model : Ghosts M S B U) (order : B → B → Ordering) (x : Past M S B) (ps ds : List (Event B))
+pub sound_where : {M S B U : Type 0} (model : Ghosts M S B U) (order : B → B → Ordering) (x : HistoryState M S B) (ps ds : List (Event B))
     → IsAscending (event_cmp order) (x.committed ++ x.processed)
-    → x.state ≡ after (model.step x.model x.number) x.start (x.committed ++ x.processed)
+    → x.state ≡ state_after (model.step x.model x.number) x.start (x.committed ++ x.processed)
     → Each (event_cmp order) (IsFor model x.model x.number) x.committed
     → Each (event_cmp order) (IsFor model x.model x.number) x.processed
     → AreFor model (event_cmp order) x ps ds

@@ -6,15 +6,15 @@ use Rattle.rw_vt.specs.declared.event.Event.{Event}
 use Rattle.rw_vt.specs.declared.event.Letter.{Letter}
 use Rattle.rw_vt.specs.Order.{AtMost, one_if_same, copies, Each, IsAscending, insert_in_order, has, without}
 use Rattle.rw_vt.specs.Letters.{letters_of, messages, antis}
-use Rattle.rw_vt.specs.System.{System, after, outs}
+use Rattle.rw_vt.specs.System.{System, state_after, sends_of}
 use Rattle.rw_vt.proofs.Sorting.{tied, copies-append, copies-insert, Has-head, IsAscending-insert}
 use Rattle.rw_vt.proofs.Bags.{one_if-itself, one_if-other, Each-nil, Each-cons, Each-tail, Each-append, Each-front, Each-insert, Each-without, IsAscending-front, IsAscending-push, IsAscending-without, copies-without, Has-test}
 use Rattle.rw_vt.proofs.Letters.{messages-append, antis-append, messages_sent, antis_sent, messages_unsent, antis_unsent}
 use Rattle.rw_vt.proofs.Runs.{IsLawful, after-append, outs-append, well_formed_after, each_sent}
 use Rattle.rw_lp.specs.declared.held.Held.{Held}
 use Rattle.rw_lp.specs.declared.step.StepFault.TheVariants.{Straggler, StillDone}
-use Rattle.rw_lp.specs.HeldMessages.{held_messages, held_of, unheld, held_with, held_without}
-use Rattle.rw_lp.specs.Process.{ProcessState, done, Turned, Stays, split_last, is_less_than_last, executed, execute_event, execute_least, execute_next, undone, sends_of_last, undo_last, undo_one, undo_last_lazily, undo_lazily, deliver_message, annihilate, deliver_anti, deliver}
+use Rattle.rw_lp.specs.HeldMessages.{held_messages, held_of, unheld_sends, held_with, held_without}
+use Rattle.rw_lp.specs.Process.{ProcessState, done, Turned, Stays, split_last, is_less_than_last, after_execution, execute_event, execute_least, execute_next, after_undoing, sends_of_last, undo_last, undo_one, undo_last_lazily, undo_lazily, deliver_message, annihilate, deliver_anti, deliver}
 use Rattle.rw_lp.proofs.WithBags.{with_bags}
 use Rattle.rw_lp.specs.Sound.{Stands, SoundAt, SoundLetters, Change, Kept, Keeps}
 use Rattle.rw_lp.proofs.Splits.{IsSplit, split_is}
@@ -23,11 +23,11 @@ use Rattle.rw_lp.proofs.GivenOut.{no_letters, letters_sound, letters_join}
 
 module _ {S B : Type 0} (y : System S B) {WellFormed : ℕ → S → Type 0} (law : IsLawful y WellFormed) where
   -- one more event: what is sent, and where it leads
-  sent_push : (p : ℕ) (s : S) (xs : List (Event B)) (e a : Event B) → copies y.order a (outs (y.step p) s (xs ++ e ∷ [])) ≡ copies y.order a (outs (y.step p) s xs) + copies y.order a (y.step p (after (y.step p) s xs) e).1
+  sent_push : (p : ℕ) (s : S) (xs : List (Event B)) (e a : Event B) → copies y.order a (sends_of (y.step p) s (xs ++ e ∷ [])) ≡ copies y.order a (sends_of (y.step p) s xs) + copies y.order a (y.step p (state_after (y.step p) s xs) e).1
   sent_push p s xs e a =
-      let sends : List (Event B) = (y.step p (after (y.step p) s xs) e).1 in
-      ap (copies y.order a) (outs-append (y.step p) s xs (e ∷ []) ∙ ap (λ l. outs (y.step p) s xs ++ l) (append-nil sends))
-      ∙ copies-append law.exact a (outs (y.step p) s xs) sends
+      let sends : List (Event B) = (y.step p (state_after (y.step p) s xs) e).1 in
+      ap (copies y.order a) (outs-append (y.step p) s xs (e ∷ []) ∙ ap (λ l. sends_of (y.step p) s xs ++ l) (append-nil sends))
+      ∙ copies-append law.exact a (sends_of (y.step p) s xs) sends
 
   count_push : (a e : Event B) (xs : List (Event B)) → copies y.order a (xs ++ e ∷ []) ≡ copies y.order a xs + one_if_same y.order a e
   count_push a e xs = omega (arith, copies-append law.exact a xs (e ∷ []))
@@ -43,7 +43,7 @@ module _ {S B : Type 0} (y : System S B) {WellFormed : ℕ → S → Type 0} (la
           subst (λ l. IsAscending y.order (l ++ e ∷ [])) (sym q) (IsAscending-push law.exact r.0 r.1 e s' k)
 
   -- a process's done events are well formed, and so is its state after any of them
-  good_front : (g p : ℕ) (x : ProcessState S B) (xs ys : List (Event B)) → WellFormed p x.start → SoundAt y g p x → done x ≡ xs ++ ys → WellFormed p (after (y.step p) x.start xs)
+  good_front : (g p : ℕ) (x : ProcessState S B) (xs ys : List (Event B)) → WellFormed p x.start → SoundAt y g p x → done x ≡ xs ++ ys → WellFormed p (state_after (y.step p) x.start xs)
   good_front g p x xs ys h at q =
       let all : Each y.order (Stands y p) (done x) = Each-append law.exact (Stands y p) x.committed x.processed at.committed_stand at.processed_stand in
       let front : Each y.order (Stands y p) xs = Each-front law.exact (Stands y p) xs ys (subst (Each y.order (Stands y p)) q all) in
@@ -52,20 +52,20 @@ module _ {S B : Type 0} (y : System S B) {WellFormed : ℕ → S → Type 0} (la
   module _ (g p : ℕ) (x : ProcessState S B) (good_start : WellFormed p x.start) (at_p : SoundAt y g p x) where
     -- Execute
 
-    executed_kept : (e : Event B) (rest : List (Event B)) → x.pending ≡ e ∷ rest → is_less_than_last y.order e (split_last (done x)) ≡ false → Kept y g p x (executed y p x e rest (unheld y.order (y.step p x.state e).1 x.held).1) [] (letters_of false (unheld y.order (y.step p x.state e).1 x.held).0 ++ letters_of true (held_with y.order e (unheld y.order (y.step p x.state e).1 x.held).1))
+    executed_kept : (e : Event B) (rest : List (Event B)) → x.pending ≡ e ∷ rest → is_less_than_last y.order e (split_last (done x)) ≡ false → Kept y g p x (after_execution y p x e rest (unheld_sends y.order (y.step p x.state e).1 x.held).1) [] (letters_of false (unheld_sends y.order (y.step p x.state e).1 x.held).0 ++ letters_of true (held_with y.order e (unheld_sends y.order (y.step p x.state e).1 x.held).1))
     executed_kept e rest q late = record { sound = at_z; change = change; letters = letters }
       where
         z : ProcessState S B
-        z = executed y p x e rest (unheld y.order (y.step p x.state e).1 x.held).1
+        z = after_execution y p x e rest (unheld_sends y.order (y.step p x.state e).1 x.held).1
 
         sends : List (Event B)
         sends = (y.step p x.state e).1
 
         fresh : List (Event B)
-        fresh = (unheld y.order (y.step p x.state e).1 x.held).0
+        fresh = (unheld_sends y.order (y.step p x.state e).1 x.held).0
 
         left : List (Held B)
-        left = (unheld y.order (y.step p x.state e).1 x.held).1
+        left = (unheld_sends y.order (y.step p x.state e).1 x.held).1
 
         cancelled : List (Event B)
         cancelled = held_with y.order e left
@@ -81,8 +81,8 @@ module _ {S B : Type 0} (y : System S B) {WellFormed : ℕ → S → Type 0} (la
               let p1 : copies y.order a x.pending ≡ one_if_same y.order a e + copies y.order a rest = ap (copies y.order a) q in
               omega arith;
           sent = λ a.
-              let s1 : copies y.order a (outs (y.step p) x.start (done z)) ≡ copies y.order a (outs (y.step p) x.start (done x)) + copies y.order a sends =
-              ap (λ l. copies y.order a (outs (y.step p) x.start l)) more ∙ sent_push p x.start (done x) e a ∙ ap (λ s. copies y.order a (outs (y.step p) x.start (done x)) + copies y.order a (y.step p s e).1) (sym at_p.state) in
+              let s1 : copies y.order a (sends_of (y.step p) x.start (done z)) ≡ copies y.order a (sends_of (y.step p) x.start (done x)) + copies y.order a sends =
+              ap (λ l. copies y.order a (sends_of (y.step p) x.start l)) more ∙ sent_push p x.start (done x) e a ∙ ap (λ s. copies y.order a (sends_of (y.step p) x.start (done x)) + copies y.order a (y.step p s e).1) (sym at_p.state) in
               omega (arith, messages-append y.order a (letters_of false fresh) (letters_of true cancelled), antis-append y.order a (letters_of false fresh) (letters_of true cancelled), messages_sent y.order a fresh, antis_sent y.order a fresh, messages_unsent y.order a cancelled, antis_unsent y.order a cancelled, count-unheld y law a sends x.held, count-held_parts y a e left);
         }
 
@@ -101,7 +101,7 @@ module _ {S B : Type 0} (y : System S B) {WellFormed : ℕ → S → Type 0} (la
         at_z : SoundAt y g p z
         at_z = record {
           order = subst (IsAscending y.order) (sym more) (pushed e (done x) at_p.order late);
-          state = ap (λ s. (y.step p s e).0) at_p.state ∙ sym (ap (after (y.step p) x.start) more ∙ after-append (y.step p) x.start (done x) (e ∷ []));
+          state = ap (λ s. (y.step p s e).0) at_p.state ∙ sym (ap (state_after (y.step p) x.start) more ∙ after-append (y.step p) x.start (done x) (e ∷ []));
           committed_stand = at_p.committed_stand;
           committed_below = at_p.committed_below;
           processed_stand = Each-append law.exact (Stands y p) x.processed (e ∷ []) at_p.processed_stand (Each-cons law.exact (Stands y p) e [] (at_p.pending_stand e there) (λ a k. absurd (omega arith)));
@@ -131,7 +131,7 @@ module _ {S B : Type 0} (y : System S B) {WellFormed : ℕ → S → Type 0} (la
     pub execute_keeps : Keeps y g p x [] (execute_next y p x)
     execute_keeps = next x.pending refl
       where
-        late : (e : Event B) (rest : List (Event B)) → x.pending ≡ e ∷ rest → (b : Bool) → is_less_than_last y.order e (split_last (done x)) ≡ b → Keeps y g p x [] (cond b (Stays Straggler) (execute_event y p x e rest (unheld y.order (y.step p x.state e).1 x.held)))
+        late : (e : Event B) (rest : List (Event B)) → x.pending ≡ e ∷ rest → (b : Bool) → is_less_than_last y.order e (split_last (done x)) ≡ b → Keeps y g p x [] (cond b (Stays Straggler) (execute_event y p x e rest (unheld_sends y.order (y.step p x.state e).1 x.held)))
         late e rest q true h = tt
         late e rest q false h = executed_kept e rest q h
 
@@ -141,14 +141,14 @@ module _ {S B : Type 0} (y : System S B) {WellFormed : ℕ → S → Type 0} (la
 
     -- Undo
 
-    undone_kept : (front : List (Event B)) (e : Event B) → x.processed ≡ front ++ e ∷ [] → (Kept y g p x (undone y p x front e x.held) [] (letters_of true (sends_of_last y p x front e))) × (Kept y g p x (undone y p x front e (x.held ++ held_of e (sends_of_last y p x front e))) [] [])
+    undone_kept : (front : List (Event B)) (e : Event B) → x.processed ≡ front ++ e ∷ [] → (Kept y g p x (after_undoing y p x front e x.held) [] (letters_of true (sends_of_last y p x front e))) × (Kept y g p x (after_undoing y p x front e (x.held ++ held_of e (sends_of_last y p x front e))) [] [])
     undone_kept front e q = (
       record { sound = at_z x.held all_more; change = change; letters = letters },
       record { sound = at_z (x.held ++ held_of e sends) (held_append y (insert_in_order y.order e x.pending) x.held (held_of e sends) all_more fresh); change = change_lazily; letters = no_letters y g },
     )
       where
         z : List (Held B) → ProcessState S B
-        z held = undone y p x front e held
+        z held = after_undoing y p x front e held
 
         sends : List (Event B)
         sends = sends_of_last y p x front e
@@ -162,8 +162,8 @@ module _ {S B : Type 0} (y : System S B) {WellFormed : ℕ → S → Type 0} (la
             let p1 : copies y.order a (insert_in_order y.order e x.pending) ≡ one_if_same y.order a e + copies y.order a x.pending = copies-insert law.exact a e x.pending in
             omega arith
 
-        sent : (a : Event B) → copies y.order a (outs (y.step p) x.start (done x)) ≡ copies y.order a (outs (y.step p) x.start (x.committed ++ front)) + copies y.order a sends
-        sent a = ap (λ l. copies y.order a (outs (y.step p) x.start l)) more ∙ sent_push p x.start (x.committed ++ front) e a
+        sent : (a : Event B) → copies y.order a (sends_of (y.step p) x.start (done x)) ≡ copies y.order a (sends_of (y.step p) x.start (x.committed ++ front)) + copies y.order a sends
+        sent a = ap (λ l. copies y.order a (sends_of (y.step p) x.start l)) more ∙ sent_push p x.start (x.committed ++ front) e a
 
         change : Change y p x (z x.held) [] (letters_of true sends)
         change = record { start = refl; kept = kept; sent = λ a. omega (arith, sent a, messages_unsent y.order a sends, antis_unsent y.order a sends) }
@@ -174,11 +174,11 @@ module _ {S B : Type 0} (y : System S B) {WellFormed : ℕ → S → Type 0} (la
         there : 0 < copies y.order e x.processed
         there = subst (λ l. 0 < copies y.order e l) (sym q) (omega (arith, copies-append law.exact e front (e ∷ []), Has-head law.exact e []))
 
-        good : WellFormed p (after (y.step p) x.start (x.committed ++ front))
+        good : WellFormed p (state_after (y.step p) x.start (x.committed ++ front))
         good = good_front g p x (x.committed ++ front) (e ∷ []) good_start at_p more
 
         from_there : (a : Event B) → 0 < copies y.order a sends → (y.valid a ≡ true) × (e.time < a.time)
-        from_there a k = each_sent law p (after (y.step p) x.start (x.committed ++ front)) e a good (at_p.processed_stand e there).valid (at_p.processed_stand e there).here k
+        from_there a k = each_sent law p (state_after (y.step p) x.start (x.committed ++ front)) e a good (at_p.processed_stand e there).valid (at_p.processed_stand e there).here k
 
         all_more : AllHeld y (insert_in_order y.order e x.pending) x.held
         all_more = held_more y x.pending (insert_in_order y.order e x.pending) (λ a k. omega (arith, copies-insert law.exact a e x.pending)) x.held at_p.held

@@ -9,7 +9,7 @@ use Rattle.rw_vt.specs.System.{System, system}
 use Rattle.rw_vt.specs.Order.{in_order}
 use Rattle.rw_lp.specs.declared.step.Answer.{Answer}
 use Rattle.rw_lp.specs.declared.step.Answer.TheVariants.{Done, Refused}
-use Rattle.rw_lp.specs.Past.{Past}
+use Rattle.rw_lp.specs.Past.{HistoryState}
 use Rattle.rw_lp.specs.Process as process
 use Rattle.rw_lp.specs.Process.{ProcessState, done, Turn, Turned, Stays, is_less_than_last, split_last, execute_next, undo_one}
 use Rattle.rw_lp.specs.HeldMessages.{held_messages}
@@ -21,7 +21,7 @@ pub record LogicalProcess (M S B : Type 0) : Type 0 where
   pub process : ProcessState S B
 
 -- what was done, with what is pending and owed
-abbrev pub process_of : {M S B : Type 0} → Past M S B → List (Event B) → List (Event B) → LogicalProcess M S B
+abbrev pub process_of : {M S B : Type 0} → HistoryState M S B → List (Event B) → List (Event B) → LogicalProcess M S B
 process_of x pending debts =
     record {
       model = x.model;
@@ -34,8 +34,8 @@ abbrev pub rules : {M S B U : Type 0} → Ghosts M S B U → (B → B → Orderi
 rules model order m = system model order m [] []
 
 -- a process that has done nothing yet, and to which these events are to come
-abbrev pub unstarted : {S B : Type 0} → (Event B → Event B → Ordering) → S → List (Event B) → ProcessState S B
-unstarted cmp start initial = record { start = start; committed = []; processed = []; pending = in_order cmp initial; debts = []; held = []; state = start }
+abbrev pub new_process : {S B : Type 0} → (Event B → Event B → Ordering) → S → List (Event B) → ProcessState S B
+new_process cmp start initial = record { start = start; committed = []; processed = []; pending = in_order cmp initial; debts = []; held = []; state = start }
 
 -- what process l does where it is to execute its least pending event, to undo its last processed one, or to take a letter up
 abbrev pub execution_by : {M S B U : Type 0} → Ghosts M S B U → (B → B → Ordering) → LogicalProcess M S B → Turn S B
@@ -70,9 +70,9 @@ pub record MeetsNext {S B : Type 0} (cmp : Event B → Event B → Ordering) (x 
   pub passes : test x.state ≡ true
 
 -- what a delivery takes up: the letter, unless it is refused
-abbrev pub came : {B : Type 0} → Answer → Letter B → List (Letter B)
-came Done l = l ∷ []
-came (Refused fault) l = []
+abbrev pub letters_taken : {B : Type 0} → Answer → Letter B → List (Letter B)
+letters_taken Done l = l ∷ []
+letters_taken (Refused fault) l = []
 
 -- the turn is taken
 abbrev pub IsTaken : {S B : Type 0} → Turn S B → Type 0

@@ -7,11 +7,11 @@ use Rattle.rw_vt.specs.declared.event.Letter.{Letter}
 use Rattle.rw_vt.specs.declared.model.Model.{Ghosts}
 use Rattle.rw_vt.specs.Order.{Each, IsAscending}
 use Rattle.rw_vt.specs.Letters.{letters_of}
-use Rattle.rw_vt.specs.System.{after}
+use Rattle.rw_vt.specs.System.{state_after}
 use Rattle.rw_lp.specs.declared.undo_record.UndoRecord.{UndoRecord}
 
 -- a process of a model: its number, where it started, what it did, and where that led
-pub record Past (M S B : Type 0) : Type 0 where
+pub record HistoryState (M S B : Type 0) : Type 0 where
   pub model : M
   pub number : Process
   pub start : S
@@ -19,17 +19,17 @@ pub record Past (M S B : Type 0) : Type 0 where
   pub processed : List (Event B)
   pub state : S
 
-abbrev pub past : {M S B : Type 0} → M → Process → S → List (Event B) → List (Event B) → S → Past M S B
-past m p start committed processed state =
+abbrev pub history_of : {M S B : Type 0} → M → Process → S → List (Event B) → List (Event B) → S → HistoryState M S B
+history_of m p start committed processed state =
     record { model = m; number = p; start = start; committed = committed; processed = processed; state = state }
 
 -- committed, then processed
-abbrev pub done_in : {M S B : Type 0} → Past M S B → List (Event B)
+abbrev pub done_in : {M S B : Type 0} → HistoryState M S B → List (Event B)
 done_in x = x.committed ++ x.processed
 
 -- the state is that after all that is done
-abbrev pub IsFolded : {M S B U : Type 0} → Ghosts M S B U → Past M S B → Type 0
-IsFolded model x = x.state ≡ after (model.step x.model x.number) x.start (done_in x)
+abbrev pub IsFolded : {M S B U : Type 0} → Ghosts M S B U → HistoryState M S B → Type 0
+IsFolded model x = x.state ≡ state_after (model.step x.model x.number) x.start (done_in x)
 
 -- e is valid in the model m, and goes to process p
 abbrev pub IsFor : {M S B U : Type 0} → Ghosts M S B U → M → Process → Event B → Type 0
@@ -50,27 +50,27 @@ LeadsByRecords model m p s (e ∷ es) [] t = ⊥
 LeadsByRecords model m p s (e ∷ es) (r ∷ rs) t = IsRecordOf model m p s e r × LeadsByRecords model m p (model.step m p s e).0 es rs t
 
 -- from a well-formed start the committed events and then the processed ones, which are in order and for the process, lead to the state, and each processed one can be taken back
-pub record IsLinked {M S B U : Type 0} (model : Ghosts M S B U) (cmp : Event B → Event B → Ordering) (x : Past M S B) (records : List (UndoRecord B U)) : Type 0 where
+pub record IsLinked {M S B U : Type 0} (model : Ghosts M S B U) (cmp : Event B → Event B → Ordering) (x : HistoryState M S B) (records : List (UndoRecord B U)) : Type 0 where
   pub number : x.number < model.process_count x.model
-  pub well_formed : model.IsWellFormed x.model x.number (after (model.step x.model x.number) x.start x.committed)
-  pub leads : LeadsByRecords model x.model x.number (after (model.step x.model x.number) x.start x.committed) x.processed records x.state
+  pub well_formed : model.IsWellFormed x.model x.number (state_after (model.step x.model x.number) x.start x.committed)
+  pub leads : LeadsByRecords model x.model x.number (state_after (model.step x.model x.number) x.start x.committed) x.processed records x.state
   pub committed : Each cmp (IsFor model x.model x.number) x.committed
   pub order : IsAscending cmp (x.committed ++ x.processed)
 
 -- what is pending and what is owed is for the process
-pub record AreFor {M S B U : Type 0} (model : Ghosts M S B U) (cmp : Event B → Event B → Ordering) (x : Past M S B) (ps ds : List (Event B)) : Type 0 where
+pub record AreFor {M S B U : Type 0} (model : Ghosts M S B U) (cmp : Event B → Event B → Ordering) (x : HistoryState M S B) (ps ds : List (Event B)) : Type 0 where
   pub pending : Each cmp (IsFor model x.model x.number) ps
   pub debts : Each cmp (IsFor model x.model x.number) ds
 
 -- the last processed event e of x is taken back, which leads to z and gives these letters out
-pub record IsTakenBack {M S B U : Type 0} (model : Ghosts M S B U) (x z : Past M S B) (e : Event B) (given : List (Letter B)) : Type 0 where
+pub record IsTakenBack {M S B U : Type 0} (model : Ghosts M S B U) (x z : HistoryState M S B) (e : Event B) (given : List (Letter B)) : Type 0 where
   pub last : x.processed ≡ z.processed ++ e ∷ []
-  pub rest : z ≡ record x { processed = z.processed; state = after (model.step x.model x.number) x.start (x.committed ++ z.processed) }
+  pub rest : z ≡ record x { processed = z.processed; state = state_after (model.step x.model x.number) x.start (x.committed ++ z.processed) }
   pub valid : model.is_valid x.model e ≡ true
   pub here : e.to ≡ x.number
-  pub sent : given ≡ letters_of true (model.step x.model x.number (after (model.step x.model x.number) x.start (x.committed ++ z.processed)) e).1
+  pub sent : given ≡ letters_of true (model.step x.model x.number (state_after (model.step x.model x.number) x.start (x.committed ++ z.processed)) e).1
 
 -- the last processed event of x, if there is one, is taken back
-abbrev pub TookBack : {M S B U : Type 0} → Ghosts M S B U → Past M S B → Past M S B → Option (Event B) → List (Letter B) → Type 0
+abbrev pub TookBack : {M S B U : Type 0} → Ghosts M S B U → HistoryState M S B → HistoryState M S B → Option (Event B) → List (Letter B) → Type 0
 TookBack model x z None given = (x.processed ≡ []) × (z ≡ x) × (given ≡ [])
 TookBack model x z (Some e) given = IsTakenBack model x z e given

@@ -2,11 +2,11 @@ ghost use Rattle.std.specs.Prelude.{◌≡◌, ◌<◌, ◌≤◌, ◌++◌, ◌
 ghost use Rattle.std.specs.List.{position_or_len};
 ghost use Rattle.rw_vt.specs.Order.{event_cmp, has, Each, IsAscending};
 ghost use Rattle.rw_vt.specs.Letters.{letters_of};
-ghost use Rattle.rw_vt.specs.System.{after};
+ghost use Rattle.rw_vt.specs.System.{state_after};
 ghost use Rattle.rw_vt.specs.declared.event.Letter.{Letter};
 ghost use Rattle.rw_vt.specs.declared.refusal.Refusal.TheVariants.{Memory};
 ghost use Rattle.rw_lp.specs.Process.{is_less_than_last, split_last};
-ghost use Rattle.rw_lp.specs.Past.{Past, IsFor, IsLinked, TookBack, IsFolded, done_in, past};
+ghost use Rattle.rw_lp.specs.Past.{HistoryState, IsFor, IsLinked, TookBack, IsFolded, done_in, history_of};
 ghost use Rattle.rw_lp.specs.Calls.{GivesOut};
 
 use crate::bags::holds;
@@ -31,13 +31,14 @@ pub struct History<M: VtModel> {
 }
 
 impl<M: VtModel> Model for History<M> {
-    ghost Value = { Past M M.State M.Body };
+    ghost Value = { HistoryState M M.State M.Body };
 
-    ghost view = { λ x.
-        past x.model.value x.number x.start.value x.committed.items x.processed.items x.state };
+    ghost view = { λ x. history_of x.model.value x.number x.start.value
+        x.committed.items x.processed.items x.state };
 
     ghost invariant = { λ x. IsLinked M.Model (event_cmp M.Body.cmp)
-        (past x.model.value x.number x.start.value x.committed.items x.processed.items x.state)
+        (history_of x.model.value x.number x.start.value
+            x.committed.items x.processed.items x.state)
         x.records.items };
 }
 
@@ -46,7 +47,7 @@ impl<M: VtModel> History<M> {
     pub fn new(alloc: Global, model: &M, number: u32, start: M::State) -> History<M>
         requires number { number < M.process_count model.now }
         requires start { M.IsWellFormed model.now number start }
-        ensures is { result ≡ past model.now number start [] [] start }
+        ensures is { result ≡ history_of model.now number start [] [] start }
     {
         History {
             model: Snapshot::of(model),
@@ -86,14 +87,14 @@ impl<M: VtModel> History<M> {
         requires here { event.to ≡ self.number }
         requires late { is_less_than_last (event_cmp M.Body.cmp) event (split_last (done_in self))
             ≡ false }
-        ensures after { IfOk result (λ h.
+        ensures state_after { IfOk result (λ h.
             h ≡ record self {
               processed = self.processed ++ event ∷ [];
               state = (M.step self.model self.number self.state event).0;
             }) }
         ensures sent { OnOk result
-            (out.new.items
-            ≡ out.old.items ++ letters_of false (M.step self.model self.number self.state event).1) }
+            (out.new.items ≡ out.old.items
+            ++ letters_of false (M.step self.model self.number self.state event).1) }
         ensures exhausted { (result ≡ Err Refusal.Exhausted)
             ↔ (M.is_exhausted self.model self.state ≡ true) }
         ensures fold { OnOk result (IsFolded M.Model self) }

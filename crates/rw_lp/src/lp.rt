@@ -1,15 +1,16 @@
 ghost use Rattle.std.specs.Prelude.{◌≡◌, ◌<◌, ◌≤◌, ◌++◌, ◌∷◌, ◌↔◌, ◌^◌, true, false, List, [], IfOk, IfErr, OnOk, MatchOption, All};
 ghost use Rattle.rw_vt.specs.Order.{event_cmp, AtMost, Each, Has, IsAscending, IsFirst, IsLeastOf};
-ghost use Rattle.rw_vt.specs.System.{after};
+ghost use Rattle.rw_vt.specs.System.{state_after};
 ghost use Rattle.rw_vt.specs.declared.event.Event.{Event};
 ghost use Rattle.rw_vt.specs.declared.event.Letter.{Letter};
 ghost use Rattle.rw_vt.specs.declared.refusal.Refusal.TheVariants.{Memory};
 ghost use Rattle.rw_lp.specs.HeldMessages.{held_messages};
 ghost use Rattle.rw_lp.specs.Process.{ProcessState, done, deliver, execute_next, undo_one, collect};
-ghost use Rattle.rw_lp.specs.Calls.{LogicalProcess, process_of, rules, unstarted, MeetsNext, Took, came, least_time, IsSameProcess, GivesOut, execution_by, undoing_by, IsDelivered, least_outstanding};
+ghost use Rattle.rw_lp.specs.Calls.{LogicalProcess, process_of, rules, new_process, MeetsNext, Took, letters_taken, least_time, IsSameProcess, GivesOut, execution_by, undoing_by, IsDelivered, least_outstanding};
 ghost use Rattle.rw_lp.specs.Past.{AreFor, IsFor};
 ghost use Rattle.rw_lp.specs.Sound.{Change, IsSoundOnceCollected, KeepsBalance};
 ghost use Rattle.rw_lp.specs.Arrival.{Arrived, is_barred};
+ghost use Rattle.rw_vt.specs.declared.event.TheConstants.{END};
 
 use crate::bag::Bag;
 use crate::bags::{ends_after, holds};
@@ -57,7 +58,7 @@ impl<M: VtModel> Lp<M> {
         ensures opened { IfOk result (λ lp. lp ≡ record {
           model = model.now;
           number = number;
-          process = unstarted (event_cmp M.Body.cmp) start initial.items;
+          process = new_process (event_cmp M.Body.cmp) start initial.items;
         }) }
         ensures memory { IfErr result (λ e. e ≡ Memory) }
     {
@@ -80,7 +81,7 @@ impl<M: VtModel> Lp<M> {
         ensures same { IfOk result (λ r. IsSameProcess self r.0) }
         ensures turn { IfOk result (λ r. IsDelivered (event_cmp M.Body.cmp) letter r.1 self r.0) }
         ensures balance { IfOk result (λ r.
-            KeepsBalance M.Model M.Body.cmp self r.0 (came r.1 letter) []) }
+            KeepsBalance M.Model M.Body.cmp self r.0 (letters_taken r.1 letter) []) }
         ensures memory { IfErr result (λ e. e ≡ Memory) }
     {
         let Lp {
@@ -196,7 +197,8 @@ impl<M: VtModel> Lp<M> {
         requires here { letter.event.to ≡ self.number }
         ensures same { IfOk result (IsSameProcess self) }
         ensures arrived { IfOk result (λ lp. GivesOut out.old.items out.new.items
-            (Arrived (rules M.Model M.Body.cmp self.model) self.number letter self.process lp.process)) }
+            (Arrived (rules M.Model M.Body.cmp self.model) self.number letter
+            self.process lp.process)) }
         ensures balance { IfOk result (λ lp. GivesOut out.old.items out.new.items
             (KeepsBalance M.Model M.Body.cmp self lp (letter ∷ []))) }
         ensures memory { IfErr result (λ e. e ≡ Memory) }
@@ -259,7 +261,7 @@ impl<M: VtModel> Lp<M> {
     /// The least time of pending events, debts and held messages, in ticks, or [`END`](rw_vt::END) if there is none. Takes no
     /// memory.
     pub fn least(&self) -> u64
-        ensures is { result ≡ least_outstanding (2 ^ 40) self.now.process }
+        ensures is { result ≡ least_outstanding (END) self.now.process }
         ensures pending { Each (event_cmp M.Body.cmp) (λ e.
             result ≤ e.time) self.now.process.pending }
         ensures debts { Each (event_cmp M.Body.cmp) (λ e. result ≤ e.time) self.now.process.debts }
@@ -295,7 +297,7 @@ impl<M: VtModel> Lp<M> {
     pub fn state(&self) -> &M::State
         ensures is { result.now ≡ self.now.process.state }
         ensures fold { self.now.process.state
-            ≡ after (M.step self.now.model self.now.number) self.now.process.start
+            ≡ state_after (M.step self.now.model self.now.number) self.now.process.start
             (done self.now.process) }
     {
         self.history.state()
@@ -334,7 +336,7 @@ fn meet<M: VtModel>(
         KeepsBalance M.Model M.Body.cmp
         (process_of history.now pending.old debts.old)
         (process_of history.now pending.new debts.new)
-        (came a letter) []) }
+        (letters_taken a letter) []) }
 {
     let event = letter.event;
     if letter.anti {

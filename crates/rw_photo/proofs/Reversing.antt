@@ -14,8 +14,8 @@ use Rattle.rw_photo.specs.declared.counters.Counters.{Counters}
 use Rattle.rw_photo.specs.declared.photo.Deed.{Deed}
 use Rattle.rw_photo.specs.declared.undo.Undo.{Undo}
 use Rattle.rw_ripq.specs.Work.{one_if}
-use Rattle.rw_photo.specs.Counts.{AreCounts, added, counters_by, minus, plus, taken_off}
-use Rattle.rw_photo.specs.Cache.{Cache, waiting, with_waiting}
+use Rattle.rw_photo.specs.Counts.{AreCounts, sum_of, counters_by, minus, plus, difference_of}
+use Rattle.rw_photo.specs.Cache.{Cache, waiting_for, with_waiting}
 use Rattle.rw_photo.specs.Events.{Happening, cache_after, object_of}
 use Rattle.rw_photo.specs.Deeds.{HasDone, list_of}
 use Rattle.rw_photo.specs.Undoing.{TakesBack, cache_before}
@@ -27,13 +27,13 @@ minus-plus n k a b = omega arith
 minus-wrapped : (n k : ℕ) → minus (plus (n % 2 ^ 64) (k % 2 ^ 64)) (k % 2 ^ 64) ≡ n % 2 ^ 64
 minus-wrapped n k = omega arith
 
-taken_off-wrapped : (k d : Counters) → taken_off (added (counters_by (λ which. which k % 2 ^ 64)) (counters_by (λ which. which d % 2 ^ 64))) (counters_by (λ which. which d % 2 ^ 64)) ≡ counters_by (λ which. which k % 2 ^ 64)
+taken_off-wrapped : (k d : Counters) → difference_of (sum_of (counters_by (λ which. which k % 2 ^ 64)) (counters_by (λ which. which d % 2 ^ 64))) (counters_by (λ which. which d % 2 ^ 64)) ≡ counters_by (λ which. which k % 2 ^ 64)
 taken_off-wrapped k d i = counters_by (λ which. minus-wrapped (which k) (which d) i)
 
-taken_off-added : (k d : Counters) → AreCounts k → AreCounts d → taken_off (added k d) d ≡ k
+taken_off-added : (k d : Counters) → AreCounts k → AreCounts d → difference_of (sum_of k d) d ≡ k
 taken_off-added k d a b =
-    subst (λ x. taken_off (added x d) d ≡ x) a
-    (subst (λ x. taken_off (added (counters_by (λ which. which k % 2 ^ 64)) x) x ≡ counters_by (λ which. which k % 2 ^ 64)) b (taken_off-wrapped k d))
+    subst (λ x. difference_of (sum_of x d) d ≡ x) a
+    (subst (λ x. difference_of (sum_of (counters_by (λ which. which k % 2 ^ 64)) x) x ≡ counters_by (λ which. which k % 2 ^ 64)) b (taken_off-wrapped k d))
 
 -- whatever the object's requests became, they wait again as they did
 waiting-back : (m : List (ℕ × ℕ)) (o : ℕ) (old now : Option ℕ) → IsStrictlySortedBy nat_cmp (keys_of m) → lookup (is_at (nat_cmp o)) m ≡ old
@@ -52,12 +52,12 @@ waiting-same m o (Some n) up is = insert_entry-same m o n up is
 waiting-same m o None up is = remove_entry-none m o is
 
 -- a deed that leaves alone who waits
-pub queue_deed : (h : Happening) (s now : Cache) (o : ℕ) (d : Deed) → IsStrictlySortedBy nat_cmp (keys_of s.awaited) → h.waiting ≡ waiting s o
+pub queue_deed : (h : Happening) (s now : Cache) (o : ℕ) (d : Deed) → IsStrictlySortedBy nat_cmp (keys_of s.awaited) → h.waiting ≡ waiting_for s o
     → now ≡ record s { queue = h.queue } → d.change.counts ≡ h.counts → list_of d.send ≡ h.sent → Leads d.change.trail s.queue now.queue → IsShort d.change.trail s.queue now.queue
     → HasDone h s o d now
 queue_deed h s now o d up wait is counted sent leads short =
     record {
-      changed = is ∙ ap (λ m. record s { queue = h.queue; awaited = m }) (sym (ap (with_waiting s.awaited o) wait ∙ waiting-same s.awaited o (waiting s o) up refl));
+      changed = is ∙ ap (λ m. record s { queue = h.queue; awaited = m }) (sym (ap (with_waiting s.awaited o) wait ∙ waiting-same s.awaited o (waiting_for s o) up refl));
       counted = counted;
       sent = sent;
       leads = leads;
@@ -108,7 +108,7 @@ made s t q a b c i = record { queue = q i; awaited = a i; sends = b i; counters 
 pub takes_back : (h : Happening) (s mid now : Cache) (e : Event Body) (d : Deed) (u : Undo)
     → IsStrictlySortedBy nat_cmp (keys_of s.awaited) → s.sends < 2 ^ 64 → AreCounts s.counters → AreCounts d.change.counts
     → HasDone h s (object_of e.body) d mid → now ≡ cache_after s (object_of e.body) h
-    → u.change.trail ≡ d.change.trail → u.change.counts ≡ d.change.counts → u.sent ≡ is_some d.send → u.waiting ≡ waiting s (object_of e.body)
+    → u.change.trail ≡ d.change.trail → u.change.counts ≡ d.change.counts → u.sent ≡ is_some d.send → u.waiting ≡ waiting_for s (object_of e.body)
     → TakesBack s e u now
 takes_back h s mid now e d u up sends counters counts done is trail counted sent wait =
     record {
@@ -129,7 +129,7 @@ takes_back h s mid now e d u up sends counters counts done is trail counted sent
     awaited : with_waiting now.awaited o u.waiting ≡ s.awaited
     awaited =
         ap (λ (w : Cache). with_waiting w.awaited o u.waiting) is
-        ∙ (ap (with_waiting (with_waiting s.awaited o h.waiting) o) wait ∙ waiting-back s.awaited o (waiting s o) h.waiting up refl)
+        ∙ (ap (with_waiting (with_waiting s.awaited o h.waiting) o) wait ∙ waiting-back s.awaited o (waiting_for s o) h.waiting up refl)
 
     one : one_if u.sent ≡ length h.sent
     one = ap one_if sent ∙ (sym (one-sent d.send) ∙ ap length done.sent)
@@ -146,8 +146,8 @@ takes_back h s mid now e d u up sends counters counts done is trail counted sent
         ap (λ (w : Cache). minus w.sends (one_if u.sent)) is
         ∙ (ap (λ n. minus (plus s.sends n) (one_if u.sent)) (sym one) ∙ minus-plus s.sends (one_if u.sent) sends few)
 
-    counters_back : taken_off now.counters u.change.counts ≡ s.counters
+    counters_back : difference_of now.counters u.change.counts ≡ s.counters
     counters_back =
-        ap (λ (w : Cache). taken_off w.counters u.change.counts) is
-        ∙ (ap (λ k. taken_off (added s.counters k) u.change.counts) (sym done.counted)
-        ∙ (ap (taken_off (added s.counters d.change.counts)) counted ∙ taken_off-added s.counters d.change.counts counters counts))
+        ap (λ (w : Cache). difference_of w.counters u.change.counts) is
+        ∙ (ap (λ k. difference_of (sum_of s.counters k) u.change.counts) (sym done.counted)
+        ∙ (ap (difference_of (sum_of s.counters d.change.counts)) counted ∙ taken_off-added s.counters d.change.counts counters counts))

@@ -6,12 +6,13 @@ use Rattle.std.specs.BTreeMap.{insert_entry, is_at}
 use Rattle.std.specs.Ordering.{nat_cmp}
 use Rattle.rw_vt.specs.Words.{Count, Process}
 use Rattle.rw_blocks.specs.Words.{Object}
-use Rattle.rw_blocks.specs.State.{QueueState, Limits, row_at, start_of}
+use Rattle.rw_blocks.specs.State.{QueueState, ShapeState, row_at, start_of}
 use Rattle.rw_blocks.specs.Loose.{IsWellFormedQueue}
 use Rattle.rw_ripq.specs.declared.Policy.TheVariants.{Off}
 use Rattle.rw_photo.specs.declared.config.Config.{Config}
 use Rattle.rw_photo.specs.declared.counters.Counters.{Counters}
 use Rattle.rw_photo.specs.Counts.{AreCounts, no_counts}
+use Rattle.rw_ripq.specs.declared.TheConstants.{EXHAUSTED}
 
 -- a cache: its queue on flash; for each object on its way how many requests wait for it, by rising object; how many
 -- events it has sent; what it has counted
@@ -26,11 +27,11 @@ abbrev pub is_edge : Config → Process → Bool
 is_edge c p = nat_lt p c.edges
 
 -- the shape of the queue at process p
-abbrev pub shape_at : Config → Process → Limits
+abbrev pub shape_at : Config → Process → ShapeState
 shape_at c p = if is_edge c p then c.edge_shape else c.origin_shape
 
 -- a cache to which nothing has happened, with a queue of this shape
-abbrev pub start_in : Limits → Cache
+abbrev pub start_in : ShapeState → Cache
 start_in shape = record { queue = start_of shape; awaited = []; sends = 0; counters = no_counts }
 
 -- process p as it starts
@@ -42,8 +43,8 @@ abbrev pub is_stored : Cache → Object → Bool
 is_stored s o = is_some (row_at s.queue o)
 
 -- how many requests wait for an object, where it is awaited
-abbrev pub waiting : Cache → Object → Option Count
-waiting s o = lookup (is_at (nat_cmp o)) s.awaited
+abbrev pub waiting_for : Cache → Object → Option Count
+waiting_for s o = lookup (is_at (nat_cmp o)) s.awaited
 
 -- the awaited objects once n requests wait for object o, or once it is awaited no more
 abbrev pub with_waiting : List (Object × Count) → Object → Option Count → List (Object × Count)
@@ -52,7 +53,7 @@ with_waiting awaited o None = remove_entry (is_at (nat_cmp o)) awaited
 
 -- a cache that can take no further event: it has sent, or its queue has numbered, too much
 abbrev pub is_exhausted : Cache → Bool
-is_exhausted s = nat_le (2 ^ 62) s.sends || nat_le (2 ^ 62) s.queue.next
+is_exhausted s = nat_le (EXHAUSTED) s.sends || nat_le (EXHAUSTED) s.queue.next
 
 -- the queue is well formed, in the shape of its kind, and empty where nothing is stored; awaited objects ascend, and
 -- all counts fit their types: nothing else is asked

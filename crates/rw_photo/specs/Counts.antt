@@ -37,12 +37,12 @@ abbrev pub no_counts : Counters
 no_counts = counters_by (λ which. 0)
 
 -- each count of k grows by that of d
-abbrev pub added : Counters → Counters → Counters
-added k d = counters_by (λ which. plus (which k) (which d))
+abbrev pub sum_of : Counters → Counters → Counters
+sum_of k d = counters_by (λ which. plus (which k) (which d))
 
 -- each count of k falls by that of d
-abbrev pub taken_off : Counters → Counters → Counters
-taken_off k d = counters_by (λ which. minus (which k) (which d))
+abbrev pub difference_of : Counters → Counters → Counters
+difference_of k d = counters_by (λ which. minus (which k) (which d))
 
 -- the counts fit their type: each is what it is modulo 2 ^ 64
 abbrev pub AreCounts : Counters → Type 0

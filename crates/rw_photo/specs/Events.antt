@@ -9,9 +9,10 @@ use Rattle.rw_photo.specs.declared.body.Body.{Body}
 use Rattle.rw_photo.specs.declared.body.Body.TheVariants.{Request, Miss, Fill}
 use Rattle.rw_photo.specs.declared.config.Config.{Config}
 use Rattle.rw_photo.specs.declared.counters.Counters.{Counters}
-use Rattle.rw_photo.specs.Counts.{plus, added, no_counts, one_miss, one_coalesced, with_late}
-use Rattle.rw_photo.specs.Cache.{Cache, is_edge, is_stored, waiting, with_waiting}
-use Rattle.rw_photo.specs.Storing.{Stored, hit, stored, unchanged}
+use Rattle.rw_photo.specs.Counts.{plus, sum_of, no_counts, one_miss, one_coalesced, with_late}
+use Rattle.rw_photo.specs.Cache.{Cache, is_edge, is_stored, waiting_for, with_waiting}
+use Rattle.rw_photo.specs.Storing.{QueueAndCounts, hit, store, same_queue}
+use Rattle.rw_trace.specs.declared.TheConstants.{MAX_TIME}
 
 -- Valid events
 
@@ -25,11 +26,11 @@ is_object o z = nat_lt o (2 ^ 64) && nat_le 1 z && nat_lt z (2 ^ 32)
 
 -- what may happen at process p at time t: requests up to time 2 ^ 39, and what may follow from them
 abbrev pub may_happen : Config → Time → Process → Body → Bool
-may_happen c t p (Request o z) = is_edge c p && nat_le t (2 ^ 39) && is_object o z
+may_happen c t p (Request o z) = is_edge c p && nat_le t (MAX_TIME) && is_object o z
 may_happen c t p (Miss o z g) =
-    is_origin c p && is_edge c g && nat_le t (2 ^ 39 + c.up) && is_object o z
+    is_origin c p && is_edge c g && nat_le t (MAX_TIME + c.up) && is_object o z
 may_happen c t p (Fill o z) =
-    is_edge c p && nat_le t (2 ^ 39 + c.up + c.down + c.back) && is_object o z
+    is_edge c p && nat_le t (MAX_TIME + c.up + c.down + c.back) && is_object o z
 
 -- an event in the ranges of its numbers, that may happen
 abbrev pub is_valid : Config → Event Body → Bool
@@ -53,8 +54,8 @@ pub record Happening : Type 0 where
   pub sent : List (Event Body)
 
 -- an event that process p sends, numbered by how many it has sent before
-abbrev pub sending : Process → Cache → Time → Process → Body → Event Body
-sending p s time to body =
+abbrev pub event_from : Process → Cache → Time → Process → Body → Event Body
+event_from p s time to body =
     record { time = time; source = p + 1; number = s.sends; to = to; body = body }
 
 -- the origin that is asked for an object
@@ -62,55 +63,55 @@ abbrev pub origin_of : Config → Object → Process
 origin_of c o = c.edges + o % c.origins
 
 -- a request that misses waits for its object, with those that wait for it already; the first asks the origin
-abbrev pub missed : Config → Process → Cache → Time → Object → Size → Option Count → Happening
-missed c p s t o z (Some n) =
+abbrev pub edge_miss : Config → Process → Cache → Time → Object → Size → Option Count → Happening
+edge_miss c p s t o z (Some n) =
     record { queue = s.queue; waiting = Some (plus n 1); counts = one_coalesced; sent = [] }
-missed c p s t o z None =
+edge_miss c p s t o z None =
     record {
       queue = s.queue;
       waiting = Some 1;
       counts = one_miss no_counts;
-      sent = sending p s (t + c.up) (origin_of c o) (Miss o z p) ∷ [];
+      sent = event_from p s (t + c.up) (origin_of c o) (Miss o z p) ∷ [];
     }
 
 -- what a hit or a store makes of the queue; who waits for the object goes on waiting
-abbrev pub served : Cache → Object → Stored → List (Event Body) → Happening
-served s o made sent =
-    record { queue = made.queue; waiting = waiting s o; counts = made.counts; sent = sent }
+abbrev pub serving : Cache → Object → QueueAndCounts → List (Event Body) → Happening
+serving s o made sent =
+    record { queue = made.queue; waiting = waiting_for s o; counts = made.counts; sent = sent }
 
 -- a request at an edge
-abbrev pub requested : Config → Process → Cache → Time → Object → Size → Happening
-requested c p s t o z =
+abbrev pub request_happening : Config → Process → Cache → Time → Object → Size → Happening
+request_happening c p s t o z =
     if is_stored s o
-    then served s o (hit c.policy s.queue o) []
-    else missed c p s t o z (waiting s o)
+    then serving s o (hit c.policy s.queue o) []
+    else edge_miss c p s t o z (waiting_for s o)
 
 -- what a miss at an origin stores of what the backend gave
-abbrev pub fetched : Config → Cache → Object → Size → Stored
-fetched c s o z =
-    let made = stored c.policy s.queue o z in
+abbrev pub backend_store : Config → Cache → Object → Size → QueueAndCounts
+backend_store c s o z =
+    let made = store c.policy s.queue o z in
     record made { counts = one_miss made.counts }
 
 -- a miss at an origin, which fetches what it lacks from the backend and stores it; edge g is sent a fill
-abbrev pub asked : Config → Process → Cache → Time → Object → Size → Process → Happening
-asked c p s t o z g =
+abbrev pub miss_happening : Config → Process → Cache → Time → Object → Size → Process → Happening
+miss_happening c p s t o z g =
     if is_stored s o
-    then served s o (hit c.policy s.queue o) (sending p s (t + c.down) g (Fill o z) ∷ [])
-    else served s o (fetched c s o z) (sending p s (t + c.down + c.back) g (Fill o z) ∷ [])
+    then serving s o (hit c.policy s.queue o) (event_from p s (t + c.down) g (Fill o z) ∷ [])
+    else serving s o (backend_store c s o z) (event_from p s (t + c.down + c.back) g (Fill o z) ∷ [])
 
 -- a fill at an edge, which answers the requests that wait for it, if any, and stores what the edge lacks
-abbrev pub filled : Config → Cache → Object → Size → Happening
-filled c s o z =
-    let late = unwrap_or (waiting s o) 0 in
+abbrev pub fill_happening : Config → Cache → Object → Size → Happening
+fill_happening c s o z =
+    let late = unwrap_or (waiting_for s o) 0 in
     let there = is_stored s o in
-    let made = if there then unchanged s.queue no_counts else stored c.policy s.queue o z in
+    let made = if there then same_queue s.queue no_counts else store c.policy s.queue o z in
     record { queue = made.queue; waiting = None; counts = with_late late made.counts; sent = [] }
 
 -- what happens at process p at time t
 abbrev pub happening : Config → Process → Cache → Time → Body → Happening
-happening c p s t (Request o z) = requested c p s t o z
-happening c p s t (Miss o z g) = asked c p s t o z g
-happening c p s t (Fill o z) = filled c s o z
+happening c p s t (Request o z) = request_happening c p s t o z
+happening c p s t (Miss o z g) = miss_happening c p s t o z g
+happening c p s t (Fill o z) = fill_happening c s o z
 
 -- the cache after what happens to object o
 abbrev pub cache_after : Cache → Object → Happening → Cache
@@ -119,7 +120,7 @@ cache_after s o h =
       queue = h.queue;
       awaited = with_waiting s.awaited o h.waiting;
       sends = plus s.sends (length h.sent);
-      counters = added s.counters h.counts;
+      counters = sum_of s.counters h.counts;
     }
 
 -- the cache after an event, and what the cache sends

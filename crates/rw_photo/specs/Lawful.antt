@@ -25,30 +25,31 @@ use Rattle.rw_photo.specs.declared.body.Body.{Body}
 use Rattle.rw_photo.specs.declared.body.Body.TheVariants.{Request, Miss, Fill}
 use Rattle.rw_photo.specs.declared.config.Config.{Config}
 use Rattle.rw_photo.specs.declared.counters.Counters.{Counters}
-use Rattle.rw_photo.specs.Counts.{AreCounts, added, counters_by, no_counts, one_bypassed, with_late}
-use Rattle.rw_photo.specs.Cache.{Cache, IsWellFormed, is_stored, shape_at, waiting, with_waiting}
-use Rattle.rw_photo.specs.Storing.{Stored, hit, inserted, stored, unchanged}
-use Rattle.rw_photo.specs.Events.{Happening, fetched, happening, is_valid, may_happen, missed, origin_of, sending, served}
+use Rattle.rw_photo.specs.Counts.{AreCounts, sum_of, counters_by, no_counts, one_bypassed, with_late}
+use Rattle.rw_photo.specs.Cache.{Cache, IsWellFormed, is_stored, shape_at, waiting_for, with_waiting}
+use Rattle.rw_photo.specs.Storing.{QueueAndCounts, hit, insertion, store, same_queue}
+use Rattle.rw_photo.specs.Events.{Happening, backend_store, happening, is_valid, may_happen, edge_miss, origin_of, event_from, serving}
+use Rattle.rw_vt.specs.declared.event.TheConstants.{END}
 
 -- ---- the definitions with the test that each makes as an argument, for proofs by cases
-abbrev pub placed : Policy → QueueState → Object → Size → Stored
+abbrev pub placed : Policy → QueueState → Object → Size → QueueAndCounts
 placed policy q o z =
-    if nat_lt q.shape.block z then unchanged q one_bypassed else inserted (insert policy q o z 1)
+    if nat_lt q.shape.block z then same_queue q one_bypassed else insertion (insert policy q o z 1)
 
 abbrev pub requested_if : Config → Process → Cache → Time → Object → Size → Bool → Happening
 requested_if c p s t o z there =
-    if there then served s o (hit c.policy s.queue o) [] else missed c p s t o z (waiting s o)
+    if there then serving s o (hit c.policy s.queue o) [] else edge_miss c p s t o z (waiting_for s o)
 
 abbrev pub asked_if : Config → Process → Cache → Time → Object → Size → Process → Bool → Happening
 asked_if c p s t o z g there =
     if there
-    then served s o (hit c.policy s.queue o) (sending p s (t + c.down) g (Fill o z) ∷ [])
-    else served s o (fetched c s o z) (sending p s (t + c.down + c.back) g (Fill o z) ∷ [])
+    then serving s o (hit c.policy s.queue o) (event_from p s (t + c.down) g (Fill o z) ∷ [])
+    else serving s o (backend_store c s o z) (event_from p s (t + c.down + c.back) g (Fill o z) ∷ [])
 
 abbrev pub filled_if : Config → Cache → Object → Size → Bool → Happening
 filled_if c s o z there =
-    let k : Stored = if there then unchanged s.queue no_counts else stored c.policy s.queue o z in
-    let late = unwrap_or (waiting s o) 0 in
+    let k : QueueAndCounts = if there then same_queue s.queue no_counts else store c.policy s.queue o z in
+    let late = unwrap_or (waiting_for s o) 0 in
     record { queue = k.queue; waiting = None; counts = with_late late k.counts; sent = [] }
 
 pub both : (a b : Bool) → (a && b) ≡ true → (a ≡ true) × (b ≡ true)
@@ -57,7 +58,7 @@ both false b h = cc
 
 -- ---- valid events are in their ranges
 pub early : (c : Config) (t p : ℕ) (b : Body) → may_happen c t p b ≡ true
-    → (t < 2 ^ 40) × (p < c.edges + c.origins)
+    → (t < END) × (p < c.edges + c.origins)
 early c t p (Request o z) v =
     let r = c.in_range in (grind (arith, nat_tests), grind (arith, nat_tests))
 early c t p (Miss o z g) v =
@@ -115,7 +116,7 @@ placed-at c p k q o z stores at new some = go (nat_lt q.shape.block z) refl
         })
 
 stored-at : (c : Config) (p : ℕ) (k : Policy) (q : QueueState) (o z : ℕ) → c.policy ≡ k
-    → IsQueueAt c p q → row_at q o ≡ None → 1 ≤ z → IsQueueAt c p (stored k q o z).queue
+    → IsQueueAt c p q → row_at q o ≡ None → 1 ≤ z → IsQueueAt c p (store k q o z).queue
 stored-at c p Off q o z is at new some = at
 stored-at c p Lru q o z is at new some =
     placed-at c p Lru q o z (λ off. let h : Lru ≡ Off = sym is ∙ off in cc) at new some
@@ -128,7 +129,7 @@ WaitFew (Some n) = n < 2 ^ 64
 WaitFew None = Unit {0}
 
 found-few : (s : Cache) (o : ℕ) (w : Option ℕ) → All (λ n. n < 2 ^ 64) (values_of s.awaited)
-    → waiting s o ≡ w → WaitFew w
+    → waiting_for s o ≡ w → WaitFew w
 found-few s o (Some n) all is = found-value (λ m. m < 2 ^ 64) s.awaited o n all is
 found-few s o None all is = tt
 
@@ -148,27 +149,27 @@ one P f h = All-cons P f [] h (All-nil P)
 -- an origin is asked by a valid miss
 asks : (c : Config) (p : ℕ) (s : Cache) (t o z : ℕ) → s.sends < 2 ^ 64
     → may_happen c t p (Request o z) ≡ true
-    → Follows c p t (sending p s (t + c.up) (origin_of c o) (Miss o z p))
+    → Follows c p t (event_from p s (t + c.up) (origin_of c o) (Miss o z p))
 asks c p s t o z n v = let r = c.in_range in (refl, omega arith, grind (arith, nat_tests))
 
 -- an edge is answered by a valid fill, at once or after the backend
 answers-at_once : (c : Config) (p : ℕ) (s : Cache) (t o z g : ℕ) → s.sends < 2 ^ 64
-    → may_happen c t p (Miss o z g) ≡ true → Follows c p t (sending p s (t + c.down) g (Fill o z))
+    → may_happen c t p (Miss o z g) ≡ true → Follows c p t (event_from p s (t + c.down) g (Fill o z))
 answers-at_once c p s t o z g n v =
     let r = c.in_range in (refl, omega arith, grind (arith, nat_tests))
 
 answers-later : (c : Config) (p : ℕ) (s : Cache) (t o z g : ℕ) → s.sends < 2 ^ 64
     → may_happen c t p (Miss o z g) ≡ true
-    → Follows c p t (sending p s (t + c.down + c.back) g (Fill o z))
+    → Follows c p t (event_from p s (t + c.down + c.back) g (Fill o z))
 answers-later c p s t o z g n v =
     let r = c.in_range in (refl, omega arith, grind (arith, nat_tests))
 
 missed-fine : (c : Config) (p : ℕ) (s : Cache) (t o z : ℕ) (w : Option ℕ) → IsWellFormed c p s
-    → may_happen c t p (Request o z) ≡ true → IsFine c p t (missed c p s t o z w)
+    → may_happen c t p (Request o z) ≡ true → IsFine c p t (edge_miss c p s t o z w)
 missed-fine c p s t o z (Some n) w v =
     record { queue = queue-at c p s w; waiting = omega arith; follow = All-nil (Follows c p t) }
 missed-fine c p s t o z None w v =
-    let question = sending p s (t + c.up) (origin_of c o) (Miss o z p) in
+    let question = event_from p s (t + c.up) (origin_of c o) (Miss o z p) in
     record {
       queue = queue-at c p s w;
       waiting = omega arith;
@@ -181,28 +182,28 @@ requested-fine : (c : Config) (p : ℕ) (s : Cache) (t o z : ℕ) (b : Bool) →
 requested-fine c p s t o z true is w v =
     record {
       queue = hit-at c p s.queue o (queue-at c p s w) is;
-      waiting = found-few s o (waiting s o) w.waiting refl;
+      waiting = found-few s o (waiting_for s o) w.waiting refl;
       follow = All-nil (Follows c p t);
     }
-requested-fine c p s t o z false is w v = missed-fine c p s t o z (waiting s o) w v
+requested-fine c p s t o z false is w v = missed-fine c p s t o z (waiting_for s o) w v
 
 asked-fine : (c : Config) (p : ℕ) (s : Cache) (t o z g : ℕ) (b : Bool) → is_stored s o ≡ b
     → IsWellFormed c p s → may_happen c t p (Miss o z g) ≡ true
     → IsFine c p t (asked_if c p s t o z g b)
 asked-fine c p s t o z g true is w v =
-    let answer = sending p s (t + c.down) g (Fill o z) in
+    let answer = event_from p s (t + c.down) g (Fill o z) in
     record {
       queue = hit-at c p s.queue o (queue-at c p s w) is;
-      waiting = found-few s o (waiting s o) w.waiting refl;
+      waiting = found-few s o (waiting_for s o) w.waiting refl;
       follow = one (Follows c p t) answer (answers-at_once c p s t o z g w.sends v);
     }
 asked-fine c p s t o z g false is w v =
-    let answer = sending p s (t + c.down + c.back) g (Fill o z) in
+    let answer = event_from p s (t + c.down + c.back) g (Fill o z) in
     let none : row_at s.queue o ≡ None = none-found (row_at s.queue o) is in
     let some : 1 ≤ z = grind (arith, nat_tests) in
     record {
       queue = stored-at c p c.policy s.queue o z refl (queue-at c p s w) none some;
-      waiting = found-few s o (waiting s o) w.waiting refl;
+      waiting = found-few s o (waiting_for s o) w.waiting refl;
       follow = one (Follows c p t) answer (answers-later c p s t o z g w.sends v);
     }
 
@@ -246,7 +247,7 @@ few-with m o None all few = values-remove_entry (λ n. n < 2 ^ 64) m o all
 wrapped-once : (n : ℕ) → n % 2 ^ 64 % 2 ^ 64 ≡ n % 2 ^ 64
 wrapped-once n = omega arith
 
-pub added-counts : (k d : Counters) → AreCounts (added k d)
+pub added-counts : (k d : Counters) → AreCounts (sum_of k d)
 added-counts k d i = counters_by (λ which. wrapped-once (which k + which d) i)
 
 -- ---- bodies that compare as equal are the same

@@ -11,33 +11,33 @@ use Rattle.rw_photo.specs.declared.counters.Counters.{Counters}
 use Rattle.rw_photo.specs.Counts.{no_counts, one_hit, one_bypassed, one_inserted}
 
 -- what becomes of a queue, and what that counts
-pub record Stored : Type 0 where
+pub record QueueAndCounts : Type 0 where
   pub queue : QueueState
   pub counts : Counters
 
 -- the queue stays as it is
-abbrev pub unchanged : QueueState → Counters → Stored
-unchanged q k = record { queue = q; counts = k }
+abbrev pub same_queue : QueueState → Counters → QueueAndCounts
+same_queue q k = record { queue = q; counts = k }
 
 -- whether the object's place is another one than before
 abbrev pub is_moved : QueueState → QueueState → Object → Bool
 is_moved before after o = not (nat_eq (row_or after o).place (row_or before o).place)
 
 -- a hit of an object that is stored promotes it
-abbrev pub hit : Policy → QueueState → Object → Stored
+abbrev pub hit : Policy → QueueState → Object → QueueAndCounts
 hit policy q o =
     let after = promote policy q o in
     record { queue = after; counts = one_hit (is_moved q after o) }
 
 -- what an insertion makes of a queue
-abbrev pub inserted : Work → Stored
-inserted w = record { queue = w.queue; counts = one_inserted w.tally }
+abbrev pub insertion : Work → QueueAndCounts
+insertion w = record { queue = w.queue; counts = one_inserted w.tally }
 
 -- an object that is not stored is inserted as one of level 1, unless the policy is to store nothing; one that is too
 -- large for a block passes by
-abbrev pub stored : Policy → QueueState → Object → Size → Stored
-stored Off q o z = unchanged q no_counts
-stored policy q o z =
+abbrev pub store : Policy → QueueState → Object → Size → QueueAndCounts
+store Off q o z = same_queue q no_counts
+store policy q o z =
     if nat_lt q.shape.block z
-    then unchanged q one_bypassed
-    else inserted (insert policy q o z 1)
+    then same_queue q one_bypassed
+    else insertion (insert policy q o z 1)

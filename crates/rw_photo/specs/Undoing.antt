@@ -7,7 +7,7 @@ use Rattle.rw_ripq.specs.Weight.{IsShort}
 use Rattle.rw_photo.specs.declared.body.Body.{Body}
 use Rattle.rw_photo.specs.declared.undo.Undo.{Undo}
 use Rattle.rw_ripq.specs.Work.{one_if}
-use Rattle.rw_photo.specs.Counts.{minus, taken_off}
+use Rattle.rw_photo.specs.Counts.{minus, difference_of}
 use Rattle.rw_photo.specs.Cache.{Cache, with_waiting}
 use Rattle.rw_photo.specs.Events.{object_of}
 
@@ -18,7 +18,7 @@ cache_before o u s =
       queue = rewind_of u.change.trail s.queue;
       awaited = with_waiting s.awaited o u.waiting;
       sends = minus s.sends (one_if u.sent);
-      counters = taken_off s.counters u.change.counts;
+      counters = difference_of s.counters u.change.counts;
     }
 
 -- the undo record takes the cache after the event back to the one before; its trail leads the queue back, and is short

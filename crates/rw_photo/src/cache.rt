@@ -3,15 +3,15 @@ ghost use Rattle.rw_blocks.specs.State.{row_at};
 ghost use Rattle.rw_blocks.specs.Loose.{IsWellFormedQueue};
 ghost use Rattle.rw_ripq.specs.Trail.{IsRewindable, Leads, rewind_of};
 ghost use Rattle.rw_ripq.specs.Weight.{IsShort};
-ghost use Rattle.rw_photo.specs.Cache.{is_stored, start_in, waiting, with_waiting};
+ghost use Rattle.rw_photo.specs.Cache.{is_stored, start_in, waiting_for, with_waiting};
 ghost use Rattle.rw_ripq.specs.Work.{one_if};
-ghost use Rattle.rw_photo.specs.Counts.{added, minus, plus, taken_off};
-ghost use Rattle.rw_photo.specs.Events.{sending};
-ghost use Rattle.rw_photo.specs.Storing.{hit, stored};
+ghost use Rattle.rw_photo.specs.Counts.{sum_of, minus, plus, difference_of};
+ghost use Rattle.rw_photo.specs.Events.{event_from};
+ghost use Rattle.rw_photo.specs.Storing.{hit, store};
 
 use crate::body::Body;
 use crate::counters::Counters;
-use rw_ripq::{Change, Place, Policy, Queue, Shape, Trail};
+use rw_ripq::{Change, EXHAUSTED, Place, Policy, Queue, Shape, Trail};
 use rw_vt::{Event, NoMemory, Refusal};
 use std::alloc::Global;
 use std::collections::BTreeMap;
@@ -92,7 +92,7 @@ impl CacheState {
 
     /// How many requests wait for an object, where it is awaited.
     pub(crate) fn waiting(&self, object: u64) -> Option<u64>
-        ensures { result ≡ waiting self.now object }
+        ensures { result ≡ waiting_for self.now object }
     {
         self.awaited.get(&object).copied()
     }
@@ -100,7 +100,7 @@ impl CacheState {
     /// Sets how many requests wait for an object; `None`: it is not awaited.
     pub(crate) fn set_waiting(&mut self, object: u64, waiting: Option<u64>) -> Result<(), NoMemory>
         ensures { OnOk result (self.new
-            ≡ record self.old { awaited = with_waiting self.old.awaited object waiting }) }
+            ≡ record self.old { awaited = with_waiting self.old.awaited object waiting_for }) }
     {
         match waiting {
             Some(count) => {
@@ -124,7 +124,7 @@ impl CacheState {
         requires well_formed { IsWellFormedQueue self.old.queue }
         requires stores { policy ≢ Policy.Off }
         requires row { row_at self.old.queue object ≡ Some row }
-        requires fresh { self.old.queue.next < 2 ^ 62 }
+        requires fresh { self.old.queue.next < EXHAUSTED }
         ensures queue { OnOk result (self.new
             ≡ record self.old { queue = (hit policy self.old.queue object).queue }) }
         ensures counts { IfOk result (λ change.
@@ -155,11 +155,11 @@ impl CacheState {
         requires well_formed { IsWellFormedQueue self.old.queue }
         requires new { is_stored self.old object ≡ false }
         requires some { 1 ≤ size }
-        requires fresh { self.old.queue.next < 2 ^ 62 }
+        requires fresh { self.old.queue.next < EXHAUSTED }
         ensures queue { OnOk result (self.new
-            ≡ record self.old { queue = (stored policy self.old.queue object size).queue }) }
+            ≡ record self.old { queue = (store policy self.old.queue object size).queue }) }
         ensures counts { IfOk result (λ change.
-            change.counts ≡ (stored policy self.old.queue object size).counts) }
+            change.counts ≡ (store policy self.old.queue object size).counts) }
         ensures leads { IfOk result (λ change. Leads change.trail self.old.queue self.new.queue) }
         ensures short { IfOk result (λ change. IsShort change.trail self.old.queue self.new.queue) }
     {
@@ -191,7 +191,7 @@ impl CacheState {
 
     /// Adds what an event counted.
     pub(crate) fn count(&mut self, counted: &Counters)
-        ensures { self.new ≡ record self.old { counters = added self.old.counters counted.now } }
+        ensures { self.new ≡ record self.old { counters = sum_of self.old.counters counted.now } }
     {
         self.counters.add(counted);
     }
@@ -199,7 +199,7 @@ impl CacheState {
     /// Takes off what an event counted: undoes [`CacheState::count`].
     pub(crate) fn take_off(&mut self, counted: &Counters)
         ensures { self.new
-            ≡ record self.old { counters = taken_off self.old.counters counted.now } }
+            ≡ record self.old { counters = difference_of self.old.counters counted.now } }
     {
         self.counters.take_off(counted);
     }
@@ -207,7 +207,7 @@ impl CacheState {
     /// The event that process `process` is to send, with the number of events that it has sent before.
     pub(crate) fn sending(&self, process: u32, time: u64, to: u32, body: Body) -> Event<Body>
         requires { process + 1 < 2 ^ 32 }
-        ensures { result ≡ sending process self.now time to body }
+        ensures { result ≡ event_from process self.now time to body }
     {
         Event {
             time,

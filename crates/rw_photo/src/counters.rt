@@ -1,5 +1,5 @@
 ghost use Rattle.std.specs.Prelude.{◌≡◌};
-ghost use Rattle.rw_photo.specs.Counts.{added, with_late, taken_off, one_bypassed, one_coalesced, one_hit, one_inserted, one_miss};
+ghost use Rattle.rw_photo.specs.Counts.{sum_of, with_late, difference_of, one_bypassed, one_coalesced, one_hit, one_inserted, one_miss};
 
 use rw_ripq::Tally;
 
@@ -130,14 +130,14 @@ impl Counters {
 
     /// Each count grows by what was counted, modulo 2^64. Takes no memory.
     pub fn add(&mut self, counted: &Counters)
-        ensures { self.new ≡ added self.old counted.now }
+        ensures { self.new ≡ sum_of self.old counted.now }
     {
         *self = each_count!(self, wrapping_add, counted);
     }
 
     /// Each count falls by what was counted, modulo 2^64: undoes [`Counters::add`].
     pub(crate) fn take_off(&mut self, counted: &Counters)
-        ensures { self.new ≡ taken_off self.old counted.now }
+        ensures { self.new ≡ difference_of self.old counted.now }
     {
         *self = each_count!(self, wrapping_sub, counted);
     }

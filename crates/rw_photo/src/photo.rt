@@ -1,14 +1,15 @@
 ghost use Rattle.std.specs.Prelude.{◌≡◌, ◌≤◌, IfOk, true, ◌<◌, ◌+◌, ◌^◌, ◌&&◌, nat_le, nat_lt};
 ghost use Rattle.rw_photo.specs.Cache.{IsWellFormed, is_edge, shape_at, start};
 ghost use Rattle.rw_photo.specs.Deeds.{HasDone};
-ghost use Rattle.rw_photo.specs.Events.{asked, filled, happening, is_origin, is_valid, object_of, origin_of, requested};
+ghost use Rattle.rw_photo.specs.Events.{miss_happening, fill_happening, happening, is_origin, is_valid, object_of, origin_of, request_happening};
 
 use crate::body::Body;
 use crate::cache::CacheState;
 use crate::config::Config;
 use crate::counters::Counters;
 use crate::undo::Undo;
-use rw_ripq::Change;
+use rw_ripq::{Change, EXHAUSTED};
+use rw_trace::{MAX_SIZE, MAX_TIME};
 use rw_vt::{Event, Model as VtModel, NoMemory, Refusal};
 use std::alloc::Global;
 
@@ -26,15 +27,6 @@ struct Deed {
     /// What it sends.
     send: Option<Event<Body>>,
 }
-
-/// The latest time of a request, in ticks: 2^39.
-const LAST_REQUEST: u64 = 1 << 39;
-
-/// The greatest size of an object, in bytes.
-const MAX_SIZE: u64 = (1 << 32) - 1;
-
-/// A cache that has sent this many events, or given its blocks this many serials, takes no further event.
-const EXHAUSTED: u64 = 1 << 62;
 
 impl Photo {
     /// The model of a configuration. Takes no memory.
@@ -96,7 +88,7 @@ impl Photo {
         event: &Event<Body>,
     ) -> Result<Deed, NoMemory>
         requires well_formed { IsWellFormed self.now.config process state.old }
-        requires fresh { state.old.queue.next < 2 ^ 62 }
+        requires fresh { state.old.queue.next < EXHAUSTED }
         requires valid { is_valid self.now.config event.now ≡ true }
         requires here { event.now.to ≡ process }
         ensures { IfOk result (λ deed. HasDone
@@ -126,11 +118,11 @@ impl Photo {
         size: u64,
     ) -> Result<Deed, NoMemory>
         requires well_formed { IsWellFormed self.now.config process state.old }
-        requires fresh { state.old.queue.next < 2 ^ 62 }
+        requires fresh { state.old.queue.next < EXHAUSTED }
         requires early { time < 2 ^ 40 }
         requires process { process < self.now.config.edges }
         ensures { IfOk result (λ deed. HasDone
-            (requested self.now.config process state.old time object size)
+            (request_happening self.now.config process state.old time object size)
             state.old object deed state.new) }
     {
         if let Some(row) = state.row(object) {
@@ -172,12 +164,12 @@ impl Photo {
         edge: u32,
     ) -> Result<Deed, NoMemory>
         requires well_formed { IsWellFormed self.now.config process state.old }
-        requires fresh { state.old.queue.next < 2 ^ 62 }
+        requires fresh { state.old.queue.next < EXHAUSTED }
         requires early { time < 2 ^ 40 }
         requires process { process < self.now.config.edges + self.now.config.origins }
         requires some { 1 ≤ size }
         ensures { IfOk result (λ deed. HasDone
-            (asked self.now.config process state.old time object size edge)
+            (miss_happening self.now.config process state.old time object size edge)
             state.old object deed state.new) }
     {
         let Config {
@@ -214,10 +206,10 @@ impl Photo {
         size: u64,
     ) -> Result<Deed, NoMemory>
         requires well_formed { IsWellFormed self.now.config process state.old }
-        requires fresh { state.old.queue.next < 2 ^ 62 }
+        requires fresh { state.old.queue.next < EXHAUSTED }
         requires some { 1 ≤ size }
         ensures { IfOk result (λ deed. HasDone
-            (filled self.now.config state.old object size)
+            (fill_happening self.now.config state.old object size)
             state.old object deed state.new) }
     {
         let answered = state.waiting(object).unwrap_or(0);
@@ -283,12 +275,12 @@ impl VtModel for Photo {
         let Event { time, to, body, .. } = *event;
         let Config { up, down, back, .. } = self.config;
         let (size, stands, latest) = match body {
-            Body::Request { size, .. } => (size, self.is_edge(to), LAST_REQUEST),
+            Body::Request { size, .. } => (size, self.is_edge(to), MAX_TIME),
             Body::Miss { size, edge, .. } => {
                 let stands = self.is_origin(to) && self.is_edge(edge);
-                (size, stands, LAST_REQUEST + up)
+                (size, stands, MAX_TIME + up)
             }
-            Body::Fill { size, .. } => (size, self.is_edge(to), LAST_REQUEST + up + down + back),
+            Body::Fill { size, .. } => (size, self.is_edge(to), MAX_TIME + up + down + back),
         };
         stands && time <= latest && is_size(size)
     }

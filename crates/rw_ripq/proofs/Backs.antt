@@ -5,7 +5,7 @@ use Rattle.std.proofs.lemmas.Bool.{eqb-true}
 use Rattle.rw_blocks.specs.State.{QueueState}
 use Rattle.rw_blocks.specs.Questions.{first_home}
 use Rattle.rw_ripq.specs.Work.{Work}
-use Rattle.rw_ripq.specs.Evict.{displaced, objects_homed, reinsert}
+use Rattle.rw_ripq.specs.Evict.{displaced_rows, objects_homed, reinsert}
 use Rattle.rw_ripq.specs.Victim.{IsVictim}
 use Rattle.rw_ripq.specs.Record.{HasHeadroom}
 use Rattle.rw_ripq.proofs.Leaves.{objects_homed-some}
@@ -37,7 +37,7 @@ pub back-made : (w v : Work) (b o : ℕ) → IsVictim b w.queue → first_home w
 back-made w v b o victim found room made = subst (λ v. Back b w v) (sym made) (back-step w b o victim found room)
 
 -- the row was displaced
-pub back-some : (q : QueueState) (b o : ℕ) → IsVictim b q → first_home q b ≡ Some o → 1 ≤ displaced q
+pub back-some : (q : QueueState) (b o : ℕ) → IsVictim b q → first_home q b ≡ Some o → 1 ≤ displaced_rows q
 back-some q b o victim found =
     let h = objects_homed-some q b o victim.loose found in
     let f = first-there (λ e. nat_eq e.1.home b) q.rows o h.0 victim.loose.ordered h.1 in

@@ -3,13 +3,13 @@ use Rattle.std.proofs.Common.{ℕ, ◌+◌, ◌*◌, ◌≤◌, arith}
 use Rattle.rw_ripq.proofs.Folds.{reinsert-row}
 use Rattle.rw_ripq.proofs.Measures.{displaced-after_remove}
 use Rattle.rw_ripq.proofs.Walks.{Keeps}
-use Rattle.rw_ripq.specs.Evict.{displaced}
+use Rattle.rw_ripq.specs.Evict.{displaced_rows}
 use Rattle.rw_ripq.specs.Work.{Work}
 
 -- each seal of an eviction is for a row that is put again, which was displaced until then
 pub record IsWithin (n d : ℕ) (w : Work) : Type 0 where
   pub serial : w.queue.next ≤ n + w.tally.reinserted + 2 * w.tally.splits
-  pub settled : w.tally.reinserted + displaced w.queue ≤ d
+  pub settled : w.tally.reinserted + displaced_rows w.queue ≤ d
 
 pub keeps-within : (n d : ℕ) → Keeps (IsWithin n d)
 keeps-within n d =

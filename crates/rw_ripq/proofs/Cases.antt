@@ -7,7 +7,7 @@ use Rattle.rw_blocks.specs.State.{QueueState, row_or}
 use Rattle.rw_blocks.specs.Primitives.{after_replace, after_seal}
 use Rattle.rw_ripq.specs.Work.{Work}
 use Rattle.rw_ripq.specs.Put.{put_again, with_room}
-use Rattle.rw_ripq.specs.Sealed.{cleared, section_with, without_block}
+use Rattle.rw_ripq.specs.Sealed.{without_if_emptied, section_with, without_block}
 use Rattle.rw_ripq.specs.Adjust.{adjust, heavy_section, split_at}
 
 -- ---- put
@@ -20,14 +20,14 @@ without_block_if t q b = if t then without_block q b else q
 
 -- ---- promote
 abbrev pub moved : QueueState → Object → Section → QueueState
-moved q o i = cleared (after_replace (with_room q Virtual i (row_or q o).size) o i) (row_or q o).place
+moved q o i = without_if_emptied (after_replace (with_room q Virtual i (row_or q o).size) o i) (row_or q o).place
 
 abbrev pub moved_unless : Bool → QueueState → Object → Section → QueueState
 moved_unless t q o i = if t then q else moved q o i
 
 -- ---- evict: an object that is put again, from its place
 abbrev pub reinserted_from : QueueState → Object → Serial → QueueState
-reinserted_from q o place = cleared (put_again q o (section_with q place)) place
+reinserted_from q o place = without_if_emptied (put_again q o (section_with q place)) place
 
 abbrev pub reinserted : QueueState → Object → QueueState
 reinserted q o = reinserted_from q o (row_or q o).place

@@ -24,7 +24,7 @@ use Rattle.rw_ripq.specs.Evict.{evict, evict_last, evict_within, is_over}
 use Rattle.rw_ripq.specs.Insert.{insert_at}
 use Rattle.rw_ripq.specs.Promote.{is_active_in, promote_to}
 use Rattle.rw_ripq.specs.Put.{is_room, with_room}
-use Rattle.rw_ripq.specs.Sealed.{cleared, is_emptied, is_sealed, sealed_blocks, sealed_position, sealed_section, without_block}
+use Rattle.rw_ripq.specs.Sealed.{without_if_emptied, is_emptied, is_sealed, sealed_blocks, sealed_position, sealed_section, without_block}
 use Rattle.rw_ripq.specs.Work.{Work}
 
 -- ---- an eviction ends because it is done
@@ -101,7 +101,7 @@ devices-clear : (t : Bool) (q : QueueState) (b : ℕ) → (t ≡ true → is_sea
 devices-clear true q b there = devices-without_block q b (sealed-virtual-there q b (there refl))
 devices-clear false q b there = omega arith
 
-devices-cleared : (q : QueueState) (b : ℕ) → sealed_devices (cleared q b) ≤ sealed_devices q
+devices-cleared : (q : QueueState) (b : ℕ) → sealed_devices (without_if_emptied q b) ≤ sealed_devices q
 devices-cleared q b = devices-clear (is_emptied q b) q b (λ e. (and_parts (is_sealed_virtual q b) _ e).0)
 
 devices-unless : (t : Bool) (q : QueueState) (o i : ℕ) → i < length q.sections → sealed_devices (moved_unless t q o i) ≤ sealed_devices q

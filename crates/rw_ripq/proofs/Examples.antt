@@ -4,7 +4,7 @@ use Rattle.std.specs.Prelude.{Some, None}
 use Rattle.rw_blocks.specs.declared.Kind.{Kind}
 use Rattle.rw_blocks.specs.declared.Kind.TheVariants.{Device, Virtual}
 use Rattle.rw_blocks.specs.declared.Place.{Place}
-use Rattle.rw_blocks.specs.State.{QueueState, SectionState, Limits, start_of}
+use Rattle.rw_blocks.specs.State.{QueueState, SectionState, ShapeState, start_of}
 use Rattle.rw_blocks.specs.Sums.{bytes, total}
 use Rattle.rw_blocks.specs.Primitives.{after_add, after_replace, after_seal}
 use Rattle.rw_ripq.specs.declared.Policy.TheVariants.{Lru, Slru3}
@@ -14,7 +14,7 @@ use Rattle.rw_ripq.specs.Levels.{level_of, target}
 use Rattle.rw_ripq.specs.Promote.{promote}
 use Rattle.rw_ripq.specs.Insert.{insert}
 
-abbrev limits : ℕ → ℕ → ℕ → Limits
+abbrev limits : ℕ → ℕ → ℕ → ShapeState
 limits k b c = record { sections = k; block = b; blocks = c }
 
 abbrev section : ℕ → ℕ → List (ℕ × Kind) → SectionState
@@ -23,7 +23,7 @@ section d v sealed = record { active_device = d; active_virtual = v; sealed = se
 abbrev row : ℕ → ℕ → ℕ → Place
 row z h p = record { size = z; home = h; place = p }
 
-abbrev queue : Limits → List SectionState → List (ℕ × Place) → ℕ → QueueState
+abbrev queue : ShapeState → List SectionState → List (ℕ × Place) → ℕ → QueueState
 queue limits sections rows next = record { shape = limits; sections = sections; rows = rows; next = next }
 
 abbrev tally : ℕ → ℕ → ℕ → ℕ → ℕ → Tally
@@ -36,7 +36,7 @@ abbrev lru : QueueState → ℕ → Work
 lru q o = insert Lru q o 6 1
 
 -- ---- one section, one sealed device block: the third insertion evicts the first object
-abbrev one : Limits
+abbrev one : ShapeState
 one = limits 1 10 1
 
 abbrev filled : QueueState
@@ -66,7 +66,7 @@ evicts_both : lru (lru sealed_twice 102).queue 103 ≡ work (queue one (section 
 evicts_both = refl
 
 -- ---- a promotion that empties a sealed virtual block
-abbrev four : Limits
+abbrev four : ShapeState
 four = limits 1 10 4
 
 abbrev twice : QueueState
@@ -79,7 +79,7 @@ takes_out : promote Lru twice 100 ≡ queue four (section 3 5 ((4, Virtual) ∷ 
 takes_out = refl
 
 -- ---- splits and a merge
-abbrev many : Limits
+abbrev many : ShapeState
 many = limits 4 10 8
 
 abbrev three : QueueState

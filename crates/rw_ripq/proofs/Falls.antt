@@ -26,7 +26,7 @@ use Rattle.rw_ripq.proofs.Evictions.{Falls}
 use Rattle.rw_ripq.proofs.Folds.{Steps, fold-steps, measure}
 use Rattle.rw_ripq.proofs.Measures.{displaced-without_rows, sealed-there, sealed_blocks-without_block, sealed_blocks-without_rows}
 use Rattle.rw_ripq.proofs.Turns.{first_above, sealed_count-there}
-use Rattle.rw_ripq.specs.Evict.{displaced, evict_block, evict_if_some, is_over, leave, objects_homed, objects_placed, reinsert, without_rows}
+use Rattle.rw_ripq.specs.Evict.{displaced_rows, evict_block, evict_if_some, is_over, leave, objects_homed, objects_placed, reinsert, without_rows}
 use Rattle.rw_ripq.specs.Sealed.{sealed_position, sealed_section, without_block}
 use Rattle.rw_ripq.specs.Victim.{IsVictim, in_sealed, sealed_count}
 use Rattle.rw_ripq.specs.Work.{Work}
@@ -143,7 +143,7 @@ block-goes_out q b loose some free =
     let s = sealed-there q b h in
     record {
       loose = IsLoose-after_take_out q (sealed_section q b) (sealed_position q b) loose s.0 s.1 (subst (λ n. IsFree q n) (sym s.2) free);
-      lower = let d : displaced (without_block q b) ≡ displaced q = refl in omega (arith, sealed_blocks-without_block q b h, d);
+      lower = let d : displaced_rows (without_block q b) ≡ displaced_rows q = refl in omega (arith, sealed_blocks-without_block q b h, d);
     }
 
 block-goes : (K : Kind) (b : ℕ) (w : Work) → IsLoose w.queue → 1 ≤ sealed_count b w.queue → 1 ≤ count K w.queue b → Goes w.queue (evict_block K b w).queue

@@ -17,14 +17,14 @@ use Rattle.rw_ripq.proofs.Measures.{displaced-after_rehome, displaced-with_room,
 use Rattle.rw_ripq.proofs.Reputs.{IsLoose-cleared, IsLoose-put_again, IsLoose-with_room, measure-put_again, row-with_room, rows-cleared, sealed_blocks-cleared, section-there}
 use Rattle.rw_ripq.proofs.Rooms.{rows-with_room, sections-with_room}
 use Rattle.rw_ripq.proofs.Turns.{active-not-sealed, first-there, others-left, sealed_count-after_seal, sealed_count-after_take_out}
-use Rattle.rw_ripq.specs.Evict.{displaced, objects_homed, reinsert}
+use Rattle.rw_ripq.specs.Evict.{displaced_rows, objects_homed, reinsert}
 use Rattle.rw_ripq.specs.Put.{is_room, put_again, with_room}
-use Rattle.rw_ripq.specs.Sealed.{cleared, sealed_blocks, sealed_position, sealed_section, section_with}
+use Rattle.rw_ripq.specs.Sealed.{without_if_emptied, sealed_blocks, sealed_position, sealed_section, section_with}
 use Rattle.rw_ripq.specs.Victim.{IsVictim, sealed_count}
 use Rattle.rw_ripq.specs.Work.{Work}
 
 abbrev pub measure : QueueState → ℕ
-measure q = displaced q + sealed_blocks q
+measure q = displaced_rows q + sealed_blocks q
 
 pub sealed_count-if : (t : Bool) (q : QueueState) (i b : ℕ) → i < length q.sections → sealed_count b q ≤ sealed_count b (seal_unless t q i Device)
 sealed_count-if true q i b within = omega arith
@@ -36,8 +36,8 @@ sealed_count-without_block_if true q p b h apart =
     sealed_count-after_take_out q (sealed_section q p) (sealed_position q p) b s.0 s.1 (λ e. apart (sym s.2 ∙ e))
 sealed_count-without_block_if false q p b h apart = refl
 
-pub displaced-cleared : (q : QueueState) (p : ℕ) → displaced (cleared q p) ≡ displaced q
-displaced-cleared q p = ap (λ rs. displaced (record q { rows = rs })) (rows-cleared q p)
+pub displaced-cleared : (q : QueueState) (p : ℕ) → displaced_rows (without_if_emptied q p) ≡ displaced_rows q
+displaced-cleared q p = ap (λ rs. displaced_rows (record q { rows = rs })) (rows-cleared q p)
 
 pub record Steps (b : ℕ) (q q' : QueueState) (os : List ℕ) : Type 0 where
   pub victim : IsVictim b q'
@@ -65,7 +65,7 @@ reinsert-steps q b o os v is =
     let fresh : d ≡ b → ⊥ = active-not-sealed w i b loose-w within-w (omega (arith, still, v.sealed)) in
     let new : Place = record { size = (row_or w o).size; home = d; place = d } in
     let q1 : QueueState = put_again q o i in
-    let q2 : QueueState = cleared q1 r.place in
+    let q2 : QueueState = without_if_emptied q1 r.place in
     let kept : sealed_count b q2 ≡ sealed_count b q1 =
     sealed_count-without_block_if (is_sealed_virtual q1 r.place && nat_eq (length (rows_placed q1 r.place)) 0) q1 r.place b
     (λ e. (and_parts (is_sealed_virtual q1 r.place) (nat_eq (length (rows_placed q1 r.place)) 0) e).0) away in
@@ -108,7 +108,7 @@ pub record Reput (b : ℕ) (q q' : QueueState) (o : ℕ) (r : Place) : Type 0 wh
   pub away : new.home ≡ b → ⊥
   pub apart : r.place ≡ r.home → ⊥
   pub next : q'.next ≤ q.next + 1
-  pub lower : displaced q' + 1 ≡ displaced q
+  pub lower : displaced_rows q' + 1 ≡ displaced_rows q
 
 pub reinsert-row : (q : QueueState) (b o : ℕ) (r : Place) (os : List ℕ) → IsVictim b q → objects_homed q b ≡ o ∷ os → row_at q o ≡ Some r → r.home ≡ b → Reput b q (reinserted q o) o r
 reinsert-row q b o r os v is row home =
@@ -127,8 +127,8 @@ reinsert-row q b o r os v is row home =
     let fresh : d ≡ b → ⊥ = active-not-sealed w i b loose-w within-w (omega (arith, still, v.sealed)) in
     let new : Place = record { size = (row_or w o).size; home = d; place = d } in
     let q1 : QueueState = put_again q o i in
-    let down : displaced q1 + 1 ≡ displaced w = displaced-after_rehome w o i r loose-w (row-with_room q Device i z o ∙ row) apart in
-    let next-q : (cleared q1 r.place).next ≡ q1.next = next-without_block_if (is_sealed_virtual q1 r.place && nat_eq (length (rows_placed q1 r.place)) 0) q1 r.place in
+    let down : displaced_rows q1 + 1 ≡ displaced_rows w = displaced-after_rehome w o i r loose-w (row-with_room q Device i z o ∙ row) apart in
+    let next-q : (without_if_emptied q1 r.place).next ≡ q1.next = next-without_block_if (is_sealed_virtual q1 r.place && nat_eq (length (rows_placed q1 r.place)) 0) q1 r.place in
     let next-w : w.next ≤ q.next + 1 = next-if (is_room q Device i z) q i in
     let next-1 : q1.next ≡ w.next = refl in
     subst (λ p. Reput b q (reinserted_from q o p) o r) (sym is-p)

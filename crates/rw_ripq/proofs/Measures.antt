@@ -18,7 +18,7 @@ use Rattle.rw_blocks.specs.declared.Kind.TheVariants.{Device, Virtual}
 use Rattle.rw_blocks.specs.declared.Place.{Place}
 use Rattle.rw_ripq.proofs.Cases.{seal_unless}
 use Rattle.rw_ripq.proofs.Basics.{by_bool}
-use Rattle.rw_ripq.specs.Evict.{displaced, without_rows}
+use Rattle.rw_ripq.specs.Evict.{displaced_rows, without_rows}
 use Rattle.rw_ripq.specs.Put.{is_room, with_room}
 use Rattle.rw_ripq.specs.Sealed.{has_sealed, sealed_blocks, sealed_position, sealed_section, without_block}
 
@@ -26,10 +26,10 @@ use Rattle.rw_ripq.specs.Sealed.{has_sealed, sealed_blocks, sealed_position, sea
 abbrev pub unlike : Place → ℕ
 unlike r = cond (not (nat_eq r.place r.home)) 1 0
 
-pub displaced-after_remove : (q : QueueState) (o : ℕ) → displaced (after_remove q o) ≤ displaced q
+pub displaced-after_remove : (q : QueueState) (o : ℕ) → displaced_rows (after_remove q o) ≤ displaced_rows q
 displaced-after_remove q o = omega (arith, sum_by-remove_entry unlike (is_key (nat_cmp o)) q.rows)
 
-pub displaced-without_rows : (q : QueueState) (os : List ℕ) → displaced (without_rows q os) ≤ displaced q
+pub displaced-without_rows : (q : QueueState) (os : List ℕ) → displaced_rows (without_rows q os) ≤ displaced_rows q
 displaced-without_rows q [] = omega arith
 displaced-without_rows q (o ∷ os) = omega (arith, displaced-without_rows (after_remove q o) os, displaced-after_remove q o)
 
@@ -37,7 +37,7 @@ pub sealed_blocks-without_rows : (q : QueueState) (os : List ℕ) → sealed_blo
 sealed_blocks-without_rows q [] = refl
 sealed_blocks-without_rows q (o ∷ os) = sealed_blocks-without_rows (after_remove q o) os
 
-pub displaced-after_rehome : (q : QueueState) (o i : ℕ) (r : Place) → IsLoose q → row_at q o ≡ Some r → (r.place ≡ r.home → ⊥) → displaced (after_rehome q o i) + 1 ≡ displaced q
+pub displaced-after_rehome : (q : QueueState) (o i : ℕ) (r : Place) → IsLoose q → row_at q o ≡ Some r → (r.place ≡ r.home → ⊥) → displaced_rows (after_rehome q o i) + 1 ≡ displaced_rows q
 displaced-after_rehome q o i r loose is apart =
     let d : ℕ = (section_at q i).active_device in
     let new : Place = record { size = (row_or q o).size; home = d; place = d } in
@@ -59,14 +59,14 @@ sealed_blocks-if : (b : Bool) (q : QueueState) (K : Kind) (i : ℕ) → i < leng
 sealed_blocks-if true q K i within = omega arith
 sealed_blocks-if false q K i within = omega (arith, sealed_blocks-after_seal q i K within)
 
-displaced-if : (b : Bool) (q : QueueState) (K : Kind) (i : ℕ) → displaced (seal_unless b q i K) ≡ displaced q
+displaced-if : (b : Bool) (q : QueueState) (K : Kind) (i : ℕ) → displaced_rows (seal_unless b q i K) ≡ displaced_rows q
 displaced-if true q K i = refl
 displaced-if false q K i = refl
 
 pub sealed_blocks-with_room : (q : QueueState) (K : Kind) (i z : ℕ) → i < length q.sections → sealed_blocks (with_room q K i z) ≤ sealed_blocks q + 1
 sealed_blocks-with_room q K i z within = sealed_blocks-if (is_room q K i z) q K i within
 
-pub displaced-with_room : (q : QueueState) (K : Kind) (i z : ℕ) → displaced (with_room q K i z) ≡ displaced q
+pub displaced-with_room : (q : QueueState) (K : Kind) (i z : ℕ) → displaced_rows (with_room q K i z) ≡ displaced_rows q
 displaced-with_room q K i z = displaced-if (is_room q K i z) q K i
 
 pub sealed_blocks-after_take_out : (q : QueueState) (i p : ℕ) → i < length q.sections → p < length (section_at q i).sealed → sealed_blocks (after_take_out q i p) + 1 ≡ sealed_blocks q

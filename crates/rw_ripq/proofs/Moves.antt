@@ -28,7 +28,7 @@ use Rattle.rw_ripq.specs.Work.{Work, work_of, one_if}
 use Rattle.rw_blocks.specs.Primitives.{after_rehome}
 use Rattle.rw_ripq.specs.Evict.{reinsert}
 use Rattle.rw_ripq.specs.Put.{is_room, with_room}
-use Rattle.rw_ripq.specs.Sealed.{is_emptied, is_sealed, cleared, has_sealed, sealed_position, sealed_section, without_block, section_with}
+use Rattle.rw_ripq.specs.Sealed.{is_emptied, is_sealed, without_if_emptied, has_sealed, sealed_position, sealed_section, without_block, section_with}
 
 pub row-small : (q : QueueState) (o : ℕ) (r : Place) → IsLoose q → row_at q o ≡ Some r → r.size ≤ q.shape.block
 row-small q o r loose is = (of_row q o r (IsSized q) loose.sizes is).1
@@ -86,10 +86,10 @@ cleared-parts q b loose h =
     let p = and_parts (is_sealed_virtual q b) (nat_eq (length (rows_placed q b)) 0) h in
     (sealed-virtual-there q b p.0, free-virtual q b loose p.0 (eqb-true _ _ p.1))
 
-pub cleared-then : (q : QueueState) (b : ℕ) → is_emptied q b ≡ true → without_block q b ≡ cleared q b
+pub cleared-then : (q : QueueState) (b : ℕ) → is_emptied q b ≡ true → without_block q b ≡ without_if_emptied q b
 cleared-then q b h = rw h refl
 
-pub cleared-else : (q : QueueState) (b : ℕ) → is_emptied q b ≡ false → q ≡ cleared q b
+pub cleared-else : (q : QueueState) (b : ℕ) → is_emptied q b ≡ false → q ≡ without_if_emptied q b
 cleared-else q b h = rw h refl
 
 -- ---- the section of a row's place
@@ -115,17 +115,17 @@ section-within q o i r loose row is =
 abbrev reinserted_to : Work → ℕ → Place → ℕ → Work
 reinserted_to w o r i =
     record {
-      queue = cleared (after_rehome (with_room w.queue Device i r.size) o i) r.place;
+      queue = without_if_emptied (after_rehome (with_room w.queue Device i r.size) o i) r.place;
       tally = record w.tally { reinserted = w.tally.reinserted + 1; writes = w.tally.writes + one_if (not (is_room w.queue Device i r.size)) };
     }
 
 pub reinsert-made : (w : Work) (o i : ℕ) (r : Place) (full : Bool) (q1 q2 q3 : QueueState) → row_at w.queue o ≡ Some r → section_of w.queue r.place ≡ Some i
-    → q1 ≡ with_room w.queue Device i r.size → q2 ≡ after_rehome q1 o i → q3 ≡ cleared q2 r.place → full ≡ not (is_room w.queue Device i r.size)
+    → q1 ≡ with_room w.queue Device i r.size → q2 ≡ after_rehome q1 o i → q3 ≡ without_if_emptied q2 r.place → full ≡ not (is_room w.queue Device i r.size)
     → work_of q3 (record w.tally { reinserted = w.tally.reinserted + 1; writes = w.tally.writes + one_if full }) ≡ reinsert w o
 reinsert-made w o i r full q1 q2 q3 row section room put out is =
     let same : row_or w.queue o ≡ r = ap (λ m. unwrap_or m no_place) row in
     let there : section_with w.queue r.place ≡ i = ap (λ m. unwrap_or m 0) section in
-    let left : q3 ≡ cleared (after_rehome (with_room w.queue Device i r.size) o i) r.place = out ∙ ap (λ q. cleared q r.place) (put ∙ ap (λ q. after_rehome q o i) room) in
+    let left : q3 ≡ without_if_emptied (after_rehome (with_room w.queue Device i r.size) o i) r.place = out ∙ ap (λ q. without_if_emptied q r.place) (put ∙ ap (λ q. after_rehome q o i) room) in
     rw (left, is) (sym (ap (λ s. reinserted_to w o s (section_with w.queue s.place)) same ∙ ap (reinserted_to w o r) there))
 
 -- a queue that stores an object holds bytes

@@ -18,7 +18,7 @@ use Rattle.rw_ripq.proofs.Measures.{any-counts, sealed-there, sealed-virtual-the
 use Rattle.rw_ripq.proofs.Turns.{counts-all, either-kind, sum-above}
 use Rattle.rw_ripq.specs.Order.{Behind}
 use Rattle.rw_ripq.specs.Put.{is_room, with_room}
-use Rattle.rw_ripq.specs.Sealed.{cleared, has_sealed, sealed_position, sealed_section, without_block}
+use Rattle.rw_ripq.specs.Sealed.{without_if_emptied, has_sealed, sealed_position, sealed_section, without_block}
 
 -- no block has the serial, and none will
 abbrev pub Gone : ℕ → QueueState → Type 0
@@ -100,7 +100,7 @@ kept-without_block_if : (t : Bool) (q : QueueState) (b x c : ℕ) → (t ≡ tru
 kept-without_block_if true q b x c h loose k = kept-without_block q b x c loose (sealed-virtual-there q b (h refl)) k
 kept-without_block_if false q b x c h loose k = k
 
-pub kept-cleared : (q : QueueState) (b x c : ℕ) → IsLoose q → Kept x c q → Kept x c (cleared q b)
+pub kept-cleared : (q : QueueState) (b x c : ℕ) → IsLoose q → Kept x c q → Kept x c (without_if_emptied q b)
 kept-cleared q b x c loose k =
     kept-without_block_if (is_sealed_virtual q b && nat_eq (length (rows_placed q b)) 0) q b x c
     (λ e. (and_parts (is_sealed_virtual q b) (nat_eq (length (rows_placed q b)) 0) e).0) loose k
@@ -237,7 +237,7 @@ gone-without_block_if : (t : Bool) (q : QueueState) (p b : ℕ) → (t ≡ true 
 gone-without_block_if true q p b h g = gone-without_block q p b (sealed-virtual-there q p (h refl)) g
 gone-without_block_if false q p b h g = g
 
-pub gone-cleared : (q : QueueState) (p b : ℕ) → Gone b q → Gone b (cleared q p)
+pub gone-cleared : (q : QueueState) (p b : ℕ) → Gone b q → Gone b (without_if_emptied q p)
 gone-cleared q p b g =
     gone-without_block_if (is_sealed_virtual q p && nat_eq (length (rows_placed q p)) 0) q p b
     (λ e. (and_parts (is_sealed_virtual q p) (nat_eq (length (rows_placed q p)) 0) e).0) g

@@ -13,7 +13,7 @@ use Rattle.rw_blocks.specs.State.{QueueState, SectionState, section_at, no_secti
 use Rattle.rw_blocks.specs.Undo.{Undoes}
 use Rattle.rw_blocks.specs.Primitives.{after_remove, after_rehome, after_seal, after_take_out, after_merge, after_split, section_joining}
 use Rattle.rw_ripq.specs.declared.Tally.{Tally}
-use Rattle.rw_ripq.specs.Work.{Work, untouched, work_of}
+use Rattle.rw_ripq.specs.Work.{Work, work_before, work_of}
 use Rattle.rw_ripq.specs.Weight.{income, savings}
 use Rattle.rw_ripq.specs.Record.{Recorded}
 use Rattle.rw_ripq.proofs.Trails.{Leads-push}
@@ -34,16 +34,16 @@ Recorded-push ms ns m w v is undoes paid =
     })
 
 pub Recorded-seal : (ms ns : List Mark) (m : Mark) (q q' : QueueState) (i : ℕ) (K : Kind) → ns ≡ ms ++ m ∷ [] → Undoes m q q' → q' ≡ after_seal q i K → i < length q.sections
-    → Recorded ms (untouched q) ns (untouched q')
+    → Recorded ms (work_before q) ns (work_before q')
 Recorded-seal ms ns m q q' i K is undoes made within =
-    Recorded-push ms ns m (untouched q) (untouched q') is undoes
-    (subst (λ s. 1 + savings (untouched s) + income (untouched q) ≤ savings (untouched q) + income (untouched s)) (sym made) (omega (arith, sealed_blocks-after_seal q i K within)))
+    Recorded-push ms ns m (work_before q) (work_before q') is undoes
+    (subst (λ s. 1 + savings (work_before s) + income (work_before q) ≤ savings (work_before q) + income (work_before s)) (sym made) (omega (arith, sealed_blocks-after_seal q i K within)))
 
 pub Recorded-take_out : (ms ns : List Mark) (m : Mark) (q q' : QueueState) (i p : ℕ) → ns ≡ ms ++ m ∷ [] → Undoes m q q' → q' ≡ after_take_out q i p → i < length q.sections → p < length (section_at q i).sealed
-    → Recorded ms (untouched q) ns (untouched q')
+    → Recorded ms (work_before q) ns (work_before q')
 Recorded-take_out ms ns m q q' i p is undoes made within inside =
-    Recorded-push ms ns m (untouched q) (untouched q') is undoes
-    (subst (λ s. 1 + savings (untouched s) + income (untouched q) ≤ savings (untouched q) + income (untouched s)) (sym made) (omega (arith, sealed_blocks-after_take_out q i p within inside)))
+    Recorded-push ms ns m (work_before q) (work_before q') is undoes
+    (subst (λ s. 1 + savings (work_before s) + income (work_before q) ≤ savings (work_before q) + income (work_before s)) (sym made) (omega (arith, sealed_blocks-after_take_out q i p within inside)))
 
 -- a row that leaves is counted
 pub Recorded-remove : (ms ns : List Mark) (m : Mark) (q q' : QueueState) (t : Tally) (o : ℕ) → ns ≡ ms ++ m ∷ [] → Undoes m q q' → q' ≡ after_remove q o
@@ -53,12 +53,12 @@ Recorded-remove ms ns m q q' t o is undoes made =
     (subst (λ s. 1 + savings (work_of s (record t { evicted = t.evicted + 1 })) + income (work_of q t) ≤ savings (work_of q t) + income (work_of s (record t { evicted = t.evicted + 1 }))) (sym made) (omega arith))
 
 -- what changes no count is recorded whatever the counts are
-pub Recorded-at : {ms ns : List Mark} {q q' : QueueState} (t : Tally) → Recorded ms (untouched q) ns (untouched q') → Recorded ms (work_of q t) ns (work_of q' t)
+pub Recorded-at : {ms ns : List Mark} {q q' : QueueState} (t : Tally) → Recorded ms (work_before q) ns (work_before q') → Recorded ms (work_of q t) ns (work_of q' t)
 Recorded-at t r = record { leads = r.leads; spends = omega (arith, r.spends) }
 
 -- room, the mark of a put again, and perhaps a block taken out
 pub Recorded-reinsert : (ms ns : List Mark) {ls ps : List Mark} (m : Mark) (q p : QueueState) {o q' : QueueState} (t : Tally) (x i n : ℕ)
-    → Recorded ls (untouched o) ms (untouched q) → ns ≡ ms ++ m ∷ [] → Undoes m q p → p ≡ after_rehome q x i → Recorded ns (untouched p) ps (untouched q')
+    → Recorded ls (work_before o) ms (work_before q) → ns ≡ ms ++ m ∷ [] → Undoes m q p → p ≡ after_rehome q x i → Recorded ns (work_before p) ps (work_before q')
     → Recorded ls (work_of o t) ps (work_of q' (record t { reinserted = t.reinserted + 1; writes = n }))
 Recorded-reinsert ms ns m q p t x i n before is undoes made after =
     let counted : Tally = record t { reinserted = t.reinserted + 1; writes = n } in

@@ -19,9 +19,9 @@ use Rattle.rw_blocks.specs.declared.Place.{Place}
 use Rattle.rw_ripq.proofs.Cases.{seal_unless, without_block_if}
 use Rattle.rw_ripq.proofs.Measures.{displaced-after_rehome, displaced-with_room, position-there, sealed-there, sealed-virtual-there, sealed_blocks-with_room, sealed_blocks-without_block, virtual-counts}
 use Rattle.rw_ripq.proofs.Rooms.{fits-with_room, rows-with_room, sections-with_room, shape-with_room}
-use Rattle.rw_ripq.specs.Evict.{displaced}
+use Rattle.rw_ripq.specs.Evict.{displaced_rows}
 use Rattle.rw_ripq.specs.Put.{is_room, put_again, with_room}
-use Rattle.rw_ripq.specs.Sealed.{cleared, sealed_blocks, sealed_position, sealed_section, section_with}
+use Rattle.rw_ripq.specs.Sealed.{without_if_emptied, sealed_blocks, sealed_position, sealed_section, section_with}
 
 -- ---- a block that is cleared is free
 pub free-virtual : (q : QueueState) (b : ℕ) → IsLoose q → is_sealed_virtual q b ≡ true → length (rows_placed q b) ≡ 0 → IsFree q b
@@ -42,7 +42,7 @@ loose-without_block_if true q b h loose =
     IsLoose-after_take_out q (sealed_section q b) (sealed_position q b) loose s.0 s.1 (subst (λ n. IsFree q n) (sym s.2) (free-virtual q b loose (h refl).0 (h refl).1))
 loose-without_block_if false q b h loose = loose
 
-pub IsLoose-cleared : (q : QueueState) (b : ℕ) → IsLoose q → IsLoose (cleared q b)
+pub IsLoose-cleared : (q : QueueState) (b : ℕ) → IsLoose q → IsLoose (without_if_emptied q b)
 IsLoose-cleared q b loose =
     loose-without_block_if (is_sealed_virtual q b && nat_eq (length (rows_placed q b)) 0) q b
     (λ e. let p = and_parts (is_sealed_virtual q b) (nat_eq (length (rows_placed q b)) 0) e in (p.0, eqb-true _ _ p.1)) loose
@@ -51,7 +51,7 @@ blocks-without_block_if : (t : Bool) (q : QueueState) (b : ℕ) → (t ≡ true 
 blocks-without_block_if true q b h = omega (arith, sealed_blocks-without_block q b (sealed-virtual-there q b (h refl)))
 blocks-without_block_if false q b h = omega arith
 
-pub sealed_blocks-cleared : (q : QueueState) (b : ℕ) → sealed_blocks (cleared q b) ≤ sealed_blocks q
+pub sealed_blocks-cleared : (q : QueueState) (b : ℕ) → sealed_blocks (without_if_emptied q b) ≤ sealed_blocks q
 sealed_blocks-cleared q b =
     blocks-without_block_if (is_sealed_virtual q b && nat_eq (length (rows_placed q b)) 0) q b
     (λ e. (and_parts (is_sealed_virtual q b) (nat_eq (length (rows_placed q b)) 0) e).0)
@@ -60,7 +60,7 @@ rows-without_block_if : (t : Bool) (q : QueueState) (b : ℕ) → (without_block
 rows-without_block_if true q b = refl
 rows-without_block_if false q b = refl
 
-pub rows-cleared : (q : QueueState) (b : ℕ) → (cleared q b).rows ≡ q.rows
+pub rows-cleared : (q : QueueState) (b : ℕ) → (without_if_emptied q b).rows ≡ q.rows
 rows-cleared q b = rows-without_block_if (is_sealed_virtual q b && nat_eq (length (rows_placed q b)) 0) q b
 
 -- ---- the section of a row's place
@@ -119,10 +119,10 @@ IsLoose-put_again q o i r loose within is =
     IsLoose-after_rehome (with_room q Device i z) o i r (IsLoose-with_room q Device i z loose within) (omega (arith, sections-with_room q Device i z)) (row-with_room q Device i z o ∙ is) (omega (arith, fits, size))
 
 pub measure-put_again : (q : QueueState) (o i : ℕ) (r : Place) → IsLoose q → i < length q.sections → row_at q o ≡ Some r → (r.place ≡ r.home → ⊥)
-    → displaced (put_again q o i) + sealed_blocks (put_again q o i) ≤ displaced q + sealed_blocks q
+    → displaced_rows (put_again q o i) + sealed_blocks (put_again q o i) ≤ displaced_rows q + sealed_blocks q
 measure-put_again q o i r loose within is apart =
     let z : ℕ = (row_or q o).size in
     let w : QueueState = with_room q Device i z in
-    let d : displaced (after_rehome w o i) + 1 ≡ displaced w = displaced-after_rehome w o i r (IsLoose-with_room q Device i z loose within) (row-with_room q Device i z o ∙ is) apart in
+    let d : displaced_rows (after_rehome w o i) + 1 ≡ displaced_rows w = displaced-after_rehome w o i r (IsLoose-with_room q Device i z loose within) (row-with_room q Device i z o ∙ is) apart in
     let s : sealed_blocks w ≤ sealed_blocks q + 1 = sealed_blocks-with_room q Device i z within in
     omega (arith, d, s, displaced-with_room q Device i z)

@@ -17,7 +17,7 @@ use Rattle.rw_ripq.proofs.Basics.{by_bool}
 use Rattle.rw_ripq.proofs.Falls.{sum-le}
 use Rattle.rw_ripq.proofs.Leaves.{length-le-sizes}
 use Rattle.rw_ripq.proofs.Turns.{sum-above}
-use Rattle.rw_ripq.specs.Evict.{displaced}
+use Rattle.rw_ripq.specs.Evict.{displaced_rows}
 
 -- ---- the displaced rows are few
 at-most-one : (t : Bool) → cond t 1 0 ≤ 1
@@ -28,7 +28,7 @@ count-length : {X : Type 0} (p : X → Bool) (xs : List X) → count_by p xs ≤
 count-length p [] = omega arith
 count-length p (x ∷ xs) = omega (arith, sum_by-cons (λ x. cond (p x) 1 0) x xs, at-most-one (p x), count-length p xs)
 
-pub displaced-few : (q : QueueState) → IsLoose q → displaced q ≤ 2 ^ 48
+pub displaced-few : (q : QueueState) → IsLoose q → displaced_rows q ≤ 2 ^ 48
 displaced-few q loose =
     omega (arith, count-length (λ (r : Place). not (nat_eq r.place r.home)) (values_of q.rows), length-le-sizes (values_of q.rows) (recursion_from_All (λ r. 1 ≤ r.size) (values_of q.rows) (λ k d lt. (loose.sizes k d lt).0)), loose.within)
 

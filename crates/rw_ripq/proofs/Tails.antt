@@ -30,7 +30,7 @@ use Rattle.rw_ripq.proofs.Walks.{Keeps, Throughout, left_one, throughout}
 use Rattle.rw_ripq.specs.Insert.{insert_at}
 use Rattle.rw_ripq.specs.Order.{Behind, KeepsOrder, LeavesFromTail}
 use Rattle.rw_ripq.specs.Put.{is_room, put_again, put_new, with_room}
-use Rattle.rw_ripq.specs.Sealed.{cleared, has_sealed, without_block, section_with}
+use Rattle.rw_ripq.specs.Sealed.{without_if_emptied, has_sealed, without_block, section_with}
 use Rattle.rw_ripq.specs.Victim.{sealed_count}
 use Rattle.rw_ripq.specs.Work.{Work}
 
@@ -51,7 +51,7 @@ pub record Reputs (q : QueueState) (o : ℕ) (r : Place) : Type 0 where
   pub own : (c : ℕ) (new : Place) → row_at (reinserted q o) o ≡ Some new → Behind r.place c q.sections → Gone c (reinserted q o) ⊎ Behind new.place c (reinserted q o).sections
 
 abbrev at_place : QueueState → ℕ → ℕ → QueueState
-at_place q o p = cleared (put_again q o (section_with q p)) p
+at_place q o p = without_if_emptied (put_again q o (section_with q p)) p
 
 record ReputsAt (q : QueueState) (o : ℕ) (r : Place) (p : ℕ) : Type 0 where
   pub loose : IsLoose (at_place q o p)
@@ -67,7 +67,7 @@ reputs-at q o r loose row apart =
     let z : ℕ = (row_or q o).size in
     let w : QueueState = with_room q Device i z in
     let q1 : QueueState = put_again q o i in
-    let q2 : QueueState = cleared q1 r.place in
+    let q2 : QueueState = without_if_emptied q1 r.place in
     let d : ℕ = (section_at w i).active_device in
     let mine : Place = record { size = (row_or w o).size; home = d; place = d } in
     let loose1 : IsLoose q1 = IsLoose-put_again q o i r loose within row in

@@ -25,7 +25,7 @@ use Rattle.rw_ripq.proofs.Leaving.{without_block-gone}
 use Rattle.rw_ripq.proofs.Measures.{any-counts, sealed-there, sealed-virtual-there}
 use Rattle.rw_ripq.proofs.Orders.{Gone}
 use Rattle.rw_ripq.specs.Put.{is_room, with_room}
-use Rattle.rw_ripq.specs.Sealed.{cleared, is_emptied, is_sealed, sealed_position, sealed_section, without_block}
+use Rattle.rw_ripq.specs.Sealed.{without_if_emptied, is_emptied, is_sealed, sealed_position, sealed_section, without_block}
 
 -- ---- how many sealed virtual blocks have the serial
 abbrev pub virtuals_in : ℕ → SectionState → ℕ
@@ -194,7 +194,7 @@ used-clear false P q b emptied loose used c some =
       ]
     ]
 
-pub used-cleared : (P : ℕ → Type 0) (q : QueueState) (b : ℕ) → IsLoose q → UsedBut (Or P b) q → UsedBut P (cleared q b)
+pub used-cleared : (P : ℕ → Type 0) (q : QueueState) (b : ℕ) → IsLoose q → UsedBut (Or P b) q → UsedBut P (without_if_emptied q b)
 used-cleared P q b loose used = used-clear (is_emptied q b) P q b refl loose used
 
 -- a row leaves its place

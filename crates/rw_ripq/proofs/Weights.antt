@@ -24,12 +24,12 @@ use Rattle.rw_ripq.proofs.Lines.{blocks-gone}
 use Rattle.rw_ripq.proofs.Measures.{unlike}
 use Rattle.rw_ripq.proofs.Walks.{Keeps, Throughout, evict-keeps, throughout}
 use Rattle.rw_ripq.specs.Adjust.{heavy_section, light_pair, merge, merge_at, merge_once, split_at}
-use Rattle.rw_ripq.specs.Evict.{displaced, evict}
+use Rattle.rw_ripq.specs.Evict.{displaced_rows, evict}
 use Rattle.rw_ripq.specs.Insert.{insert_at}
 use Rattle.rw_ripq.specs.Put.{is_room, put_new, with_room}
 use Rattle.rw_blocks.specs.declared.Mark.{Mark}
 use Rattle.rw_ripq.specs.Weight.{IsShort, Spends, gone_blocks, moved_rows}
-use Rattle.rw_ripq.specs.Work.{Work, untouched}
+use Rattle.rw_ripq.specs.Work.{Work, work_before}
 
 -- ---- the two invariants over a whole insertion
 pub all-paid : (old : QueueState) (k : ℕ) → KeepsAll (IsPaid old k) (Throughout (IsPaid old k))
@@ -64,15 +64,15 @@ start-paid q o z i =
       paid = omega arith;
     }
 
-displaced-put_new : (q : QueueState) (o z i : ℕ) → IsLoose q → displaced (put_new q o z i) ≤ displaced q
+displaced-put_new : (q : QueueState) (o z i : ℕ) → IsLoose q → displaced_rows (put_new q o z i) ≤ displaced_rows q
 displaced-put_new q o z i loose =
     let new : Place = put_row (with_room q Device i z) z i in
     let h = sum_by-insert_entry unlike nat_cmp_total q.rows o new loose.ordered in
     let now : unlike new ≡ 0 = rw (eq-eqb new.home new.home refl) refl in
-    let same : displaced (put_new q o z i) ≡ sum_by unlike (values_of (insert_entry nat_cmp q.rows o new)) = ap (λ rs. sum_by unlike (values_of rs)) (rows-put_new q o z i) in
+    let same : displaced_rows (put_new q o z i) ≡ sum_by unlike (values_of (insert_entry nat_cmp q.rows o new)) = ap (λ rs. sum_by unlike (values_of rs)) (rows-put_new q o z i) in
     omega (arith, h, now, same)
 
-pub start-within : (q : QueueState) (o z i : ℕ) → IsLoose q → i < length q.sections → IsWithin (q.next + 1) (displaced q) (start q o z i)
+pub start-within : (q : QueueState) (o z i : ℕ) → IsLoose q → i < length q.sections → IsWithin (q.next + 1) (displaced_rows q) (start q o z i)
 start-within q o z i loose within =
     let n : (put_new q o z i).next ≤ q.next + 1 = next-if (is_room q Device i z) q i in
     record { serial = omega (arith, n); settled = omega (arith, displaced-put_new q o z i loose) }
@@ -126,17 +126,17 @@ insert-once q o z i c within =
     (IsLoose-put_new q o z i c within) (record { merges = refl; splits = refl })
 
 -- ---- the weight: a trail of n marks that began empty, where the put itself adds one that nothing else counts
-pub insert-weight : (q : QueueState) (o z i n : ℕ) → IsInsertable q o z → i < length q.sections → Spends 1 (untouched q) n (insert_at q o z i) → n ≤ 8 + 4 * moved_rows q (insert_at q o z i).queue + gone_blocks q (insert_at q o z i).queue
+pub insert-weight : (q : QueueState) (o z i n : ℕ) → IsInsertable q o z → i < length q.sections → Spends 1 (work_before q) n (insert_at q o z i) → n ≤ 8 + 4 * moved_rows q (insert_at q o z i).queue + gone_blocks q (insert_at q o z i).queue
 insert-weight q o z i n c within spends =
     let w : Work = insert_at q o z i in
     let a : IsPaid q o w = (insert-good (all-paid q o) q o z i c within (start-paid q o z i)).good in
-    let b : IsWithin (q.next + 1) (displaced q) w = (insert-good (all-within (q.next + 1) (displaced q)) q o z i c within (start-within q o z i c.loose within)).good in
+    let b : IsWithin (q.next + 1) (displaced_rows q) w = (insert-good (all-within (q.next + 1) (displaced_rows q)) q o z i c within (start-within q o z i c.loose within)).good in
     let once : IsOnce w = insert-once q o z i c within in
     omega (arith, spends, a.paid, b.serial, once.merges, once.splits, blocks-gone q w.queue c.loose, cost-moved q w.queue, absent-top (row_at w.queue o))
 
 -- the same of a trail that the code made
 pub insert-short : (q : QueueState) (o z i : ℕ) (ms ns : List Mark) (w : Work) → IsInsertable q o z → i < length q.sections → ms ≡ [] → w ≡ insert_at q o z i
-    → Spends (length ms + 1) (untouched q) (length ns) w → IsShort ns q w.queue
+    → Spends (length ms + 1) (work_before q) (length ns) w → IsShort ns q w.queue
 insert-short q o z i ms ns w c within none made spends =
     let first : length ms ≡ 0 = ap length none in
-    rw made (insert-weight q o z i (length ns) c within (subst (λ v. Spends 1 (untouched q) (length ns) v) made (omega (arith, spends, first))))
+    rw made (insert-weight q o z i (length ns) c within (subst (λ v. Spends 1 (work_before q) (length ns) v) made (omega (arith, spends, first))))

@@ -4,7 +4,7 @@ use Rattle.std.specs.Prelude.{Some, unwrap_or}
 use Rattle.rw_blocks.proofs.Cited.{of_row}
 use Rattle.rw_blocks.specs.Loose.{IsLoose, IsPlaced, IsSized, IsWellFormedQueue, count, is_sealed_virtual}
 use Rattle.rw_blocks.specs.Primitives.{after_replace}
-use Rattle.rw_blocks.specs.State.{Limits, QueueState, no_place, row_at, row_or, section_at}
+use Rattle.rw_blocks.specs.State.{ShapeState, QueueState, no_place, row_at, row_or, section_at}
 use Rattle.rw_blocks.specs.Sums.{rows_placed}
 use Rattle.rw_blocks.specs.declared.Kind.TheVariants.{Device, Virtual}
 use Rattle.rw_blocks.specs.declared.Place.{Place}
@@ -119,5 +119,5 @@ promote-well_formed q o i r well within is =
     record {
       loose = IsLoose-moved_unless t q o i r well.loose within is;
       used = used-to (promote_to q o i) (used-moved t q o i r well.loose within is (used-from q well.used));
-      few_devices = omega (arith, well.few_devices, promote-devices q o i within, ap (λ (s : Limits). s.blocks) (shape-moved t q o i));
+      few_devices = omega (arith, well.few_devices, promote-devices q o i within, ap (λ (s : ShapeState). s.blocks) (shape-moved t q o i));
     }

@@ -11,7 +11,7 @@ use Rattle.rw_blocks.specs.Loose.{sealed_devices}
 use Rattle.rw_blocks.specs.Questions.{last_block}
 use Rattle.rw_ripq.specs.Work.{Work, one_if}
 use Rattle.rw_ripq.specs.Put.{is_room, put_again}
-use Rattle.rw_ripq.specs.Sealed.{without_block, cleared, sealed_blocks, section_with}
+use Rattle.rw_ripq.specs.Sealed.{without_block, without_if_emptied, sealed_blocks, section_with}
 
 -- ---- rows that leave
 -- the objects whose place the block is, in rising order
@@ -43,7 +43,7 @@ reinsert w o =
     let i = section_with q r.place in
     let full = not (is_room q Device i r.size) in
     record {
-      queue = cleared (put_again q o i) r.place;
+      queue = without_if_emptied (put_again q o i) r.place;
       tally = record t { reinserted = t.reinserted + 1; writes = t.writes + one_if full };
     }
 
@@ -81,9 +81,9 @@ evict_within (suc n) w = elim (is_over w.queue) [
 ]
 
 -- how many rows have a place unlike their home
-abbrev pub displaced : QueueState → Count
-displaced q = count_by (λ r. not (nat_eq r.place r.home)) (values_of q.rows)
+abbrev pub displaced_rows : QueueState → Count
+displaced_rows q = count_by (λ r. not (nat_eq r.place r.home)) (values_of q.rows)
 
 -- each turn lowers the sum of displaced rows and sealed blocks, so as many turns are enough
 abbrev pub evict : Work → Work
-evict w = evict_within (displaced w.queue + sealed_blocks w.queue) w
+evict w = evict_within (displaced_rows w.queue + sealed_blocks w.queue) w

@@ -5,7 +5,7 @@ use Rattle.rw_ripq.specs.Words.{Level}
 use Rattle.rw_blocks.specs.declared.Kind.TheVariants.{Device}
 use Rattle.rw_blocks.specs.State.{QueueState}
 use Rattle.rw_ripq.specs.declared.Policy.{Policy}
-use Rattle.rw_ripq.specs.Work.{Work, no_tally, untouched, work_of}
+use Rattle.rw_ripq.specs.Work.{Work, no_tally, work_before, work_of}
 use Rattle.rw_ripq.specs.Put.{is_room, put_new}
 use Rattle.rw_ripq.specs.Levels.{target}
 use Rattle.rw_ripq.specs.Adjust.{adjust}
@@ -15,7 +15,7 @@ abbrev pub insert_at : QueueState → Object → Size → Section → Work
 insert_at q o z i =
     let put = put_new q o z i in
     if is_room q Device i z
-    then untouched put
+    then work_before put
     else adjust (work_of put (record no_tally { writes = 1 }))
 
 -- as one of level l

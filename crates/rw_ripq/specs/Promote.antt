@@ -6,7 +6,7 @@ use Rattle.rw_blocks.specs.State.{QueueState, section_at, row_or}
 use Rattle.rw_blocks.specs.Primitives.{after_replace}
 use Rattle.rw_ripq.specs.declared.Policy.{Policy}
 use Rattle.rw_ripq.specs.Put.{with_room}
-use Rattle.rw_ripq.specs.Sealed.{cleared}
+use Rattle.rw_ripq.specs.Sealed.{without_if_emptied}
 use Rattle.rw_ripq.specs.Levels.{hit_target}
 
 -- whether the block is one of the section's two active ones
@@ -22,7 +22,7 @@ promote_to q o i =
     let r = row_or q o in
     if is_active_in q r.place i
     then q
-    else cleared (after_replace (with_room q Virtual i r.size) o i) r.place
+    else without_if_emptied (after_replace (with_room q Virtual i r.size) o i) r.place
 
 -- the section is the target of the level to which a hit raises the object
 abbrev pub promote : Policy → QueueState → Object → QueueState

@@ -40,5 +40,5 @@ abbrev pub is_emptied : QueueState → Serial → Bool
 is_emptied q b = is_sealed_virtual q b && nat_eq (length (rows_placed q b)) 0
 
 -- a sealed virtual block without rows is taken out
-abbrev pub cleared : QueueState → Serial → QueueState
-cleared q b = if is_emptied q b then without_block q b else q
+abbrev pub without_if_emptied : QueueState → Serial → QueueState
+without_if_emptied q b = if is_emptied q b then without_block q b else q

@@ -13,8 +13,8 @@ abbrev pub no_tally : Tally
 no_tally = record { evicted = 0; reinserted = 0; writes = 0; splits = 0; merges = 0 }
 
 -- the queue before an operation
-abbrev pub untouched : QueueState → Work
-untouched q = record { queue = q; tally = no_tally }
+abbrev pub work_before : QueueState → Work
+work_before q = record { queue = q; tally = no_tally }
 
 -- 1 where the test holds
 abbrev pub one_if : Bool → Count

@@ -3,7 +3,7 @@ ghost use Rattle.std.specs.Prelude.{◌≡◌, ◌≤◌, ◌<◌, ◌+◌, ◌^
 ghost use Rattle.rw_blocks.specs.State.{row_at, QueueState};
 ghost use Rattle.rw_blocks.specs.Loose.{IsWellFormedQueue};
 ghost use Rattle.rw_vt.specs.declared.refusal.Refusal.{Refusal};
-ghost use Rattle.rw_ripq.specs.Work.{work_of, untouched, no_tally};
+ghost use Rattle.rw_ripq.specs.Work.{work_of, work_before, no_tally};
 ghost use Rattle.rw_ripq.specs.Insert.{insert, insert_at};
 ghost use Rattle.rw_ripq.specs.Trail.{Leads};
 ghost use Rattle.rw_ripq.specs.Record.{IsInsertable};
@@ -14,7 +14,7 @@ ghost use Rattle.rw_ripq.specs.Weight.{Spends, IsShort};
 use crate::adjusting::adjust;
 use crate::levels::target;
 use crate::putting::make_room;
-use crate::{Change, Policy, Tally, Trail};
+use crate::{Change, EXHAUSTED, Policy, Tally, Trail};
 use rw_blocks::{Kind, Queue};
 use rw_vt::{NoMemory, Refusal};
 use std::alloc::Global;
@@ -31,7 +31,7 @@ use std::alloc::Global;
 ///
 /// # Errors
 ///
-/// `Exhausted` exactly where the next serial is 2^62 or more, which is tested first, and `Memory` only where memory was
+/// `Exhausted` exactly where the next serial is [`EXHAUSTED`] or more, which is tested first, and `Memory` only where memory was
 /// refused. Nothing is said of the queue then: it is only dropped.
 pub fn insert(
     alloc: Global,
@@ -48,7 +48,7 @@ pub fn insert(
     requires small { size ≤ queue.old.shape.block }
     requires from_one { 1 ≤ level }
     requires to_three { level ≤ 3 }
-    ensures exhausted { (result ≡ Err Refusal.Exhausted) ↔ (2 ^ 62 ≤ queue.old.next) }
+    ensures exhausted { (result ≡ Err Refusal.Exhausted) ↔ (EXHAUSTED ≤ queue.old.next) }
     ensures effect { OnOk result (queue.new ≡ (insert policy queue.old object size level).queue) }
     ensures tally { IfOk result (λ done.
         done.1 ≡ (insert policy queue.old object size level).tally) }
@@ -63,7 +63,7 @@ pub fn insert(
     ensures leaves { OnOk result (LeavesWithBlock queue.old queue.new) }
     ensures tail { OnOk result (LeavesFromTail queue.old queue.new) }
 {
-    if queue.next_serial() >= 1 << 62 {
+    if queue.next_serial() >= EXHAUSTED {
         return Err(Refusal::Exhausted);
     }
     let section = target(queue, policy, level) as usize;
@@ -83,13 +83,13 @@ fn insert_at(
 ) -> Result<(), NoMemory>
     requires insertable { IsInsertable queue.old object size }
     requires there { section < length queue.old.sections }
-    requires fresh { queue.old.next < 2 ^ 62 }
+    requires fresh { queue.old.next < EXHAUSTED }
     requires none { change.old.counts ≡ no_tally }
     ensures effect { OnOk result (work_of queue.new change.new.counts
         ≡ insert_at queue.old object size section) }
     ensures leads { OnOk result ((start : QueueState)
         → Leads change.old.trail start queue.old → Leads change.new.trail start queue.new) }
-    ensures spends { OnOk result (Spends (length change.old.trail + 1) (untouched queue.old)
+    ensures spends { OnOk result (Spends (length change.old.trail + 1) (work_before queue.old)
         (length change.new.trail) (work_of queue.new change.new.counts)) }
 {
     let full = make_room(queue, &mut change.trail, section, Kind::Device, size)?;

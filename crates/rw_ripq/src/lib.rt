@@ -23,6 +23,9 @@ pub use rw_blocks::{Kind, Mark, Place, Queue, Shape};
 pub use rw_vt::{NoMemory, Refusal};
 pub use trail::{Trail, rewind};
 
+/// A queue whose next serial is this or a greater one takes no further insertion or promotion: 2^62.
+pub const EXHAUSTED: u64 = 1 << 62;
+
 /// Which section a miss and a hit go to.
 #[derive(Clone, Copy, Debug, PartialEq, Eq)]
 pub enum Policy {

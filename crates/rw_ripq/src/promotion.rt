@@ -13,7 +13,7 @@ ghost use Rattle.rw_ripq.specs.Trail.{Leads};
 use crate::levels::{level_of_row, slru_target};
 use crate::putting::make_room;
 use crate::sealed::clear;
-use crate::{Policy, Trail};
+use crate::{EXHAUSTED, Policy, Trail};
 use rw_blocks::{Kind, Place, Queue};
 use rw_vt::{NoMemory, Refusal};
 use std::alloc::Global;
@@ -43,7 +43,7 @@ fn hit_target(queue: &Queue, policy: Policy, object: u64, row: Place) -> usize
 ///
 /// # Errors
 ///
-/// `Exhausted` exactly where the next serial is 2^62 or more, which is tested first, and `Memory` only where memory was
+/// `Exhausted` exactly where the next serial is [`EXHAUSTED`] or more, which is tested first, and `Memory` only where memory was
 /// refused. Nothing is said of the queue then: it is only dropped.
 pub fn promote(
     alloc: Global,
@@ -54,7 +54,7 @@ pub fn promote(
     requires well_formed { IsWellFormedQueue queue.old }
     requires resident { IsSome (row_at queue.old object) }
     requires stores { policy ≢ Policy.Off }
-    ensures exhausted { (result ≡ Err Refusal.Exhausted) ↔ (2 ^ 62 ≤ queue.old.next) }
+    ensures exhausted { (result ≡ Err Refusal.Exhausted) ↔ (EXHAUSTED ≤ queue.old.next) }
     ensures effect { OnOk result (queue.new ≡ promote policy queue.old object) }
     ensures changed { IfOk result (λ done.
         done.1 ≡ not (nat_eq (row_or queue.new object).place (row_or queue.old object).place)) }
@@ -86,7 +86,7 @@ pub fn promote_row(
     requires well_formed { IsWellFormedQueue queue.old }
     requires row { row_at queue.old object ≡ Some row }
     requires stores { policy ≢ Policy.Off }
-    ensures exhausted { (result ≡ Err Refusal.Exhausted) ↔ (2 ^ 62 ≤ queue.old.next) }
+    ensures exhausted { (result ≡ Err Refusal.Exhausted) ↔ (EXHAUSTED ≤ queue.old.next) }
     ensures effect { OnOk result (queue.new ≡ promote policy queue.old object) }
     ensures changed { IfOk result (λ done.
         done.1 ≡ not (nat_eq (row_or queue.new object).place (row_or queue.old object).place)) }
@@ -99,7 +99,7 @@ pub fn promote_row(
     ensures leaves { OnOk result (LeavesWithBlock queue.old queue.new) }
     ensures tail { OnOk result (LeavesFromTail queue.old queue.new) }
 {
-    if queue.next_serial() >= 1 << 62 {
+    if queue.next_serial() >= EXHAUSTED {
         return Err(Refusal::Exhausted);
     }
     let mut trail = Trail::new(alloc);

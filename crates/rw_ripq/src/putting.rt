@@ -1,7 +1,7 @@
 // Room for an object in an active block.
 ghost use Rattle.std.specs.Prelude.{◌≡◌, ◌≤◌, ◌<◌, ◌+◌, ◌^◌, length, not, OnOk, IfOk};
 ghost use Rattle.rw_blocks.specs.Loose.{IsLoose};
-ghost use Rattle.rw_ripq.specs.Work.{untouched, one_if};
+ghost use Rattle.rw_ripq.specs.Work.{work_before, one_if};
 ghost use Rattle.rw_ripq.specs.Put.{is_room, with_room};
 ghost use Rattle.rw_ripq.specs.Record.{Recorded};
 
@@ -33,8 +33,8 @@ pub fn make_room(
     requires fresh { queue.old.next < 2 ^ 63 }
     ensures full { IfOk result (λ full. full ≡ not (is_room queue.old kind section size)) }
     ensures effect { OnOk result (queue.new ≡ with_room queue.old kind section size) }
-    ensures trail { OnOk result (Recorded trail.old (untouched queue.old)
-        trail.new (untouched queue.new)) }
+    ensures trail { OnOk result (Recorded trail.old (work_before queue.old)
+        trail.new (work_before queue.new)) }
     ensures marks { OnOk result (length trail.new ≤ length trail.old + 1) }
     ensures kept { OnOk result (IsLoose queue.new) }
 {

@@ -4,8 +4,8 @@ ghost use Rattle.rw_blocks.specs.State.{section_at};
 ghost use Rattle.rw_blocks.specs.Sums.{has_serial, is_virtual};
 ghost use Rattle.rw_blocks.specs.Loose.{IsLoose, IsFree};
 ghost use Rattle.rw_blocks.specs.Questions.{first_place};
-ghost use Rattle.rw_ripq.specs.Work.{untouched};
-ghost use Rattle.rw_ripq.specs.Sealed.{is_sealed, sealed_section, sealed_position, without_block, is_emptied, cleared};
+ghost use Rattle.rw_ripq.specs.Work.{work_before};
+ghost use Rattle.rw_ripq.specs.Sealed.{is_sealed, sealed_section, sealed_position, without_block, is_emptied, without_if_emptied};
 ghost use Rattle.rw_ripq.specs.Record.{Recorded};
 
 use crate::Trail;
@@ -113,8 +113,8 @@ pub fn take_out(queue: &mut Queue, trail: &mut Trail, block: u64) -> Result<(), 
     requires sealed { is_sealed queue.old block ≡ true }
     requires free { IsFree queue.old block }
     ensures effect { OnOk result (queue.new ≡ without_block queue.old block) }
-    ensures trail { OnOk result (Recorded trail.old (untouched queue.old)
-        trail.new (untouched queue.new)) }
+    ensures trail { OnOk result (Recorded trail.old (work_before queue.old)
+        trail.new (work_before queue.new)) }
     ensures marks { OnOk result (length trail.new ≤ length trail.old + 1) }
     ensures kept { OnOk result (IsLoose queue.new) }
 {
@@ -156,9 +156,9 @@ fn is_emptied(queue: &Queue, block: u64) -> bool
 /// Takes the block out where it is a sealed virtual one that no row has as its place.
 pub fn clear(queue: &mut Queue, trail: &mut Trail, block: u64) -> Result<(), NoMemory>
     requires { IsLoose queue.old }
-    ensures effect { OnOk result (queue.new ≡ cleared queue.old block) }
-    ensures trail { OnOk result (Recorded trail.old (untouched queue.old)
-        trail.new (untouched queue.new)) }
+    ensures effect { OnOk result (queue.new ≡ without_if_emptied queue.old block) }
+    ensures trail { OnOk result (Recorded trail.old (work_before queue.old)
+        trail.new (work_before queue.new)) }
     ensures marks { OnOk result (length trail.new ≤ length trail.old + 1) }
     ensures kept { OnOk result (IsLoose queue.new) }
 {

@@ -4,7 +4,7 @@ use Rattle.std.specs.Prelude.{sum_by}
 use Rattle.std.proofs.lemmas.List.Sums.{sum_by-cons}
 use Rattle.rw_photo.specs.declared.config.Config.{Config}
 use Rattle.rw_photo.specs.declared.counters.Counters.{Counters}
-use Rattle.rw_photo.specs.Counts.{added, counters_by}
+use Rattle.rw_photo.specs.Counts.{sum_of, counters_by}
 use Rattle.rw_ripqwarp.specs.Report.{cache_lines, line, name_of, total_of, totals}
 
 -- a line behind a text
@@ -39,5 +39,5 @@ module _ {A : Type 0} (f : A → Counters) where
   total-more count n xs d l = ap (λ m. m % 2 ^ 64) (sum-more count n xs d l) ∙ wrapped (sum_by count (map f (take n xs))) (count (f (get_or xs n d)))
 
   -- the totals with one cache more
-  pub totals-more : (n : ℕ) (xs : List A) (d : A) → n < length xs → totals (map f (take (suc n) xs)) ≡ added (totals (map f (take n xs))) (f (get_or xs n d))
+  pub totals-more : (n : ℕ) (xs : List A) (d : A) → n < length xs → totals (map f (take (suc n) xs)) ≡ sum_of (totals (map f (take n xs))) (f (get_or xs n d))
   totals-more n xs d l i = counters_by (λ which. total-more which n xs d l i)

@@ -3,7 +3,7 @@ use Rattle.std.proofs.Common.{◌≡◌, ℕ, zero, suc, ◌+◌, List, [], ◌�
 use Rattle.std.proofs.lemmas.List.FromFn.{length-map-range_with_len}
 use Rattle.std.specs.Prelude.{◌↔◌, All, slice_get}
 use Rattle.rw_vt.specs.declared.event.Event.{Event}
-use Rattle.rw_vt.specs.System.{System, IsOutcome, IsReady, after, journal_below, map_from, system}
+use Rattle.rw_vt.specs.System.{System, IsOutcome, IsReady, state_after, journal_below, map_from, system}
 use Rattle.rw_photo.specs.declared.body.Body.{Body}
 use Rattle.rw_photo.specs.declared.config.Config.{Config}
 use Rattle.rw_photo.specs.declared.photo.Photo.{Photo}
@@ -62,7 +62,7 @@ simulates c m bytes starts initial config b i =
 
 -- a state for each process
 pub length-states : {S B : Type 0} (y : System S B) (t : ℕ) (journals : List (List (Event B))) (states : List S) → IsOutcome y t journals states → length states ≡ length y.starts
-length-states y t journals states o = ap length o.states_are ∙ length-map_from 0 (λ q s. after (y.step q) s (journal_below y t q)) y.starts
+length-states y t journals states o = ap length o.states_are ∙ length-map_from 0 (λ q s. state_after (y.step q) s (journal_below y t q)) y.starts
 
 -- a refusal is a fault of the run: want of memory always, and a cache that can take no further event where one was met
 pub refusal-is-fault : {T : Type 0} (r : Result T SimFault) (e : Refusal) (mode : Mode) (c : Config) (bytes : List ℕ) → IsErrAnd r (λ f. f ≡ sim_refusal_of e)

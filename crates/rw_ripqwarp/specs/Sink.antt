@@ -3,7 +3,7 @@ use Rattle.std.specs.Prelude.{ℕ, ◌+◌, ◌%◌, ◌^◌, List, take, Option
 use Rattle.std.specs.Io.KnownBytes.{Appends}
 
 -- a writer, and how often it failed
-pub record Sink (W : Type 0) : Type 0 where
+pub record OutState (W : Type 0) : Type 0 where
   pub writer : W
   pub failures : ℕ
 

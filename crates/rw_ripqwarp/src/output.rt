@@ -1,6 +1,6 @@
 ghost use Rattle.std.specs.Prelude.{◌≡◌, MatchBool};
 ghost use Rattle.std.specs.Io.KnownBytes.{Appends};
-ghost use Rattle.rw_ripqwarp.specs.Sink.{AppendsBeginning, Sink, one_more};
+ghost use Rattle.rw_ripqwarp.specs.Sink.{AppendsBeginning, OutState, one_more};
 
 use std::io::Write;
 use std::marker::Model;
@@ -16,9 +16,9 @@ pub struct Out<W> {
 }
 
 impl<W> Model for Out<W> {
-    ghost use Rattle.rw_ripqwarp.specs.Sink.{Sink};
+    ghost use Rattle.rw_ripqwarp.specs.Sink.{OutState};
 
-    ghost Value = { Sink W };
+    ghost Value = { OutState W };
 
     ghost view = { λ o. record { writer = o.writer; failures = o.failures } };
 }

@@ -7,11 +7,11 @@ use Rattle.rw_vt.specs.declared.event.Letter.{Letter}
 use Rattle.rw_vt.specs.System.{System}
 use Rattle.rw_lp.specs.Process.{ProcessState}
 use Rattle.rw_lp.specs.Calls.{LogicalProcess}
-use Rattle.rw_exchange.specs.Ports.{PortState, SamePort, sent_to, free_to, received_from, having_sent, having_received}
-use Rattle.rw_board.specs.Seats.{having_noted}
+use Rattle.rw_exchange.specs.Ports.{PortState, SamePort, sent_to, free_to, received_from, after_sending, after_receiving}
+use Rattle.rw_board.specs.Seats.{after_note}
 use Rattle.rw_rounds.specs.Bags.{weigh, only, Every, sum_below}
 use Rattle.rw_rounds.specs.Deeds.{Deed, Arrival, Undoing, Execution, Did, Goes, arrivals, executions}
-use Rattle.rw_rounds.specs.Turns.{Role, WorkerState, owner, is_own, passes, process_at}
+use Rattle.rw_rounds.specs.Turns.{Role, WorkerState, owner, is_own, is_accepted, process_at}
 use Rattle.rw_rounds.specs.Working.{Works}
 use Rattle.rw_rounds.proofs.Sums.{total_same, total_add, total_zero, weigh-append, every_append, at_only, at_here, at_other, weigh_at}
 
@@ -53,10 +53,10 @@ module _ {T : Type 0} where
           ∙ sym (append-nil (slice_index_or rows j []))
           ∙ ap (λ l. slice_index_or rows j [] ++ l) (sym (at_other k j (x ∷ []) n))
 
-  pub sent_at : (p : PortState T) (k j : ℕ) (x : T) (free : ℕ) → k < length p.sent → sent_to (having_sent p k x free) j ≡ sent_to p j ++ at_only k (x ∷ []) j
+  pub sent_at : (p : PortState T) (k j : ℕ) (x : T) (free : ℕ) → k < length p.sent → sent_to (after_sending p k x free) j ≡ sent_to p j ++ at_only k (x ∷ []) j
   sent_at p k j x free h = put_at p.sent k j x h
 
-  pub received_at : (p : PortState T) (k j : ℕ) (x : T) → k < length p.received → received_from (having_received p k x) j ≡ received_from p j ++ at_only k (x ∷ []) j
+  pub received_at : (p : PortState T) (k j : ℕ) (x : T) → k < length p.received → received_from (after_receiving p k x) j ≡ received_from p j ++ at_only k (x ∷ []) j
   received_at p k j x h = put_at p.received k j x h
 
 none_at : (r : Role) → sum_below r.plan.workers (λ k. 0) ≡ 0
@@ -142,8 +142,8 @@ module _ {M S B : Type 0} (y : System S B) (r : Role) where
     sent_more = λ k. z.sent_more k ∙ ap (λ l. l ++ z.sent k) (x.sent_more k) ∙ append_assoc (sent_to a.port k) (x.sent k) (z.sent k);
     received_more = λ k. z.received_more k ∙ ap (λ l. l ++ z.received k) (x.received_more k) ∙ append_assoc (received_from a.port k) (x.received k) (z.received k);
     noted_more = z.noted_more ∙ ap (λ l. l ++ z.noted) x.noted_more ∙ append_assoc a.seat.noted x.noted z.noted;
-    arrived = λ h. omega (arith, x.arrived h, z.arrived h, ap (weigh h) (arrivals_append x.deeds z.deeds), weigh-append h (arrivals x.deeds) (arrivals z.deeds), weigh-append (only (is_own r) h) x.given z.given, total_both r (only (passes y r) h) x.received z.received);
-    set_aside = λ h. omega (arith, x.set_aside h, z.set_aside h, total_both r (only (λ l. not (passes y r l)) h) x.received z.received);
+    arrived = λ h. omega (arith, x.arrived h, z.arrived h, ap (weigh h) (arrivals_append x.deeds z.deeds), weigh-append h (arrivals x.deeds) (arrivals z.deeds), weigh-append (only (is_own r) h) x.given z.given, total_both r (only (is_accepted y r) h) x.received z.received);
+    set_aside = λ h. omega (arith, x.set_aside h, z.set_aside h, total_both r (only (λ l. not (is_accepted y r l)) h) x.received z.received);
     passed_on = λ h. omega (arith, x.passed_on h, z.passed_on h, weigh-append (only (λ l. not (is_own r l)) h) x.given z.given, total_both r h x.sent z.sent);
     on_its_ring = λ k. every_append (λ l. owner r l ≡ k) (x.sent k) (z.sent k) (x.on_its_ring k) (z.on_its_ring k);
     notes = λ h. omega (arith, x.notes h, z.notes h, weigh-append h x.noted z.noted, total_both r (λ l. h l.event.time) x.sent z.sent);
@@ -282,7 +282,7 @@ module _ {M S B : Type 0} (y : System S B) (r : Role) where
   module _ (a b : WorkerState M S B) (before : a.role ≡ r) (after : b.role ≡ r) (inbox : b.inbox ≡ a.inbox) where
     module _ (l : Letter B) (other : is_own r l ≡ false) (processes : b.processes ≡ a.processes) (aside : b.aside ≡ a.aside) where
       -- the letter was pushed, and its time was noted
-      pub works_sent : (within : owner r l < r.plan.workers) (wide : length a.port.sent ≡ r.plan.workers) → b.kept ≡ a.kept → b.port ≡ having_sent a.port (owner r l) l (free_to b.port (owner r l)) → SamePort a.port b.port → b.seat ≡ having_noted a.seat l.event.time → Works y r a b (l ∷ []) [] 0
+      pub works_sent : (within : owner r l < r.plan.workers) (wide : length a.port.sent ≡ r.plan.workers) → b.kept ≡ a.kept → b.port ≡ after_sending a.port (owner r l) l (free_to b.port (owner r l)) → SamePort a.port b.port → b.seat ≡ after_note a.seat l.event.time → Works y r a b (l ∷ []) [] 0
       works_sent within wide kept port same_port seat = record {
         before = before;
         after = after;
@@ -341,9 +341,9 @@ module _ {M S B : Type 0} (y : System S B) (r : Role) where
         named = named_itself a.processes b.processes processes;
       }
 
-    module _ (l : Letter B) (from : ℕ) (within : from < r.plan.workers) (wide : length a.port.received ≡ r.plan.workers) (processes : b.processes ≡ a.processes) (kept : b.kept ≡ a.kept) (port : b.port ≡ having_received a.port from l) (same : SamePort a.port b.port) (seat : b.seat ≡ a.seat) where
+    module _ (l : Letter B) (from : ℕ) (within : from < r.plan.workers) (wide : length a.port.received ≡ r.plan.workers) (processes : b.processes ≡ a.processes) (kept : b.kept ≡ a.kept) (port : b.port ≡ after_receiving a.port from l) (same : SamePort a.port b.port) (seat : b.seat ≡ a.seat) where
       -- a letter was received that passes
-      pub works_received : passes y r l ≡ true → is_own r l ≡ true → b.aside ≡ a.aside → Works y r a b [] (l ∷ []) 0
+      pub works_received : is_accepted y r l ≡ true → is_own r l ≡ true → b.aside ≡ a.aside → Works y r a b [] (l ∷ []) 0
       works_received pass own aside = record {
         before = before;
         after = after;
@@ -360,8 +360,8 @@ module _ {M S B : Type 0} (y : System S B) (r : Role) where
         sent_more = λ k. ap (λ p. sent_to p k) port ∙ sym (append-nil (sent_to a.port k));
         received_more = λ k. ap (λ p. received_from p k) port ∙ received_at a.port from k l (omega arith);
         noted_more = ap (λ s. s.noted) seat ∙ sym (append-nil a.seat.noted);
-        arrived = λ h. (let o = only_own r h l own in let t : only (passes y r) h l ≡ h l = ap (λ b. cond b (h l) 0) pass in omega (arith, o.0, weigh_at r.plan.workers from (only (passes y r) h) (l ∷ []) within));
-        set_aside = λ h. (let t : only (λ m. not (passes y r m)) h l ≡ 0 = ap (λ b. cond (not b) (h l) 0) pass in omega (arith, ap (weigh h) aside, weigh_at r.plan.workers from (only (λ m. not (passes y r m)) h) (l ∷ []) within));
+        arrived = λ h. (let o = only_own r h l own in let t : only (is_accepted y r) h l ≡ h l = ap (λ b. cond b (h l) 0) pass in omega (arith, o.0, weigh_at r.plan.workers from (only (is_accepted y r) h) (l ∷ []) within));
+        set_aside = λ h. (let t : only (λ m. not (is_accepted y r m)) h l ≡ 0 = ap (λ b. cond (not b) (h l) 0) pass in omega (arith, ap (weigh h) aside, weigh_at r.plan.workers from (only (λ m. not (is_accepted y r m)) h) (l ∷ []) within));
         passed_on = λ h. (let o = only_own r h l own in omega (arith, none_at r, o.1, ap (weigh h) kept));
         on_its_ring = λ k. tt;
         notes = λ h. sym (none_at r);
@@ -370,7 +370,7 @@ module _ {M S B : Type 0} (y : System S B) (r : Role) where
       }
 
       -- a letter was received that does not
-      pub works_set_aside : passes y r l ≡ false → b.aside ≡ a.aside ++ l ∷ [] → Works y r a b [] [] 0
+      pub works_set_aside : is_accepted y r l ≡ false → b.aside ≡ a.aside ++ l ∷ [] → Works y r a b [] [] 0
       works_set_aside fails aside = record {
         before = before;
         after = after;
@@ -387,8 +387,8 @@ module _ {M S B : Type 0} (y : System S B) (r : Role) where
         sent_more = λ k. ap (λ p. sent_to p k) port ∙ sym (append-nil (sent_to a.port k));
         received_more = λ k. ap (λ p. received_from p k) port ∙ received_at a.port from k l (omega arith);
         noted_more = ap (λ s. s.noted) seat ∙ sym (append-nil a.seat.noted);
-        arrived = λ h. (let t : only (passes y r) h l ≡ 0 = ap (λ b. cond b (h l) 0) fails in omega (arith, weigh_at r.plan.workers from (only (passes y r) h) (l ∷ []) within));
-        set_aside = λ h. (let t : only (λ m. not (passes y r m)) h l ≡ h l = ap (λ b. cond (not b) (h l) 0) fails in omega (arith, ap (weigh h) aside, weigh-append h a.aside (l ∷ []), weigh_at r.plan.workers from (only (λ m. not (passes y r m)) h) (l ∷ []) within));
+        arrived = λ h. (let t : only (is_accepted y r) h l ≡ 0 = ap (λ b. cond b (h l) 0) fails in omega (arith, weigh_at r.plan.workers from (only (is_accepted y r) h) (l ∷ []) within));
+        set_aside = λ h. (let t : only (λ m. not (is_accepted y r m)) h l ≡ h l = ap (λ b. cond (not b) (h l) 0) fails in omega (arith, ap (weigh h) aside, weigh-append h a.aside (l ∷ []), weigh_at r.plan.workers from (only (λ m. not (is_accepted y r m)) h) (l ∷ []) within));
         passed_on = λ h. omega (arith, none_at r, ap (weigh h) kept);
         on_its_ring = λ k. tt;
         notes = λ h. sym (none_at r);

@@ -6,14 +6,14 @@ use Rattle.std.proofs.lemmas.Bool.{lt-ltb, le-ltb}
 use Rattle.rw_vt.specs.declared.event.Event.{Event}
 use Rattle.rw_vt.specs.declared.model.Model.{Ghosts}
 use Rattle.rw_vt.specs.Order.{Each}
-use Rattle.rw_vt.specs.System.{System, after, journal_below, map_from, IsOutcome, IsReady}
+use Rattle.rw_vt.specs.System.{System, state_after, journal_below, map_from, IsOutcome, IsReady}
 use Rattle.rw_vt.proofs.Bags.{Each-append, filter_all, filter_none}
 use Rattle.rw_vt.proofs.Runs.{IsLawful}
 use Rattle.rw_vt.proofs.Laws.{lawful}
 use Rattle.rw_lp.specs.Process.{ProcessState, done}
 use Rattle.rw_lp.specs.Sound.{Stands, SoundAt}
 use Rattle.rw_world.specs.WorldState.{WorldState, floor}
-use Rattle.rw_world.specs.Sound.{Sound, IsInOrder, part}
+use Rattle.rw_world.specs.Sound.{Sound, IsInOrder, list_at}
 use Rattle.rw_world.specs.Calls.{Simulation, system_of}
 use Rattle.rw_rounds.proofs.Governing.{Laws}
 
@@ -41,13 +41,13 @@ module _ {S B : Type 0} (y : System S B) {WellFormed : ℕ → S → Type 0} (la
       let p : Event B → Bool = λ e. nat_lt e.time (2 ^ 40) in
       let stands : Each y.order (Stands y q) (done x) = Each-append law.exact (Stands y q) x.committed x.processed at.committed_stand at.processed_stand in
       let all : filter p (done x) ≡ done x = filter_all law.exact p (done x) (λ e k. lt-ltb e.time (2 ^ 40) (law.inside e (stands e k).valid).time) in
-      sym all ∙ ap (λ o. filter p (part done o)) (sym there) ∙ ordered.before_floor (2 ^ 40) q floored
+      sym all ∙ ap (λ o. filter p (list_at done o)) (sym there) ∙ ordered.before_floor (2 ^ 40) q floored
 
   committed_in_order : (q : ℕ) (x : ProcessState S B) → slice_get w.processes q ≡ Some x → x.committed ≡ journal_below y (2 ^ 40) q
   committed_in_order q x there = all_committed q x (sound.each q x there) ∙ done_in_order q x there
 
-  state_in_order : (q : ℕ) (x : ProcessState S B) → slice_get w.processes q ≡ Some x → x.state ≡ after (y.step q) x.start (journal_below y (2 ^ 40) q)
-  state_in_order q x there = (sound.each q x there).state ∙ ap (λ es. after (y.step q) x.start es) (done_in_order q x there)
+  state_in_order : (q : ℕ) (x : ProcessState S B) → slice_get w.processes q ≡ Some x → x.state ≡ state_after (y.step q) x.start (journal_below y (2 ^ 40) q)
+  state_in_order q x there = (sound.each q x there).state ∙ ap (λ es. state_after (y.step q) x.start es) (done_in_order q x there)
 
   at_place : (i j : ℕ) (x : ProcessState S B) → slice_get w.processes i ≡ Some x → j ≡ 0 + i → slice_get w.processes j ≡ Some x
   at_place i j x there q = let same : j ≡ i = omega arith in ap (slice_get w.processes) same ∙ there
@@ -55,7 +55,7 @@ module _ {S B : Type 0} (y : System S B) {WellFormed : ℕ → S → Type 0} (la
   pub ended : IsOutcome y (2 ^ 40) (map (λ x. x.committed) w.processes) (map (λ x. x.state) w.processes)
   ended = record {
     journals_are = by_starts (λ x. x.start) (λ x. x.committed) (λ q _. journal_below y (2 ^ 40) q) 0 w.processes (λ i j x there q. committed_in_order j x (at_place i j x there q)) ∙ ap (map_from 0 (λ q _. journal_below y (2 ^ 40) q)) sound.starts;
-    states_are = by_starts (λ x. x.start) (λ x. x.state) (λ q s. after (y.step q) s (journal_below y (2 ^ 40) q)) 0 w.processes (λ i j x there q. state_in_order j x (at_place i j x there q)) ∙ ap (map_from 0 (λ q s. after (y.step q) s (journal_below y (2 ^ 40) q))) sound.starts;
+    states_are = by_starts (λ x. x.start) (λ x. x.state) (λ q s. state_after (y.step q) s (journal_below y (2 ^ 40) q)) 0 w.processes (λ i j x there q. state_in_order j x (at_place i j x there q)) ∙ ap (map_from 0 (λ q s. state_after (y.step q) s (journal_below y (2 ^ 40) q))) sound.starts;
   }
 
 module _ {M S B U : Type 0} {model : Ghosts M S B U} {order : B → B → Ordering} where

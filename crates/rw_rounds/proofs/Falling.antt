@@ -8,12 +8,12 @@ use Rattle.rw_vt.specs.declared.event.Event.{Event}
 use Rattle.rw_vt.specs.declared.event.Letter.{Letter}
 use Rattle.rw_vt.specs.Order.{insert_in_order, has, without}
 use Rattle.rw_vt.specs.Letters.{letters_of}
-use Rattle.rw_vt.specs.System.{System, after, outs}
+use Rattle.rw_vt.specs.System.{System, state_after, sends_of}
 use Rattle.rw_vt.proofs.Runs.{outs-append}
 use Rattle.rw_lp.specs.declared.held.Held.{Held}
 use Rattle.rw_lp.specs.declared.step.StepFault.TheVariants.{StillDone}
 use Rattle.rw_lp.specs.HeldMessages.{held_with, held_without}
-use Rattle.rw_lp.specs.Process.{ProcessState, done, Turn, Turned, Stays, split_last, undo_last, undo_one, annihilate, deliver_message, deliver_anti, deliver, execute_next, execute_least, execute_event, executed, is_less_than_last}
+use Rattle.rw_lp.specs.Process.{ProcessState, done, Turn, Turned, Stays, split_last, undo_last, undo_one, annihilate, deliver_message, deliver_anti, deliver, execute_next, execute_least, execute_event, after_execution, is_less_than_last}
 use Rattle.rw_lp.proofs.WithBags.{with_bags}
 use Rattle.rw_lp.specs.Calls.{LogicalProcess}
 use Rattle.rw_lp.specs.Arrival.{with_out, and_undo, undo_times, Arrived}
@@ -35,7 +35,7 @@ held_parts cmp e (h ∷ hs) = go (is_eq (cmp h.undone e)) (held_parts cmp e hs)
 module _ {S B : Type 0} (y : System S B) (p : ℕ) where
   -- the done events of a process, what they sent, and what is held
   abbrev pub work : ProcessState S B → ℕ
-  work x = length (done x) + length (outs (y.step p) x.start (done x)) + length x.held
+  work x = length (done x) + length (sends_of (y.step p) x.start (done x)) + length x.held
 
   -- a turn loses what it gives out, and no event is done by it
   abbrev pub Falls : ProcessState S B → Turn S B → Type 0
@@ -49,11 +49,11 @@ module _ {S B : Type 0} (y : System S B) (p : ℕ) where
       go None q = tt
       go (Some r) q =
           let front : List (Event B) = x.committed ++ r.0 in
-          let sends : List (Event B) = (y.step p (after (y.step p) x.start front) r.1).1 in
+          let sends : List (Event B) = (y.step p (state_after (y.step p) x.start front) r.1).1 in
           let more : done x ≡ front ++ r.1 ∷ [] = ap (λ l. x.committed ++ l) q ∙ sym (append_assoc x.committed r.0 (r.1 ∷ [])) in
           let d : length (done x) ≡ length front + 1 = ap length more ∙ length-append front (r.1 ∷ []) in
-          let o : length (outs (y.step p) x.start (done x)) ≡ length (outs (y.step p) x.start front) + length sends =
-          ap (λ l. length (outs (y.step p) x.start l)) more ∙ ap length (outs-append (y.step p) x.start front (r.1 ∷ []) ∙ ap (λ l. outs (y.step p) x.start front ++ l) (append-nil sends)) ∙ length-append (outs (y.step p) x.start front) sends in
+          let o : length (sends_of (y.step p) x.start (done x)) ≡ length (sends_of (y.step p) x.start front) + length sends =
+          ap (λ l. length (sends_of (y.step p) x.start l)) more ∙ ap length (outs-append (y.step p) x.start front (r.1 ∷ []) ∙ ap (λ l. sends_of (y.step p) x.start front ++ l) (append-nil sends)) ∙ length-append (sends_of (y.step p) x.start front) sends in
           let ls : length (letters_of true sends) ≡ length sends = length-letters true sends in
           ((omega arith), (omega arith))
 
@@ -105,12 +105,12 @@ module _ {S B : Type 0} (y : System S B) (p : ℕ) where
   pub execute_counts : (x z : ProcessState S B) (out : List (Letter B)) → execute_next y p x ≡ Turned z out → length (done z) ≡ length (done x) + 1
   execute_counts x z out h = go x.pending h
     where
-      more : (e : Event B) (rest : List (Event B)) (left : List (Held B)) → executed y p x e rest left ≡ z → length (done z) ≡ length (done x) + 1
+      more : (e : Event B) (rest : List (Event B)) (left : List (Held B)) → after_execution y p x e rest left ≡ z → length (done z) ≡ length (done x) + 1
       more e rest left q = ap (λ u. length (done u)) (sym q) ∙ ap length (sym (append_assoc x.committed x.processed (e ∷ []))) ∙ length-append (done x) (e ∷ [])
 
       late : (b : Bool) (e : Event B) (rest : List (Event B)) (sends : List (Event B) × List (Held B)) → cond b (Stays Rattle.rw_lp.specs.declared.step.StepFault.TheVariants.Straggler) (execute_event y p x e rest sends) ≡ Turned z out → length (done z) ≡ length (done x) + 1
       late true e rest sends k = cc
-      late false e rest sends k = more e rest sends.1 (let q : executed y p x e rest sends.1 ≡ z = cc in q)
+      late false e rest sends k = more e rest sends.1 (let q : after_execution y p x e rest sends.1 ≡ z = cc in q)
 
       go : (es : List (Event B)) → execute_least y p x es ≡ Turned z out → length (done z) ≡ length (done x) + 1
       go [] k = cc

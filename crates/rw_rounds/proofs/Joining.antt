@@ -19,7 +19,7 @@ use Rattle.rw_rounds.specs.declared.plan.Plan.{Plan}
 use Rattle.rw_rounds.specs.Plans.{IsInRanges}
 use Rattle.rw_rounds.specs.Bags.{weigh, only, Every, sum_below}
 use Rattle.rw_rounds.specs.Deeds.{IsFair}
-use Rattle.rw_rounds.specs.Turns.{Role, WorkerState, owner, is_own, passes, process_at}
+use Rattle.rw_rounds.specs.Turns.{Role, WorkerState, owner, is_own, is_accepted, process_at}
 use Rattle.rw_rounds.specs.Rounds.{role, Round}
 use Rattle.rw_rounds.proofs.Governing.{Laws, Governs, governs}
 use Rattle.rw_rounds.proofs.Going.{KeptAt}
@@ -80,7 +80,7 @@ module _ {M S B U : Type 0} {model : Ghosts M S B U} {order : B → B → Orderi
         noted = λ f all k lt. subst (Every (λ l. f ≤ l.event.time)) (sym (b.new.0 k)) tt;
         aside_is = λ h.
             ap (weigh h) b.none_aside
-            ∙ sym (total_zero n (λ k. weigh (only (λ l. not (passes y (r i) l)) h) (received_from (round.first i).port k)) (λ k lt. ap (weigh (only (λ l. not (passes y (r i) l)) h)) (b.new.1 k)));
+            ∙ sym (total_zero n (λ k. weigh (only (λ l. not (is_accepted y (r i) l)) h) (received_from (round.first i).port k)) (λ k lt. ap (weigh (only (λ l. not (is_accepted y (r i) l)) h)) (b.new.1 k)));
       }
 
   -- what holds of each worker after its closing
@@ -128,14 +128,14 @@ module _ {M S B U : Type 0} {model : Ghosts M S B U} {order : B → B → Orderi
   none_aside k lk =
       weightless (round.last k).aside
       ((closed k lk).0.aside_is (λ _. 1)
-      ∙ total_zero n (λ i. weigh (only (λ l. not (passes y (r k) l)) (λ _. 1)) (received_from (round.last k).port i))
+      ∙ total_zero n (λ i. weigh (only (λ l. not (is_accepted y (r k) l)) (λ _. 1)) (received_from (round.last k).port i))
       (λ i li.
       let fair = subst (Every (IsFair y x.collected)) (sym (round.settled i k li lk)) ((closed i li).0.sent_fair k lk) in
       let here = subst (Every (λ l. owner (r i) l ≡ k)) (sym (round.settled i k li lk)) ((closed i li).0.sent_there k) in
-      weigh_zero (only (λ l. not (passes y (r k) l)) (λ _. 1)) (received_from (round.last k).port i) (λ l p. ap (λ b. cond {A = ℕ} (not b) 1 0) (test l p.0 p.1))
+      weigh_zero (only (λ l. not (is_accepted y (r k) l)) (λ _. 1)) (received_from (round.last k).port i) (λ l p. ap (λ b. cond {A = ℕ} (not b) 1 0) (test l p.0 p.1))
       (every_both (IsFair y x.collected) (λ l. owner (r i) l ≡ k) (received_from (round.last k).port i) (every_front (IsFair y x.collected) (received_from (round.last k).port i) (round.left i k) fair) (every_front (λ l. owner (r i) l ≡ k) (received_from (round.last k).port i) (round.left i k) here))))
     where
-      test : (l : Letter B) → IsFair y x.collected l → l.event.to % plan.workers ≡ k → passes y (r k) l ≡ true
+      test : (l : Letter B) → IsFair y x.collected l → l.event.to % plan.workers ≡ k → is_accepted y (r k) l ≡ true
       test l a b =
           and_from (y.valid l.event) (is_own (r k) l && nat_le x.collected l.event.time) a.valid
           (and_from (is_own (r k) l) (nat_le x.collected l.event.time) (eq-eqb (l.event.to % plan.workers) k b) (le-leb x.collected l.event.time a.from))

@@ -11,7 +11,7 @@ use Rattle.rw_vt.proofs.Sorting.{IsExactOrder, Has-head, Has-right, at_most_othe
 use Rattle.rw_lp.specs.declared.step.Answer.{Answer}
 use Rattle.rw_lp.specs.declared.step.Answer.TheVariants.{Done, Refused}
 use Rattle.rw_lp.specs.declared.step.StepFault.TheVariants.{Straggler}
-use Rattle.rw_lp.specs.HeldMessages.{unheld}
+use Rattle.rw_lp.specs.HeldMessages.{unheld_sends}
 use Rattle.rw_lp.specs.Process.{ProcessState, Turn, Turned, Stays, done, split_last, is_less_than_last, execute_event, execute_least, execute_next, undo_last, undo_one}
 use Rattle.rw_lp.specs.Calls.{LogicalProcess, rules, Took}
 use Rattle.rw_lp.specs.Sound.{HasCollected}
@@ -28,7 +28,7 @@ module _ {S B : Type 0} (y : System S B) (p : ℕ) where
   pub late : (x z : ProcessState S B) (a : Answer) (given : List (Letter B)) → (x.pending ≡ [] → ⊥) → (a ≡ Done → ⊥) → Took x z a given (execute_next y p x) → (execute_next y p x ≡ Stays Straggler) × (z ≡ x) × (given ≡ [])
   late x z a given some not_done took = go x.pending refl took
     where
-      which : (b : Bool) (e : Event B) (rest : List (Event B)) → Took x z a given (cond b (Stays Straggler) (execute_event y p x e rest (unheld y.order (y.step p x.state e).1 x.held))) → (cond b (Stays Straggler) (execute_event y p x e rest (unheld y.order (y.step p x.state e).1 x.held)) ≡ Stays Straggler) × (z ≡ x) × (given ≡ [])
+      which : (b : Bool) (e : Event B) (rest : List (Event B)) → Took x z a given (cond b (Stays Straggler) (execute_event y p x e rest (unheld_sends y.order (y.step p x.state e).1 x.held))) → (cond b (Stays Straggler) (execute_event y p x e rest (unheld_sends y.order (y.step p x.state e).1 x.held)) ≡ Stays Straggler) × (z ≡ x) × (given ≡ [])
       which true e rest k = (refl, k.0, k.2)
       which false e rest k = absurd (not_done k.1)
 
@@ -56,7 +56,7 @@ module _ {S B : Type 0} (y : System S B) (p : ℕ) where
             all : done x ≡ x.committed
             all = ap (λ l. x.committed ++ l) none ∙ append-nil x.committed
 
-            go : (b : Bool) → is_less_than_last y.order e (split_last (done x)) ≡ b → cond b (Stays Straggler) (execute_event y p x e rest (unheld y.order (y.step p x.state e).1 x.held)) ≡ Stays Straggler → ⊥
+            go : (b : Bool) → is_less_than_last y.order e (split_last (done x)) ≡ b → cond b (Stays Straggler) (execute_event y p x e rest (unheld_sends y.order (y.step p x.state e).1 x.held)) ≡ Stays Straggler → ⊥
             go true k h = least e rest q (split_last x.committed) (split_is x.committed) (ap (λ l. is_less_than_last y.order e (split_last l)) (sym all) ∙ k)
             go false k h = cc
 

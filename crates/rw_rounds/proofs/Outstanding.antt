@@ -19,7 +19,7 @@ use Rattle.rw_lp.specs.Calls.{rules}
 use Rattle.rw_lp.specs.Sound.{IsHeldFor, SoundAt}
 use Rattle.rw_world.specs.declared.parts.Parts.{Parts}
 use Rattle.rw_world.specs.Calls.{system_of, simulation_of, world_of, IsWhole}
-use Rattle.rw_world.specs.Sound.{IsQuiet, part, held_in}
+use Rattle.rw_world.specs.Sound.{IsQuiet, list_at, held_in}
 use Rattle.rw_exchange.specs.Ports.{received_from}
 use Rattle.rw_rounds.specs.declared.plan.Plan.{Plan}
 use Rattle.rw_rounds.specs.Plans.{IsInRanges}
@@ -115,10 +115,10 @@ module _ {M S B U : Type 0} {model : Ghosts M S B U} {order : B → B → Orderi
       exact : IsExactOrder (event_cmp order)
       exact = events_exact (record { total = laws.total; same = laws.same })
 
-      pending : (q : ℕ) (o : Option (ProcessState S B)) → slice_get (world_of z).processes q ≡ o → Each (event_cmp order) (λ e. least ≤ e.time) (part (λ u. u.pending) o)
+      pending : (q : ℕ) (o : Option (ProcessState S B)) → slice_get (world_of z).processes q ≡ o → Each (event_cmp order) (λ e. least ≤ e.time) (list_at (λ u. u.pending) o)
       pending q None at = λ e k. absurd (omega arith)
       pending q (Some u) at = (process_from q u at).0
 
-      debts : (q : ℕ) (o : Option (ProcessState S B)) → slice_get (world_of z).processes q ≡ o → Each (event_cmp order) (λ e. least ≤ e.time) (part (λ u. u.debts) o)
+      debts : (q : ℕ) (o : Option (ProcessState S B)) → slice_get (world_of z).processes q ≡ o → Each (event_cmp order) (λ e. least ≤ e.time) (list_at (λ u. u.debts) o)
       debts q None at = λ e k. absurd (omega arith)
       debts q (Some u) at = (process_from q u at).1

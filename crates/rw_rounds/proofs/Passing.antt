@@ -5,14 +5,14 @@ use Rattle.std.proofs.lemmas.Bool.{leb-true}
 use Rattle.rw_vt.specs.declared.event.Letter.{Letter}
 use Rattle.rw_vt.specs.System.{System}
 use Rattle.rw_rounds.specs.Deeds.{IsFair}
-use Rattle.rw_rounds.specs.Turns.{Role, is_own, passes}
+use Rattle.rw_rounds.specs.Turns.{Role, is_own, is_accepted}
 
 pub both_hold : (a b : Bool) → (a && b) ≡ true → (a ≡ true) × (b ≡ true)
 both_hold true true h = (h, h)
 both_hold true false h = absurd (true≢false (sym h))
 both_hold false b h = absurd (true≢false (sym h))
 
-module _ {S B : Type 0} (y : System S B) (r : Role) (l : Letter B) (pass : passes y r l ≡ true) where
+module _ {S B : Type 0} (y : System S B) (r : Role) (l : Letter B) (pass : is_accepted y r l ≡ true) where
   pub passes_own : is_own r l ≡ true
   passes_own =
       let first = both_hold (y.valid l.event) (is_own r l && nat_le r.collected l.event.time) pass in

@@ -7,7 +7,7 @@ use Rattle.rw_vt.specs.System.{System}
 use Rattle.rw_exchange.specs.Ports.{sent_to, received_from}
 use Rattle.rw_rounds.specs.Bags.{weigh, only, Every, sum_below}
 use Rattle.rw_rounds.specs.Deeds.{IsFair, Goes, arrivals}
-use Rattle.rw_rounds.specs.Turns.{Role, WorkerState, owner, is_own, passes, process_at, TookTurn, TookTurns}
+use Rattle.rw_rounds.specs.Turns.{Role, WorkerState, owner, is_own, is_accepted, process_at, TookTurn, TookTurns}
 use Rattle.rw_rounds.specs.Rounds.{Closes}
 use Rattle.rw_rounds.proofs.Governing.{Governs}
 use Rattle.rw_rounds.proofs.Going.{Well, Gone, gone_none, gone_more, well_after, goes_gone}
@@ -51,7 +51,7 @@ module _ {S B : Type 0} (y : System S B) where
     pub sent_fair : (k : ℕ) → k < r.plan.workers → Every (IsFair y r.collected) (sent_to x.port k)
     pub sent_there : (k : ℕ) → Every (λ l. owner r l ≡ k) (sent_to x.port k)
     pub noted : (f : ℕ) → Every (λ t. f ≤ t) x.seat.noted → (k : ℕ) → k < r.plan.workers → Every (λ l. f ≤ l.event.time) (sent_to x.port k)
-    pub aside_is : (h : Letter B → ℕ) → weigh h x.aside ≡ sum_below r.plan.workers (λ k. weigh (only (λ l. not (passes y r l)) h) (received_from x.port k))
+    pub aside_is : (h : Letter B → ℕ) → weigh h x.aside ≡ sum_below r.plan.workers (λ k. weigh (only (λ l. not (is_accepted y r l)) h) (received_from x.port k))
 
   -- from a to b the worker r, in a model of n processes, lost no letter and made none up
   pub record Worked {M : Type 0} (n : ℕ) (r : Role) (a b : WorkerState M S B) : Type 0 where
@@ -77,7 +77,7 @@ module _ {S B : Type 0} (y : System S B) where
         balance = λ h.
             let empty : weigh h b.inbox ≡ 0 = ap (weigh h) t.emptied in
             let own = weigh_split (is_own a.role) h t.given in
-            let tests = total_split (passes y a.role) h a.role.plan.workers t.received in
+            let tests = total_split (is_accepted y a.role) h a.role.plan.workers t.received in
             let sends = total_more h a.role.plan.workers (sent_to a.port) t.sent (sent_to b.port) t.sent_more in
             let receives = total_more h a.role.plan.workers (received_from a.port) t.received (received_from b.port) t.received_more in
             omega (arith, t.arrived h, t.set_aside h, t.passed_on h);
@@ -119,7 +119,7 @@ module _ {S B : Type 0} (y : System S B) where
             (every_append (λ l. f ≤ l.event.time) (sent_to a.port k) (t.sent k)
             (up.noted f (every_front (λ m. f ≤ m) a.seat.noted t.noted both) k l)
             (sends_noted f (every_back (λ m. f ≤ m) a.seat.noted t.noted both) k l));
-        aside_is = λ h. omega (arith, t.set_aside h, up.aside_is h, total_more (only (λ l. not (passes y a.role l)) h) a.role.plan.workers (received_from a.port) t.received (received_from b.port) t.received_more);
+        aside_is = λ h. omega (arith, t.set_aside h, up.aside_is h, total_more (only (λ l. not (is_accepted y a.role l)) h) a.role.plan.workers (received_from a.port) t.received (received_from b.port) t.received_more);
       }
 
     -- one turn

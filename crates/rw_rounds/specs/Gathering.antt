@@ -7,6 +7,7 @@ use Rattle.rw_lp.specs.Calls.{LogicalProcess}
 use Rattle.rw_board.specs.Least.{least}
 use Rattle.rw_rounds.specs.Turns.{WorkerState}
 use Rattle.rw_rounds.specs.Rounds.{AreOnTheirWay}
+use Rattle.rw_vt.specs.declared.event.TheConstants.{END}
 
 -- item q of n shares, of which share i has items i, i + n, i + 2n, ..
 abbrev pub of_shares : {A : Type 0} → Count → List (List A) → Process → Option A
@@ -20,5 +21,5 @@ pub record IsGathered {M S B : Type 0} (n : Count) (ws : List (WorkerState M S B
   pub processes : (q : Process) → q < n
       → slice_get all q ≡ of_shares (length ws) (map (λ w. w.processes) ws) q
   pub letters : AreOnTheirWay ws rest
-  pub end : floor ≤ 2 ^ 40
+  pub end : floor ≤ END
   pub noted : All (λ s. floor ≤ least s.noted) (map (λ w. w.seat) ws)

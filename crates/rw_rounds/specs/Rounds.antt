@@ -17,6 +17,7 @@ use Rattle.rw_exchange.specs.Ports.{IsNew, IsWide, sent_to, received_from, sent_
 use Rattle.rw_rounds.specs.declared.plan.Plan.{Plan}
 use Rattle.rw_rounds.specs.Bags.{weigh, Every, sum_below}
 use Rattle.rw_rounds.specs.Turns.{Role, WorkerState, is_own, IsFit, TookTurns}
+use Rattle.rw_vt.specs.declared.event.TheConstants.{END}
 
 -- what worker i is, where g is the greatest time collected
 abbrev pub role : Plan → Time → Worker → Role
@@ -97,7 +98,7 @@ pub record Round {M S B U : Type 0} (model : Ghosts M S B U) (order : B → B �
   pub settled : (i k : Worker) → i < plan.workers → k < plan.workers
       → received_from (last k).port i ++ left i k ≡ sent_to (last i).port k
   -- what the board gave
-  pub least_end : least ≤ 2 ^ 40
+  pub least_end : least ≤ END
   pub least_noted : (i : Worker) → i < plan.workers
       → Every (λ t. least ≤ t) (last i).seat.noted
   -- the parts in which they are joined

@@ -15,6 +15,7 @@ use Rattle.rw_board.specs.Seats.{SeatState}
 use Rattle.rw_rounds.specs.declared.plan.Plan.{Plan}
 use Rattle.rw_rounds.specs.Bags.{weigh, only, Every, sum_below}
 use Rattle.rw_rounds.specs.Deeds.{Deed, Owned, Goes, IsFair, arrivals, executions}
+use Rattle.rw_vt.specs.declared.event.TheConstants.{END}
 
 -- who the worker is, how it is to work, and the greatest time collected
 pub record Role : Type 0 where
@@ -54,8 +55,8 @@ processes_of w = process_at w.role w.processes
 
 -- the test of a letter that was received: it is valid, to an own process, and not before the
 -- greatest time collected
-abbrev pub passes : {S B : Type 0} → System S B → Role → Letter B → Bool
-passes y r l = y.valid l.event && (is_own r l && nat_le r.collected l.event.time)
+abbrev pub is_accepted : {S B : Type 0} → System S B → Role → Letter B → Bool
+is_accepted y r l = y.valid l.event && (is_own r l && nat_le r.collected l.event.time)
 
 -- How letters are counted
 
@@ -73,11 +74,11 @@ if_other r h = only (λ l. not (is_own r l)) h
 
 -- weighs the letters that pass the test
 abbrev pub if_passes : {S B : Type 0} → System S B → Role → (Letter B → ℕ) → Letter B → ℕ
-if_passes y r h = only (passes y r) h
+if_passes y r h = only (is_accepted y r) h
 
 -- weighs the letters that fail it
 abbrev pub if_fails : {S B : Type 0} → System S B → Role → (Letter B → ℕ) → Letter B → ℕ
-if_fails y r h = only (λ l. not (passes y r l)) h
+if_fails y r h = only (λ l. not (is_accepted y r l)) h
 
 -- The conditions of a turn
 
@@ -97,7 +98,7 @@ pub record IsFit {M S B U : Type 0} (model : Ghosts M S B U) (order : B → B �
   pub starts : List S
   pub ready : IsReady model m starts []
   pub number : w.role.number < w.role.plan.workers
-  pub window : w.role.plan.window ≤ 2 ^ 40
+  pub window : w.role.plan.window ≤ END
   pub in_place : (place : Position) (l : LogicalProcess M S B)
       → slice_get w.processes place ≡ Some l → IsInPlace order m starts w.role place l
   pub complete : (q : Process) → q < model.process_count m

@@ -8,7 +8,7 @@ use Rattle.rw_vt.specs.declared.event.Event.{Event}
 use Rattle.rw_vt.specs.declared.event.Letter.{Letter}
 use Rattle.rw_vt.specs.declared.model.Model.{Ghosts}
 use Rattle.rw_vt.specs.Order.{Each, AtMost}
-use Rattle.rw_vt.specs.System.{System, outs}
+use Rattle.rw_vt.specs.System.{System, sends_of}
 use Rattle.rw_lp.specs.Process.{ProcessState, done, Turned, Stays, execute_next, undo_one}
 use Rattle.rw_lp.specs.Calls.{LogicalProcess, rules}
 use Rattle.rw_lp.specs.Sound.{SoundAt}
@@ -178,7 +178,7 @@ pub record IsNext {M S B : Type 0} (y : System S B) (bound : Time)
 abbrev pub size : {M S B : Type 0} → System S B → LogicalProcess M S B → Count
 size y l =
     length (done l.process)
-    + length (outs (y.step l.number) l.process.start (done l.process))
+    + length (sends_of (y.step l.number) l.process.start (done l.process))
     + length l.process.held
 
 abbrev pub sizes : {M S B : Type 0} → System S B → List (LogicalProcess M S B) → Count

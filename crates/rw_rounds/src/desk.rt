@@ -5,7 +5,7 @@ ghost use Rattle.rw_lp.specs.Sound.{HasCollected};
 ghost use Rattle.rw_exchange.specs.Ports.{IsWide};
 ghost use Rattle.rw_rounds.specs.Deeds.{IsFair};
 ghost use Rattle.rw_rounds.specs.Rounds.{NoneBefore};
-ghost use Rattle.rw_rounds.specs.Turns.{is_own, owner, passes};
+ghost use Rattle.rw_rounds.specs.Turns.{is_own, owner, is_accepted};
 ghost use Rattle.rw_rounds.specs.Working.{role_of, CanWork, Deals, AreFair, HoldsBackRest, ClosesDesk, HeldBack, IsNext, Advances, comes_before, done_count, work_left};
 
 use crate::plan::Plan;
@@ -264,8 +264,8 @@ impl<M: VtModel> Desk<M> {
     /// collected.
     fn passes(&self, model: &M, letter: &Letter<M::Body>) -> bool
         requires workers { 0 < self.now.plan.workers }
-        ensures passes { result
-            ≡ passes (rules M.Model M.Body.cmp model.now) (role_of self.now) letter.now }
+        ensures is_accepted { result
+            ≡ is_accepted (rules M.Model M.Body.cmp model.now) (role_of self.now) letter.now }
     {
         model.valid(&letter.event) && self.owns(letter) && self.collected <= letter.event.time
     }

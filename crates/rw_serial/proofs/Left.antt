@@ -8,7 +8,7 @@ use Rattle.std.specs.List.{slice_get, slice_set, All}
 use Rattle.std.specs.List.Sorted.{IsPermutation}
 use Rattle.rw_vt.specs.declared.event.Event.{Event}
 use Rattle.rw_vt.specs.Valid.{IsInRange}
-use Rattle.rw_vt.specs.System.{System, after, map_from, flatten, journal_below}
+use Rattle.rw_vt.specs.System.{System, state_after, map_from, flatten, journal_below}
 use Rattle.rw_vt.proofs.Runs.{none_sent_back}
 use Rattle.rw_serial.proofs.Lists.{at_list}
 use Rattle.rw_serial.proofs.Midrun.{IsMidrun, begins, same_counts, next_there, next_least, next_valid, next_well_formed, start_of, state_there, added, after_x, midrun_step, copies_to_come}
@@ -105,7 +105,7 @@ module _ {S B : Type 0} {y : System S B} {WellFormed : ℕ → S → Type 0} {ss
       o = run.law.exact
 
       s : S
-      s = after (y.step x.to) (start_of run taken least).0 (at_list js x.to)
+      s = state_after (y.step x.to) (start_of run taken least).0 (at_list js x.to)
 
       there : slice_get ss x.to ≡ Some s
       there = state_there run taken least

@@ -9,7 +9,7 @@ use Rattle.std.specs.List.Sorted.{IsPermutation}
 use Rattle.rw_vt.specs.declared.event.Event.{Event}
 use Rattle.rw_vt.specs.Valid.{IsInRange, IsSentBy}
 use Rattle.rw_vt.specs.Order.{AtMost, copies, Has, IsAscending}
-use Rattle.rw_vt.specs.System.{System, after, outs, map_from, flatten, all_sent, slice, journal_below, IsOutcome, Meets}
+use Rattle.rw_vt.specs.System.{System, state_after, sends_of, map_from, flatten, all_sent, slice, journal_below, IsOutcome, Meets}
 use Rattle.rw_vt.proofs.Sorting.{IsExactOrder, IsAscending-append, IsAscending-in_order, copies-append, copies-filter, copies-in_order, absent, Has-append, Has-head, Has-cons, each_of_all, at_most_chain, at_most_both, at_most_itself}
 use Rattle.rw_vt.proofs.Runs.{IsLawful, Fits_at, earlier_at_most, outs-append, after-append, well_formed_after, copies_joined}
 use Rattle.rw_serial.proofs.Complete.{IsMidway, complete, below_more, Has-slice}
@@ -51,11 +51,11 @@ has_length cmp (y ∷ ys) x h = omega arith
 pub record IsMidrun {S B : Type 0} (y : System S B) (WellFormed : ℕ → S → Type 0) (states : List S) (js : List (List (Event B))) (pending : List (Event B)) : Type 0 where
   pub law : IsLawful y WellFormed
   pub mid : IsMidway y (at_list js) pending
-  pub states_are : states ≡ map_from 0 (λ q s. after (y.step q) s (at_list js q)) y.starts
+  pub states_are : states ≡ map_from 0 (λ q s. state_after (y.step q) s (at_list js q)) y.starts
   pub count : length js ≡ length y.starts
 
 pub length-states : {S B : Type 0} {y : System S B} {WellFormed : ℕ → S → Type 0} {states : List S} {js : List (List (Event B))} {pending : List (Event B)} → IsMidrun y WellFormed states js pending → length states ≡ length y.starts
-length-states {y} {js} run = ap length run.states_are ∙ length-map_from 0 (λ q s. after (y.step q) s (at_list js q)) y.starts
+length-states {y} {js} run = ap length run.states_are ∙ length-map_from 0 (λ q s. state_after (y.step q) s (at_list js q)) y.starts
 
 -- a sorted list that holds x and nothing below it begins with x
 pub begins : {E : Type 0} {cmp : E → E → Ordering} (o : IsExactOrder cmp) (xs : List E) (x : E) → IsAscending cmp xs → Has cmp xs x → ((a : E) → Has cmp xs a → AtMost cmp x a) → (rest : List E) × (xs ≡ x ∷ rest)
@@ -93,13 +93,13 @@ module _ {S B : Type 0} (y : System S B) {WellFormed : ℕ → S → Type 0} (la
       balance : (e : Event B) → copies y.order e (all_sent y (at_list js)) ≡ copies y.order e (at_list js e.to) + copies y.order e P
       balance e =
           let o = law.exact in
-          let sent = copies_joined o e (λ p s. outs (y.step p) s (at_list js p)) (λ _ _. []) 0 y.starts (λ i j s m q. ap (λ l. copies y.order e (outs (y.step j) s l)) (none j)) in
+          let sent = copies_joined o e (λ p s. sends_of (y.step p) s (at_list js p)) (λ _ _. []) 0 y.starts (λ i j s m q. ap (λ l. copies y.order e (sends_of (y.step j) s l)) (none j)) in
           let empty = ap (copies y.order e) (joined_empty {E = Event B} 0 y.starts) in
           let here = ap (copies y.order e) (none e.to) in
-          copies-append o e y.initial (flatten (map_from 0 (λ p s. outs (y.step p) s (at_list js p)) y.starts)) ∙ omega (arith, sent, empty, here, same e)
+          copies-append o e y.initial (flatten (map_from 0 (λ p s. sends_of (y.step p) s (at_list js p)) y.starts)) ∙ omega (arith, sent, empty, here, same e)
 
-      states_are : y.starts ≡ map_from 0 (λ q s. after (y.step q) s (at_list js q)) y.starts
-      states_are = map_from_own 0 (λ q s. after (y.step q) s (at_list js q)) y.starts (λ q s. ap (after (y.step q) s) (none q))
+      states_are : y.starts ≡ map_from 0 (λ q s. state_after (y.step q) s (at_list js q)) y.starts
+      states_are = map_from_own 0 (λ q s. state_after (y.step q) s (at_list js q)) y.starts (λ q s. ap (state_after (y.step q) s) (none q))
 
 -- a run in the middle, where nothing that is pending is less than x, which is
 module _ {S B : Type 0} {y : System S B} {WellFormed : ℕ → S → Type 0} {ss : List S} {js : List (List (Event B))} {P : List (Event B)} (run : IsMidrun y WellFormed ss js P)
@@ -164,11 +164,11 @@ module _ {S B : Type 0} {y : System S B} {WellFormed : ℕ → S → Type 0} {ss
   pub start_of : (s0 : S) × (slice_get y.starts x.to ≡ Some s0)
   start_of = there_below y.starts x.to next_inside.to
 
-  pub state_there : slice_get ss x.to ≡ Some (after (y.step x.to) start_of.0 (at_list js x.to))
-  state_there = ap (λ l. slice_get l x.to) run.states_are ∙ get_map_from 0 x.to x.to (λ q s. after (y.step q) s (at_list js q)) y.starts start_of.0 start_of.1 (omega arith)
+  pub state_there : slice_get ss x.to ≡ Some (state_after (y.step x.to) start_of.0 (at_list js x.to))
+  state_there = ap (λ l. slice_get l x.to) run.states_are ∙ get_map_from 0 x.to x.to (λ q s. state_after (y.step q) s (at_list js q)) y.starts start_of.0 start_of.1 (omega arith)
 
-  pub state_is : (s : S) → slice_get ss x.to ≡ Some s → s ≡ after (y.step x.to) start_of.0 (at_list js x.to)
-  state_is s m = same_Some s (after (y.step x.to) start_of.0 (at_list js x.to)) (sym m ∙ state_there)
+  pub state_is : (s : S) → slice_get ss x.to ≡ Some s → s ≡ state_after (y.step x.to) start_of.0 (at_list js x.to)
+  state_is s m = same_Some s (state_after (y.step x.to) start_of.0 (at_list js x.to)) (sym m ∙ state_there)
 
   pub next_well_formed : (s : S) → slice_get ss x.to ≡ Some s → WellFormed x.to s
   next_well_formed s m = subst (λ w. WellFormed x.to w) (sym (state_is s m)) (well_formed_after law x.to start_of.0 (at_list js x.to) (law.starts x.to start_of.0 start_of.1) (run.mid.story.fit x.to))
@@ -189,7 +189,7 @@ module _ {S B : Type 0} {y : System S B} {WellFormed : ℕ → S → Type 0} {ss
         rest = b.0 ++ c.0;
         starts_there = start_of.1;
         on_the_way = c.1 ∙ ap (λ l. (at_list js x.to ++ l) ++ c.0) b.1 ∙ append_assoc (at_list js x.to) (x ∷ b.0) c.0;
-        passes = h (after (y.step x.to) start_of.0 (at_list js x.to)) state_there;
+        passes = h (state_after (y.step x.to) start_of.0 (at_list js x.to)) state_there;
       }
 
   -- one step further
@@ -261,32 +261,32 @@ module _ {S B : Type 0} {y : System S B} {WellFormed : ℕ → S → Type 0} {ss
           omega arith
     ]
 
-    outs_there : outs (y.step x.to) start_of.0 (at_list js' x.to) ≡ outs (y.step x.to) start_of.0 (at_list js x.to) ++ (y.step x.to s x).1
+    outs_there : sends_of (y.step x.to) start_of.0 (at_list js' x.to) ≡ sends_of (y.step x.to) start_of.0 (at_list js x.to) ++ (y.step x.to s x).1
     outs_there =
-        ap (outs (y.step x.to) start_of.0) same_place ∙ outs-append (y.step x.to) start_of.0 (at_list js x.to) (x ∷ [])
-        ∙ ap (λ l. outs (y.step x.to) start_of.0 (at_list js x.to) ++ l) (append-nil (y.step x.to (after (y.step x.to) start_of.0 (at_list js x.to)) x).1)
-        ∙ ap (λ w. outs (y.step x.to) start_of.0 (at_list js x.to) ++ (y.step x.to w x).1) (sym (state_is s there))
+        ap (sends_of (y.step x.to) start_of.0) same_place ∙ outs-append (y.step x.to) start_of.0 (at_list js x.to) (x ∷ [])
+        ∙ ap (λ l. sends_of (y.step x.to) start_of.0 (at_list js x.to) ++ l) (append-nil (y.step x.to (state_after (y.step x.to) start_of.0 (at_list js x.to)) x).1)
+        ∙ ap (λ w. sends_of (y.step x.to) start_of.0 (at_list js x.to) ++ (y.step x.to w x).1) (sym (state_is s there))
 
     sent_counts : (e : Event B) → copies y.order e (all_sent y (at_list js')) ≡ copies y.order e (all_sent y (at_list js)) + copies y.order e (y.step x.to s x).1
     sent_counts e =
         let o = law.exact in
-        let here : copies y.order e (outs (y.step (0 + x.to)) start_of.0 (at_list js' (0 + x.to))) ≡ copies y.order e (outs (y.step (0 + x.to)) start_of.0 (at_list js (0 + x.to))) + copies y.order e (y.step x.to s x).1 =
-        rw (zero-add) (ap (copies y.order e) outs_there ∙ copies-append o e (outs (y.step x.to) start_of.0 (at_list js x.to)) (y.step x.to s x).1) in
-        let joined = copies_joined_more o e (copies y.order e (y.step x.to s x).1) 0 x.to (λ q c. outs (y.step q) c (at_list js q)) (λ q c. outs (y.step q) c (at_list js' q)) y.starts start_of.0 start_of.1 here
-        (λ j c ne. ap (outs (y.step j) c) (other_place j (λ q. ne (q ∙ sym (zero-add x.to))))) in
-        copies-append o e y.initial (flatten (map_from 0 (λ q c. outs (y.step q) c (at_list js' q)) y.starts))
-        ∙ omega (arith, joined, copies-append o e y.initial (flatten (map_from 0 (λ q c. outs (y.step q) c (at_list js q)) y.starts)))
+        let here : copies y.order e (sends_of (y.step (0 + x.to)) start_of.0 (at_list js' (0 + x.to))) ≡ copies y.order e (sends_of (y.step (0 + x.to)) start_of.0 (at_list js (0 + x.to))) + copies y.order e (y.step x.to s x).1 =
+        rw (zero-add) (ap (copies y.order e) outs_there ∙ copies-append o e (sends_of (y.step x.to) start_of.0 (at_list js x.to)) (y.step x.to s x).1) in
+        let joined = copies_joined_more o e (copies y.order e (y.step x.to s x).1) 0 x.to (λ q c. sends_of (y.step q) c (at_list js q)) (λ q c. sends_of (y.step q) c (at_list js' q)) y.starts start_of.0 start_of.1 here
+        (λ j c ne. ap (sends_of (y.step j) c) (other_place j (λ q. ne (q ∙ sym (zero-add x.to))))) in
+        copies-append o e y.initial (flatten (map_from 0 (λ q c. sends_of (y.step q) c (at_list js' q)) y.starts))
+        ∙ omega (arith, joined, copies-append o e y.initial (flatten (map_from 0 (λ q c. sends_of (y.step q) c (at_list js q)) y.starts)))
 
     balance : (e : Event B) → copies y.order e (all_sent y (at_list js')) ≡ copies y.order e (at_list js' e.to) + copies y.order e Q
     balance e =
         omega (arith, added e, same_counts e, done_counts e, run.mid.balance e, sent_counts e)
 
-    states_now : ss' ≡ map_from 0 (λ q c. after (y.step q) c (at_list js' q)) y.starts
+    states_now : ss' ≡ map_from 0 (λ q c. state_after (y.step q) c (at_list js' q)) y.starts
     states_now =
         ss_is ∙ ap (λ l. slice_set l x.to (y.step x.to s x).0) run.states_are
-        ∙ map_from_set 0 x.to (λ q c. after (y.step q) c (at_list js q)) (λ q c. after (y.step q) c (at_list js' q)) y.starts start_of.0 (y.step x.to s x).0 start_of.1
-        (rw (zero-add) (ap (after (y.step x.to) start_of.0) same_place ∙ after-append (y.step x.to) start_of.0 (at_list js x.to) (x ∷ []) ∙ ap (λ w. (y.step x.to w x).0) (sym (state_is s there))))
-        (λ j c ne. ap (after (y.step j) c) (sym (other_place j (λ q. ne (q ∙ sym (zero-add x.to))))))
+        ∙ map_from_set 0 x.to (λ q c. state_after (y.step q) c (at_list js q)) (λ q c. state_after (y.step q) c (at_list js' q)) y.starts start_of.0 (y.step x.to s x).0 start_of.1
+        (rw (zero-add) (ap (state_after (y.step x.to) start_of.0) same_place ∙ after-append (y.step x.to) start_of.0 (at_list js x.to) (x ∷ []) ∙ ap (λ w. (y.step x.to w x).0) (sym (state_is s there))))
+        (λ j c ne. ap (state_after (y.step j) c) (sym (other_place j (λ q. ne (q ∙ sym (zero-add x.to))))))
 
     pub midrun_step : IsMidrun y WellFormed ss' js' Q
     midrun_step = record {
@@ -304,13 +304,13 @@ module _ {S B : Type 0} {y : System S B} {WellFormed : ℕ → S → Type 0} {ss
       → IsPermutation (R ++ sent) Q
       → IsMidrun y WellFormed ss' js' Q
   midrun_step_by ss' js' sent Q states journals sends joined =
-      let s = after (y.step x.to) start_of.0 (at_list js x.to) in
+      let s = state_after (y.step x.to) start_of.0 (at_list js x.to) in
       midrun_step s state_there ss' js' Q (states s state_there) journals (subst (λ l. IsPermutation (R ++ l) Q) (sends s state_there) joined)
 
 -- with nothing pending, the run is done
 module _ {S B : Type 0} {y : System S B} {WellFormed : ℕ → S → Type 0} {ss : List S} {js : List (List (Event B))} {P : List (Event B)} (run : IsMidrun y WellFormed ss js P) where
   pub midrun_done : (t u : ℕ) → t ≡ suc u → ((e : Event B) → IsInRange (length y.starts) e → e.time < t) → P ≡ [] → IsOutcome y t js ss
-  midrun_done t u t_is times none = record { journals_are = journals_are; states_are = run.states_are ∙ map_from_same 0 (λ q s. after (y.step q) s (at_list js q)) (λ q s. after (y.step q) s (journal_below y t q)) y.starts (λ i j s m e. ap (after (y.step j) s) (whole j)) }
+  midrun_done t u t_is times none = record { journals_are = journals_are; states_are = run.states_are ∙ map_from_same 0 (λ q s. state_after (y.step q) s (at_list js q)) (λ q s. state_after (y.step q) s (journal_below y t q)) y.starts (λ i j s m e. ap (state_after (y.step j) s) (whole j)) }
     where
       early : (p : ℕ) (a : Event B) → Has y.order (at_list js p) a → a.time ≤ u
       early p a h = let l = times a (run.law.inside a (run.mid.story.fit p a h).1) in omega arith

@@ -123,8 +123,8 @@ pub trait Model {
     ghost same: { (a b : Self.Body) → Self.Body.cmp a b ≡ Equal → a ≡ b };
 
     /// An undo record that links has no more entries than its bound.
-    ghost light: { (m : Self) (p : ℕ) (before after : Self.State) (e : Event Self.Body) (u : Self.Undo)
-        → Links m p before e u after
+    ghost light: { (m : Self) (p : ℕ) (before after : Self.State) (e : Event Self.Body)
+        (u : Self.Undo) → Links m p before e u after
         → weight u ≤ weight_bound m p before after };
 }
 

@@ -6,7 +6,7 @@ use Rattle.std.proofs.lemmas.Bool.{leb-true}
 use Rattle.std.proofs.lemmas.Option.{slice_get-map}
 use Rattle.rw_vt.specs.declared.event.Event.{Event}
 use Rattle.rw_vt.specs.Order.{copies, Each}
-use Rattle.rw_vt.specs.System.{System, outs, map_from, flatten}
+use Rattle.rw_vt.specs.System.{System, sends_of, map_from, flatten}
 use Rattle.rw_vt.proofs.Sorting.{copies-append}
 use Rattle.rw_vt.proofs.Runs.{IsLawful, copies_joined}
 use Rattle.rw_lp.specs.declared.step.Answer.{Answer}
@@ -18,30 +18,30 @@ use Rattle.rw_lp.specs.Process.{ProcessState, done}
 use Rattle.rw_lp.specs.Sound.{SoundAt}
 use Rattle.rw_lp.proofs.Committing.{done_stays, collect_keeps}
 use Rattle.rw_world.specs.WorldState.{WorldState, floor}
-use Rattle.rw_world.specs.Steps.{refuse, collect_to}
-use Rattle.rw_world.specs.Sound.{held_in, Sound, IsQuiet, Balanced, part, done_of, pending_of, debts_of}
+use Rattle.rw_world.specs.Steps.{refusal, collect_to}
+use Rattle.rw_world.specs.Sound.{held_in, Sound, IsQuiet, Balanced, list_at, done_of, pending_of, debts_of}
 use Rattle.rw_world.proofs.Outstanding.{quiet_to_floor}
 
 module _ {S B : Type 0} (y : System S B) {WellFormed : ℕ → S → Type 0} (law : IsLawful y WellFormed) (t : ℕ) where
   module _ (w : WorldState S B) (sound : Sound y w) (quiet : IsQuiet y t w) where
     same_done : (q : ℕ) → done_of (map (process.collect t) w.processes) q ≡ done_of w.processes q
-    same_done q = ap (part done) (slice_get-map (process.collect t) w.processes q) ∙ go (slice_get w.processes q) refl
+    same_done q = ap (list_at done) (slice_get-map (process.collect t) w.processes q) ∙ go (slice_get w.processes q) refl
       where
-        go : (o : Option (ProcessState S B)) → slice_get w.processes q ≡ o → part done (option_map (process.collect t) o) ≡ part done o
+        go : (o : Option (ProcessState S B)) → slice_get w.processes q ≡ o → list_at done (option_map (process.collect t) o) ≡ list_at done o
         go None h = refl
         go (Some x) h = done_stays y law t w.collected q x (sound.each q x h)
 
     same_pending : (q : ℕ) → pending_of (map (process.collect t) w.processes) q ≡ pending_of w.processes q
-    same_pending q = ap (part (λ x. x.pending)) (slice_get-map (process.collect t) w.processes q) ∙ go (slice_get w.processes q)
+    same_pending q = ap (list_at (λ x. x.pending)) (slice_get-map (process.collect t) w.processes q) ∙ go (slice_get w.processes q)
       where
-        go : (o : Option (ProcessState S B)) → part (λ x. x.pending) (option_map (process.collect t) o) ≡ part (λ x. x.pending) o
+        go : (o : Option (ProcessState S B)) → list_at (λ x. x.pending) (option_map (process.collect t) o) ≡ list_at (λ x. x.pending) o
         go None = refl
         go (Some x) = refl
 
     same_debts : (q : ℕ) → debts_of (map (process.collect t) w.processes) q ≡ debts_of w.processes q
-    same_debts q = ap (part (λ x. x.debts)) (slice_get-map (process.collect t) w.processes q) ∙ go (slice_get w.processes q)
+    same_debts q = ap (list_at (λ x. x.debts)) (slice_get-map (process.collect t) w.processes q) ∙ go (slice_get w.processes q)
       where
-        go : (o : Option (ProcessState S B)) → part (λ x. x.debts) (option_map (process.collect t) o) ≡ part (λ x. x.debts) o
+        go : (o : Option (ProcessState S B)) → list_at (λ x. x.debts) (option_map (process.collect t) o) ≡ list_at (λ x. x.debts) o
         go None = refl
         go (Some x) = refl
 
@@ -54,8 +54,8 @@ module _ {S B : Type 0} (y : System S B) {WellFormed : ℕ → S → Type 0} (la
             let is : process.collect t x ≡ u = cc in
             subst (SoundAt y (max w.collected t) q) is
             (collect_keeps y law t w.collected q x (sound.each q x h)
-            (subst (λ o. Each y.order (λ e. t ≤ e.time) (part (λ x. x.pending) o)) h (quiet.pending q))
-            (subst (λ o. Each y.order (λ e. t ≤ e.time) (part (λ x. x.debts) o)) h (quiet.debts q)))
+            (subst (λ o. Each y.order (λ e. t ≤ e.time) (list_at (λ x. x.pending) o)) h (quiet.pending q))
+            (subst (λ o. Each y.order (λ e. t ≤ e.time) (list_at (λ x. x.debts) o)) h (quiet.debts q)))
 
     same_held : (ps : List (ProcessState S B)) → held_in (map (process.collect t) ps) ≡ held_in ps
     same_held [] = refl
@@ -63,8 +63,8 @@ module _ {S B : Type 0} (y : System S B) {WellFormed : ℕ → S → Type 0} (la
 
     collected_balance : (e : Event B) → Balanced y (map (process.collect t) w.processes) w.letters e
     collected_balance e =
-        let sent : (List (ProcessState S B)) → ℕ → S → List (Event B) = λ xs q s. outs (y.step q) s (done_of xs q) in
-        let a = copies_joined law.exact e (sent (map (process.collect t) w.processes)) (sent w.processes) 0 y.starts (λ i j s m q. ap (λ l. copies y.order e (outs (y.step j) s l)) (same_done j)) in
+        let sent : (List (ProcessState S B)) → ℕ → S → List (Event B) = λ xs q s. sends_of (y.step q) s (done_of xs q) in
+        let a = copies_joined law.exact e (sent (map (process.collect t) w.processes)) (sent w.processes) 0 y.starts (λ i j s m q. ap (λ l. copies y.order e (sends_of (y.step j) s l)) (same_done j)) in
         let b = ap (copies y.order e) (same_done e.to) in
         let c = ap (copies y.order e) (same_pending e.to) in
         let d = ap (copies y.order e) (same_debts e.to) in
@@ -89,6 +89,6 @@ module _ {S B : Type 0} (y : System S B) {WellFormed : ℕ → S → Type 0} (la
   pub collect_sound : (w : WorldState S B) → Sound y w → Sound y (collect_to w t).0
   collect_sound w sound = go (nat_le t (floor w)) refl
     where
-      go : (b : Bool) → nat_le t (floor w) ≡ b → Sound y (cond {A = WorldState S B × Answer} b (record { processes = map (process.collect t) w.processes; letters = w.letters; collected = max w.collected t }, Done) (refuse w AboveFloor)).0
+      go : (b : Bool) → nat_le t (floor w) ≡ b → Sound y (cond {A = WorldState S B × Answer} b (record { processes = map (process.collect t) w.processes; letters = w.letters; collected = max w.collected t }, Done) (refusal w AboveFloor)).0
       go true h = collected_sound w sound (quiet_to_floor y law t w (leb-true t (floor w) h))
       go false h = sound

@@ -10,20 +10,20 @@ use Rattle.rw_vt.proofs.Slices.{IsStory, IsExactBelow, agree_below}
 use Rattle.rw_lp.specs.Process.{ProcessState, done}
 use Rattle.rw_lp.specs.Sound.{Stands}
 use Rattle.rw_world.specs.WorldState.{WorldState}
-use Rattle.rw_world.specs.Sound.{part, done_of, pending_of, debts_of, held_in, Sound, IsQuiet}
+use Rattle.rw_world.specs.Sound.{list_at, done_of, pending_of, debts_of, held_in, Sound, IsQuiet}
 
 module _ {S B : Type 0} (y : System S B) {WellFormed : ℕ → S → Type 0} (law : IsLawful y WellFormed) (w : WorldState S B) (sound : Sound y w) where
   done_sorted : (q : ℕ) → IsAscending y.order (done_of w.processes q)
   done_sorted q = go (slice_get w.processes q) refl
     where
-      go : (o : Option (ProcessState S B)) → slice_get w.processes q ≡ o → IsAscending y.order (part done o)
+      go : (o : Option (ProcessState S B)) → slice_get w.processes q ≡ o → IsAscending y.order (list_at done o)
       go None h = tt
       go (Some x) h = (sound.each q x h).order
 
   done_stands : (q : ℕ) → Each y.order (Stands y q) (done_of w.processes q)
   done_stands q = go (slice_get w.processes q) refl
     where
-      go : (o : Option (ProcessState S B)) → slice_get w.processes q ≡ o → Each y.order (Stands y q) (part done o)
+      go : (o : Option (ProcessState S B)) → slice_get w.processes q ≡ o → Each y.order (Stands y q) (list_at done o)
       go None h = Each-nil law.exact (Stands y q)
       go (Some x) h = Each-append law.exact (Stands y q) x.committed x.processed (sound.each q x h).committed_stand (sound.each q x h).processed_stand
 

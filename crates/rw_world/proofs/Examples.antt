@@ -10,7 +10,7 @@ use Rattle.rw_lp.specs.declared.step.StepFault.TheVariants.{Straggler, StillDone
 use Rattle.rw_lp.specs.declared.step.Answer.TheVariants.{Done, Refused}
 use Rattle.rw_world.specs.declared.step.Step.{Step}
 use Rattle.rw_world.specs.declared.step.Step.TheVariants.{Execute, Undo, Deliver, Collect}
-use Rattle.rw_world.specs.WorldState.{opened, is_finished}
+use Rattle.rw_world.specs.WorldState.{opening_world, is_finished}
 use Rattle.rw_world.specs.Steps.{run, answers}
 
 -- kind 0 is a request, 1 a miss, 2 a fill
@@ -54,27 +54,27 @@ two = example (request 0 5 7 ∷ request 1 5 8 ∷ [])
 abbrev schedule_out_of_order : List Step
 schedule_out_of_order = Execute 0 ∷ Execute 0 ∷ Deliver 1 ∷ Execute 1 ∷ Deliver 0 ∷ Execute 1 ∷ Undo 1 ∷ Execute 1 ∷ Deliver 1 ∷ Deliver 1 ∷ Deliver 0 ∷ Execute 1 ∷ Deliver 0 ∷ Execute 0 ∷ Execute 0 ∷ Collect 1099511627776 ∷ []
 
-answers_out_of_order : answers two (opened two) schedule_out_of_order ≡ Done ∷ Done ∷ Done ∷ Done ∷ Done ∷ Refused Straggler ∷ Done ∷ Done ∷ Done ∷ Done ∷ Done ∷ Done ∷ Done ∷ Done ∷ Done ∷ Done ∷ []
+answers_out_of_order : answers two (opening_world two) schedule_out_of_order ≡ Done ∷ Done ∷ Done ∷ Done ∷ Done ∷ Refused Straggler ∷ Done ∷ Done ∷ Done ∷ Done ∷ Done ∷ Done ∷ Done ∷ Done ∷ Done ∷ Done ∷ []
 answers_out_of_order = refl
 
-journals_out_of_order : map (λ x. x.committed) (run two (opened two) schedule_out_of_order).processes
+journals_out_of_order : map (λ x. x.committed) (run two (opening_world two) schedule_out_of_order).processes
     ≡ (photo 5 0 0 0 0 7 ∷ photo 5 0 1 0 0 8 ∷ photo 21 2 0 0 2 7 ∷ photo 21 2 1 0 2 8 ∷ [])
     ∷ (photo 8 1 0 1 1 7 ∷ photo 8 1 1 1 1 8 ∷ [])
     ∷ []
 journals_out_of_order = refl
 
-finished_out_of_order : is_finished (run two (opened two) schedule_out_of_order) ≡ true
+finished_out_of_order : is_finished (run two (opening_world two) schedule_out_of_order) ≡ true
 finished_out_of_order = refl
 
 -- an anti that waits until its event is undone; a floor that lags behind
 abbrev one : System Cache Body
 one = example (request 0 5 7 ∷ [])
 
-answers_anti_waits : answers one (opened one) (Execute 0 ∷ Deliver 0 ∷ Execute 1 ∷ Undo 0 ∷ Deliver 1 ∷ Undo 1 ∷ Deliver 1 ∷ Deliver 1 ∷ Execute 0 ∷ Deliver 0 ∷ Deliver 0 ∷ Execute 1 ∷ Deliver 0 ∷ Execute 0 ∷ Collect 1099511627776 ∷ [])
+answers_anti_waits : answers one (opening_world one) (Execute 0 ∷ Deliver 0 ∷ Execute 1 ∷ Undo 0 ∷ Deliver 1 ∷ Undo 1 ∷ Deliver 1 ∷ Deliver 1 ∷ Execute 0 ∷ Deliver 0 ∷ Deliver 0 ∷ Execute 1 ∷ Deliver 0 ∷ Execute 0 ∷ Collect 1099511627776 ∷ [])
     ≡ Done ∷ Done ∷ Done ∷ Done ∷ Refused StillDone ∷ Done ∷ Done ∷ Done ∷ Done ∷ Done ∷ Done ∷ Done ∷ Done ∷ Done ∷ Done ∷ []
 answers_anti_waits = refl
 
-answers_above_floor : answers one (opened one) (Collect 5 ∷ Collect 6 ∷ Execute 0 ∷ Undo 0 ∷ Execute 0 ∷ Collect 8 ∷ Undo 0 ∷ Collect 9 ∷ [])
+answers_above_floor : answers one (opening_world one) (Collect 5 ∷ Collect 6 ∷ Execute 0 ∷ Undo 0 ∷ Execute 0 ∷ Collect 8 ∷ Undo 0 ∷ Collect 9 ∷ [])
     ≡ Done ∷ Refused AboveFloor ∷ Done ∷ Done ∷ Done ∷ Done ∷ Refused NothingToUndo ∷ Refused AboveFloor ∷ []
 answers_above_floor = refl
 

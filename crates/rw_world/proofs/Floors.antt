@@ -15,7 +15,7 @@ use Rattle.rw_lp.specs.Calls.{least_time}
 use Rattle.rw_lp.specs.Sound.{Stands, IsHeldFor, SoundAt}
 use Rattle.rw_lp.specs.declared.held.Held.{Held}
 use Rattle.rw_world.specs.WorldState.{WorldState, least_of_processes, least_of_letters, floor, is_empty, are_idle, is_finished}
-use Rattle.rw_world.specs.Sound.{Sound, IsQuiet, part}
+use Rattle.rw_world.specs.Sound.{Sound, IsQuiet, list_at}
 use Rattle.rw_world.proofs.OnTheirWay.{letter_counts}
 use Rattle.rw_world.proofs.Outstanding.{quiet_to_floor}
 
@@ -107,8 +107,8 @@ module _ {S B : Type 0} (y : System S B) {WellFormed : ℕ → S → Type 0} (la
   idle_at : (q : ℕ) (x : ProcessState S B) → slice_get w.processes q ≡ Some x → IsQuiet y end w → (is_empty x.pending ≡ true) × (is_empty x.debts ≡ true) × (is_empty x.held ≡ true)
   idle_at q x at quiet =
       let here : SoundAt y w.collected q x = sound.each q x at in
-      let pending = no_events q x.pending here.pending_stand (subst (λ o. Each y.order (λ e. end ≤ e.time) (part (λ u. u.pending) o)) at (quiet.pending q)) in
-      let debts = no_events q x.debts here.debts_stand (subst (λ o. Each y.order (λ e. end ≤ e.time) (part (λ u. u.debts) o)) at (quiet.debts q)) in
+      let pending = no_events q x.pending here.pending_stand (subst (λ o. Each y.order (λ e. end ≤ e.time) (list_at (λ u. u.pending) o)) at (quiet.pending q)) in
+      let debts = no_events q x.debts here.debts_stand (subst (λ o. Each y.order (λ e. end ≤ e.time) (list_at (λ u. u.debts) o)) at (quiet.debts q)) in
       (pending, debts, none_held x.pending x.held pending (λ z rest is. (All-head (λ h. IsHeldFor y x.pending h) z rest (subst (λ hs. Rattle.std.specs.List.All (λ h. IsHeldFor y x.pending h) hs) is here.held)).there))
 
   all_idle : (ps : List (ProcessState S B)) → ((q : ℕ) (x : ProcessState S B) → slice_get ps q ≡ Some x → (is_empty x.pending ≡ true) × (is_empty x.debts ≡ true) × (is_empty x.held ≡ true)) → are_idle ps ≡ true

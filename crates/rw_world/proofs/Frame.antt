@@ -6,7 +6,7 @@ use Rattle.rw_vt.specs.declared.event.Event.{Event}
 use Rattle.rw_vt.specs.declared.event.Letter.{Letter}
 use Rattle.rw_vt.specs.Order.{copies}
 use Rattle.rw_vt.specs.Letters.{messages, antis}
-use Rattle.rw_vt.specs.System.{System, outs, map_from, flatten, all_sent}
+use Rattle.rw_vt.specs.System.{System, sends_of, map_from, flatten, all_sent}
 use Rattle.rw_vt.proofs.Sorting.{copies-append}
 use Rattle.rw_vt.proofs.Bags.{none_if}
 use Rattle.rw_vt.proofs.Letters.{messages-append, antis-append}
@@ -16,8 +16,8 @@ use Rattle.rw_lp.specs.Process.{ProcessState, Turn, Turned, Stays, done}
 use Rattle.rw_lp.specs.Sound.{SoundAt, SoundLetters, Kept, Keeps}
 use Rattle.rw_lp.proofs.GivenOut.{letters_join}
 use Rattle.rw_world.specs.WorldState.{WorldState}
-use Rattle.rw_world.specs.Steps.{turned}
-use Rattle.rw_world.specs.Sound.{held_in, Sound, Balanced, part, done_of, pending_of, debts_of}
+use Rattle.rw_world.specs.Steps.{world_after}
+use Rattle.rw_world.specs.Sound.{held_in, Sound, Balanced, list_at, done_of, pending_of, debts_of}
 use Rattle.rw_world.proofs.Starts.{start_is}
 use Rattle.rw_world.proofs.Lookups.{get-set_same, get-set_other, map-set_same}
 
@@ -50,12 +50,12 @@ module _ {S B : Type 0} (y : System S B) {WellFormed : ℕ → S → Type 0} (la
     unfolding ps
     new_other q h = get-set_other w.processes p q z h
 
-    sums : (e : Event B) → copies y.order e (all_sent y (done_of ps)) + copies y.order e (outs (y.step p) x.start (done x)) ≡ copies y.order e (all_sent y (done_of w.processes)) + copies y.order e (outs (y.step p) z.start (done z))
+    sums : (e : Event B) → copies y.order e (all_sent y (done_of ps)) + copies y.order e (sends_of (y.step p) x.start (done x)) ≡ copies y.order e (all_sent y (done_of w.processes)) + copies y.order e (sends_of (y.step p) z.start (done z))
     sums e =
-        let sent : (List (ProcessState S B)) → ℕ → S → List (Event B) = λ xs q s. outs (y.step q) s (done_of xs q) in
-        let one = copies_joined_but_one law.exact e (sent w.processes) (sent ps) 0 p p y.starts x.start (start_is y w sound p x at) (omega arith) (λ q s h. ap (λ o. outs (y.step q) s (part done o)) (sym (new_other q h))) in
-        let old : copies y.order e (outs (y.step p) x.start (done_of w.processes p)) ≡ copies y.order e (outs (y.step p) x.start (done x)) = ap (λ o. copies y.order e (outs (y.step p) x.start (part done o))) at in
-        let new : copies y.order e (outs (y.step p) x.start (done_of ps p)) ≡ copies y.order e (outs (y.step p) z.start (done z)) = ap (λ o. copies y.order e (outs (y.step p) x.start (part done o))) new_here ∙ ap (λ s. copies y.order e (outs (y.step p) s (done z))) (sym kept.change.start) in
+        let sent : (List (ProcessState S B)) → ℕ → S → List (Event B) = λ xs q s. sends_of (y.step q) s (done_of xs q) in
+        let one = copies_joined_but_one law.exact e (sent w.processes) (sent ps) 0 p p y.starts x.start (start_is y w sound p x at) (omega arith) (λ q s h. ap (λ o. sends_of (y.step q) s (list_at done o)) (sym (new_other q h))) in
+        let old : copies y.order e (sends_of (y.step p) x.start (done_of w.processes p)) ≡ copies y.order e (sends_of (y.step p) x.start (done x)) = ap (λ o. copies y.order e (sends_of (y.step p) x.start (list_at done o))) at in
+        let new : copies y.order e (sends_of (y.step p) x.start (done_of ps p)) ≡ copies y.order e (sends_of (y.step p) z.start (done z)) = ap (λ o. copies y.order e (sends_of (y.step p) x.start (list_at done o))) new_here ∙ ap (λ s. copies y.order e (sends_of (y.step p) s (done z))) (sym kept.change.start) in
         omega (arith, one, old, new, copies-append law.exact e y.initial (flatten (map_from 0 (sent w.processes) y.starts)), copies-append law.exact e y.initial (flatten (map_from 0 (sent ps) y.starts)))
 
     held_ps : (e : Event B) → copies y.order e (held_in ps) + copies y.order e (held_messages x.held) ≡ copies y.order e (held_in w.processes) + copies y.order e (held_messages z.held)
@@ -66,20 +66,20 @@ module _ {S B : Type 0} (y : System S B) {WellFormed : ℕ → S → Type 0} (la
     balance_here e q =
         let old : slice_get w.processes e.to ≡ Some x = ap (slice_get w.processes) q ∙ at in
         let new : slice_get ps e.to ≡ Some z = ap (slice_get ps) q ∙ new_here in
-        let a1 : copies y.order e (done_of w.processes e.to) ≡ copies y.order e (done x) = ap (λ o. copies y.order e (part done o)) old in
-        let a2 : copies y.order e (pending_of w.processes e.to) ≡ copies y.order e x.pending = ap (λ o. copies y.order e (part (λ u. u.pending) o)) old in
-        let a3 : copies y.order e (debts_of w.processes e.to) ≡ copies y.order e x.debts = ap (λ o. copies y.order e (part (λ u. u.debts) o)) old in
-        let b1 : copies y.order e (done_of ps e.to) ≡ copies y.order e (done z) = ap (λ o. copies y.order e (part done o)) new in
-        let b2 : copies y.order e (pending_of ps e.to) ≡ copies y.order e z.pending = ap (λ o. copies y.order e (part (λ u. u.pending) o)) new in
-        let b3 : copies y.order e (debts_of ps e.to) ≡ copies y.order e z.debts = ap (λ o. copies y.order e (part (λ u. u.debts) o)) new in
+        let a1 : copies y.order e (done_of w.processes e.to) ≡ copies y.order e (done x) = ap (λ o. copies y.order e (list_at done o)) old in
+        let a2 : copies y.order e (pending_of w.processes e.to) ≡ copies y.order e x.pending = ap (λ o. copies y.order e (list_at (λ u. u.pending) o)) old in
+        let a3 : copies y.order e (debts_of w.processes e.to) ≡ copies y.order e x.debts = ap (λ o. copies y.order e (list_at (λ u. u.debts) o)) old in
+        let b1 : copies y.order e (done_of ps e.to) ≡ copies y.order e (done z) = ap (λ o. copies y.order e (list_at done o)) new in
+        let b2 : copies y.order e (pending_of ps e.to) ≡ copies y.order e z.pending = ap (λ o. copies y.order e (list_at (λ u. u.pending) o)) new in
+        let b3 : copies y.order e (debts_of ps e.to) ≡ copies y.order e z.debts = ap (λ o. copies y.order e (list_at (λ u. u.debts) o)) new in
         omega (arith, sums e, sound.balance e, kept.change.kept e, kept.change.sent e, held_ps e, parted.messages_are e, parted.antis_are e, messages-append y.order e left out, antis-append y.order e left out)
 
     balance_elsewhere : (e : Event B) → (e.to ≡ p → ⊥) → Balanced y ps (left ++ out) e
     balance_elsewhere e q =
         let same : slice_get ps e.to ≡ slice_get w.processes e.to = new_other e.to q in
-        let a1 : copies y.order e (done_of ps e.to) ≡ copies y.order e (done_of w.processes e.to) = ap (λ o. copies y.order e (part done o)) same in
-        let a2 : copies y.order e (pending_of ps e.to) ≡ copies y.order e (pending_of w.processes e.to) = ap (λ o. copies y.order e (part (λ u. u.pending) o)) same in
-        let a3 : copies y.order e (debts_of ps e.to) ≡ copies y.order e (debts_of w.processes e.to) = ap (λ o. copies y.order e (part (λ u. u.debts) o)) same in
+        let a1 : copies y.order e (done_of ps e.to) ≡ copies y.order e (done_of w.processes e.to) = ap (λ o. copies y.order e (list_at done o)) same in
+        let a2 : copies y.order e (pending_of ps e.to) ≡ copies y.order e (pending_of w.processes e.to) = ap (λ o. copies y.order e (list_at (λ u. u.pending) o)) same in
+        let a3 : copies y.order e (debts_of ps e.to) ≡ copies y.order e (debts_of w.processes e.to) = ap (λ o. copies y.order e (list_at (λ u. u.debts) o)) same in
         let none : messages y.order e came + antis y.order e came ≡ 0 = none_if (messages y.order e came + antis y.order e came) (λ k. q (parted.come_here e k)) in
         omega (arith, sums e, sound.balance e, kept.change.sent e, held_ps e, parted.messages_are e, parted.antis_are e, messages-append y.order e left out, antis-append y.order e left out)
 
@@ -100,6 +100,6 @@ module _ {S B : Type 0} (y : System S B) {WellFormed : ℕ → S → Type 0} (la
         each q u h (inr k) = sound.each q u (sym (new_other q k) ∙ h)
 
   -- whatever the turn was
-  pub turn_sound : (t : Turn S B) → Keeps y w.collected p x came t → Sound y (turned w p left t).0
+  pub turn_sound : (t : Turn S B) → Keeps y w.collected p x came t → Sound y (world_after w p left t).0
   turn_sound (Stays f) k = sound
   turn_sound (Turned z out) k = turned_sound z out k

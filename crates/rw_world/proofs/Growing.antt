@@ -13,7 +13,7 @@ use Rattle.rw_lp.specs.Process.{ProcessState, Turn, Turned, Stays, execute_next,
 use Rattle.rw_world.specs.declared.step.Step.{Step}
 use Rattle.rw_world.specs.declared.step.Step.TheVariants.{Execute, Undo, Deliver, Collect}
 use Rattle.rw_world.specs.WorldState.{WorldState, floor}
-use Rattle.rw_world.specs.Steps.{refuse, turned, turn, remove_at, deliver_to, deliver_letter, apply}
+use Rattle.rw_world.specs.Steps.{refusal, world_after, turn_at, remove_at, deliver_to, deliver_letter, apply}
 use Rattle.rw_world.specs.Sound.{Sound}
 use Rattle.rw_world.proofs.Outcomes.{in_order}
 use Rattle.rw_world.proofs.Schedules.{apply_sound}
@@ -35,11 +35,11 @@ module _ {S B : Type 0} (y : System S B) where
       (r.0, r.1 ∙ ap (λ n. journal_below y n q) e)
 
   module _ (w : WorldState S B) where
-    at_turned : (p : ℕ) (left : List (Letter B)) (t : Turn S B) → w.collected ≤ (turned w p left t).0.collected
+    at_turned : (p : ℕ) (left : List (Letter B)) (t : Turn S B) → w.collected ≤ (world_after w p left t).0.collected
     at_turned p left (Stays f) = omega arith
     at_turned p left (Turned z out) = omega arith
 
-    at_turn : (p : ℕ) (step : ProcessState S B → Turn S B) (o : Option (ProcessState S B)) → w.collected ≤ (turn w p step o).0.collected
+    at_turn : (p : ℕ) (step : ProcessState S B → Turn S B) (o : Option (ProcessState S B)) → w.collected ≤ (turn_at w p step o).0.collected
     at_turn p step None = omega arith
     at_turn p step (Some x) = at_turned p w.letters (step x)
 
@@ -51,7 +51,7 @@ module _ {S B : Type 0} (y : System S B) where
     at_deliver i None = omega arith
     at_deliver i (Some l) = at_place i l (slice_get w.processes l.event.to)
 
-    at_collect : (t : ℕ) (b : Bool) → w.collected ≤ (cond {A = WorldState S B × Answer} b (record { processes = map (process.collect t) w.processes; letters = w.letters; collected = max w.collected t }, Done) (refuse w AboveFloor)).0.collected
+    at_collect : (t : ℕ) (b : Bool) → w.collected ≤ (cond {A = WorldState S B × Answer} b (record { processes = map (process.collect t) w.processes; letters = w.letters; collected = max w.collected t }, Done) (refusal w AboveFloor)).0.collected
     at_collect t true = omega arith
     at_collect t false = omega arith
 

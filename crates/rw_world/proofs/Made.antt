@@ -20,7 +20,7 @@ use Rattle.rw_world.specs.declared.parts.Parts.{Parts}
 use Rattle.rw_world.specs.declared.step.Step.{Step}
 use Rattle.rw_world.specs.declared.step.Step.TheVariants.{Execute, Undo, Deliver}
 use Rattle.rw_world.specs.WorldState.{WorldState}
-use Rattle.rw_world.specs.Steps.{turned, turn, remove_at, deliver_to, deliver_letter, apply}
+use Rattle.rw_world.specs.Steps.{world_after, turn_at, remove_at, deliver_to, deliver_letter, apply}
 use Rattle.rw_world.specs.Calls.{system_of, with_world, world_of, simulation_of, AreNumbered, IsWhole, Made, ExecutesAt}
 use Rattle.rw_world.proofs.Lookups.{get-set_same, get-set_other, set_there}
 
@@ -33,16 +33,16 @@ remove_at_is (x ∷ xs) (suc i) = ap (λ l. x ∷ l) (remove_at_is xs i)
 
 module _ {S B : Type 0} (w : WorldState S B) (p : ℕ) (u v : ProcessState S B) (answer : Answer) (at : slice_get w.processes p ≡ Some u) where
   -- the world after process p took a turn, by what the process did
-  pub turned_is : (given : List (Letter B)) (t : Turn S B) → Took u v answer given t → turned w p w.letters t ≡ (record { processes = slice_set w.processes p v; letters = w.letters ++ given; collected = w.collected }, answer)
+  pub turned_is : (given : List (Letter B)) (t : Turn S B) → Took u v answer given t → world_after w p w.letters t ≡ (record { processes = slice_set w.processes p v; letters = w.letters ++ given; collected = w.collected }, answer)
   turned_is given (Turned after out) k = rw (k.0, k.1, k.2) refl
   turned_is given (Stays f) k = let same = set_there w.processes p u at in rw (k.0, k.1, k.2, same, append-nil w.letters) refl
 
   -- the same where a letter was taken up, and nothing given out
-  pub delivered_is : (left : List (Letter B)) (t : Turn S B) → answer ≡ Done → Took u v answer [] t → turned w p left t ≡ (record { processes = slice_set w.processes p v; letters = left; collected = w.collected }, answer)
+  pub delivered_is : (left : List (Letter B)) (t : Turn S B) → answer ≡ Done → Took u v answer [] t → world_after w p left t ≡ (record { processes = slice_set w.processes p v; letters = left; collected = w.collected }, answer)
   delivered_is left (Turned after out) done k = rw (k.0, k.1, sym k.2, append-nil left) refl
   delivered_is left (Stays f) done k = let never : Done ≡ Refused f = sym done ∙ k.1 in cc
 
-  pub undelivered_is : (left : List (Letter B)) (t : Turn S B) → (answer ≡ Done → ⊥) → Took u v answer [] t → turned w p left t ≡ (record { processes = slice_set w.processes p v; letters = w.letters; collected = w.collected }, answer)
+  pub undelivered_is : (left : List (Letter B)) (t : Turn S B) → (answer ≡ Done → ⊥) → Took u v answer [] t → world_after w p left t ≡ (record { processes = slice_set w.processes p v; letters = w.letters; collected = w.collected }, answer)
   undelivered_is left (Turned after out) not_done k = absurd (not_done k.1)
   undelivered_is left (Stays f) not_done k = let same = set_there w.processes p u at in rw (k.0, k.1, same) refl
 
@@ -99,7 +99,7 @@ module _ {M S B U : Type 0} (model : Ghosts M S B U) (order : B → B → Orderi
       let by_number = subst (λ n. Took old.process new.process answer given (execute_next (rules model order x.model) n old.process)) known.1 by_model in
       let turn_taken = subst (Took old.process new.process answer given) (execute_by_rules model order x.model x.starts.value.items x.initial.value.items p old.process) by_number in
       made (Execute p) answer (x.letters.items ++ given) is
-      (ap (turn (world_of x) p (execute_next y p)) process_there ∙ turned_is (world_of x) p old.process new.process answer process_there given (execute_next y p old.process) turn_taken)
+      (ap (turn_at (world_of x) p (execute_next y p)) process_there ∙ turned_is (world_of x) p old.process new.process answer process_there given (execute_next y p old.process) turn_taken)
 
   pub made_undo : (answer : Answer) (given : List (Letter B)) → z.letters.items ≡ x.letters.items ++ given → Took old.process new.process answer given (undo_one (rules model order old.model) old.number old.process) → Made model order x z (Undo p) answer
   made_undo answer given is took =
@@ -109,17 +109,17 @@ module _ {M S B U : Type 0} (model : Ghosts M S B U) (order : B → B → Orderi
       let by_number = subst (λ n. Took old.process new.process answer given (undo_one (rules model order x.model) n old.process)) known.1 by_model in
       let turn_taken = subst (Took old.process new.process answer given) (undo_by_rules model order x.model x.starts.value.items x.initial.value.items p old.process) by_number in
       made (Undo p) answer (x.letters.items ++ given) is
-      (ap (turn (world_of x) p (undo_one y p)) process_there ∙ turned_is (world_of x) p old.process new.process answer process_there given (undo_one y p old.process) turn_taken)
+      (ap (turn_at (world_of x) p (undo_one y p)) process_there ∙ turned_is (world_of x) p old.process new.process answer process_there given (undo_one y p old.process) turn_taken)
 
   -- letter i, which goes to p, comes
   module _ (i : ℕ) (letter : Letter B) (letter_there : slice_get x.letters.items i ≡ Some letter) (to : letter.event.to ≡ p) (answer : Answer) (took : Took old.process new.process answer [] (process.deliver (event_cmp order) letter old.process)) where
-    deliver_is : apply (system_of model order (simulation_of x)) (world_of x) (Deliver i) ≡ turned (world_of x) p (remove_at x.letters.items i) (process.deliver (event_cmp order) letter old.process)
+    deliver_is : apply (system_of model order (simulation_of x)) (world_of x) (Deliver i) ≡ world_after (world_of x) p (remove_at x.letters.items i) (process.deliver (event_cmp order) letter old.process)
     deliver_is =
         let y : System S B = system_of model order (simulation_of x) in
         ap (deliver_letter y (world_of x) i) letter_there
         ∙ ap (λ q. deliver_to y (world_of x) i letter (slice_get (world_of x).processes q)) to
         ∙ ap (deliver_to y (world_of x) i letter) process_there
-        ∙ ap (λ q. turned (world_of x) q (remove_at x.letters.items i) (process.deliver (event_cmp order) letter old.process)) to
+        ∙ ap (λ q. world_after (world_of x) q (remove_at x.letters.items i) (process.deliver (event_cmp order) letter old.process)) to
 
     pub made_deliver : answer ≡ Done → z.letters.items ≡ take i x.letters.items ++ drop (suc i) x.letters.items → Made model order x z (Deliver i) answer
     made_deliver done is = made (Deliver i) answer (remove_at x.letters.items i) (is ∙ remove_at_is x.letters.items i)

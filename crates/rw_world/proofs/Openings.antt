@@ -8,7 +8,7 @@ use Rattle.rw_vt.specs.declared.model.Model.{Ghosts}
 use Rattle.rw_vt.specs.System.{System, system, map_from, IsReady}
 use Rattle.rw_lp.specs.Calls.{LogicalProcess}
 use Rattle.rw_world.specs.declared.parts.Parts.{Parts}
-use Rattle.rw_world.specs.WorldState.{opened_at, opened}
+use Rattle.rw_world.specs.WorldState.{opening_process, opening_world}
 use Rattle.rw_world.specs.Sound.{Sound}
 use Rattle.rw_world.specs.Calls.{Simulation, system_of, simulation_of, AreNumbered, IsWhole}
 use Rattle.rw_world.proofs.Lookups.{get-map_from}
@@ -25,15 +25,15 @@ module _ {M S B U : Type 0} {model : Ghosts M S B U} {order : B → B → Orderi
   y = system model order x.model starts initial
 
   abbrev pub start_of : ℕ → S → LogicalProcess M S B
-  start_of q s = record { model = x.model; number = q; process = opened_at y q s }
+  start_of q s = record { model = x.model; number = q; process = opening_process y q s }
 
   abbrev pub now : Simulation M S B
-  now = record { model = x.model; starts = starts; initial = initial; world = opened y }
+  now = record { model = x.model; starts = starts; initial = initial; world = opening_world y }
 
   module _ (processes_are : x.processes.items ≡ map_from 0 start_of starts) where
     pub opened_is : simulation_of x ≡ now
     opened_is =
-        let processes : map (λ l. l.process) x.processes.items ≡ map_from 0 (opened_at y) starts = ap (map (λ l. l.process)) processes_are ∙ map-map_from (λ l. l.process) start_of 0 starts in
+        let processes : map (λ l. l.process) x.processes.items ≡ map_from 0 (opening_process y) starts = ap (map (λ l. l.process)) processes_are ∙ map-map_from (λ l. l.process) start_of 0 starts in
         rw (starts_are, initial_are, processes, no_letters, at_first) refl
 
     numbered : AreNumbered x.model x.processes.items

@@ -19,7 +19,7 @@ use Rattle.rw_lp.specs.Sound.{SoundAt}
 use Rattle.rw_lp.proofs.Holding.{held_from}
 use Rattle.rw_world.specs.WorldState.{WorldState, least_of_processes, least_of_letters, floor, is_empty, are_idle, is_finished}
 use Rattle.rw_lp.specs.Calls.{least_time}
-use Rattle.rw_world.specs.Sound.{held_in, Sound, IsQuiet, part, pending_of, debts_of}
+use Rattle.rw_world.specs.Sound.{held_in, Sound, IsQuiet, list_at, pending_of, debts_of}
 
 module _ {S B : Type 0} (y : System S B) where
   module _ {WellFormed : ℕ → S → Type 0} (law : IsLawful y WellFormed) (t : ℕ) where
@@ -117,10 +117,10 @@ module _ {S B : Type 0} (y : System S B) where
         held : (ps : List (ProcessState S B)) → ((q : ℕ) (x : ProcessState S B) → slice_get ps q ≡ Some x → SoundAt y w.collected q x) → Each y.order (λ e. w.collected ≤ e.time) (held_in ps)
         held ps f = held_all w.collected 0 ps (λ q x h. let k : q ≡ 0 + q = omega arith in subst (λ n. SoundAt y w.collected n x) k (f q x h))
 
-        pending : (q : ℕ) (o : Option (ProcessState S B)) → slice_get w.processes q ≡ o → Each y.order (λ e. w.collected ≤ e.time) (part (λ x. x.pending) o)
+        pending : (q : ℕ) (o : Option (ProcessState S B)) → slice_get w.processes q ≡ o → Each y.order (λ e. w.collected ≤ e.time) (list_at (λ x. x.pending) o)
         pending q None h = λ e k. absurd (omega arith)
         pending q (Some x) h = (sound.each q x h).pending_from
 
-        debts : (q : ℕ) (o : Option (ProcessState S B)) → slice_get w.processes q ≡ o → Each y.order (λ e. w.collected ≤ e.time) (part (λ x. x.debts) o)
+        debts : (q : ℕ) (o : Option (ProcessState S B)) → slice_get w.processes q ≡ o → Each y.order (λ e. w.collected ≤ e.time) (list_at (λ x. x.debts) o)
         debts q None h = λ e k. absurd (omega arith)
         debts q (Some x) h = (sound.each q x h).debts_from

@@ -12,18 +12,18 @@ use Rattle.rw_lp.specs.Process.{ProcessState, Turn, Turned, Stays, execute_next,
 use Rattle.rw_world.specs.declared.step.Step.{Step}
 use Rattle.rw_world.specs.declared.step.Step.TheVariants.{Execute, Undo, Deliver, Collect}
 use Rattle.rw_world.specs.WorldState.{WorldState, floor}
-use Rattle.rw_world.specs.Steps.{refuse, turned, turn, remove_at, deliver_to, deliver_letter, apply}
+use Rattle.rw_world.specs.Steps.{refusal, world_after, turn_at, remove_at, deliver_to, deliver_letter, apply}
 
 module _ {S B : Type 0} (y : System S B) (w : WorldState S B) where
   -- the answer is no and nothing changed, or the answer is yes
   abbrev Same : WorldState S B × Answer → Type 0
   Same r = (f : StepFault) → r.1 ≡ Refused f → r.0 ≡ w
 
-  at_turned : (p : ℕ) (left : List (Letter B)) (t : Turn S B) → Same (turned w p left t)
+  at_turned : (p : ℕ) (left : List (Letter B)) (t : Turn S B) → Same (world_after w p left t)
   at_turned p left (Stays f) g q = refl
   at_turned p left (Turned z out) g q = cc
 
-  at_turn : (p : ℕ) (step : ProcessState S B → Turn S B) (o : Option (ProcessState S B)) → Same (turn w p step o)
+  at_turn : (p : ℕ) (step : ProcessState S B → Turn S B) (o : Option (ProcessState S B)) → Same (turn_at w p step o)
   at_turn p step None f q = refl
   at_turn p step (Some x) f q = at_turned p w.letters (step x) f q
 
@@ -35,7 +35,7 @@ module _ {S B : Type 0} (y : System S B) (w : WorldState S B) where
   at_deliver i None f q = refl
   at_deliver i (Some l) f q = at_place i l (slice_get w.processes l.event.to) f q
 
-  at_collect : (b : Bool) (v : WorldState S B) → Same (cond {A = WorldState S B × Answer} b (v, Done) (refuse w AboveFloor))
+  at_collect : (b : Bool) (v : WorldState S B) → Same (cond {A = WorldState S B × Answer} b (v, Done) (refusal w AboveFloor))
   at_collect true v f q = cc
   at_collect false v f q = refl
 

@@ -8,7 +8,7 @@ use Rattle.rw_vt.specs.declared.event.Event.{Event}
 use Rattle.rw_vt.specs.declared.event.Letter.{Letter}
 use Rattle.rw_vt.specs.Order.{copies}
 use Rattle.rw_vt.specs.Letters.{messages, antis}
-use Rattle.rw_vt.specs.System.{System, outs, map_from, flatten, all_sent}
+use Rattle.rw_vt.specs.System.{System, sends_of, map_from, flatten, all_sent}
 use Rattle.rw_vt.proofs.Sorting.{copies-append}
 use Rattle.rw_vt.proofs.Bags.{none_if}
 use Rattle.rw_vt.proofs.Letters.{messages-append, antis-append}
@@ -18,7 +18,7 @@ use Rattle.rw_lp.specs.Process.{ProcessState, done}
 use Rattle.rw_lp.specs.Sound.{SoundAt, Kept}
 use Rattle.rw_lp.proofs.GivenOut.{letters_join}
 use Rattle.rw_world.specs.WorldState.{WorldState}
-use Rattle.rw_world.specs.Sound.{held_in, Sound, Balanced, part, done_of, pending_of, debts_of}
+use Rattle.rw_world.specs.Sound.{held_in, Sound, Balanced, list_at, done_of, pending_of, debts_of}
 use Rattle.rw_world.specs.Rounds.{all_letters, KeptAt, Exchanged}
 use Rattle.rw_world.proofs.Lookups.{some_at}
 use Rattle.rw_world.proofs.Sums.{sum_only, sum_some}
@@ -56,24 +56,24 @@ module _ {S B : Type 0} (y : System S B) where
 
     -- what all send and hold changes by what all gave out
     sent_all : (e : Event B) (k : ℕ) (ps vs : List (ProcessState S B)) (D D' : ℕ → List (Event B)) → Pairs k ps vs → Tells k ps D → Tells k vs D' →
-        copies y.order e (flatten (map_from k (λ q s. outs (y.step q) s (D' q)) (map (λ x. x.start) vs))) + copies y.order e (held_in vs) + antis y.order e (flatten (map_from k (λ q _. out q) (map (λ x. x.start) vs)))
-        ≡ copies y.order e (flatten (map_from k (λ q s. outs (y.step q) s (D q)) (map (λ x. x.start) ps))) + copies y.order e (held_in ps) + messages y.order e (flatten (map_from k (λ q _. out q) (map (λ x. x.start) ps)))
+        copies y.order e (flatten (map_from k (λ q s. sends_of (y.step q) s (D' q)) (map (λ x. x.start) vs))) + copies y.order e (held_in vs) + antis y.order e (flatten (map_from k (λ q _. out q) (map (λ x. x.start) vs)))
+        ≡ copies y.order e (flatten (map_from k (λ q s. sends_of (y.step q) s (D q)) (map (λ x. x.start) ps))) + copies y.order e (held_in ps) + messages y.order e (flatten (map_from k (λ q _. out q) (map (λ x. x.start) ps)))
     sent_all e k [] [] D D' h t t' = refl
     sent_all e k [] (z ∷ vs) D D' h t t' = absurd (h zero k (omega arith))
     sent_all e k (x ∷ ps) [] D D' h t t' = absurd (h zero k (omega arith))
     sent_all e k (x ∷ ps) (z ∷ vs) D D' h t t' =
         let kept : Kept y g k x z (came k) (out k) = h zero k (omega arith) in
         let ih = sent_all e (k + 1) ps vs D D' (λ i j q. h (suc i) j (omega arith)) (λ i j a m q. t (suc i) j a m (omega arith)) (λ i j a m q. t' (suc i) j a m (omega arith)) in
-        let a1 : copies y.order e (outs (y.step k) x.start (D k)) ≡ copies y.order e (outs (y.step k) x.start (done x)) = ap (λ l. copies y.order e (outs (y.step k) x.start l)) (t zero k x refl (omega arith)) in
-        let a2 : copies y.order e (outs (y.step k) z.start (D' k)) ≡ copies y.order e (outs (y.step k) z.start (done z)) = ap (λ l. copies y.order e (outs (y.step k) z.start l)) (t' zero k z refl (omega arith)) in
+        let a1 : copies y.order e (sends_of (y.step k) x.start (D k)) ≡ copies y.order e (sends_of (y.step k) x.start (done x)) = ap (λ l. copies y.order e (sends_of (y.step k) x.start l)) (t zero k x refl (omega arith)) in
+        let a2 : copies y.order e (sends_of (y.step k) z.start (D' k)) ≡ copies y.order e (sends_of (y.step k) z.start (done z)) = ap (λ l. copies y.order e (sends_of (y.step k) z.start l)) (t' zero k z refl (omega arith)) in
         omega (
           arith,
           ih,
           a1,
           a2,
           kept.change.sent e,
-          copies-append law.exact e (outs (y.step k) x.start (D k)) (flatten (map_from (k + 1) (λ q s. outs (y.step q) s (D q)) (map (λ x. x.start) ps))),
-          copies-append law.exact e (outs (y.step k) z.start (D' k)) (flatten (map_from (k + 1) (λ q s. outs (y.step q) s (D' q)) (map (λ x. x.start) vs))),
+          copies-append law.exact e (sends_of (y.step k) x.start (D k)) (flatten (map_from (k + 1) (λ q s. sends_of (y.step q) s (D q)) (map (λ x. x.start) ps))),
+          copies-append law.exact e (sends_of (y.step k) z.start (D' k)) (flatten (map_from (k + 1) (λ q s. sends_of (y.step q) s (D' q)) (map (λ x. x.start) vs))),
           copies-append law.exact e (held_messages x.held) (held_in ps),
           copies-append law.exact e (held_messages z.held) (held_in vs),
           messages-append y.order e (out k) (flatten (map_from (k + 1) (λ q _. out q) (map (λ x. x.start) ps))),
@@ -88,7 +88,7 @@ module _ {S B : Type 0} (y : System S B) where
     started = starts_stay law w.collected came out 0 w.processes v.processes pairs ∙ sound.starts
 
     tells : (ps : List (ProcessState S B)) → Tells law w.collected came out 0 ps (done_of ps)
-    tells ps i j x m q = let e : j ≡ i = omega arith in ap (λ n. done_of ps n) e ∙ ap (part done) m
+    tells ps i j x m q = let e : j ≡ i = omega arith in ap (λ n. done_of ps n) e ∙ ap (list_at done) m
 
     each : (q : ℕ) (z : ProcessState S B) → slice_get v.processes q ≡ Some z → SoundAt y v.collected q z
     each q z h = subst (λ n. SoundAt y n q z) (sym ex.collected) (go (slice_get w.processes q) (slice_get v.processes q) h (ex.kept q))
@@ -101,7 +101,7 @@ module _ {S B : Type 0} (y : System S B) where
 
     sent_in_all : (e : Event B) → copies y.order e (all_sent y (done_of v.processes)) + copies y.order e (held_in v.processes) + antis y.order e (all_letters y out) ≡ copies y.order e (all_sent y (done_of w.processes)) + copies y.order e (held_in w.processes) + messages y.order e (all_letters y out)
     sent_in_all e =
-        let sends : List (ProcessState S B) → ℕ → S → List (Event B) = λ ps q s. outs (y.step q) s (done_of ps q) in
+        let sends : List (ProcessState S B) → ℕ → S → List (Event B) = λ ps q s. sends_of (y.step q) s (done_of ps q) in
         let all = sent_all law w.collected came out e 0 w.processes v.processes (done_of w.processes) (done_of v.processes) pairs (tells w.processes) (tells v.processes) in
         let a1 = ap (λ ss. copies y.order e (flatten (map_from 0 (sends v.processes) ss))) started in
         let a2 = ap (λ ss. copies y.order e (flatten (map_from 0 (sends w.processes) ss))) sound.starts in
@@ -127,7 +127,7 @@ module _ {S B : Type 0} (y : System S B) where
     kept_at e q which cm ca there beyond = go (slice_get w.processes q) (slice_get v.processes q) refl which (ex.kept q)
       where
         go : (a b : Option (ProcessState S B)) → slice_get w.processes q ≡ a → (q < length y.starts) ⊎ (length y.starts ≤ q) → KeptAt y w.collected q a b (came q) (out q) →
-            copies y.order e (part done b) + copies y.order e (part (λ u. u.pending) b) + copies y.order e (part (λ u. u.debts) a) + ca ≡ copies y.order e (part done a) + copies y.order e (part (λ u. u.pending) a) + copies y.order e (part (λ u. u.debts) b) + cm
+            copies y.order e (list_at done b) + copies y.order e (list_at (λ u. u.pending) b) + copies y.order e (list_at (λ u. u.debts) a) + ca ≡ copies y.order e (list_at done a) + copies y.order e (list_at (λ u. u.pending) a) + copies y.order e (list_at (λ u. u.debts) b) + cm
         go (Some x) (Some z) m (inl i) k = let t = there i in omega (arith, k.change.kept e, t.0, t.1)
         go (Some x) (Some z) m (inr o) k = let n : Some x ≡ None = absent q o (Some x) m in cc
         go None None m (inl i) k =

@@ -17,7 +17,7 @@ use Rattle.rw_lp.specs.Process.{ProcessState, Turn}
 use Rattle.rw_lp.specs.Sound.{SoundAt, Keeps}
 use Rattle.rw_lp.proofs.Turns.{deliver_keeps}
 use Rattle.rw_world.specs.WorldState.{WorldState}
-use Rattle.rw_world.specs.Steps.{remove_at, turn, deliver_to, deliver_letter}
+use Rattle.rw_world.specs.Steps.{remove_at, turn_at, deliver_to, deliver_letter}
 use Rattle.rw_world.specs.Sound.{Sound}
 use Rattle.rw_world.proofs.Starts.{start_is}
 use Rattle.rw_world.proofs.OnTheirWay.{messages-remove_at, antis-remove_at, letters_fewer, letter_counts}
@@ -32,10 +32,10 @@ module _ {S B : Type 0} (y : System S B) {WellFormed : ℕ → S → Type 0} (la
   good_start p x at = law.starts p x.start (start_is y w sound p x at)
 
   -- a turn to which no letter comes
-  pub turn_sound : (p : ℕ) (step : ProcessState S B → Turn S B) → ((x : ProcessState S B) → WellFormed p x.start → SoundAt y w.collected p x → Keeps y w.collected p x [] (step x)) → Sound y (turn w p step (slice_get w.processes p)).0
+  pub turn_sound : (p : ℕ) (step : ProcessState S B → Turn S B) → ((x : ProcessState S B) → WellFormed p x.start → SoundAt y w.collected p x → Keeps y w.collected p x [] (step x)) → Sound y (turn_at w p step (slice_get w.processes p)).0
   turn_sound p step keeps = find (slice_get w.processes p) refl
     where
-      find : (o : Option (ProcessState S B)) → slice_get w.processes p ≡ o → Sound y (turn w p step o).0
+      find : (o : Option (ProcessState S B)) → slice_get w.processes p ≡ o → Sound y (turn_at w p step o).0
       find None h = sound
       find (Some x) h = any_turn_sound y law w sound p x h w.letters [] (none_came p) sound.letters (step x) (keeps x (good_start p x h) (sound.each p x h))
 

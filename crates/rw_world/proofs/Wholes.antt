@@ -14,7 +14,7 @@ use Rattle.rw_vt.specs.System.{IsReady, journal_below}
 use Rattle.rw_vt.proofs.Runs.{IsLawful}
 use Rattle.rw_vt.proofs.Laws.{lawful}
 use Rattle.rw_world.specs.declared.parts.Parts.{Parts}
-use Rattle.rw_world.specs.Sound.{Sound, IsInOrder, part, committed_of}
+use Rattle.rw_world.specs.Sound.{Sound, IsInOrder, list_at, committed_of}
 use Rattle.rw_world.specs.Calls.{Simulation, system_of, simulation_of, world_of, IsWhole}
 use Rattle.rw_world.proofs.Lookups.{some_at}
 use Rattle.rw_world.proofs.OnTheirWay.{letter_counts}
@@ -51,4 +51,4 @@ module _ {M S B U : Type 0} {model : Ghosts M S B U} {order : B → B → Orderi
     committed_is p within =
         let n : length (world_of x).processes ≡ length x.processes.items = length-map x.processes.items (λ l. l.process) in
         let there = some_at (world_of x).processes p (omega arith) in
-        ap (part (λ u. u.committed)) there.1 ∙ (world_in_order (simulation_of x) whole.ready whole.sound).committed p there.0 there.1
+        ap (list_at (λ u. u.committed)) there.1 ∙ (world_in_order (simulation_of x) whole.ready whole.sound).committed p there.0 there.1

@@ -47,8 +47,8 @@ abbrev pub simulation_of : {M S B U : Type 0} → Parts M S B U → Simulation M
 simulation_of x = record { model = x.model; starts = x.starts.value.items; initial = x.initial.value.items; world = world_of x }
 
 -- a process after it has collected
-abbrev pub collected : {M S B : Type 0} → Time → LogicalProcess M S B → LogicalProcess M S B
-collected t l = record l { process = process.collect t l.process }
+abbrev pub after_collecting : {M S B : Type 0} → Time → LogicalProcess M S B → LogicalProcess M S B
+after_collecting t l = record l { process = process.collect t l.process }
 
 -- the processes run the model m, and are numbered from 0
 abbrev pub AreNumbered : {M S B : Type 0} → M → List (LogicalProcess M S B) → Type 0

@@ -17,6 +17,6 @@ step_of processes v =
     else Collect ((v / 8) % 64)
 
 -- n steps of a world with so many processes, drawn from the numbers after x, of each the upper 31 bits
-abbrev pub drawn : Count → ℕ → Count → List Step
-drawn processes x zero = []
-drawn processes x (suc n) = step_of processes (next_number x / 2 ^ 33) ∷ drawn processes (next_number x) n
+abbrev pub drawn_steps : Count → ℕ → Count → List Step
+drawn_steps processes x zero = []
+drawn_steps processes x (suc n) = step_of processes (next_number x / 2 ^ 33) ∷ drawn_steps processes (next_number x) n

@@ -11,6 +11,7 @@ use Rattle.rw_world.specs.declared.step.Step.{Step}
 use Rattle.rw_world.specs.WorldState.{WorldState, floor}
 use Rattle.rw_world.specs.Sound.{Sound, IsInOrder, IsQuiet, StepKept}
 use Rattle.rw_world.specs.Rounds.{Exchanged}
+use Rattle.rw_vt.specs.declared.event.TheConstants.{END}
 
 -- each step keeps a sound world sound, a refused one leaves it as it was, and no committed event is lost
 abbrev pub StepsKeepSound : {M S B U : Type 0} → Ghosts M S B U → (B → B → Ordering) → Type 0
@@ -25,7 +26,7 @@ SoundIsInOrder {M} {S} {B} model order =
 -- the floor is the greatest time, up to the end, before which nothing is outstanding
 abbrev pub FloorIsGreatest : {M S B U : Type 0} → Ghosts M S B U → (B → B → Ordering) → Type 0
 FloorIsGreatest {M} {S} {B} model order =
-    (k : Setting model) (w : WorldState S B) (t : Time) → (t ≤ floor w) ↔ ((t ≤ 2 ^ 40) × IsQuiet (system_in order k) t w)
+    (k : Setting model) (w : WorldState S B) (t : Time) → (t ≤ floor w) ↔ ((t ≤ END) × IsQuiet (system_in order k) t w)
 
 -- whatever all processes of a sound world do at once, each keeping its balance of letters, the world is sound afterwards
 abbrev pub ExchangesKeepSound : {M S B U : Type 0} → Ghosts M S B U → (B → B → Ordering) → Type 0

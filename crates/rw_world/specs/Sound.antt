@@ -5,7 +5,7 @@ use Rattle.rw_vt.specs.declared.event.Event.{Event}
 use Rattle.rw_vt.specs.declared.event.Letter.{Letter}
 use Rattle.rw_vt.specs.Order.{copies, Each}
 use Rattle.rw_vt.specs.Letters.{messages, antis}
-use Rattle.rw_vt.specs.System.{System, after, all_sent, journal_below, IsOutcome}
+use Rattle.rw_vt.specs.System.{System, state_after, all_sent, journal_below, IsOutcome}
 use Rattle.rw_lp.specs.HeldMessages.{held_messages}
 use Rattle.rw_lp.specs.Process.{ProcessState, done}
 use Rattle.rw_lp.specs.Sound.{SoundAt, SoundLetters}
@@ -14,25 +14,26 @@ use Rattle.rw_lp.specs.declared.step.Answer.TheVariants.{Refused}
 use Rattle.rw_world.specs.declared.step.Step.{Step}
 use Rattle.rw_world.specs.WorldState.{WorldState, floor, is_finished}
 use Rattle.rw_world.specs.Steps.{apply}
+use Rattle.rw_vt.specs.declared.event.TheConstants.{END}
 
 -- Lists of one process, empty where there is none, or of all
 
-abbrev pub part : {S B : Type 0} → (ProcessState S B → List (Event B)) → Option (ProcessState S B) → List (Event B)
-part f None = []
-part f (Some x) = f x
+abbrev pub list_at : {S B : Type 0} → (ProcessState S B → List (Event B)) → Option (ProcessState S B) → List (Event B)
+list_at f None = []
+list_at f (Some x) = f x
 
 -- what process q has committed, has done, is to execute, and owes
 abbrev pub committed_of : {S B : Type 0} → List (ProcessState S B) → Process → List (Event B)
-committed_of ps q = part (λ x. x.committed) (slice_get ps q)
+committed_of ps q = list_at (λ x. x.committed) (slice_get ps q)
 
 abbrev pub done_of : {S B : Type 0} → List (ProcessState S B) → Process → List (Event B)
-done_of ps q = part done (slice_get ps q)
+done_of ps q = list_at done (slice_get ps q)
 
 abbrev pub pending_of : {S B : Type 0} → List (ProcessState S B) → Process → List (Event B)
-pending_of ps q = part (λ x. x.pending) (slice_get ps q)
+pending_of ps q = list_at (λ x. x.pending) (slice_get ps q)
 
 abbrev pub debts_of : {S B : Type 0} → List (ProcessState S B) → Process → List (Event B)
-debts_of ps q = part (λ x. x.debts) (slice_get ps q)
+debts_of ps q = list_at (λ x. x.debts) (slice_get ps q)
 
 -- all that is held anywhere
 abbrev pub held_in : {S B : Type 0} → List (ProcessState S B) → List (Event B)
@@ -63,9 +64,9 @@ pub record IsQuiet {S B : Type 0} (y : System S B) (t : Time) (w : WorldState S 
 -- in order of time, and a finished world is the outcome of that
 pub record IsInOrder {S B : Type 0} (y : System S B) (w : WorldState S B) : Type 0 where
   pub committed : (q : Process) (x : ProcessState S B) → slice_get w.processes q ≡ Some x → x.committed ≡ journal_below y w.collected q
-  pub left : (q : Process) (x : ProcessState S B) → slice_get w.processes q ≡ Some x → after (y.step q) x.start x.committed ≡ after (y.step q) x.start (journal_below y w.collected q)
+  pub left : (q : Process) (x : ProcessState S B) → slice_get w.processes q ≡ Some x → state_after (y.step q) x.start x.committed ≡ state_after (y.step q) x.start (journal_below y w.collected q)
   pub before_floor : (t : Time) (q : Process) → t ≤ floor w → filter (λ e. nat_lt e.time t) (done_of w.processes q) ≡ journal_below y t q
-  pub finished : is_finished w ≡ true → IsOutcome y (2 ^ 40) (map done w.processes) (map (λ x. x.state) w.processes)
+  pub finished : is_finished w ≡ true → IsOutcome y (END) (map done w.processes) (map (λ x. x.state) w.processes)
 
 -- a step leads to a sound world, a refused one leaves the world as it was, and committed lists only grow
 pub record StepKept {S B : Type 0} (y : System S B) (w : WorldState S B) (step : Step) : Type 0 where

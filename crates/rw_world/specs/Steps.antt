@@ -14,18 +14,18 @@ use Rattle.rw_world.specs.declared.step.Step.TheVariants.{Execute, Undo, Deliver
 use Rattle.rw_world.specs.WorldState.{WorldState, floor}
 
 -- the world as it is, with the fault for which a step does not apply
-abbrev pub refuse : {S B : Type 0} → WorldState S B → StepFault → WorldState S B × Answer
-refuse w fault = (w, Refused fault)
+abbrev pub refusal : {S B : Type 0} → WorldState S B → StepFault → WorldState S B × Answer
+refusal w fault = (w, Refused fault)
 
 -- process p took this turn, while these letters were left on their way
-abbrev pub turned : {S B : Type 0} → WorldState S B → Process → List (Letter B) → Turn S B → WorldState S B × Answer
-turned w p left (Stays fault) = refuse w fault
-turned w p left (Turned x out) = (record w { processes = slice_set w.processes p x; letters = left ++ out }, Done)
+abbrev pub world_after : {S B : Type 0} → WorldState S B → Process → List (Letter B) → Turn S B → WorldState S B × Answer
+world_after w p left (Stays fault) = refusal w fault
+world_after w p left (Turned x out) = (record w { processes = slice_set w.processes p x; letters = left ++ out }, Done)
 
 -- process p, if there is one, takes a turn
-abbrev pub turn : {S B : Type 0} → WorldState S B → Process → (ProcessState S B → Turn S B) → Option (ProcessState S B) → WorldState S B × Answer
-turn w p step None = refuse w NoSuchProcess
-turn w p step (Some x) = turned w p w.letters (step x)
+abbrev pub turn_at : {S B : Type 0} → WorldState S B → Process → (ProcessState S B → Turn S B) → Option (ProcessState S B) → WorldState S B × Answer
+turn_at w p step None = refusal w NoSuchProcess
+turn_at w p step (Some x) = world_after w p w.letters (step x)
 
 -- the list without the one at a place
 abbrev pub remove_at : {A : Type 0} → List A → Count → List A
@@ -35,12 +35,12 @@ remove_at (x ∷ xs) (suc i) = x ∷ remove_at xs i
 
 -- letter i comes to this process
 abbrev pub deliver_to : {S B : Type 0} → System S B → WorldState S B → Count → Letter B → Option (ProcessState S B) → WorldState S B × Answer
-deliver_to y w i l None = refuse w NoSuchProcess
-deliver_to y w i l (Some x) = turned w l.event.to (remove_at w.letters i) (process.deliver y.order l x)
+deliver_to y w i l None = refusal w NoSuchProcess
+deliver_to y w i l (Some x) = world_after w l.event.to (remove_at w.letters i) (process.deliver y.order l x)
 
 -- letter i, if there is one, comes to its process
 abbrev pub deliver_letter : {S B : Type 0} → System S B → WorldState S B → Count → Option (Letter B) → WorldState S B × Answer
-deliver_letter y w i None = refuse w NoSuchLetter
+deliver_letter y w i None = refusal w NoSuchLetter
 deliver_letter y w i (Some l) = deliver_to y w i l (slice_get w.processes l.event.to)
 
 -- all processes collect up to time t, if nothing outstanding is before it
@@ -48,12 +48,12 @@ abbrev pub collect_to : {S B : Type 0} → WorldState S B → Time → WorldStat
 collect_to w t =
     if nat_le t (floor w)
     then (record w { processes = map (process.collect t) w.processes; collected = max w.collected t }, Done)
-    else refuse w AboveFloor
+    else refusal w AboveFloor
 
 -- one step, and what it answers
 abbrev pub apply : {S B : Type 0} → System S B → WorldState S B → Step → WorldState S B × Answer
-apply y w (Execute p) = turn w p (execute_next y p) (slice_get w.processes p)
-apply y w (Undo p) = turn w p (undo_one y p) (slice_get w.processes p)
+apply y w (Execute p) = turn_at w p (execute_next y p) (slice_get w.processes p)
+apply y w (Undo p) = turn_at w p (undo_one y p) (slice_get w.processes p)
 apply y w (Deliver i) = deliver_letter y w i (slice_get w.letters i)
 apply y w (Collect t) = collect_to w t
 

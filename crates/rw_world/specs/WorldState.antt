@@ -4,7 +4,8 @@ use Rattle.rw_vt.specs.Words.{Process, Time}
 use Rattle.rw_vt.specs.declared.event.Letter.{Letter}
 use Rattle.rw_vt.specs.System.{System, map_from}
 use Rattle.rw_lp.specs.Process.{ProcessState}
-use Rattle.rw_lp.specs.Calls.{unstarted, least_outstanding}
+use Rattle.rw_lp.specs.Calls.{new_process, least_outstanding}
+use Rattle.rw_vt.specs.declared.event.TheConstants.{END}
 
 -- the processes, the letters on their way, and the greatest time collected
 pub record WorldState (S B : Type 0) : Type 0 where
@@ -15,12 +16,12 @@ pub record WorldState (S B : Type 0) : Type 0 where
 -- Before any step: the initial events are pending where they go
 
 -- process q as it starts
-abbrev pub opened_at : {S B : Type 0} → System S B → Process → S → ProcessState S B
-opened_at y q s = unstarted y.order s (filter (λ e. e.to == q) y.initial)
+abbrev pub opening_process : {S B : Type 0} → System S B → Process → S → ProcessState S B
+opening_process y q s = new_process y.order s (filter (λ e. e.to == q) y.initial)
 
 -- the world in which nothing is done
-abbrev pub opened : {S B : Type 0} → System S B → WorldState S B
-opened y = record { processes = map_from 0 (opened_at y) y.starts; letters = []; collected = 0 }
+abbrev pub opening_world : {S B : Type 0} → System S B → WorldState S B
+opening_world y = record { processes = map_from 0 (opening_process y) y.starts; letters = []; collected = 0 }
 
 -- What is outstanding
 
@@ -36,7 +37,7 @@ least_of_letters m (l ∷ ls) = min l.event.time (least_of_letters m ls)
 
 -- the least time of what is outstanding, the end of time if there is nothing: global virtual time
 abbrev pub floor : {S B : Type 0} → WorldState S B → Time
-floor w = least_of_letters (least_of_processes (2 ^ 40) w.processes) w.letters
+floor w = least_of_letters (least_of_processes (END) w.processes) w.letters
 
 abbrev pub is_empty : {A : Type 0} → List A → Bool
 is_empty [] = true

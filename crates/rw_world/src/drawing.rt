@@ -1,5 +1,5 @@
 ghost use Rattle.std.specs.Prelude.{◌≡◌, ◌<◌, IfOk};
-ghost use Rattle.rw_world.specs.Drawn.{drawn, next_number, step_of};
+ghost use Rattle.rw_world.specs.Drawn.{drawn_steps, next_number, step_of};
 
 use crate::step::Step;
 use rw_vt::NoMemory;
@@ -10,7 +10,7 @@ use std::alloc::Global;
 /// deliveries of letters 0 to 7 and one a collection up to a time below 64, in ticks.
 pub fn draw(alloc: Global, seed: u64, count: u64, processes: u32) -> Result<Vec<Step>, NoMemory>
     requires processes { 0 < processes }
-    ensures { IfOk result (λ v. v.items ≡ drawn processes seed count) }
+    ensures { IfOk result (λ v. v.items ≡ drawn_steps processes seed count) }
 {
     let mut steps = Vec::new(alloc);
     let mut number = seed;

@@ -1,7 +1,7 @@
 ghost use Rattle.std.specs.Prelude.{◌≡◌, ◌<◌, ◌==◌, ℕ, [], IfOk, IfErr, All, filter, length, map, replicate, slice_index_or};
 ghost use Rattle.rw_vt.specs.System.{IsReady, map_from, system};
 ghost use Rattle.rw_vt.specs.declared.refusal.Refusal.TheVariants.{Memory};
-ghost use Rattle.rw_world.specs.WorldState.{opened_at};
+ghost use Rattle.rw_world.specs.WorldState.{opening_process};
 
 use rw_lp::Lp;
 use rw_vt::{Event, Model as VtModel, Refusal};
@@ -18,7 +18,7 @@ pub fn open_processes<M: VtModel>(
     ensures opened { IfOk result (λ v. v.items ≡ map_from 0 (λ q s. record {
       model = model.now;
       number = q;
-      process = opened_at (system M.Model M.Body.cmp model.now starts.items events.now) q s;
+      process = opening_process (system M.Model M.Body.cmp model.now starts.items events.now) q s;
     }) starts.items) }
     ensures memory { IfErr result (λ e. e ≡ Memory) }
 {

@@ -3,7 +3,7 @@ ghost use Rattle.rw_vt.specs.Order.{event_cmp, Each};
 ghost use Rattle.rw_vt.specs.declared.refusal.Refusal.TheVariants.{Memory};
 ghost use Rattle.rw_lp.specs.Calls.{LogicalProcess};
 ghost use Rattle.rw_world.specs.WorldState.{floor};
-ghost use Rattle.rw_world.specs.Calls.{collected, world_of, IsWhole, ExecutesAt, Made};
+ghost use Rattle.rw_world.specs.Calls.{after_collecting, world_of, IsWhole, ExecutesAt, Made};
 
 use crate::least::{least_of_letters, least_of_processes};
 use crate::parts::Parts;
@@ -117,8 +117,8 @@ fn collect_all<M: VtModel>(processes: &mut Vec<Lp<M>>, time: u64) -> Result<(), 
         → slice_get processes.old.items q ≡ Some x
         → Each (event_cmp M.Body.cmp) (λ e. time ≤ e.time) x.process.pending
         × Each (event_cmp M.Body.cmp) (λ e. time ≤ e.time) x.process.debts }
-    ensures collected { OnOk result
-        (processes.new.items ≡ map (collected time) processes.old.items) }
+    ensures after_collecting { OnOk result
+        (processes.new.items ≡ map (after_collecting time) processes.old.items) }
     ensures memory { IfErr result (λ e. e ≡ Memory) }
 {
     for place in 0..processes.len() {

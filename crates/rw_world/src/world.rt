@@ -1,11 +1,11 @@
 ghost use Rattle.std.specs.Prelude.{◌≡◌, ◌↔◌, ◌<◌, ◌≤◌, ◌^◌, ℕ, true, IfOk, IfErr, map, filter, nat_lt, slice_get, Some};
 ghost use Rattle.rw_vt.specs.Order.{event_cmp};
-ghost use Rattle.rw_vt.specs.System.{after, journal_below, system, IsOutcome, IsReady};
+ghost use Rattle.rw_vt.specs.System.{state_after, journal_below, system, IsOutcome, IsReady};
 ghost use Rattle.rw_vt.specs.declared.refusal.Refusal.TheVariants.{Memory};
 ghost use Rattle.rw_lp.specs.Process.{done};
 ghost use Rattle.rw_lp.specs.declared.step.Answer.TheVariants.{Refused};
 ghost use Rattle.rw_lp.specs.declared.step.StepFault.{StepFault};
-ghost use Rattle.rw_world.specs.WorldState.{opened, floor, is_finished};
+ghost use Rattle.rw_world.specs.WorldState.{opening_world, floor, is_finished};
 ghost use Rattle.rw_world.specs.Steps.{apply, run, answers};
 ghost use Rattle.rw_world.specs.Faults.{Applies};
 ghost use Rattle.rw_world.specs.Sound.{Sound, IsInOrder, committed_of, done_of};
@@ -50,11 +50,11 @@ impl<M: VtModel + Drop> World<M> {
         initial: Vec<Event<M::Body>>,
     ) -> Result<World<M>, Refusal>
         requires ready { IsReady M.Model model starts.items initial.items }
-        ensures opened { IfOk result (λ w. w ≡ record {
+        ensures opening_world { IfOk result (λ w. w ≡ record {
           model = model;
           starts = starts.items;
           initial = initial.items;
-          world = opened (system M.Model M.Body.cmp model starts.items initial.items);
+          world = opening_world (system M.Model M.Body.cmp model starts.items initial.items);
         }) }
         ensures sound { IfOk result (λ w. IsSound M.Model M.Body.cmp w) }
         ensures memory { IfErr result (λ e. e ≡ Memory) }
@@ -147,7 +147,7 @@ impl<M: VtModel + Drop> World<M> {
     pub fn finished(&self) -> bool
         ensures is { result ≡ is_finished self.now.world }
         ensures outcome { result ≡ true
-            → IsOutcome (system_of M.Model M.Body.cmp self.now) (2 ^ 40)
+            → IsOutcome (system_of M.Model M.Body.cmp self.now) (END)
             (map done self.now.world.processes) (map (λ x. x.state) self.now.world.processes) }
     {
         self.parts.floor() == END
@@ -169,7 +169,7 @@ impl<M: VtModel + Drop> World<M> {
         requires process { p < M.process_count self.now.model }
         ensures is { slice_get (map (λ x. x.state) self.now.world.processes) p ≡ Some result.now }
         ensures fold { (start : M.State) → slice_get self.now.starts p ≡ Some start
-            → result.now ≡ after (M.step self.now.model p) start
+            → result.now ≡ state_after (M.step self.now.model p) start
             (done_of self.now.world.processes p) }
     {
         self.parts.processes[p as usize].state()

@@ -2,7 +2,7 @@ use Rattle.std.proofs.Common.{rules, ◌≡◌, ◌+◌, ◌≤◌, [], ◌∷�
 use Rattle.std.proofs.lemmas.List.Elements.{All-cons, All-nil, All-head, All-tail, All-same}
 use Rattle.std.proofs.lemmas.List.{nil_from_length}
 use Rattle.rw_board.specs.Least.{least}
-use Rattle.rw_board.specs.Seats.{all_noted}
+use Rattle.rw_board.specs.Seats.{all_notes}
 use Rattle.rw_board.proofs.Keeps.{joins, ends, least-END, least_within}
 use Rattle.rw_board.proofs.board.close.Goals as goal
 
@@ -57,10 +57,10 @@ loop-seat-preserved c =
       heavy = omega arith;
       weight = omega (arith, c.seat.invariant.1, inv.weight);
       theirs = All-tail (λ p. p.board ≡ c.board.inside.table.shared.table_id) _ _ (All-same (λ p. p.board ≡ c.board.inside.table.shared.table_id) _ _ (sym items) inv.theirs);
-      noted = inv.noted ∙ (ap (λ ps. c.loop-seat.all.me.0.noted ++ all_noted ps) items
-          ∙ (ap (λ xs. c.loop-seat.all.me.0.noted ++ (xs ++ all_noted c.next-in-loop-seat.new.self.rest.items)) (sym own_noted)
-          ∙ (sym (append_assoc c.loop-seat.all.me.0.noted c.seat.inside.inner.me.0.noted (all_noted c.next-in-loop-seat.new.self.rest.items))
-          ∙ ap (λ xs. xs ++ all_noted c.next-in-loop-seat.new.self.rest.items) (sym noted))));
+      noted = inv.noted ∙ (ap (λ ps. c.loop-seat.all.me.0.noted ++ all_notes ps) items
+          ∙ (ap (λ xs. c.loop-seat.all.me.0.noted ++ (xs ++ all_notes c.next-in-loop-seat.new.self.rest.items)) (sym own_noted)
+          ∙ (sym (append_assoc c.loop-seat.all.me.0.noted c.seat.inside.inner.me.0.noted (all_notes c.next-in-loop-seat.new.self.rest.items))
+          ∙ ap (λ xs. xs ++ all_notes c.next-in-loop-seat.new.self.rest.items) (sym noted))));
       read = λ n h k. inv.read n (omega arith) (All-same (λ p. n ≤ p.read) _ _ items (All-cons (λ p. n ≤ p.read) _ _ (omega arith) k));
     }
 
@@ -68,13 +68,13 @@ pub returns-clause-least : goal.returns-clause-least
 returns-clause-least c =
     let inv = c.loop-seat.invariant in
     let none : c.loop-seat.seat-iterator.rest.items ≡ [] = nil_from_length c.loop-seat.seat-iterator.rest.items (sym c.loop-seat.seat-iterator.rest.ok.0 ∙ c.in-None.ensures.steps.0) in
-    let all : all_noted c.args.seats.items ≡ c.loop-seat.all.me.0.noted = inv.noted ∙ (ap (λ ps. c.loop-seat.all.me.0.noted ++ all_noted ps) none ∙ append-nil c.loop-seat.all.me.0.noted) in
+    let all : all_notes c.args.seats.items ≡ c.loop-seat.all.me.0.noted = inv.noted ∙ (ap (λ ps. c.loop-seat.all.me.0.noted ++ all_notes ps) none ∙ append-nil c.loop-seat.all.me.0.noted) in
     let len : length c.loop-seat.seat-iterator.rest.items ≡ 0 = ap length none in
     let e = ends _ _ _ _ _ _ c.close_with-closed.ensures.values.2 c.word-word.ensures (omega (arith, inv.weight)) (omega (arith, inv.weight)) in
     e.0 ∙ ap least (sym all)
 
 pub returns-clause-end : goal.returns-clause-end
-returns-clause-end c = omega (arith, returns-clause-least c, least-END (all_noted c.args.seats.items))
+returns-clause-end c = omega (arith, returns-clause-least c, least-END (all_notes c.args.seats.items))
 
 pub returns-clause-noted : goal.returns-clause-noted
 returns-clause-noted c k d lt = omega (arith, returns-clause-least c, least_within c.args.seats.items k d lt)

@@ -2,7 +2,7 @@ use Rattle.std.proofs.Common.{◌≡◌, ◌+◌, ◌++◌, ◌<◌, suc, true, 
 use Rattle.std.specs.Result.{is_ok}
 use Rattle.rw_photo.specs.Cache.{Cache}
 use Rattle.rw_photo.specs.declared.counters.Counters.{Counters}
-use Rattle.rw_photo.specs.Counts.{added}
+use Rattle.rw_photo.specs.Counts.{sum_of}
 use Rattle.rw_ripqwarp.specs.Report.{cache_lines, line, name_of, totals}
 use Rattle.rw_ripqwarp.proofs.Lines.{line-append, lines-more, totals-more}
 use Rattle.rw_ripqwarp.proofs.text.report_of_states.Goals as goal
@@ -27,8 +27,8 @@ loop-process-preserved c =
           ∙ sym (lines-more counted config 0 n states c.index-states-process.result within ∙ rw zero-add refl);
       total =
           c.add.ensures
-          ∙ ap (λ t. added t c.counters-counters.result) c.loop-process.invariant.total
-          ∙ ap (λ k. added (totals (map counted (take n states))) k) counters
+          ∙ ap (λ t. sum_of t c.counters-counters.result) c.loop-process.invariant.total
+          ∙ ap (λ k. sum_of (totals (map counted (take n states))) k) counters
           ∙ sym (totals-more counted n states c.index-states-process.result within);
     })
 

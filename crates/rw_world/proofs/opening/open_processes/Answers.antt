@@ -3,8 +3,8 @@ use Rattle.std.specs.Prelude.{filter, ◌==◌}
 use Rattle.std.proofs.lemmas.List.Elements.{All-same}
 use Rattle.rw_vt.specs.Order.{event_cmp}
 use Rattle.rw_vt.specs.System.{system, map_from}
-use Rattle.rw_lp.specs.Calls.{LogicalProcess, unstarted}
-use Rattle.rw_world.specs.WorldState.{opened_at}
+use Rattle.rw_lp.specs.Calls.{LogicalProcess, new_process}
+use Rattle.rw_world.specs.WorldState.{opening_process}
 use Rattle.rw_world.proofs.Inboxes.{all_to, drop_head, first_of, rest_of, opened_more}
 use Rattle.rw_world.proofs.opening.open_processes.Goals as goal
 
@@ -51,13 +51,13 @@ loop-start-preserved g c =
     let rest = c.next.new.self.rest.items in
     let made = c.loop-start.processes.items in
     let y = system g.M.Model g.M.Body.Ord.cmp c.args.model.now c.args.starts.items c.args.events.now in
-    let opened : ℕ → g.row.M-State.Denot → LogicalProcess g.row.M.Denot g.row.M-State.Denot g.row.M-Body.Denot = λ q s. record { model = c.args.model.now; number = q; process = opened_at y q s } in
+    let opened : ℕ → g.row.M-State.Denot → LogicalProcess g.row.M.Denot g.row.M-State.Denot g.row.M-Body.Denot = λ q s. record { model = c.args.model.now; number = q; process = opening_process y q s } in
     let r : c.loop-start.start-iterator.rest.items ≡ start ∷ rest = c.in-Some.ensures.steps.0 in
     let q : c.loop-start.inboxes.rest.items ≡ c.in-Some-next.inbox ∷ c.next-in-loop-start.new.self.rest.items = c.in-Some-next.ensures.items in
     let inbox = first_of (λ j. j.items) c.loop-start.inboxes.rest.items c.in-Some-next.inbox c.next-in-loop-start.new.self.rest.items (λ k. filter (λ e. e.to == (n + k)) c.args.events.now) q known.sorted_out in
     let z : n + 0 ≡ n = omega arith in
     let mine : c.in-Some-next.inbox.items ≡ filter (λ e. e.to == n) c.args.events.now = inbox ∙ ap (λ m. filter (λ e. e.to == m) c.args.events.now) z in
-    let is : c.in_ok-new.field-0 ≡ opened n start = c.in_ok-new.ensures.opened ∙ ap (λ l. let p : LogicalProcess g.row.M.Denot g.row.M-State.Denot g.row.M-Body.Denot = record { model = c.args.model.now; number = n; process = unstarted (event_cmp g.M.Body.Ord.cmp) start l } in p) mine in
+    let is : c.in_ok-new.field-0 ≡ opened n start = c.in_ok-new.ensures.opened ∙ ap (λ l. let p : LogicalProcess g.row.M.Denot g.row.M-State.Denot g.row.M-Body.Denot = record { model = c.args.model.now; number = n; process = new_process (event_cmp g.M.Body.Ord.cmp) start l } in p) mine in
     record {
       room = omega (arith, known.room, ap length r);
       boxes = omega (arith, known.boxes, ap length r, ap length q);

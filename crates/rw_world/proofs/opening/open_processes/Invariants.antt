@@ -1,7 +1,7 @@
 use Rattle.std.proofs.Common.{◌≡◌, ◌+◌, ◌<◌, ℕ, [], ◌++◌, length, map, drop, get_or}
 use Rattle.std.specs.Prelude.{filter, ◌==◌}
 use Rattle.rw_vt.specs.System.{system, map_from}
-use Rattle.rw_world.specs.WorldState.{opened_at}
+use Rattle.rw_world.specs.WorldState.{opening_process}
 use Rattle.rw_world.proofs.opening.open_processes.Given as goal
 
 abbrev pub invariant-loop-start : goal.invariant-loop-start
@@ -10,6 +10,6 @@ invariant-loop-start g l = record {
   boxes : length l.inboxes.rest.items ≡ length l.start-iterator.rest.items;
   left : l.start-iterator.rest.items ≡ drop l.number l.fn.starts.items;
   sorted_out : (k : ℕ) → k < length l.inboxes.rest.items → get_or (map (λ j. j.items) l.inboxes.rest.items) k [] ≡ filter (λ e. e.to == (l.number + k)) l.events;
-  opened : l.processes.items ++ map_from l.number (λ q s. record { model = l.model; number = q; process = opened_at (system g.M.Model g.M.Body.Ord.cmp l.model l.fn.starts.items l.events) q s }) l.start-iterator.rest.items
-      ≡ map_from 0 (λ q s. record { model = l.model; number = q; process = opened_at (system g.M.Model g.M.Body.Ord.cmp l.model l.fn.starts.items l.events) q s }) l.fn.starts.items;
+  opened : l.processes.items ++ map_from l.number (λ q s. record { model = l.model; number = q; process = opening_process (system g.M.Model g.M.Body.Ord.cmp l.model l.fn.starts.items l.events) q s }) l.start-iterator.rest.items
+      ≡ map_from 0 (λ q s. record { model = l.model; number = q; process = opening_process (system g.M.Model g.M.Body.Ord.cmp l.model l.fn.starts.items l.events) q s }) l.fn.starts.items;
 }

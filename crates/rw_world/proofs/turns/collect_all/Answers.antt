@@ -1,6 +1,6 @@
 use Rattle.std.proofs.Common.{◌≡◌, ◌<◌, length, get_or, ap, ◌∙◌, arith}
 use Rattle.std.proofs.lemmas.List.Edits.{map_over_more}
-use Rattle.rw_world.specs.Calls.{collected}
+use Rattle.rw_world.specs.Calls.{after_collecting}
 use Rattle.rw_world.proofs.Collects.{length-collected_to, next_is, collected_all}
 use Rattle.rw_world.proofs.turns.collect_all.Goals as goal
 
@@ -32,7 +32,7 @@ loop-place-preserved g c =
     let within : k < length ys = omega arith in
     c.in_ok-put_back.ensures.back ys l within c.swap_remove-process.ensures.items
     ∙ ap (λ z. Rattle.std.specs.Prelude.slice_set ys k z) c.in_ok-collect.ensures.collected
-    ∙ map_over_more (collected c.args.time) xs ys k l (omega arith) c.loop-place.invariant c.swap_remove-process.ensures.value
+    ∙ map_over_more (after_collecting c.args.time) xs ys k l (omega arith) c.loop-place.invariant c.swap_remove-process.ensures.value
 
 pub returns-clause-collected : goal.returns-clause-collected
 returns-clause-collected g c = c.loop-place.invariant ∙ collected_all c.args.time c.loop-place.place c.args.processes.now.items (omega arith)

@@ -1,5 +1,5 @@
 use Rattle.std.proofs.Common.{◌≡◌, ap, subst}
-use Rattle.rw_lp.specs.Past.{Past}
+use Rattle.rw_lp.specs.Past.{HistoryState}
 use Rattle.rw_lp.specs.Process.{collect}
 use Rattle.rw_lp.specs.Calls.{LogicalProcess, process_of}
 use Rattle.rw_lp.proofs.Own.{still_for}
@@ -8,10 +8,10 @@ use Rattle.rw_lp.proofs.lp.Lp.collect.Goals as goal
 pub invariant_of-result : goal.invariant_of-result
 invariant_of-result g c =
     still_for g.M.Model c.self.inside.history c.self.inside.pending c.self.inside.debts c.self.invariant c.in_ok-history.history
-    (ap (λ (w : Past g.row.M.Denot g.row.M-State.Denot g.row.M-Body.Denot). w.model) c.in_ok-history.ensures.committed)
-    (ap (λ (w : Past g.row.M.Denot g.row.M-State.Denot g.row.M-Body.Denot). w.number) c.in_ok-history.ensures.committed)
+    (ap (λ (w : HistoryState g.row.M.Denot g.row.M-State.Denot g.row.M-Body.Denot). w.model) c.in_ok-history.ensures.committed)
+    (ap (λ (w : HistoryState g.row.M.Denot g.row.M-State.Denot g.row.M-Body.Denot). w.number) c.in_ok-history.ensures.committed)
 
 pub returns-clause-collected : goal.returns-clause-collected
 returns-clause-collected g c =
     subst (λ (w : LogicalProcess g.row.M.Denot g.row.M-State.Denot g.row.M-Body.Denot). process_of c.in_ok-history.history c.self.inside.pending c.self.inside.debts ≡ record { model = w.model; number = w.number; process = collect c.args.time w.process }) c.self.view_is
-    (ap (λ (h : Past g.row.M.Denot g.row.M-State.Denot g.row.M-Body.Denot). process_of h c.self.inside.pending c.self.inside.debts) c.in_ok-history.ensures.committed)
+    (ap (λ (h : HistoryState g.row.M.Denot g.row.M-State.Denot g.row.M-Body.Denot). process_of h c.self.inside.pending c.self.inside.debts) c.in_ok-history.ensures.committed)

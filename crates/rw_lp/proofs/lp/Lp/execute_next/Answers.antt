@@ -8,8 +8,8 @@ use Rattle.rw_vt.proofs.EventOrder.{events_exact}
 use Rattle.rw_vt.proofs.Sorting.{IsExactOrder, Has-head}
 use Rattle.rw_lp.specs.declared.step.StepFault.TheVariants.{NothingPending, Straggler}
 use Rattle.rw_lp.specs.declared.step.Answer.TheVariants.{Done, Refused}
-use Rattle.rw_lp.specs.Past.{Past}
-use Rattle.rw_lp.specs.Process.{ProcessState, executed, execute_next}
+use Rattle.rw_lp.specs.Past.{HistoryState}
+use Rattle.rw_lp.specs.Process.{ProcessState, after_execution, execute_next}
 use Rattle.rw_lp.specs.Calls.{LogicalProcess, process_of, rules, MeetsNext, Took}
 use Rattle.rw_lp.proofs.Bridges.{nothing_pending, is_straggler, is_executed}
 use Rattle.rw_lp.proofs.Own.{pending_less, still_for}
@@ -49,7 +49,7 @@ invariant_of-lp g c =
     let o : IsExactOrder (event_cmp g.M.Body.Ord.cmp) = events_exact (record { total = g.met.M.Body.Ord.total; same = g.met.M.Model.same }) in
     let less = pending_less g.M.Model c.self.inside.history c.self.inside.pending c.self.inside.debts c.self.invariant o c.in-Some.first.now c.take-taken.new.self c.take-taken.ensures.rest in
     still_for g.M.Model c.self.inside.history c.take-taken.new.self c.self.inside.debts less c.in_ok-history.history
-    (ap (λ (w : Past g.row.M.Denot g.row.M-State.Denot g.row.M-Body.Denot). w.model) c.in_ok-history.ensures.after) (ap (λ (w : Past g.row.M.Denot g.row.M-State.Denot g.row.M-Body.Denot). w.number) c.in_ok-history.ensures.after)
+    (ap (λ (w : HistoryState g.row.M.Denot g.row.M-State.Denot g.row.M-Body.Denot). w.model) c.in_ok-history.ensures.after) (ap (λ (w : HistoryState g.row.M.Denot g.row.M-State.Denot g.row.M-Body.Denot). w.number) c.in_ok-history.ensures.after)
 
 pub returns-in_err-history-clause-exhausted : goal.returns-in_err-history-clause-exhausted
 returns-in_err-history-clause-exhausted g c = λ e.
@@ -74,9 +74,9 @@ returns-clause-turn g c =
     let given : List (Letter g.row.M-Body.Denot) = letters_of false (y.step x.number x.process.state e).1 in
     let rest : c.take-taken.new.self ≡ head.0 = c.take-taken.ensures.rest ∙ ap (without (event_cmp g.M.Body.Ord.cmp) e) head.1 ∙ without_head o e head.0 in
     let now : ProcessState g.row.M-State.Denot g.row.M-Body.Denot = (process_of c.in_ok-history.history c.take-taken.new.self c.self.inside.debts).process in
-    let is : now ≡ executed y x.number x.process e head.0 [] =
-    ap (λ (h : Past g.row.M.Denot g.row.M-State.Denot g.row.M-Body.Denot). (process_of h c.take-taken.new.self c.self.inside.debts).process) c.in_ok-history.ensures.after
-    ∙ ap (λ l. executed y x.number x.process e l []) rest in
+    let is : now ≡ after_execution y x.number x.process e head.0 [] =
+    ap (λ (h : HistoryState g.row.M.Denot g.row.M-State.Denot g.row.M-Body.Denot). (process_of h c.take-taken.new.self c.self.inside.debts).process) c.in_ok-history.ensures.after
+    ∙ ap (λ l. after_execution y x.number x.process e l []) rest in
     subst (λ (w : LogicalProcess g.row.M.Denot g.row.M-State.Denot g.row.M-Body.Denot). (given : List (Letter g.row.M-Body.Denot)) × (c.execute.new.out.items ≡ c.args.out.now.items ++ given) × Took w.process now Done given (execute_next (rules g.M.Model g.M.Body.Ord.cmp w.model) w.number w.process)) c.self.view_is
     (given, c.in_ok-history.ensures.sent, is_executed y x.number x.process e head.0 head.1 late refl now given is refl)
 
@@ -100,8 +100,8 @@ returns-clause-balance g c =
     let given : List (Letter g.row.M-Body.Denot) = letters_of false (y.step x.number x.process.state e).1 in
     let rest : c.take-taken.new.self ≡ head.0 = c.take-taken.ensures.rest ∙ ap (without (event_cmp g.M.Body.Ord.cmp) e) head.1 ∙ without_head o e head.0 in
     let now : ProcessState g.row.M-State.Denot g.row.M-Body.Denot = (process_of c.in_ok-history.history c.take-taken.new.self c.self.inside.debts).process in
-    let is : now ≡ executed y x.number x.process e head.0 [] =
-    ap (λ (h : Past g.row.M.Denot g.row.M-State.Denot g.row.M-Body.Denot). (process_of h c.take-taken.new.self c.self.inside.debts).process) c.in_ok-history.ensures.after
-    ∙ ap (λ l. executed y x.number x.process e l []) rest in
+    let is : now ≡ after_execution y x.number x.process e head.0 [] =
+    ap (λ (h : HistoryState g.row.M.Denot g.row.M-State.Denot g.row.M-Body.Denot). (process_of h c.take-taken.new.self c.self.inside.debts).process) c.in_ok-history.ensures.after
+    ∙ ap (λ l. after_execution y x.number x.process e l []) rest in
     subst (λ (w : LogicalProcess g.row.M.Denot g.row.M-State.Denot g.row.M-Body.Denot). (given : List (Letter g.row.M-Body.Denot)) × (c.execute.new.out.items ≡ c.args.out.now.items ++ given) × Change (rules g.M.Model g.M.Body.Ord.cmp w.model) w.number w.process now [] given) c.self.view_is
     (given, c.in_ok-history.ensures.sent, execution_balanced y o x.number x.process now e head.0 given c.in_ok-history.ensures.fold refl head.1 is refl)

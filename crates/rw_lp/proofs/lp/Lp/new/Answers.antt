@@ -3,7 +3,7 @@ use Rattle.rw_vt.specs.Order.{event_cmp, copies, Each}
 use Rattle.rw_vt.proofs.EventOrder.{events_exact}
 use Rattle.rw_vt.proofs.Sorting.{IsExactOrder, each_of_all, copies-in_order}
 use Rattle.rw_vt.proofs.Bags.{Each-nil}
-use Rattle.rw_lp.specs.Past.{Past, IsFor}
+use Rattle.rw_lp.specs.Past.{HistoryState, IsFor}
 use Rattle.rw_lp.proofs.lp.Lp.new.Goals as goal
 
 pub invariant_of-result : goal.invariant_of-result
@@ -12,7 +12,7 @@ invariant_of-result g c =
     record {
       pending = λ e k.
           let there : 0 < copies (event_cmp g.M.Body.Ord.cmp) e c.args.initial.items = subst (λ n. 0 < n) (copies-in_order o e c.args.initial.items) (subst (λ l. 0 < copies (event_cmp g.M.Body.Ord.cmp) e l) c.in_ok-pending.ensures.all k) in
-          subst (λ (w : Past g.row.M.Denot g.row.M-State.Denot g.row.M-Body.Denot). IsFor g.M.Model w.model w.number e) (sym c.new.ensures.is)
+          subst (λ (w : HistoryState g.row.M.Denot g.row.M-State.Denot g.row.M-Body.Denot). IsFor g.M.Model w.model w.number e) (sym c.new.ensures.is)
           (each_of_all o (IsFor g.M.Model c.args.model.now c.args.number) c.args.initial.items c.requires.initial e there);
       debts = subst (Each (event_cmp g.M.Body.Ord.cmp) (IsFor g.M.Model c.new.result.model c.new.result.number)) (sym c.new-2.ensures) (Each-nil o (IsFor g.M.Model c.new.result.model c.new.result.number));
     }

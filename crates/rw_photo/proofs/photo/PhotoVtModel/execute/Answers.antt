@@ -1,7 +1,7 @@
 use Rattle.std.proofs.Common.{rules, refl, ◌∙◌, ap}
 use Rattle.rw_photo.specs.declared.photo.Deed.{Deed}
 use Rattle.rw_photo.specs.Counts.{AreCounts}
-use Rattle.rw_photo.specs.Cache.{waiting}
+use Rattle.rw_photo.specs.Cache.{waiting_for}
 use Rattle.rw_photo.specs.Events.{happening}
 use Rattle.rw_photo.proofs.Reversing.{AreSmall, small-counts, takes_back}
 use Rattle.rw_photo.proofs.photo.PhotoVtModel.execute.Goals as goal
@@ -17,4 +17,4 @@ returns-clause-links c =
     c.requires.well_formed.ascending c.requires.well_formed.sends c.requires.well_formed.counters counts
     (search rules) (search rules)
     refl refl (search rules)
-    (c.waiting-waiting.ensures ∙ ap (waiting s) c.object.ensures)
+    (c.waiting-waiting.ensures ∙ ap (waiting_for s) c.object.ensures)

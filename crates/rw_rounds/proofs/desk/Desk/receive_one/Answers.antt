@@ -2,7 +2,7 @@ use Rattle.std.proofs.Common.{◌≡◌, ◌∷◌, ◌++◌, [], true, false, r
 use Rattle.rw_lp.specs.Calls.{rules}
 use Rattle.rw_rounds.specs.Bags.{Every}
 use Rattle.rw_rounds.specs.Deeds.{IsFair}
-use Rattle.rw_rounds.specs.Turns.{passes}
+use Rattle.rw_rounds.specs.Turns.{is_accepted}
 use Rattle.rw_rounds.specs.Working.{role_of, desk_of, IsFitAndSound, Works}
 use Rattle.rw_rounds.proofs.Governing.{Laws}
 use Rattle.rw_rounds.proofs.Adding.{works_none, works_then, works_received, works_set_aside}
@@ -17,14 +17,14 @@ returns-in_default-clause-works g c =
 pub deal-requires-clause-fair : goal.deal-requires-clause-fair
 deal-requires-clause-fair g c =
     let x = c.args.self.now in
-    let pass : passes (rules g.M.Model g.M.Body.Ord.cmp c.args.bench.now.model.now) (role_of x) c.in-Some.letter ≡ true = sym c.passes.ensures.passes ∙ c.if-passes.true in
+    let pass : is_accepted (rules g.M.Model g.M.Body.Ord.cmp c.args.bench.now.model.now) (role_of x) c.in-Some.letter ≡ true = sym c.passes.ensures.passes ∙ c.if-passes.true in
     let items : c.push.new.self.items ≡ c.in-Some.letter ∷ [] = c.in_ok-push.ensures.items ∙ ap (λ l. l ++ c.in-Some.letter ∷ []) c.requires.none in
     subst (Every (IsFair (rules g.M.Model g.M.Body.Ord.cmp c.args.bench.now.model.now) x.collected)) (sym items) (passes_fair (rules g.M.Model g.M.Body.Ord.cmp c.args.bench.now.model.now) (role_of x) c.in-Some.letter pass, tt)
 
 pub returns-in_ok-deal-clause-works : goal.returns-in_ok-deal-clause-works
 returns-in_ok-deal-clause-works g c =
     let x = c.args.self.now in
-    let pass : passes (rules g.M.Model g.M.Body.Ord.cmp c.args.bench.now.model.now) (role_of x) c.in-Some.letter ≡ true = sym c.passes.ensures.passes ∙ c.if-passes.true in
+    let pass : is_accepted (rules g.M.Model g.M.Body.Ord.cmp c.args.bench.now.model.now) (role_of x) c.in-Some.letter ≡ true = sym c.passes.ensures.passes ∙ c.if-passes.true in
     let items : c.push.new.self.items ≡ c.in-Some.letter ∷ [] = c.in_ok-push.ensures.items ∙ ap (λ l. l ++ c.in-Some.letter ∷ []) c.requires.none in
     let came = works_received (rules g.M.Model g.M.Body.Ord.cmp c.args.bench.now.model.now) (role_of x) (desk_of x) (record (desk_of x) { port = c.receive.new.self }) refl refl refl c.in-Some.letter c.args.from c.requires.other.0 c.requires.fit.fit.wide.3 refl refl c.in-Some.ensures.some c.in-Some.ensures.same refl pass (passes_own (rules g.M.Model g.M.Body.Ord.cmp c.args.bench.now.model.now) (role_of x) c.in-Some.letter pass) refl in
     let dealt = subst (λ ls. Works (rules g.M.Model g.M.Body.Ord.cmp c.args.bench.now.model.now) (role_of x) (record (desk_of x) { port = c.receive.new.self }) (desk_of c.deal.new.self) ls [] 0) items c.in_ok-deal.ensures.works in
@@ -33,7 +33,7 @@ returns-in_ok-deal-clause-works g c =
 pub returns-in_ok-push-2-clause-works : goal.returns-in_ok-push-2-clause-works
 returns-in_ok-push-2-clause-works g c =
     let x = c.args.self.now in
-    let fails : passes (rules g.M.Model g.M.Body.Ord.cmp c.args.bench.now.model.now) (role_of x) c.in-Some.letter ≡ false = sym c.passes.ensures.passes ∙ c.if-passes.false in
+    let fails : is_accepted (rules g.M.Model g.M.Body.Ord.cmp c.args.bench.now.model.now) (role_of x) c.in-Some.letter ≡ false = sym c.passes.ensures.passes ∙ c.if-passes.false in
     works_set_aside (rules g.M.Model g.M.Body.Ord.cmp c.args.bench.now.model.now) (role_of x) (desk_of x) _ refl refl refl c.in-Some.letter c.args.from c.requires.other.0 c.requires.fit.fit.wide.3 refl refl c.in-Some.ensures.some c.in-Some.ensures.same refl fails c.in_ok-push-2.ensures.items
 
 pub returns-in_default-clause-fit : goal.returns-in_default-clause-fit
