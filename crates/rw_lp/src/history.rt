@@ -87,7 +87,7 @@ impl<M: VtModel> History<M> {
         requires here { event.to ≡ self.number }
         requires late { is_less_than_last (event_cmp M.Body.cmp) event (split_last (done_in self))
             ≡ false }
-        ensures state_after { IfOk result (λ h.
+        ensures after { IfOk result (λ h.
             h ≡ record self {
               processed = self.processed ++ event ∷ [];
               state = (M.step self.model self.number self.state event).0;

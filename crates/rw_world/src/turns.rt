@@ -117,7 +117,7 @@ fn collect_all<M: VtModel>(processes: &mut Vec<Lp<M>>, time: u64) -> Result<(), 
         → slice_get processes.old.items q ≡ Some x
         → Each (event_cmp M.Body.cmp) (λ e. time ≤ e.time) x.process.pending
         × Each (event_cmp M.Body.cmp) (λ e. time ≤ e.time) x.process.debts }
-    ensures after_collecting { OnOk result
+    ensures collected { OnOk result
         (processes.new.items ≡ map (after_collecting time) processes.old.items) }
     ensures memory { IfErr result (λ e. e ≡ Memory) }
 {

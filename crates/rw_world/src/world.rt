@@ -50,7 +50,7 @@ impl<M: VtModel + Drop> World<M> {
         initial: Vec<Event<M::Body>>,
     ) -> Result<World<M>, Refusal>
         requires ready { IsReady M.Model model starts.items initial.items }
-        ensures opening_world { IfOk result (λ w. w ≡ record {
+        ensures opened { IfOk result (λ w. w ≡ record {
           model = model;
           starts = starts.items;
           initial = initial.items;
