@@ -17,7 +17,7 @@ pub record Stored : Type 0 where
 
 -- the queue stays as it is
 abbrev pub unchanged : QueueState → Counters → Stored
-unchanged q k = record { queue = q; counts = k }
+unchanged q counts = record { queue = q; counts = counts }
 
 -- whether the object's place is another one than before
 abbrev pub is_moved : QueueState → QueueState → Object → Bool
