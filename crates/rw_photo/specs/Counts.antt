@@ -13,7 +13,7 @@ plus n k = (n + k) % 2 ^ 64
 abbrev pub minus : Count → Count → Count
 minus n k = (n + (2 ^ 64 - k)) % 2 ^ 64
 
--- the counters of which each is what the function says of it; the function is told which one by how that is read
+-- counters of which each is as the function says; the function is told which one, by how that is read
 abbrev pub counters_by : ((Counters → Count) → Count) → Counters
 counters_by count =
     record {
@@ -36,17 +36,17 @@ counters_by count =
 abbrev pub no_counts : Counters
 no_counts = counters_by (λ which. 0)
 
--- each count of k grows by that of d
+-- each count grows by what was counted
 abbrev pub sum_of : Counters → Counters → Counters
-sum_of k d = counters_by (λ which. plus (which k) (which d))
+sum_of counters counted = counters_by (λ which. plus (which counters) (which counted))
 
--- each count of k falls by that of d
+-- each count falls by what was counted
 abbrev pub difference_of : Counters → Counters → Counters
-difference_of k d = counters_by (λ which. minus (which k) (which d))
+difference_of counters counted = counters_by (λ which. minus (which counters) (which counted))
 
 -- the counts fit their type: each is what it is modulo 2 ^ 64
 abbrev pub AreCounts : Counters → Type 0
-AreCounts k = counters_by (λ which. which k % 2 ^ 64) ≡ k
+AreCounts counters = counters_by (λ which. which counters % 2 ^ 64) ≡ counters
 
 -- What one event counts
 
@@ -56,7 +56,7 @@ one_hit moved = record no_counts { requests = 1; hits = 1; promoted = one_if mov
 
 -- a miss, added to what storing its object counts
 abbrev pub one_miss : Counters → Counters
-one_miss k = record k { requests = 1; misses = 1 }
+one_miss counts = record counts { requests = 1; misses = 1 }
 
 -- a miss whose object is on its way already
 abbrev pub one_coalesced : Counters
@@ -64,7 +64,7 @@ one_coalesced = record (one_miss no_counts) { coalesced = 1 }
 
 -- a fill that answers n requests, added to what storing its object counts
 abbrev pub with_late : Count → Counters → Counters
-with_late n k = record k { late = n }
+with_late n counts = record counts { late = n }
 
 -- an object that is too large for a block
 abbrev pub one_bypassed : Counters

@@ -1,10 +1,14 @@
+-- caches, and what happens to them
 pub mod Ranges
 pub mod Counts
 pub mod Cache
 pub mod Storing
 pub mod Events
+pub mod Simulation
+-- what takes an event back
 pub mod Undoing
+-- for the contracts inside the crate
 pub mod Deeds
+-- the laws of the model, with their proofs
 pub mod Lawful
 pub mod Laws
-pub mod Simulation

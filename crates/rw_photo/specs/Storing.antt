@@ -17,7 +17,7 @@ pub record QueueAndCounts : Type 0 where
 
 -- the queue stays as it is
 abbrev pub same_queue : QueueState → Counters → QueueAndCounts
-same_queue q k = record { queue = q; counts = k }
+same_queue q counts = record { queue = q; counts = counts }
 
 -- whether the object's place is another one than before
 abbrev pub is_moved : QueueState → QueueState → Object → Bool

@@ -1,15 +1,19 @@
+-- words
 pub mod Words
 pub mod Work
-pub mod Put
+-- the operations
 pub mod Sealed
-pub mod Evict
+pub mod Put
 pub mod Levels
 pub mod Promote
+pub mod Evict
 pub mod Adjust
 pub mod Insert
+-- what they promise
 pub mod Trail
 pub mod Weight
 pub mod Order
+pub mod Laws
+-- for the contracts inside the crate
 pub mod Victim
 pub mod Record
-pub mod Laws

@@ -26,7 +26,10 @@ line name k =
 
 -- edges and origins are numbered apart
 abbrev pub name_of : Config → ℕ → List ℕ
-name_of c p = if nat_lt p c.edges then codes "edge " ++ decimal p else codes "origin " ++ decimal (p - c.edges)
+name_of c p =
+    if nat_lt p c.edges
+    then codes "edge " ++ decimal p
+    else codes "origin " ++ decimal (p - c.edges)
 
 -- one of the counts of all caches together, modulo 2 ^ 64
 abbrev pub total_of : (Counters → ℕ) → List Counters → ℕ
