@@ -4,7 +4,8 @@ ghost use Rattle.rw_world.specs.WorldState.{least_of_letters, least_of_processes
 use rw_lp::Lp;
 use rw_vt::{END, Letter, Model as VtModel};
 
-/// The least time of pending events and debts of these processes, in ticks, or the end of time.
+/// The least time of the pending events, debts and held messages of `processes`, in ticks, or the end of time. Takes no
+/// memory.
 pub fn least_of_processes<M: VtModel>(processes: &[Lp<M>]) -> u64
     ensures { result ≡ least_of_processes (2 ^ 40) (map (λ l. l.process) processes.now) }
 {
@@ -15,7 +16,7 @@ pub fn least_of_processes<M: VtModel>(processes: &[Lp<M>]) -> u64
     least
 }
 
-/// The least of this time and the times of these letters, in ticks.
+/// The least of `start` and the times of `letters`, in ticks.
 pub fn least_of_letters<B>(start: u64, letters: &[Letter<B>]) -> u64
     ensures { result ≡ least_of_letters start letters.now }
 {
