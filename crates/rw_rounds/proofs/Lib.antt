@@ -9,6 +9,7 @@ pub mod Fits
 pub mod Stepping
 pub mod Moving
 pub mod Looking
+pub mod Least
 pub mod Passing
 pub mod Taking
 pub mod Ends

@@ -4,7 +4,6 @@ ghost use Rattle.rw_lp.specs.Calls.{rules};
 ghost use Rattle.rw_lp.specs.Sound.{HasCollected};
 ghost use Rattle.rw_exchange.specs.Ports.{IsWide};
 ghost use Rattle.rw_rounds.specs.Deeds.{IsFair};
-ghost use Rattle.rw_rounds.specs.Rounds.{NoneBefore};
 ghost use Rattle.rw_rounds.specs.Turns.{is_own, owner, is_accepted};
 ghost use Rattle.rw_rounds.specs.Working.{role_of, CanWork, Deals, AreFair, HoldsBackRest, ClosesDesk, HeldBack, IsNext, Advances, comes_before, done_count, work_left};
 
@@ -13,7 +12,8 @@ use crate::sim::Traffic;
 use rw_board::{Board, Seat};
 use rw_exchange::Port;
 use rw_lp::{Answer, Lp, put_back};
-use rw_vt::{END, Event, Letter, Model as VtModel, Refusal};
+use rw_vt::{Event, Letter, Model as VtModel, Refusal};
+use rw_world::least_of_processes;
 use std::alloc::Global;
 use std::mem;
 
@@ -46,11 +46,11 @@ pub(crate) struct Bench<'a, M: VtModel> {
 }
 
 impl<M: VtModel> Desk<M> {
-    /// Takes one turn: the letters at hand arrive, kept ones are offered to their rings again, those that the others sent
-    /// are taken up, and events are executed. Gives how many events were executed.
+    /// Takes one turn: the letters at hand arrive, kept ones are offered to their rings again, those that the others
+    /// sent are taken up, and events are executed. Gives how many events were executed.
     ///
-    /// `at_hand` is the stack of letters that are to be dealt with next. Whatever comes up in the turn is pushed onto it and
-    /// dealt with at once, so it is empty between the parts of a turn, and after it.
+    /// `at_hand` has the letters that are to be dealt with next. Whatever comes up in the turn is put there and dealt
+    /// with at once, so it is empty between the parts of a turn, and after it.
     pub(crate) fn turn(
         &mut self,
         bench: &Bench<'_, M>,
@@ -75,8 +75,8 @@ impl<M: VtModel> Desk<M> {
 
     // Dealing with letters.
 
-    /// Deals with the letters at hand in order: one to an own process arrives there, and what that gives out is dealt with
-    /// before the next, its last one first; one to another worker is posted. None is left at hand.
+    /// Deals with the letters at hand in order: one to an own process arrives there, and what that gives out is dealt
+    /// with before the next, its last one first; one to another worker is posted. None is left at hand.
     fn deal(
         &mut self,
         bench: &Bench<'_, M>,
@@ -264,7 +264,7 @@ impl<M: VtModel> Desk<M> {
     /// collected.
     fn passes(&self, model: &M, letter: &Letter<M::Body>) -> bool
         requires workers { 0 < self.now.plan.workers }
-        ensures passes { result
+        ensures is_accepted { result
             ≡ is_accepted (rules M.Model M.Body.cmp model.now) (role_of self.now) letter.now }
     {
         model.valid(&letter.event) && self.owns(letter) && self.collected <= letter.event.time
@@ -346,7 +346,7 @@ impl<M: VtModel> Desk<M> {
         requires board { self.old.seat.board ≡ board.now.board }
         ensures closes { (m : M) → ClosesDesk M.Model M.Body.cmp m self.old self.new }
     {
-        let least = least_of(&self.processes);
+        let least = least_of_processes(&self.processes);
         board.note(&mut self.seat, least);
         note_all(board, &mut self.seat, &self.kept);
     }
@@ -386,8 +386,8 @@ fn comes_before<B: Ord + Copy>(event: &Event<B>, least: &Option<(usize, Event<B>
     }
 }
 
-/// The process executes what is next, or undoes its last event where that is a straggler. What it gives out is appended to
-/// `out`. Answers whether it executed.
+/// The process executes what is next, or undoes its last event where that is a straggler. What it gives out is
+/// appended to `out`. Answers whether it executed.
 fn execute_or_undo<M: VtModel>(
     alloc: Global,
     model: &M,
@@ -408,18 +408,6 @@ fn execute_or_undo<M: VtModel>(
     }
     let (process, _answer) = process.undo_one(alloc, model, out)?;
     Ok((process, false))
-}
-
-/// The least time of the pending events and debts of `processes`, in ticks, or the end of time.
-fn least_of<M: VtModel>(processes: &[Lp<M>]) -> u64
-    ensures pending { NoneBefore (event_cmp M.Body.cmp) (λ x. x.pending) result processes.now }
-    ensures debts { NoneBefore (event_cmp M.Body.cmp) (λ x. x.debts) result processes.now }
-{
-    let mut least = END;
-    for process in processes {
-        least = least.min(process.least());
-    }
-    least
 }
 
 /// Notes the time of each of the letters.

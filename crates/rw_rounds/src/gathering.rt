@@ -43,7 +43,8 @@ pub(crate) struct Gathered<M: VtModel> {
     pub(crate) floor: u64,
 }
 
-/// Joins the workers of a round, which have `count` processes, closes their board and adds what they did to the traffic.
+/// Joins the workers of a round, which have `count` processes, closes their board and adds what they did to the
+/// traffic.
 pub(crate) fn gather<M: VtModel>(
     alloc: Global,
     count: usize,
@@ -186,8 +187,8 @@ fn join_processes<M: VtModel>(
     Ok(processes)
 }
 
-/// The letters that are on their way: those left in the rings, by sender and then by receiver, those kept, and those set
-/// aside.
+/// The letters that are on their way: those left in the rings, by sender and then by receiver, those kept, and those
+/// set aside.
 fn join_letters<B: Copy>(
     alloc: Global,
     left: &Left<B>,

@@ -1,14 +1,14 @@
 #![tactic(auto)]
 //! Rounds of workers, each with its own processes of a world of Time Warp (Jefferson 1985).
 //!
-//! A [`Worker`] owns every process whose number is its own modulo the number of workers. In each turn it takes up what the
-//! others sent, executes ahead of them as far as the window lets it, and sends what its processes give out through rings;
-//! on the board it notes the time of each letter that it sends. It takes no lock and never waits. What it does in a turn is
-//! in `desk.rt`.
+//! A [`Worker`] owns every process whose number is its own modulo the number of workers. In each turn it takes up
+//! what the others sent, executes ahead of them as far as the window lets it, and sends what its processes give out
+//! through rings; on the board it notes the time of each letter that it sends. It takes no lock and never waits. What
+//! it does in a turn is in `desk.rt`.
 //!
-//! [`run_round`] sets the workers up, lets each take its turns in a thread of its own, gathers what they hold at the end and
-//! commits what is final; [`run`] makes rounds until nothing is outstanding. How one round leads to the next is in
-//! `specs/Rounds.antt`.
+//! [`run_round`] sets the workers up, lets each take its turns in a thread of its own, gathers what they hold at the
+//! end and commits what is final; [`run`] makes rounds until nothing is outstanding. How one round leads to the next
+//! is in `specs/Rounds.antt`.
 //!
 //! Worked examples: `rw_tests/src/relay_rounds.rt` and `photo_rounds.rt`.
 

@@ -33,12 +33,14 @@ impl Gate for Open {
     fn pass(&self, _worker: u32, _turn: u32) {}
 }
 
-/// Makes one round: each worker takes its turns in a thread of its own, and when all are done, what is final is committed.
+/// Makes one round: each worker takes its turns in a thread of its own, and when all are done, what is final is
+/// committed.
 ///
 /// # Errors
 ///
-/// `Memory` where memory was refused, `Exhausted` where a process was to execute an event in a state that can take no further
-/// one, and `NoThread` where the start of a thread was refused. Nothing is handed back then: the world is gone.
+/// `Memory` where memory was refused, `Exhausted` where a process was to execute an event in a state that can take no
+/// further one, and `NoThread` where the start of a thread was refused. Nothing is handed back then: the world is
+/// gone.
 pub fn run_round<M, G, R>(rt: &R, alloc: Global, sim: Sim<M>, gate: &G) -> Result<Sim<M>, Stop>
 where
     M: VtModel + Drop + Sync,
@@ -71,7 +73,8 @@ where
     })
 }
 
-/// Splits the parts among the workers, runs these, and joins what they hold to parts again. Gives the least time noted too.
+/// Splits the parts among the workers, runs these, and joins what they hold to parts again. Gives the least time
+/// noted too.
 fn go_round<M, G, R>(
     rt: &R,
     alloc: Global,

@@ -18,16 +18,17 @@ use std::thread::Threads;
 /// Makes rounds until nothing is outstanding, and gives what each process has then executed and its state, and what the
 /// rounds did in counts.
 ///
-/// Whatever the plan is and however the threads interleave, a result is what executing all events in order of time leaves
-/// (Jefferson 1985).
+/// Whatever the plan is and however the threads interleave, a result is what executing all events in order of time
+/// leaves (Jefferson 1985).
 ///
 /// # Errors
 ///
-/// `BadPlan` exactly where a field of the plan is out of its range. `Memory` where memory was refused, and `NoThread` where
-/// the start of a thread was. `Exhausted` where a process was to execute an event in a state that can take no further one; a
-/// past that is then undone may bring that about too, so a run may be exhausted where the run on one thread is not.
-/// `RoundsUsed` after `max_rounds` rounds none of which had the end of time as its floor: events are outstanding, or the last
-/// round still passed letters on, whose times its floor counts too. Nothing is handed back after a stop.
+/// `BadPlan` exactly where a field of the plan is out of its range. `Memory` where memory was refused, and `NoThread`
+/// where the start of a thread was. `Exhausted` where a process was to execute an event in a state that can take no
+/// further one; a past that is then undone may bring that about too, so a run may be exhausted where the run on one
+/// thread is not. `RoundsUsed` after `max_rounds` rounds none of which had the end of time as its floor: events are
+/// outstanding, or the last round still passed letters on, whose times its floor counts too. Nothing is handed back
+/// after a stop.
 pub fn run<M, G, R>(
     rt: &R,
     alloc: Global,

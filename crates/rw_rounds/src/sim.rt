@@ -51,8 +51,8 @@ impl<M: VtModel + Drop> Sim<M> {
         })
     }
 
-    /// What the last round gave as its floor, in ticks, and 0 before the first round: all events before it are committed.
-    /// Takes no memory.
+    /// What the last round gave as its floor, in ticks, and 0 before the first round: all events before it are
+    /// committed. Takes no memory.
     pub fn floor(&self) -> u64
         ensures floor { result ≡ self.now.floor }
     {

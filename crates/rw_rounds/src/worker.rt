@@ -14,15 +14,17 @@ use rw_vt::{Letter, Model as VtModel, Refusal};
 use std::alloc::Global;
 use std::marker::Model;
 
-/// One worker of a round: it owns every process whose number is its own modulo the number of workers, a port and a seat.
+/// One worker of a round: it owns every process whose number is its own modulo the number of workers, a port and a
+/// seat.
 ///
-/// Contracts see what it holds: its number and its plan, its processes in order, the letters that are still to arrive, those
-/// that a ring had no room for, those that failed its test, its port and its seat. A worker may move to a thread of its own.
+/// Contracts see what it holds: its number and its plan, its processes in order, the letters that are still to
+/// arrive, those that a ring had no room for, those that failed its test, its port and its seat. A worker may move to
+/// a thread of its own.
 #[derive(Drop)]
 pub struct Worker<M: VtModel> {
     desk: Desk<M>,
-    /// Before the first turn the letters that are on their way to the worker's processes; afterwards an empty list, whose
-    /// memory each turn uses.
+    /// Before the first turn the letters that are on their way to the worker's processes; afterwards an empty list,
+    /// whose memory each turn uses.
     at_hand: Vec<Letter<M::Body>>,
 }
 
@@ -47,9 +49,9 @@ impl<M: VtModel> Model for Worker<M> {
 }
 
 impl<M: VtModel> Worker<M> {
-    /// Worker `number` of a round, with its processes in order, the letters that are on their way to them, its port and its
-    /// seat. `collected` is the greatest time collected, in ticks: what is processed, pending, owed or on its way is not
-    /// before it. Takes no memory.
+    /// Worker `number` of a round, with its processes in order, the letters that are on their way to them, its port
+    /// and its seat. `collected` is the greatest time collected, in ticks: what is processed, pending, owed or on its
+    /// way is not before it. Takes no memory.
     pub fn new(
         alloc: Global,
         number: u32,
@@ -89,15 +91,16 @@ impl<M: VtModel> Worker<M> {
 
     /// Takes one turn, and gives how many events were executed, at most the plan's `batch`.
     ///
-    /// The letters that are still to arrive do; kept letters are offered to their rings again; at most as many letters from
-    /// each other worker as a ring has room for are taken up; and then events are executed, always the least pending one,
-    /// while its time is below what the seat reads on the board plus the plan's `window`. Whatever a process gives out is
-    /// dealt with right after: a letter to an own process arrives at once, another one is pushed into a ring, or kept where
-    /// the ring has no room. The time of each letter that is pushed is noted on the board. It takes no lock and never waits.
+    /// The letters that are still to arrive do; kept letters are offered to their rings again; at most as many
+    /// letters from each other worker as a ring has room for are taken up; and then events are executed, always the
+    /// least pending one, while its time is below what the seat reads on the board plus the plan's `window`. Whatever
+    /// a process gives out is dealt with right after: a letter to an own process arrives at once, another one is
+    /// pushed into a ring, or kept where the ring has no room. The time of each letter that is pushed is noted on the
+    /// board. It takes no lock and never waits.
     ///
-    /// The model is the one that the processes run; they are all of the worker's, in order, and each has collected up to
-    /// `collected`. The letters that are to arrive are valid, to them, and not before that time. The port has the worker's number,
-    /// and the seat belongs to the board. All this holds again after.
+    /// The model is the one that the processes run; they are all of the worker's, in order, and each has collected up
+    /// to `collected`. The letters that are to arrive are valid, to them, and not before that time. The port has the
+    /// worker's number, and the seat belongs to the board. All this holds again after.
     ///
     /// # Errors
     ///
@@ -125,7 +128,8 @@ impl<M: VtModel> Worker<M> {
         Ok((Worker { desk, at_hand }, executed))
     }
 
-    /// Notes the least time of the worker's processes and the time of each kept letter, after its last turn. Takes no memory.
+    /// Notes the least time of the worker's processes and the time of each kept letter, after its last turn. Takes no
+    /// memory.
     pub(crate) fn close(self, board: &Board) -> Worker<M>
         requires board { self.seat.board ≡ board.now.board }
         ensures closes { (m : M) → Closes (rules M.Model M.Body.cmp m) self result }
@@ -154,8 +158,8 @@ impl<M: VtModel> Worker<M> {
         self.desk.number
     }
 
-    /// What the worker did so far: executions, undoings, letters received through rings, and letters that it keeps or set
-    /// aside. Takes no memory.
+    /// What the worker did so far: executions, undoings, letters received through rings, and letters that it keeps or
+    /// set aside. Takes no memory.
     pub(crate) fn traffic(&self) -> Traffic {
         let mut traffic = self.desk.traffic;
         traffic.kept = (self.desk.kept.len() as u64).wrapping_add(self.desk.aside.len() as u64);

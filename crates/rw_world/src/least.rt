@@ -4,7 +4,8 @@ ghost use Rattle.rw_world.specs.WorldState.{least_of_letters, least_of_processes
 use rw_lp::Lp;
 use rw_vt::{END, Letter, Model as VtModel};
 
-/// The least time of pending events and debts of `processes`, in ticks, or the end of time.
+/// The least time of the pending events, debts and held messages of `processes`, in ticks, or the end of time. Takes no
+/// memory.
 pub fn least_of_processes<M: VtModel>(processes: &[Lp<M>]) -> u64
     ensures { result ≡ least_of_processes (END) (map (λ l. l.process) processes.now) }
 {

@@ -19,6 +19,7 @@ mod turns;
 mod world;
 
 pub use drawing::draw;
+pub use least::least_of_processes;
 pub use parts::Parts;
 pub use rw_lp::{Answer, Lp, StepFault};
 pub use rw_vt::{Event, Letter, Model, NoMemory, Refusal};

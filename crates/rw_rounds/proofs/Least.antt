@@ -1,0 +1,35 @@
+-- The least time of processes: nothing pending or owed there is before it.
+use Rattle.std.proofs.Common.{◌≡◌, ℕ, zero, suc, ◌≤◌, List, [], ◌∷◌, map, subst, arith}
+use Rattle.std.specs.declared.cmp.Ordering.{Ordering}
+use Rattle.rw_vt.specs.declared.event.Event.{Event}
+use Rattle.rw_vt.specs.Order.{Each}
+use Rattle.rw_vt.proofs.Sorting.{IsExactOrder}
+use Rattle.rw_vt.proofs.Bags.{Each-cons}
+use Rattle.rw_lp.specs.HeldMessages.{held_messages}
+use Rattle.rw_lp.specs.Process.{ProcessState}
+use Rattle.rw_lp.specs.Calls.{LogicalProcess, least_time}
+use Rattle.rw_world.specs.WorldState.{least_of_processes}
+use Rattle.rw_rounds.specs.Rounds.{NoneBefore}
+
+module _ {B : Type 0} {cmp : Event B → Event B → Ordering} (o : IsExactOrder cmp) (t : ℕ) where
+  within_least : (m : ℕ) (xs : List (Event B)) → t ≤ least_time m xs → (t ≤ m) × Each cmp (λ e. t ≤ e.time) xs
+  within_least m [] h = (h, λ e k. absurd (omega arith))
+  within_least m (x ∷ xs) h =
+      let rest : (t ≤ m) × Each cmp (λ e. t ≤ e.time) xs = within_least m xs (omega arith) in
+      (rest.0, Each-cons o (λ e. t ≤ e.time) x xs (omega arith) rest.1)
+
+  module _ {M S : Type 0} where
+    first_too : (events_of : ProcessState S B → List (Event B)) (x : LogicalProcess M S B) (ls : List (LogicalProcess M S B)) → Each cmp (λ e. t ≤ e.time) (events_of x.process) → NoneBefore cmp events_of t ls → NoneBefore cmp events_of t (x ∷ ls)
+    first_too events_of x ls here there zero l at = let is : x ≡ l = cc in subst (λ u. Each cmp (λ e. t ≤ e.time) (events_of u.process)) is here
+    first_too events_of x ls here there (suc place) l at = there place l at
+
+    pub none_before : (m : ℕ) (ls : List (LogicalProcess M S B)) → t ≤ least_of_processes m (map (λ l. l.process) ls) → NoneBefore cmp (λ x. x.pending) t ls × NoneBefore cmp (λ x. x.debts) t ls
+    none_before m [] h = ((λ place l at. cc), λ place l at. cc)
+    none_before m (x ∷ ls) h =
+        let p = x.process in
+        let held = held_messages p.held in
+        let rest = least_of_processes m (map (λ l. l.process) ls) in
+        let pending : (t ≤ least_time (least_time rest held) p.debts) × Each cmp (λ e. t ≤ e.time) p.pending = within_least (least_time (least_time rest held) p.debts) p.pending h in
+        let debts : (t ≤ least_time rest held) × Each cmp (λ e. t ≤ e.time) p.debts = within_least (least_time rest held) p.debts pending.0 in
+        let others = none_before m ls (within_least rest held debts.0).0 in
+        (first_too (λ x. x.pending) x ls pending.1 others.0, first_too (λ x. x.debts) x ls debts.1 others.1)
