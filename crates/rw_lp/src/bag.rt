@@ -94,7 +94,7 @@ impl<M: VtModel> Bag<M> {
 
     /// The least time, or the end of time where the bag is empty. Takes no memory.
     pub fn least(&self) -> u64
-        ensures { result ≡ least_time (END) self.now }
+        ensures { result ≡ least_time END self.now }
     {
         match self.first() {
             Some(event) => event.time.min(END),

@@ -261,7 +261,7 @@ impl<M: VtModel> Lp<M> {
     /// The least time of pending events, debts and held messages, in ticks, or [`END`](rw_vt::END) if there is none. Takes no
     /// memory.
     pub fn least(&self) -> u64
-        ensures is { result ≡ least_outstanding (END) self.now.process }
+        ensures is { result ≡ least_outstanding END self.now.process }
         ensures pending { Each (event_cmp M.Body.cmp) (λ e.
             result ≤ e.time) self.now.process.pending }
         ensures debts { Each (event_cmp M.Body.cmp) (λ e. result ≤ e.time) self.now.process.debts }

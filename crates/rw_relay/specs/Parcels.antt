@@ -16,7 +16,7 @@ use Rattle.rw_vt.specs.declared.event.TheConstants.{END}
 
 -- an event that may be handed to its process
 abbrev pub is_sound_event : Event Parcel → Bool
-is_sound_event e = nat_lt e.time (END) && nat_le e.source 2 && nat_lt e.number (2 ^ 64) && nat_lt e.to 2 && nat_lt e.body.hops (2 ^ 32)
+is_sound_event e = nat_lt e.time END && nat_le e.source 2 && nat_lt e.number (2 ^ 64) && nat_lt e.to 2 && nat_lt e.body.hops (2 ^ 32)
 
 -- a station's numbers are in the ranges of their types
 pub record IsStation (s : Station) : Type 0 where
@@ -26,7 +26,7 @@ pub record IsStation (s : Station) : Type 0 where
 
 -- whether a parcel goes on, before the end
 abbrev pub goes_on : Relay → Event Parcel → Bool
-goes_on m e = nat_lt 0 e.body.hops && nat_lt (e.time + m.delay) (END)
+goes_on m e = nat_lt 0 e.body.hops && nat_lt (e.time + m.delay) END
 
 -- the parcel that goes on, with a hop less
 abbrev pub passed_on : Relay → ℕ → Station → Event Parcel → Event Parcel

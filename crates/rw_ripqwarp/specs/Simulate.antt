@@ -32,7 +32,7 @@ pub record IsReportOf (c : Config) (bytes text : List ℕ) : Type 0 where
   pub journals : List (List (Event Body))
   pub states : List Cache
   pub accepted : trace_of c.edges (MAX_ROWS) (records_of bytes) ≡ Ok rows
-  pub outcome : IsOutcome (simulation c rows) (END) journals states
+  pub outcome : IsOutcome (simulation c rows) END journals states
   pub told : text ≡ report_text c (map (λ s. s.counters) states)
 
 -- the text is the journal of the trace in these bytes under these steps: the trace is accepted with these rows; the text tells
@@ -52,7 +52,7 @@ IsTextOf (Journal steps) c bytes text = IsJournalOf steps.items c bytes text
 pub record IsExhaustingInOrder (c : Config) (bytes : List ℕ) : Type 0 where
   pub rows : List Row
   pub accepted : trace_of c.edges (MAX_ROWS) (records_of bytes) ≡ Ok rows
-  pub met : Meets (simulation c rows) (END) is_exhausted
+  pub met : Meets (simulation c rows) END is_exhausted
 
 -- the trace in these bytes is accepted, and one of these steps, when its turn comes, is to execute an event at such a cache
 pub record IsExhaustingBySteps (steps : List Step) (c : Config) (bytes : List ℕ) : Type 0 where

@@ -43,7 +43,7 @@ where
     M::Undo: Send,
     G: Gate + Sync,
     R: Threads + Wait + Sync,
-    ensures outcome { IfOk result (λ r. IsOutcome (system_of M.Model M.Body.cmp world) (END)
+    ensures outcome { IfOk result (λ r. IsOutcome (system_of M.Model M.Body.cmp world) END
         (map (λ j. j.items) r.0.journals.items) r.0.states.items) }
     ensures plan { (result ≡ Err Stop.BadPlan) ↔ (IsInRanges plan → ⊥) }
 {
@@ -63,7 +63,7 @@ where
 fn outcome<M: VtModel + Drop>(alloc: Global, world: World<M>) -> Result<Outcome<M>, NoMemory>
     requires floor { END ≤ floor world.world }
     requires collected { END ≤ world.world.collected }
-    ensures outcome { IfOk result (λ o. IsOutcome (system_of M.Model M.Body.cmp world) (END)
+    ensures outcome { IfOk result (λ o. IsOutcome (system_of M.Model M.Body.cmp world) END
         (map (λ j. j.items) o.journals.items) o.states.items) }
 {
     // What the world promises of every world of the model.

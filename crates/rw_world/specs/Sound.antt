@@ -66,7 +66,7 @@ pub record IsInOrder {S B : Type 0} (y : System S B) (w : WorldState S B) : Type
   pub committed : (q : Process) (x : ProcessState S B) → slice_get w.processes q ≡ Some x → x.committed ≡ journal_below y w.collected q
   pub left : (q : Process) (x : ProcessState S B) → slice_get w.processes q ≡ Some x → state_after (y.step q) x.start x.committed ≡ state_after (y.step q) x.start (journal_below y w.collected q)
   pub before_floor : (t : Time) (q : Process) → t ≤ floor w → filter (λ e. nat_lt e.time t) (done_of w.processes q) ≡ journal_below y t q
-  pub finished : is_finished w ≡ true → IsOutcome y (END) (map done w.processes) (map (λ x. x.state) w.processes)
+  pub finished : is_finished w ≡ true → IsOutcome y END (map done w.processes) (map (λ x. x.state) w.processes)
 
 -- a step leads to a sound world, a refused one leaves the world as it was, and committed lists only grow
 pub record StepKept {S B : Type 0} (y : System S B) (w : WorldState S B) (step : Step) : Type 0 where

@@ -37,7 +37,7 @@ least_of_letters m (l ∷ ls) = min l.event.time (least_of_letters m ls)
 
 -- the least time of what is outstanding, the end of time if there is nothing: global virtual time
 abbrev pub floor : {S B : Type 0} → WorldState S B → Time
-floor w = least_of_letters (least_of_processes (END) w.processes) w.letters
+floor w = least_of_letters (least_of_processes END w.processes) w.letters
 
 abbrev pub is_empty : {A : Type 0} → List A → Bool
 is_empty [] = true

@@ -7,7 +7,7 @@ use rw_vt::{END, Letter, Model as VtModel};
 /// The least time of the pending events, debts and held messages of `processes`, in ticks, or the end of time. Takes no
 /// memory.
 pub fn least_of_processes<M: VtModel>(processes: &[Lp<M>]) -> u64
-    ensures { result ≡ least_of_processes (END) (map (λ l. l.process) processes.now) }
+    ensures { result ≡ least_of_processes END (map (λ l. l.process) processes.now) }
 {
     let mut least = END;
     for process in processes {

@@ -147,7 +147,7 @@ impl<M: VtModel + Drop> World<M> {
     pub fn finished(&self) -> bool
         ensures is { result ≡ is_finished self.now.world }
         ensures outcome { result ≡ true
-            → IsOutcome (system_of M.Model M.Body.cmp self.now) (END)
+            → IsOutcome (system_of M.Model M.Body.cmp self.now) END
             (map done self.now.world.processes) (map (λ x. x.state) self.now.world.processes) }
     {
         self.parts.floor() == END
