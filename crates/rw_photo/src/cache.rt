@@ -100,7 +100,7 @@ impl CacheState {
     /// Sets how many requests wait for an object; `None`: it is not awaited.
     pub(crate) fn set_waiting(&mut self, object: u64, waiting: Option<u64>) -> Result<(), NoMemory>
         ensures { OnOk result (self.new
-            ≡ record self.old { awaited = with_waiting self.old.awaited object waiting_for }) }
+            ≡ record self.old { awaited = with_waiting self.old.awaited object waiting }) }
     {
         match waiting {
             Some(count) => {
