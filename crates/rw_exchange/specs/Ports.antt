@@ -1,7 +1,7 @@
 -- What a contract sees of a port, and of all ports of one opening. T is the type of the letters.
-use Rattle.std.specs.Prelude.{◌≡◌, ◌≢◌, ℕ, ◌<◌, List, [], ◌∷◌, ◌++◌, length, map, slice_index_or, slice_set, Option}
+use Rattle.std.specs.Prelude.{◌≡◌, ◌≢◌, ◌<◌, List, [], ◌∷◌, ◌++◌, length, map, slice_index_or, slice_set, Option}
 use Rattle.std.specs.List.{All}
-use Rattle.rw_vt.specs.Words.{Count, Worker}
+use Rattle.rw_vt.specs.Words.{Count, Position, Worker}
 use Rattle.rw_exchange.specs.Rings.{Ring, AllButOwn, cell}
 
 -- A worker's port: the rings to and from each worker, all that went through this end of each, oldest first, and how
@@ -64,7 +64,7 @@ module _ {T : Type 0} where
     pub received : length after.received ≡ length before.received
 
 -- the list of row i and column j
-abbrev pub entry : {X : Type 0} → List (List (List X)) → ℕ → ℕ → List X
+abbrev pub entry : {X : Type 0} → List (List (List X)) → Position → Position → List X
 entry rows i j = slice_index_or (slice_index_or rows i []) j []
 
 module _ {T : Type 0} where
@@ -122,8 +122,8 @@ module _ {T : Type 0} where
 -- ---- for private contracts
 -- of each of n rings in a row, what came out at one place of the columns, followed by what is left, is what went in
 abbrev pub IsLeftOfRow :
-    {T : Type 0} → Count → ℕ → List (List (List T)) → List (List T) → List (List T) → Type 0
+    {T : Type 0} → Count → Position → List (List (List T)) → List (List T) → List (List T) → Type 0
 IsLeftOfRow n place received left sent =
-    (j : ℕ)
+    (j : Worker)
     → j < n
     → entry received j place ++ slice_index_or left j [] ≡ slice_index_or sent j []

@@ -7,6 +7,7 @@ use Rattle.rtrb.specs.declared.AnyItems.{AnyItems}
 use Rattle.rtrb.specs.declared.producer.Producer.{Producer}
 use Rattle.rtrb.specs.declared.consumer.Consumer.{Consumer}
 use Rattle.rtrb.specs.Ring as ring
+use Rattle.rw_vt.specs.Words.{Count, Position, Worker}
 
 -- a ring, by what tells it from others: where its words and its slots lie, and the names of what its ends know
 abbrev pub Ring : Type 0
@@ -43,7 +44,7 @@ module _ {T : Type 0} where
   out_sent (Some p) = ring.sent p
 
   -- how many of its slots are known to be free where letters go in
-  abbrev pub out_free : Out T → ℕ
+  abbrev pub out_free : Out T → Count
   out_free None = 0
   out_free (Some p) = ring.known_free p
 
@@ -53,12 +54,12 @@ module _ {T : Type 0} where
   in_received (Some c) = ring.received c
 
   -- the ring, where there is one, has this capacity
-  abbrev pub HasCapacity : ℕ → Out T → Type 0
+  abbrev pub HasCapacity : Count → Out T → Type 0
   HasCapacity n None = Unit {0}
   HasCapacity n (Some p) = ring.producer_capacity p ≡ n
 
   -- all n slots of the ring, where there is one, are known to be free
-  abbrev pub KnowsFree : ℕ → Out T → Type 0
+  abbrev pub KnowsFree : Count → Out T → Type 0
   KnowsFree n None = Unit {0}
   KnowsFree n (Some p) = ring.known_free p ≡ n
 
@@ -73,9 +74,9 @@ module _ {T : Type 0} where
 
 module _ {T : Type 0} where
   -- there is an end each way for every worker but this one
-  abbrev pub HasEnds : ℕ → List (Out T) → List (In T) → Type 0
+  abbrev pub HasEnds : Worker → List (Out T) → List (In T) → Type 0
   HasEnds own outs ins =
-      (k : ℕ)
+      (k : Worker)
       → k < length outs
       → k ≢ own
       → IsSome (slice_index_or outs k None) × IsSome (slice_index_or ins k None)
@@ -109,34 +110,36 @@ push_each (c ∷ cs) [] = c ∷ cs
 push_each (c ∷ cs) (x ∷ xs) = (c ++ x ∷ []) ∷ push_each cs xs
 
 -- the lists, of which the one with the number has one element more
-abbrev pub lists_with : {X : Type 0} → List (List X) → ℕ → X → List (List X)
+abbrev pub lists_with : {X : Type 0} → List (List X) → Position → X → List (List X)
 lists_with lists k x = slice_set lists k (slice_index_or lists k [] ++ x ∷ [])
 
 -- every list but the one with the number is the same
-abbrev pub SameBut : {X : Type 0} → ℕ → List (List X) → List (List X) → Type 0
-SameBut j before after = (k : ℕ) → k ≢ j → slice_index_or after k [] ≡ slice_index_or before k []
+abbrev pub SameBut : {X : Type 0} → Position → List (List X) → List (List X) → Type 0
+SameBut j before after =
+    (k : Position) → k ≢ j → slice_index_or after k [] ≡ slice_index_or before k []
 
--- there is a ring to each number but this one
-abbrev pub AllButOwn : ℕ → List (Option Ring) → Type 0
-AllButOwn own xs = (k : ℕ) → k < length xs → is_some (slice_index_or xs k None) ≡ not (k == own)
+-- there is a ring to each worker but the own one
+abbrev pub AllButOwn : Worker → List (Option Ring) → Type 0
+AllButOwn own xs =
+    (k : Worker) → k < length xs → is_some (slice_index_or xs k None) ≡ not (k == own)
 
 -- the cell of row i and column j
-abbrev pub cell : {X : Type 0} → List (List (Option X)) → ℕ → ℕ → Option X
+abbrev pub cell : {X : Type 0} → List (List (Option X)) → Position → Position → Option X
 cell rows i j = slice_index_or (slice_index_or rows i []) j None
 
 -- each of the first n lists has a place with the number
-abbrev pub HasPlace : {X : Type 0} → ℕ → ℕ → List (List X) → Type 0
-HasPlace n place lists = (j : ℕ) → j < n → place < length (slice_index_or lists j [])
+abbrev pub HasPlace : {X : Type 0} → Count → Position → List (List X) → Type 0
+HasPlace n place lists = (j : Position) → j < n → place < length (slice_index_or lists j [])
 
 -- the rings in a row of n are those at one place of each of the lists
-abbrev pub IsAtPlace : ℕ → ℕ → List (Option Ring) → List (List (Option Ring)) → Type 0
-IsAtPlace n place row lists = (j : ℕ) → j < n → slice_index_or row j None ≡ cell lists j place
+abbrev pub IsAtPlace : Count → Position → List (Option Ring) → List (List (Option Ring)) → Type 0
+IsAtPlace n place row lists = (j : Worker) → j < n → slice_index_or row j None ≡ cell lists j place
 
 -- Rings by sender and by receiver: m senders so far, and n receivers
-pub record AreCrossed (n m : ℕ) (rows columns : List (List (Option Ring))) : Type 0 where
+pub record AreCrossed (n m : Count) (rows columns : List (List (Option Ring))) : Type 0 where
   pub senders : length rows ≡ m
   pub receivers : length columns ≡ n
   pub wide : All (λ (r : List (Option Ring)). length r ≡ n) rows
   pub deep : All (λ (c : List (Option Ring)). length c ≡ m) columns
-  pub paired : (i j : ℕ) → i < m → j < n → cell rows i j ≡ cell columns j i
-  pub others : (i : ℕ) → i < m → AllButOwn i (slice_index_or rows i [])
+  pub paired : (i j : Worker) → i < m → j < n → cell rows i j ≡ cell columns j i
+  pub others : (i : Worker) → i < m → AllButOwn i (slice_index_or rows i [])
