@@ -1,9 +1,10 @@
 // Runs of photo caches in rounds, with gates that hold workers back.
 use rw_photo::{CacheState, Config, Photo, Policy, Shape};
-use rw_ripqwarp::beginning;
+use rw_ripqwarp::{beginning, run_schedule};
 use rw_rounds::{Gate, Open, Plan, Traffic, run};
 use rw_vt::{END, Outcome};
-use rw_world::World;
+use rw_world::Step::{Collect, Deliver, Execute, Undo};
+use rw_world::{Answer, StepFault, World};
 use std::alloc::Global;
 use std::sync::Wait;
 use std::sync::atomic::{AtomicU64, Ordering};
@@ -158,6 +159,39 @@ fn a_straggling_fill_is_made_room_for(rt: HostRuntime) -> Result<(), Fail> {
     assert!(rt; held.ring >= 2);
     assert!(rt; gate.saw_both());
     assert_eq!(rt; gate.misses(), 0);
+    Ok(())
+}
+
+#[test]
+fn a_schedule_takes_a_straggler_back_and_commits_all(rt: HostRuntime) -> Result<(), Fail> {
+    let alloc = rt.alloc();
+    let config = config()?;
+    let steps = [
+        Execute(0),
+        Execute(0),
+        Deliver(0),
+        Execute(1),
+        Deliver(0),
+        Execute(0),
+        Undo(0),
+        Execute(0),
+        Execute(0),
+        Collect(END),
+    ];
+    let (world, answers) = run_schedule(alloc, opened(alloc, &config)?, &steps)?;
+    for (number, answer) in answers.iter().enumerate() {
+        let want = match number {
+            5 => Answer::Refused(StepFault::Straggler),
+            _ => Answer::Done,
+        };
+        assert!(rt; *answer == want);
+    }
+    assert!(rt; world.finished());
+    let Ok((outcome, traffic)) = run(&rt, alloc, world, plan(END), &Open) else {
+        return Err(Fail::from("run"));
+    };
+    assert_eq!(rt; traffic.executed, 0);
+    assert!(rt; agree(&outcome, &in_order(alloc, &config)?));
     Ok(())
 }
 
