@@ -15,3 +15,4 @@ mod Balance
 mod Own
 pub mod WithBags
 mod PutBack
+pub mod Cited

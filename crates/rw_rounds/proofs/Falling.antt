@@ -14,10 +14,9 @@ use Rattle.rw_lp.specs.declared.held.Held.{Held}
 use Rattle.rw_lp.specs.declared.step.StepFault.TheVariants.{StillDone}
 use Rattle.rw_lp.specs.HeldMessages.{held_with, held_without}
 use Rattle.rw_lp.specs.Process.{ProcessState, done, Turn, Turned, Stays, split_last, undo_last, undo_one, annihilate, deliver_message, deliver_anti, deliver, execute_next, execute_least, execute_event, after_execution, is_less_than_last}
-use Rattle.rw_lp.proofs.WithBags.{with_bags}
+use Rattle.rw_lp.proofs.Cited.{with_bags, IsSplit, split_is}
 use Rattle.rw_lp.specs.Calls.{LogicalProcess}
 use Rattle.rw_lp.specs.Arrival.{with_out, and_undo, undo_times, Arrived}
-use Rattle.rw_lp.proofs.Splits.{IsSplit, split_is}
 use Rattle.rw_rounds.specs.Working.{size, sizes, dones}
 
 length-letters : {B : Type 0} (b : Bool) (es : List (Event B)) → length (letters_of b es) ≡ length es

@@ -18,7 +18,7 @@ use Rattle.rw_vt.proofs.Laws.{lawful}
 use Rattle.rw_lp.specs.Process.{ProcessState, Turn, Turned, Stays, execute_least, execute_next, split_last, undo_last, undo_one, deliver}
 use Rattle.rw_lp.specs.Calls.{rules}
 use Rattle.rw_lp.specs.Sound.{Stands, IsHeldFor, SoundAt, Keeps}
-use Rattle.rw_lp.proofs.Turns.{execute_keeps, undo_keeps, deliver_keeps}
+use Rattle.rw_lp.proofs.Cited.{execute_keeps, undo_keeps, deliver_keeps}
 use Rattle.rw_rounds.proofs.ByPlace.{get_within}
 
 -- what a trait bound gives of a model

@@ -6,7 +6,7 @@ use Rattle.rw_vt.proofs.Letters.{messages-append, antis-append}
 use Rattle.rw_lp.specs.Process.{ProcessState, Turn, Turned, Stays, undo_one, deliver}
 use Rattle.rw_lp.specs.Arrival.{with_out, and_undo, undo_times, Arrived}
 use Rattle.rw_lp.specs.Sound.{Stands, SoundAt, Kept, Keeps}
-use Rattle.rw_lp.proofs.GivenOut.{no_letters, letters_join}
+use Rattle.rw_lp.proofs.Cited.{no_letters, letters_join}
 use Rattle.rw_rounds.proofs.Governing.{Governs}
 
 module _ {S B : Type 0} (y : System S B) (g p : ℕ) where

@@ -15,7 +15,7 @@ use Rattle.rw_lp.specs.HeldMessages.{unheld_sends}
 use Rattle.rw_lp.specs.Process.{ProcessState, Turn, Turned, Stays, done, split_last, is_less_than_last, execute_event, execute_least, execute_next, undo_last, undo_one}
 use Rattle.rw_lp.specs.Calls.{LogicalProcess, rules, Took}
 use Rattle.rw_lp.specs.Sound.{HasCollected}
-use Rattle.rw_lp.proofs.Splits.{IsSplit, split_is}
+use Rattle.rw_lp.proofs.Cited.{IsSplit, split_is}
 use Rattle.rw_rounds.specs.Working.{Moved}
 
 module _ {S B : Type 0} (y : System S B) (p : ℕ) where

@@ -16,7 +16,7 @@ use Rattle.rw_lp.specs.HeldMessages.{held_messages}
 use Rattle.rw_lp.specs.Process as process
 use Rattle.rw_lp.specs.Process.{ProcessState, done}
 use Rattle.rw_lp.specs.Sound.{SoundAt}
-use Rattle.rw_lp.proofs.Committing.{done_stays, collect_keeps}
+use Rattle.rw_lp.proofs.Cited.{done_stays, collect_keeps}
 use Rattle.rw_world.specs.WorldState.{WorldState, floor}
 use Rattle.rw_world.specs.Steps.{refusal, collect_to}
 use Rattle.rw_world.specs.Sound.{held_in, Sound, IsQuiet, Balanced, list_at, done_of, pending_of, debts_of}

@@ -9,7 +9,7 @@ use Rattle.rw_vt.specs.System.{System}
 use Rattle.rw_lp.specs.HeldMessages.{unheld_sends}
 use Rattle.rw_lp.specs.Process as process
 use Rattle.rw_lp.specs.Process.{ProcessState, Turn, Turned, Stays, done, is_less_than_last, split_last, execute_event, execute_least, execute_next, undo_last, undo_one, annihilate, deliver_anti, deliver_message}
-use Rattle.rw_lp.proofs.WithBags.{with_bags}
+use Rattle.rw_lp.proofs.Cited.{with_bags}
 use Rattle.rw_lp.specs.declared.step.StepFault.{StepFault}
 use Rattle.rw_lp.specs.declared.step.StepFault.TheVariants.{NoSuchProcess, NoSuchLetter, NothingPending, Straggler, NothingToUndo, StillDone, AboveFloor}
 use Rattle.rw_lp.specs.declared.step.Answer.{Answer}

@@ -14,7 +14,7 @@ use Rattle.rw_vt.proofs.Runs.{IsLawful, copies_joined_but_one}
 use Rattle.rw_lp.specs.HeldMessages.{held_messages}
 use Rattle.rw_lp.specs.Process.{ProcessState, Turn, Turned, Stays, done}
 use Rattle.rw_lp.specs.Sound.{SoundAt, SoundLetters, Kept, Keeps}
-use Rattle.rw_lp.proofs.GivenOut.{letters_join}
+use Rattle.rw_lp.proofs.Cited.{letters_join}
 use Rattle.rw_world.specs.WorldState.{WorldState}
 use Rattle.rw_world.specs.Steps.{world_after}
 use Rattle.rw_world.specs.Sound.{held_in, Sound, Balanced, list_at, done_of, pending_of, debts_of}

@@ -12,7 +12,7 @@ use Rattle.rw_vt.proofs.Bags.{none_if, Each-nil, copies-filter_yes}
 use Rattle.rw_vt.proofs.Runs.{IsLawful, copies_joined}
 use Rattle.rw_lp.specs.Process.{ProcessState, done}
 use Rattle.rw_lp.specs.Sound.{Stands, IsHeldFor, SoundAt}
-use Rattle.rw_lp.proofs.GivenOut.{no_letters}
+use Rattle.rw_lp.proofs.Cited.{no_letters}
 use Rattle.rw_world.specs.WorldState.{opening_process, opening_world}
 use Rattle.rw_world.specs.Sound.{held_in, Sound, list_at, done_of, pending_of}
 use Rattle.rw_world.proofs.Lookups.{some_at, get-map_from, map_from-empty}

@@ -3,7 +3,7 @@ use Rattle.std.proofs.Common.{ℕ}
 use Rattle.rw_vt.specs.System.{System}
 use Rattle.rw_vt.proofs.Runs.{IsLawful}
 use Rattle.rw_lp.specs.Process.{execute_next, undo_one}
-use Rattle.rw_lp.proofs.Turns.{execute_keeps, undo_keeps}
+use Rattle.rw_lp.proofs.Cited.{execute_keeps, undo_keeps}
 use Rattle.rw_world.specs.declared.step.Step.{Step}
 use Rattle.rw_world.specs.declared.step.Step.TheVariants.{Execute, Undo, Deliver, Collect}
 use Rattle.rw_world.specs.WorldState.{WorldState}

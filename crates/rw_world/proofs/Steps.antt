@@ -15,7 +15,7 @@ use Rattle.rw_vt.proofs.Runs.{IsLawful}
 use Rattle.rw_lp.specs.Process as process
 use Rattle.rw_lp.specs.Process.{ProcessState, Turn}
 use Rattle.rw_lp.specs.Sound.{SoundAt, Keeps}
-use Rattle.rw_lp.proofs.Turns.{deliver_keeps}
+use Rattle.rw_lp.proofs.Cited.{deliver_keeps}
 use Rattle.rw_world.specs.WorldState.{WorldState}
 use Rattle.rw_world.specs.Steps.{remove_at, turn_at, deliver_to, deliver_letter}
 use Rattle.rw_world.specs.Sound.{Sound}
