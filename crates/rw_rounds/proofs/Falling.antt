@@ -113,7 +113,7 @@ module _ {S B : Type 0} (y : System S B) (p : ℕ) where
 
       go : (es : List (Event B)) → execute_least y p x es ≡ Turned z out → length (done z) ≡ length (done x) + 1
       go [] k = cc
-      go (e ∷ rest) k = late (is_less_than_last y.order e (split_last (done x))) e rest (Rattle.rw_lp.specs.HeldMessages.unheld y.order (y.step p x.state e).1 x.held) k
+      go (e ∷ rest) k = late (is_less_than_last y.order e (split_last (done x))) e rest (Rattle.rw_lp.specs.HeldMessages.unheld_sends y.order (y.step p x.state e).1 x.held) k
 
   pub undo_counts : (x z : ProcessState S B) (out : List (Letter B)) → undo_one y p x ≡ Turned z out → length (done z) + 1 ≡ length (done x)
   undo_counts x z out h = go (split_last x.processed) (split_is x.processed) h
@@ -121,7 +121,7 @@ module _ {S B : Type 0} (y : System S B) (p : ℕ) where
       go : (o : Option (List (Event B) × Event B)) → IsSplit x.processed o → undo_last y p x o ≡ Turned z out → length (done z) + 1 ≡ length (done x)
       go None q k = cc
       go (Some r) q k =
-          let is : Rattle.rw_lp.specs.Process.undone y p x r.0 r.1 x.held ≡ z = cc in
+          let is : Rattle.rw_lp.specs.Process.after_undoing y p x r.0 r.1 x.held ≡ z = cc in
           let a : length (done z) ≡ length (x.committed ++ r.0) = ap (λ u. length (done u)) (sym is) in
           let b : length (done x) ≡ length (x.committed ++ r.0) + 1 = ap length (ap (λ l. x.committed ++ l) q ∙ sym (append_assoc x.committed r.0 (r.1 ∷ []))) ∙ length-append (x.committed ++ r.0) (r.1 ∷ []) in
           omega arith

@@ -264,7 +264,7 @@ impl<M: VtModel> Desk<M> {
     /// collected.
     fn passes(&self, model: &M, letter: &Letter<M::Body>) -> bool
         requires workers { 0 < self.now.plan.workers }
-        ensures is_accepted { result
+        ensures passes { result
             ≡ is_accepted (rules M.Model M.Body.cmp model.now) (role_of self.now) letter.now }
     {
         model.valid(&letter.event) && self.owns(letter) && self.collected <= letter.event.time
