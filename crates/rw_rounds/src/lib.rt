@@ -14,6 +14,7 @@
 
 mod desk;
 mod gathering;
+mod pace;
 mod plan;
 mod round;
 mod running;

@@ -4,6 +4,7 @@ ghost use Rattle.rw_world.specs.Calls.{system_of};
 ghost use Rattle.rw_world.specs.WorldState.{floor};
 ghost use Rattle.rw_rounds.specs.Plans.{IsInRanges};
 
+use crate::pace::Pace;
 use crate::plan::Plan;
 use crate::round::{Gate, run_round};
 use crate::sim::{Sim, Traffic};
@@ -15,7 +16,7 @@ use std::alloc::Global;
 use std::sync::Wait;
 use std::thread::Threads;
 
-/// Makes rounds until nothing is outstanding, and gives what each process has then executed and its state, and what the
+/// Makes rounds until nothing is outstanding, at a pace within the plan, and gives what each process has then executed and its state, and what the
 /// rounds did in counts.
 ///
 /// Whatever the plan is and however the threads interleave, a result is what executing all events in order of time
@@ -48,13 +49,20 @@ where
     ensures plan { (result ≡ Err Stop.BadPlan) ↔ (IsInRanges plan → ⊥) }
 {
     let mut sim = Sim::open(world, plan)?;
+    let mut pace = Pace::new();
     for _round in 0..plan.max_rounds {
-        sim = run_round(rt, alloc, sim, gate)?;
+        let floor = sim.floor();
+        let before = sim.traffic();
+        sim = run_round(rt, alloc, sim.by(pace.plan(&plan)), gate)?;
+        let traffic = sim.traffic();
         if sim.floor() == END {
-            let traffic = sim.traffic();
             let outcome = outcome(alloc, sim.into_world())?;
             return Ok((outcome, traffic));
         }
+        let executed = traffic.executed.wrapping_sub(before.executed);
+        let undone = traffic.undone.wrapping_sub(before.undone);
+        let moved = sim.floor().saturating_sub(floor);
+        pace.note(&plan, moved, executed, undone);
     }
     Err(Stop::RoundsUsed)
 }

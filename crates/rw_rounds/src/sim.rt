@@ -64,6 +64,25 @@ impl<M: VtModel + Drop> Sim<M> {
         self.traffic
     }
 
+    /// The same run, with its next round by `plan`. Takes no memory.
+    pub(crate) fn by(self, plan: Plan) -> Sim<M>
+        requires plan { IsInRanges plan }
+        ensures is { result ≡ record self { plan = plan } }
+    {
+        let Sim {
+            world,
+            plan: _,
+            floor,
+            traffic,
+        } = self;
+        Sim {
+            world,
+            plan,
+            floor,
+            traffic,
+        }
+    }
+
     /// The world. Takes no memory.
     pub fn into_world(self) -> World<M>
         ensures world { result ≡ self.simulation }

@@ -1,0 +1,123 @@
+ghost use Rattle.rw_rounds.specs.Plans.{IsInRanges};
+
+use crate::plan::Plan;
+
+/// As many events a worker, executed for good, make a round worth its threads.
+const WORTHWHILE: u64 = 64;
+
+/// As many rounds are all workers tried for, at least.
+const TRIAL: u64 = 4;
+
+/// The pace of a run: how much of its plan the next round gets.
+///
+/// A round is one burst: what its workers execute before they hear of one another may be in vain, and how far the floor
+/// moves in it does not depend on that, but on how often events wait for one another. So the window is what the floor moved
+/// in a round, on the mean of the last few, times a gain that falls by a quarter where more than a quarter of the
+/// executions was undone, and else grows by an eighth; and the batch is so that a round can do twice what the last ones did
+/// for good. Where all workers find fewer than [`WORTHWHILE`] events each, one worker goes on alone, with no letter on its
+/// way and nothing undone, for a number of rounds that doubles with each trial in vain.
+///
+/// The plan is the bound of it all, and the first round is the plan's as it is. No theorem rests on the pace.
+#[derive(Clone, Copy, Debug)]
+pub(crate) struct Pace {
+    /// How far the floor moves in a round of all workers, in ticks: a mean, of which the last round is a quarter. `None`
+    /// before the first round.
+    advance: Option<u64>,
+    /// How many events such a round executes for good: a mean, of which the last round is a half.
+    useful: u64,
+    /// What the window is of `advance`, in 64ths: 32 to 128.
+    gain: u64,
+    /// Whether one worker goes on alone.
+    alone: bool,
+    /// For how many rounds the workers have been as many as they are.
+    rounds: u64,
+    /// How many rounds one worker is to go on alone: 4 to 4096.
+    patience: u64,
+}
+
+impl Pace {
+    /// The pace before the first round. Takes no memory.
+    pub(crate) fn new() -> Pace {
+        Pace {
+            advance: None,
+            useful: 0,
+            gain: 64,
+            alone: false,
+            rounds: 0,
+            patience: TRIAL,
+        }
+    }
+
+    /// The plan of the next round, within `bounds`. Takes no memory.
+    pub(crate) fn plan(&self, bounds: &Plan) -> Plan
+        requires { IsInRanges bounds.now }
+        ensures { IsInRanges result }
+    {
+        let Some(advance) = self.advance else {
+            return *bounds;
+        };
+        if self.alone {
+            return Plan {
+                workers: 1,
+                ..*bounds
+            };
+        }
+        let window = advance.saturating_mul(self.gain) / 64;
+        let turns = u64::from(bounds.workers) * u64::from(bounds.turns);
+        let batch = self.useful.saturating_mul(2) / turns + 1;
+        Plan {
+            window: window.max(1).min(bounds.window),
+            batch: batch.min(u64::from(bounds.batch)) as u32,
+            ..*bounds
+        }
+    }
+
+    /// A round of a run within `bounds` was made: its floor moved by `moved` ticks, and of `executed` events `undone` were
+    /// undone. Takes no memory.
+    pub(crate) fn note(&mut self, bounds: &Plan, moved: u64, executed: u64, undone: u64) {
+        self.rounds = self.rounds.saturating_add(1);
+        if self.alone {
+            if self.rounds >= self.patience {
+                self.alone = false;
+                self.rounds = 0;
+            }
+            return;
+        }
+        self.measure(moved, executed, undone);
+        if bounds.workers > 1 {
+            self.decide(u64::from(bounds.workers));
+        }
+    }
+
+    /// Takes the means and the gain on, after a round of all workers.
+    fn measure(&mut self, moved: u64, executed: u64, undone: u64) {
+        let useful = executed.saturating_sub(undone);
+        match self.advance {
+            None => {
+                self.advance = Some(moved);
+                self.useful = useful;
+            }
+            Some(advance) => {
+                self.advance = Some(advance.saturating_mul(3).saturating_add(moved) / 4);
+                self.useful = self.useful.saturating_add(useful) / 2;
+            }
+        }
+        self.gain = if undone.saturating_mul(4) > executed {
+            (self.gain.saturating_mul(3) / 4).max(32)
+        } else {
+            self.gain.saturating_add(self.gain / 8).min(128)
+        };
+    }
+
+    /// After a round of all `workers`: whether one of them goes on alone.
+    fn decide(&mut self, workers: u64) {
+        if self.rounds >= TRIAL && self.useful < WORTHWHILE.saturating_mul(workers) {
+            self.alone = true;
+            self.rounds = 0;
+            self.patience = self.patience.saturating_mul(2).min(4096);
+        } else if self.rounds >= 64 {
+            self.patience = (self.patience / 2).max(TRIAL);
+            self.rounds = TRIAL;
+        }
+    }
+}
