@@ -24,3 +24,4 @@ pub mod Rounding
 pub mod Gathered
 pub mod Sending
 pub mod Ending
+pub mod Stopping

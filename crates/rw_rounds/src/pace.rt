@@ -64,7 +64,7 @@ impl Pace {
         }
         let window = advance.saturating_mul(self.gain) / 64;
         let turns = u64::from(bounds.workers) * u64::from(bounds.turns);
-        let batch = self.useful.saturating_mul(2) / turns + 1;
+        let batch = (self.useful.saturating_mul(2) / turns).saturating_add(1);
         Plan {
             window: window.max(1).min(bounds.window),
             batch: batch.min(u64::from(bounds.batch)) as u32,
