@@ -6,7 +6,7 @@ use Rattle.std.proofs.lemmas.List.Sums.{sum_by-cons, sum_by-le}
 use Rattle.rw_blocks.specs.declared.Kind.TheVariants.{Device, Virtual}
 use Rattle.rw_blocks.specs.State.{QueueState, SectionState}
 use Rattle.rw_blocks.specs.Loose.{IsLoose}
-use Rattle.rw_blocks.specs.Sums.{below, bytes_held, total, bytes_in, has_block}
+use Rattle.rw_blocks.specs.Sums.{bytes_below, bytes_held, total, bytes_in, has_block}
 
 at_test : {X : Type 0} (b : Bool) (f : X → ℕ) (x : X) (xs : List X) → sum_by f (cond b (x ∷ xs) xs) ≡ cond b (f x) 0 + sum_by f xs
 at_test true f x xs = sum_by-cons f x xs
@@ -36,7 +36,7 @@ pub ruleset held_bounds = (rows_homed-le-total, rows_placed-le-total)
 pub bytes_in-le-total : (q : QueueState) (s : SectionState) → bytes_in q s ≤ total q
 bytes_in-le-total q s = sum_by-filter-le (λ r. r.size) (λ r. has_block r.place s) (values_of q.rows)
 
-pub below-fits : (q : QueueState) (i : ℕ) → IsLoose q → below q i < 2 ^ 64
+pub below-fits : (q : QueueState) (i : ℕ) → IsLoose q → bytes_below q i < 2 ^ 64
 below-fits q i loose =
     let each : sum_by (bytes_in q) (drop (i + 1) q.sections) ≤ length (drop (i + 1) q.sections) * (2 ^ 48) =
     sum_by-le (bytes_in q) (2 ^ 48) (drop (i + 1) q.sections) (λ k d lt. omega (arith, bytes_in-le-total q (get_or (drop (i + 1) q.sections) k d), loose.within)) in

@@ -12,7 +12,7 @@ use Rattle.std.proofs.lemmas.List.Elements.{All-tail}
 use Rattle.std.proofs.lemmas.Map.Entries.{sum_by-insert_entry, sum_by-remove_entry}
 use Rattle.rw_blocks.specs.declared.Place.{Place}
 use Rattle.rw_blocks.specs.State.{QueueState, SectionState, no_section, section_in}
-use Rattle.rw_blocks.specs.Sums.{has_block, bytes_in, size_of, below}
+use Rattle.rw_blocks.specs.Sums.{has_block, bytes_in, size_of, bytes_below}
 use Rattle.rw_blocks.specs.Tags.{IsOnlyIn}
 use Rattle.rw_blocks.specs.Weights.{bytes_where, weight_in, IsWeighed}
 use Rattle.rw_blocks.proofs.Sums.{sum_by-filter}
@@ -145,5 +145,5 @@ weights_from f (s ∷ ss) (b ∷ bs) zero long each =
     omega (arith, sum_by-cons f s ss, sum_by-cons (λ (x : ℕ). x) b bs, each 0 (omega arith), weights_from f ss bs zero (omega arith) (λ i lt. each (suc i) (omega arith)))
 weights_from f (s ∷ ss) (b ∷ bs) (suc k) long each = weights_from f ss bs k (omega arith) (λ i lt. each (suc i) (omega arith))
 
-pub below-weights : (q : QueueState) (bs : List ℕ) (i : ℕ) → IsWeighed q.rows q.sections bs → sum (drop (i + 1) bs) ≡ below q i
+pub below-weights : (q : QueueState) (bs : List ℕ) (i : ℕ) → IsWeighed q.rows q.sections bs → sum (drop (i + 1) bs) ≡ bytes_below q i
 below-weights q bs i w = weights_from (bytes_in q) q.sections bs (i + 1) w.long (λ j lt. w.each j lt ∙ sym (bytes_in-weight q (section_in q.sections j)))

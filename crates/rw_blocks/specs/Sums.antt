@@ -62,9 +62,9 @@ fill q b =
 abbrev pub bytes_in : QueueState → SectionState → Size
 bytes_in q s = size_of (filter (λ r. has_block r.place s) (values_of q.rows))
 
-abbrev pub bytes : QueueState → Section → Size
-bytes q i = bytes_in q (section_at q i)
+abbrev pub section_bytes : QueueState → Section → Size
+section_bytes q i = bytes_in q (section_at q i)
 
 -- the bytes of the sections nearer the tail
-abbrev pub below : QueueState → Section → Size
-below q i = sum_by (bytes_in q) (drop (i + 1) q.sections)
+abbrev pub bytes_below : QueueState → Section → Size
+bytes_below q i = sum_by (bytes_in q) (drop (i + 1) q.sections)

@@ -2,7 +2,7 @@
 ghost use Rattle.std.specs.Prelude.{◌≡◌, ◌≤◌, ◌<◌, ◌+◌, ◌^◌, ◌↔◌, [], length, None, Some, OnOk, IfOk, IfSome, IsSome, IsNone, slice_get, sum, true};
 ghost use Rattle.std.specs.Option.{option_map};
 ghost use Rattle.rw_blocks.specs.State.{IsShape, start_of, row_at, section_at, active_of, sealed_block};
-ghost use Rattle.rw_blocks.specs.Sums.{total, bytes_held, rows_homed, rows_placed, has_block, fill, bytes, below};
+ghost use Rattle.rw_blocks.specs.Sums.{total, bytes_held, rows_homed, rows_placed, has_block, fill, section_bytes, bytes_below};
 ghost use Rattle.rw_blocks.specs.Loose.{IsLoose, IsWellFormedQueue, block_count, sealed_devices};
 ghost use Rattle.rw_blocks.specs.Primitives.{after_remove, with_row, joined_at};
 ghost use Rattle.rw_blocks.specs.Undo.{parted_at, IsJoined};
@@ -219,7 +219,7 @@ impl Queue {
     pub fn bytes(&self, section: usize) -> u64
         requires loose { IsLoose self.now }
         requires there { section < length self.now.sections }
-        ensures { result ≡ bytes self.now section }
+        ensures { result ≡ section_bytes self.now section }
     {
         self.bytes[section]
     }
@@ -228,7 +228,7 @@ impl Queue {
     pub fn below(&self, section: usize) -> u64
         requires loose { IsLoose self.now }
         requires there { section < length self.now.sections }
-        ensures { result ≡ below self.now section }
+        ensures { result ≡ bytes_below self.now section }
     {
         sum(&self.bytes[section + 1..])
     }

@@ -18,7 +18,7 @@ use Rattle.rw_lp.specs.Process.{ProcessState, done, Turn, Turned, Stays, split_l
 use Rattle.rw_lp.proofs.WithBags.{with_bags}
 use Rattle.rw_lp.specs.Calls.{Took, IsTaken, letters_taken}
 use Rattle.rw_lp.specs.Arrival.{undo_times, and_undo, with_out}
-use Rattle.rw_lp.specs.Sound.{Change}
+use Rattle.rw_lp.specs.Sound.{Balance}
 use Rattle.rw_lp.proofs.Splits.{IsSplit, split_is}
 
 module _ {S B : Type 0} (y : System S B) (o : IsExactOrder y.order) (p : ℕ) where
@@ -31,13 +31,13 @@ module _ {S B : Type 0} (y : System S B) (o : IsExactOrder y.order) (p : ℕ) wh
       ap (copies y.order a) (outs-append (y.step p) s xs (e ∷ []) ∙ ap (λ l. sends_of (y.step p) s xs ++ l) (append-nil sends))
       ∙ copies-append o a (sends_of (y.step p) s xs) sends
 
-  pub unchanged : (x z : ProcessState S B) → z ≡ x → Change y p x z [] []
-  unchanged x z is = subst (λ w. Change y p x w [] []) (sym is) (record { start = refl; kept = λ e. refl; sent = λ e. refl })
+  pub unchanged : (x z : ProcessState S B) → z ≡ x → Balance y p x z [] []
+  unchanged x z is = subst (λ w. Balance y p x w [] []) (sym is) (record { start = refl; kept = λ e. refl; sent = λ e. refl })
 
   pub execution_balanced : (x z : ProcessState S B) (e : Event B) (rest : List (Event B)) (given : List (Letter B)) → x.state ≡ state_after (y.step p) x.start (done x) → x.held ≡ [] → x.pending ≡ e ∷ rest
-      → z ≡ after_execution y p x e rest [] → given ≡ letters_of false (y.step p x.state e).1 → Change y p x z [] given
+      → z ≡ after_execution y p x e rest [] → given ≡ letters_of false (y.step p x.state e).1 → Balance y p x z [] given
   execution_balanced x z e rest given fold none q is sent =
-      subst (λ w. Change y p x w [] given) (sym is) (subst (λ l. Change y p x (after_execution y p x e rest []) [] l) (sym sent) change)
+      subst (λ w. Balance y p x w [] given) (sym is) (subst (λ l. Balance y p x (after_execution y p x e rest []) [] l) (sym sent) change)
     where
       sends : List (Event B)
       sends = (y.step p x.state e).1
@@ -45,7 +45,7 @@ module _ {S B : Type 0} (y : System S B) (o : IsExactOrder y.order) (p : ℕ) wh
       more : x.committed ++ (x.processed ++ e ∷ []) ≡ done x ++ e ∷ []
       more = sym (append_assoc x.committed x.processed (e ∷ []))
 
-      change : Change y p x (after_execution y p x e rest []) [] (letters_of false sends)
+      change : Balance y p x (after_execution y p x e rest []) [] (letters_of false sends)
       change = record {
         start = refl;
         kept = λ a.
@@ -59,9 +59,9 @@ module _ {S B : Type 0} (y : System S B) (o : IsExactOrder y.order) (p : ℕ) wh
             omega (arith, s1, h1, messages_sent y.order a sends, antis_sent y.order a sends);
       }
 
-  pub undoing_balanced : (x z : ProcessState S B) (front : List (Event B)) (e : Event B) (given : List (Letter B)) → x.processed ≡ front ++ e ∷ [] → z ≡ after_undoing y p x front e x.held → given ≡ letters_of true (sends_of_last y p x front e) → Change y p x z [] given
+  pub undoing_balanced : (x z : ProcessState S B) (front : List (Event B)) (e : Event B) (given : List (Letter B)) → x.processed ≡ front ++ e ∷ [] → z ≡ after_undoing y p x front e x.held → given ≡ letters_of true (sends_of_last y p x front e) → Balance y p x z [] given
   undoing_balanced x z front e given q is sent =
-      subst (λ w. Change y p x w [] given) (sym is) (subst (λ l. Change y p x (after_undoing y p x front e x.held) [] l) (sym sent) change)
+      subst (λ w. Balance y p x w [] given) (sym is) (subst (λ l. Balance y p x (after_undoing y p x front e x.held) [] l) (sym sent) change)
     where
       sends : List (Event B)
       sends = sends_of_last y p x front e
@@ -69,7 +69,7 @@ module _ {S B : Type 0} (y : System S B) (o : IsExactOrder y.order) (p : ℕ) wh
       more : done x ≡ (x.committed ++ front) ++ e ∷ []
       more = ap (λ l. x.committed ++ l) q ∙ sym (append_assoc x.committed front (e ∷ []))
 
-      change : Change y p x (after_undoing y p x front e x.held) [] (letters_of true sends)
+      change : Balance y p x (after_undoing y p x front e x.held) [] (letters_of true sends)
       change = record {
         start = refl;
         kept = λ a.
@@ -82,18 +82,18 @@ module _ {S B : Type 0} (y : System S B) (o : IsExactOrder y.order) (p : ℕ) wh
       }
 
   bags_balanced : (x : ProcessState S B) (l : Letter B) (pending debts : List (Event B)) → ((a : Event B) → copies y.order a pending + copies y.order a x.debts + antis y.order a (l ∷ []) ≡ copies y.order a x.pending + copies y.order a debts + messages y.order a (l ∷ []))
-      → Change y p x (with_bags x pending debts x.held) (l ∷ []) []
+      → Balance y p x (with_bags x pending debts x.held) (l ∷ []) []
   bags_balanced x l pending debts counts = record { start = refl; kept = λ a. omega (arith, counts a); sent = λ a. refl }
 
   -- a delivery, by what it found
-  pub anti_meets : (x : ProcessState S B) (l : Letter B) (pending : List (Event B)) → l.anti ≡ true → has y.order l.event x.pending ≡ true → pending ≡ without y.order l.event x.pending → Change y p x (with_bags x pending x.debts x.held) (l ∷ []) []
+  pub anti_meets : (x : ProcessState S B) (l : Letter B) (pending : List (Event B)) → l.anti ≡ true → has y.order l.event x.pending ≡ true → pending ≡ without y.order l.event x.pending → Balance y p x (with_bags x pending x.debts x.held) (l ∷ []) []
   anti_meets x l pending q h is = bags_balanced x l pending x.debts (λ c.
       let m1 : messages y.order c (l ∷ []) ≡ 0 = ap (λ b. cond b 0 (one_if_same y.order c l.event) + 0) q in
       let a1 : antis y.order c (l ∷ []) ≡ one_if_same y.order c l.event + 0 = ap (λ b. cond b (one_if_same y.order c l.event) 0 + 0) q in
       let p1 : copies y.order c pending ≡ copies y.order c (without y.order l.event x.pending) = ap (copies y.order c) is in
       omega (arith, m1, a1, p1, copies-without o c l.event x.pending h))
 
-  pub anti_owed : (x : ProcessState S B) (l : Letter B) (pending debts : List (Event B)) → l.anti ≡ true → pending ≡ x.pending → debts ≡ insert_in_order y.order l.event x.debts → Change y p x (with_bags x pending debts x.held) (l ∷ []) []
+  pub anti_owed : (x : ProcessState S B) (l : Letter B) (pending debts : List (Event B)) → l.anti ≡ true → pending ≡ x.pending → debts ≡ insert_in_order y.order l.event x.debts → Balance y p x (with_bags x pending debts x.held) (l ∷ []) []
   anti_owed x l pending debts q same is = bags_balanced x l pending debts (λ c.
       let m1 : messages y.order c (l ∷ []) ≡ 0 = ap (λ b. cond b 0 (one_if_same y.order c l.event) + 0) q in
       let a1 : antis y.order c (l ∷ []) ≡ one_if_same y.order c l.event + 0 = ap (λ b. cond b (one_if_same y.order c l.event) 0 + 0) q in
@@ -101,17 +101,17 @@ module _ {S B : Type 0} (y : System S B) (o : IsExactOrder y.order) (p : ℕ) wh
       let d1 : copies y.order c debts ≡ copies y.order c (insert_in_order y.order l.event x.debts) = ap (copies y.order c) is in
       omega (arith, m1, a1, p1, d1, copies-insert o c l.event x.debts))
 
-  pub anti_refused : (x : ProcessState S B) (pending : List (Event B)) → pending ≡ x.pending → Change y p x (with_bags x pending x.debts x.held) [] []
+  pub anti_refused : (x : ProcessState S B) (pending : List (Event B)) → pending ≡ x.pending → Balance y p x (with_bags x pending x.debts x.held) [] []
   anti_refused x pending same = record { start = refl; kept = λ c. let p1 : copies y.order c pending ≡ copies y.order c x.pending = ap (copies y.order c) same in omega (arith, p1); sent = λ c. refl }
 
-  pub message_meets : (x : ProcessState S B) (l : Letter B) (debts : List (Event B)) → l.anti ≡ false → has y.order l.event x.debts ≡ true → debts ≡ without y.order l.event x.debts → Change y p x (with_bags x x.pending debts x.held) (l ∷ []) []
+  pub message_meets : (x : ProcessState S B) (l : Letter B) (debts : List (Event B)) → l.anti ≡ false → has y.order l.event x.debts ≡ true → debts ≡ without y.order l.event x.debts → Balance y p x (with_bags x x.pending debts x.held) (l ∷ []) []
   message_meets x l debts q h is = bags_balanced x l x.pending debts (λ c.
       let m1 : messages y.order c (l ∷ []) ≡ one_if_same y.order c l.event + 0 = ap (λ b. cond b 0 (one_if_same y.order c l.event) + 0) q in
       let a1 : antis y.order c (l ∷ []) ≡ 0 = ap (λ b. cond b (one_if_same y.order c l.event) 0 + 0) q in
       let d1 : copies y.order c debts ≡ copies y.order c (without y.order l.event x.debts) = ap (copies y.order c) is in
       omega (arith, m1, a1, d1, copies-without o c l.event x.debts h))
 
-  pub message_put : (x : ProcessState S B) (l : Letter B) (pending debts : List (Event B)) → l.anti ≡ false → debts ≡ x.debts → pending ≡ insert_in_order y.order l.event x.pending → Change y p x (with_bags x pending debts x.held) (l ∷ []) []
+  pub message_put : (x : ProcessState S B) (l : Letter B) (pending debts : List (Event B)) → l.anti ≡ false → debts ≡ x.debts → pending ≡ insert_in_order y.order l.event x.pending → Balance y p x (with_bags x pending debts x.held) (l ∷ []) []
   message_put x l pending debts q same is = bags_balanced x l pending debts (λ c.
       let m1 : messages y.order c (l ∷ []) ≡ one_if_same y.order c l.event + 0 = ap (λ b. cond b 0 (one_if_same y.order c l.event) + 0) q in
       let a1 : antis y.order c (l ∷ []) ≡ 0 = ap (λ b. cond b (one_if_same y.order c l.event) 0 + 0) q in
@@ -120,17 +120,17 @@ module _ {S B : Type 0} (y : System S B) (o : IsExactOrder y.order) (p : ℕ) wh
       omega (arith, m1, a1, d1, p1, copies-insert o c l.event x.pending))
 
   -- one change and then another
-  pub change_then : (x w z : ProcessState S B) (came₁ came₂ out₁ out₂ : List (Letter B)) → Change y p x w came₁ out₁ → Change y p w z came₂ out₂ → Change y p x z (came₁ ++ came₂) (out₁ ++ out₂)
+  pub change_then : (x w z : ProcessState S B) (came₁ came₂ out₁ out₂ : List (Letter B)) → Balance y p x w came₁ out₁ → Balance y p w z came₂ out₂ → Balance y p x z (came₁ ++ came₂) (out₁ ++ out₂)
   change_then x w z c d g h a b = record {
     start = b.start ∙ a.start;
     kept = λ e. omega (arith, a.kept e, b.kept e, messages-append y.order e c d, antis-append y.order e c d);
     sent = λ e. omega (arith, a.sent e, b.sent e, messages-append y.order e g h, antis-append y.order e g h);
   }
 
-  undo_balanced : (x z : ProcessState S B) (out : List (Letter B)) → undo_one y p x ≡ Turned z out → Change y p x z [] out
+  undo_balanced : (x z : ProcessState S B) (out : List (Letter B)) → undo_one y p x ≡ Turned z out → Balance y p x z [] out
   undo_balanced x z out is = go (split_last x.processed) (split_is x.processed) is
     where
-      go : (r : Option (List (Event B) × Event B)) → IsSplit x.processed r → undo_last y p x r ≡ Turned z out → Change y p x z [] out
+      go : (r : Option (List (Event B) × Event B)) → IsSplit x.processed r → undo_last y p x r ≡ Turned z out → Balance y p x z [] out
       go None q t = absurd (stays_not NothingToUndo z out t)
         where
           stays_not : (fault : StepFault) (z : ProcessState S B) (out : List (Letter B)) → (let t : Turn S B = Stays fault in t) ≡ Turned z out → ⊥
@@ -143,30 +143,30 @@ module _ {S B : Type 0} (y : System S B) (o : IsExactOrder y.order) (p : ℕ) wh
   stays_not : (fault : StepFault) (given : List (Letter B)) (z : ProcessState S B) (out : List (Letter B)) → with_out given (let t : Turn S B = Stays fault in t) ≡ Turned z out → ⊥
   stays_not fault given z out e = let k : (let t : Turn S B = Stays fault in t) ≡ Turned z out = e in cc
 
-  one_more_balanced : (x w z : ProcessState S B) (given out : List (Letter B)) → Change y p x w [] given → (t : Turn S B) → undo_one y p w ≡ t → with_out given t ≡ Turned z out → Change y p x z [] out
+  one_more_balanced : (x w z : ProcessState S B) (given out : List (Letter B)) → Balance y p x w [] given → (t : Turn S B) → undo_one y p w ≡ t → with_out given t ≡ Turned z out → Balance y p x z [] out
   one_more_balanced x w z given out a (Stays fault) r m = absurd (stays_not fault given z out m)
   one_more_balanced x w z given out a (Turned v more) r m =
       let k : (let t : Turn S B = Turned v (given ++ more) in t) ≡ Turned z out = m in
       let same : v ≡ z = cc in
       let all : given ++ more ≡ out = cc in
-      subst (λ u. Change y p x u [] out) same (subst (λ l. Change y p x v [] l) all (change_then x w v [] [] given more a (undo_balanced w v more r)))
+      subst (λ u. Balance y p x u [] out) same (subst (λ l. Balance y p x v [] l) all (change_then x w v [] [] given more a (undo_balanced w v more r)))
 
-  more_balanced : (x z : ProcessState S B) (out : List (Letter B)) (t : Turn S B) → ((w : ProcessState S B) (given : List (Letter B)) → t ≡ Turned w given → Change y p x w [] given) → and_undo y p t ≡ Turned z out → Change y p x z [] out
+  more_balanced : (x z : ProcessState S B) (out : List (Letter B)) (t : Turn S B) → ((w : ProcessState S B) (given : List (Letter B)) → t ≡ Turned w given → Balance y p x w [] given) → and_undo y p t ≡ Turned z out → Balance y p x z [] out
   more_balanced x z out (Stays fault) a k = absurd (stays_not fault [] z out k)
   more_balanced x z out (Turned w given) a k = one_more_balanced x w z given out (a w given refl) (undo_one y p w) refl k
 
-  pub undoings_balanced : (n : ℕ) (x z : ProcessState S B) (out : List (Letter B)) → undo_times y p n x ≡ Turned z out → Change y p x z [] out
+  pub undoings_balanced : (n : ℕ) (x z : ProcessState S B) (out : List (Letter B)) → undo_times y p n x ≡ Turned z out → Balance y p x z [] out
   undoings_balanced zero x z out is =
       let k : (let t : Turn S B = Turned x [] in t) ≡ Turned z out = is in
       let same : x ≡ z = cc in
       let none : [] ≡ out = cc in
-      subst (λ l. Change y p x z [] l) none (unchanged x z (sym same))
+      subst (λ l. Balance y p x z [] l) none (unchanged x z (sym same))
   undoings_balanced (suc n) x z out is = more_balanced x z out (undo_times y p n x) (λ w given u. undoings_balanced n x w given u) is
 
-  pub arrival_balanced : (x w z : ProcessState S B) (a : Answer) (l : Letter B) (given : List (Letter B)) (n : ℕ) → undo_times y p n x ≡ Turned w given → IsTaken (deliver y.order l w) → Took w z a [] (deliver y.order l w) → Change y p w z (letters_taken a l) [] → Change y p x z (l ∷ []) given
+  pub arrival_balanced : (x w z : ProcessState S B) (a : Answer) (l : Letter B) (given : List (Letter B)) (n : ℕ) → undo_times y p n x ≡ Turned w given → IsTaken (deliver y.order l w) → Took w z a [] (deliver y.order l w) → Balance y p w z (letters_taken a l) [] → Balance y p x z (l ∷ []) given
   arrival_balanced x w z a l given n after_undoing taken took change =
-      subst (λ g. Change y p x z (l ∷ []) g) (append-nil given)
-      (change_then x w z [] (l ∷ []) given [] (undoings_balanced n x w given after_undoing) (subst (λ b. Change y p w z (letters_taken b l) []) (answer (deliver y.order l w) taken took) change))
+      subst (λ g. Balance y p x z (l ∷ []) g) (append-nil given)
+      (change_then x w z [] (l ∷ []) given [] (undoings_balanced n x w given after_undoing) (subst (λ b. Balance y p w z (letters_taken b l) []) (answer (deliver y.order l w) taken took) change))
     where
       answer : (t : Turn S B) → IsTaken t → Took w z a [] t → a ≡ Done
       answer (Stays fault) k q = absurd k

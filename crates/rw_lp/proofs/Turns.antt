@@ -16,7 +16,7 @@ use Rattle.rw_lp.specs.declared.step.StepFault.TheVariants.{Straggler, StillDone
 use Rattle.rw_lp.specs.HeldMessages.{held_messages, held_of, unheld_sends, held_with, held_without}
 use Rattle.rw_lp.specs.Process.{ProcessState, done, Turned, Stays, split_last, is_less_than_last, after_execution, execute_event, execute_least, execute_next, after_undoing, sends_of_last, undo_last, undo_one, undo_last_lazily, undo_lazily, deliver_message, annihilate, deliver_anti, deliver}
 use Rattle.rw_lp.proofs.WithBags.{with_bags}
-use Rattle.rw_lp.specs.Sound.{Stands, SoundAt, SoundLetters, Change, Kept, Keeps}
+use Rattle.rw_lp.specs.Sound.{Stands, SoundAt, SoundLetters, Balance, Kept, Keeps}
 use Rattle.rw_lp.proofs.Splits.{IsSplit, split_is}
 use Rattle.rw_lp.proofs.Holding.{AllHeld, count-held_append, count-held_of, count-held_parts, count-unheld, count-unheld_le, held_more, held_rest, held_append, held_unheld, held_fresh, held_valid, held_from}
 use Rattle.rw_lp.proofs.GivenOut.{no_letters, letters_sound, letters_join}
@@ -73,7 +73,7 @@ module _ {S B : Type 0} (y : System S B) {WellFormed : ℕ → S → Type 0} (la
         more : done z ≡ done x ++ e ∷ []
         more = sym (append_assoc x.committed x.processed (e ∷ []))
 
-        change : Change y p x z [] (letters_of false fresh ++ letters_of true cancelled)
+        change : Balance y p x z [] (letters_of false fresh ++ letters_of true cancelled)
         change = record {
           start = refl;
           kept = λ a.
@@ -165,10 +165,10 @@ module _ {S B : Type 0} (y : System S B) {WellFormed : ℕ → S → Type 0} (la
         sent : (a : Event B) → copies y.order a (sends_of (y.step p) x.start (done x)) ≡ copies y.order a (sends_of (y.step p) x.start (x.committed ++ front)) + copies y.order a sends
         sent a = ap (λ l. copies y.order a (sends_of (y.step p) x.start l)) more ∙ sent_push p x.start (x.committed ++ front) e a
 
-        change : Change y p x (z x.held) [] (letters_of true sends)
+        change : Balance y p x (z x.held) [] (letters_of true sends)
         change = record { start = refl; kept = kept; sent = λ a. omega (arith, sent a, messages_unsent y.order a sends, antis_unsent y.order a sends) }
 
-        change_lazily : Change y p x (z (x.held ++ held_of e sends)) [] []
+        change_lazily : Balance y p x (z (x.held ++ held_of e sends)) [] []
         change_lazily = record { start = refl; kept = kept; sent = λ a. omega (arith, sent a, count-held_append y a x.held (held_of e sends), count-held_of y a e sends) }
 
         there : 0 < copies y.order e x.processed

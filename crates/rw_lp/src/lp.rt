@@ -8,7 +8,7 @@ ghost use Rattle.rw_lp.specs.HeldMessages.{held_messages};
 ghost use Rattle.rw_lp.specs.Process.{ProcessState, done, deliver, execute_next, undo_one, collect};
 ghost use Rattle.rw_lp.specs.Calls.{LogicalProcess, process_of, rules, new_process, MeetsNext, Took, letters_taken, least_time, IsSameProcess, GivesOut, execution_by, undoing_by, IsDelivered, least_outstanding};
 ghost use Rattle.rw_lp.specs.Past.{AreFor, IsFor};
-ghost use Rattle.rw_lp.specs.Sound.{Change, IsSoundOnceCollected, KeepsBalance};
+ghost use Rattle.rw_lp.specs.Sound.{Balance, IsSoundOnceCollected, KeepsBalance};
 ghost use Rattle.rw_lp.specs.Arrival.{Arrived, is_barred};
 ghost use Rattle.rw_vt.specs.declared.event.TheConstants.{END};
 

@@ -5,7 +5,7 @@ use Rattle.rw_blocks.specs.declared.Kind.{Kind}
 use Rattle.rw_blocks.specs.declared.Kind.TheVariants.{Device, Virtual}
 use Rattle.rw_blocks.specs.declared.Place.{Place}
 use Rattle.rw_blocks.specs.State.{QueueState, SectionState, ShapeState, start_of}
-use Rattle.rw_blocks.specs.Sums.{bytes, total}
+use Rattle.rw_blocks.specs.Sums.{section_bytes, total}
 use Rattle.rw_blocks.specs.Primitives.{after_add, after_replace, after_seal}
 use Rattle.rw_ripq.specs.declared.Policy.TheVariants.{Lru, Slru3}
 use Rattle.rw_ripq.specs.declared.Tally.{Tally}
@@ -107,11 +107,11 @@ merged =
 merges_and_splits : lru raised 104 ≡ work merged (tally 0 0 1 1 1)
 merges_and_splits = refl
 
-bytes_after : bytes merged 0 ∷ bytes merged 1 ∷ bytes merged 2 ∷ [] ≡ 24 ∷ 6 ∷ 0 ∷ []
+bytes_after : section_bytes merged 0 ∷ section_bytes merged 1 ∷ section_bytes merged 2 ∷ [] ≡ 24 ∷ 6 ∷ 0 ∷ []
 bytes_after = refl
 
 -- ---- levels and targets of three segments
-bytes_before : bytes third 0 ∷ bytes third 1 ∷ bytes third 2 ∷ total third ∷ [] ≡ 12 ∷ 6 ∷ 6 ∷ 24 ∷ []
+bytes_before : section_bytes third 0 ∷ section_bytes third 1 ∷ section_bytes third 2 ∷ total third ∷ [] ≡ 12 ∷ 6 ∷ 6 ∷ 24 ∷ []
 bytes_before = refl
 
 levels : level_of third 100 ∷ level_of third 101 ∷ level_of third 102 ∷ level_of third 103 ∷ level_of third 104 ∷ [] ≡ Some 1 ∷ Some 1 ∷ Some 2 ∷ Some 2 ∷ None ∷ []

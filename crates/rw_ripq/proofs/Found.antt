@@ -5,7 +5,7 @@ use Rattle.std.specs.List.{range_with_len}
 use Rattle.std.proofs.lemmas.List.{get_or-reverse, length-reverse}
 use Rattle.std.proofs.lemmas.List.FromFn.{length-range_with_len, get_or-range_with_len}
 use Rattle.rw_blocks.specs.State.{QueueState}
-use Rattle.rw_blocks.specs.Sums.{below}
+use Rattle.rw_blocks.specs.Sums.{bytes_below}
 use Rattle.rw_ripq.proofs.Basics.{by_bool, none_some, some_is}
 use Rattle.rw_ripq.specs.Adjust.{heavy_section, is_heavy, is_light, light_pair}
 use Rattle.rw_ripq.specs.Levels.{from_tail, reaches, target}
@@ -41,8 +41,8 @@ pub heavy_section-there : (q : QueueState) (i : ℕ) → heavy_section q ≡ Som
 heavy_section-there q i is = found-range (is_heavy q) (length q.sections) i is
 
 or_head : (r : Option ℕ) (n : ℕ) → 1 ≤ n → ((x : ℕ) → r ≡ Some x → x < n) → unwrap_or r 0 < n
-or_head None n some below = omega arith
-or_head (Some x) n some below = below x refl
+or_head None n some bytes_below = omega arith
+or_head (Some x) n some bytes_below = bytes_below x refl
 
 pub target-there : (p : Policy) (q : QueueState) (l : ℕ) → 1 ≤ length q.sections → target p q l < length q.sections
 target-there Off q l some = some

@@ -4,7 +4,7 @@ use Rattle.std.specs.List.{range_with_len}
 use Rattle.rw_blocks.specs.Words.{Section}
 use Rattle.rw_blocks.specs.declared.Kind.TheVariants.{Device}
 use Rattle.rw_blocks.specs.State.{QueueState, section_at}
-use Rattle.rw_blocks.specs.Sums.{bytes_held, total, bytes}
+use Rattle.rw_blocks.specs.Sums.{bytes_held, total, section_bytes}
 use Rattle.rw_blocks.specs.Primitives.{after_merge, after_split}
 use Rattle.rw_ripq.specs.Work.{Work, one_if}
 use Rattle.rw_ripq.specs.Evict.{evict}
@@ -12,7 +12,7 @@ use Rattle.rw_ripq.specs.Evict.{evict}
 -- ---- merge
 -- whether the section and the next one towards the tail together hold less than one share of all bytes
 abbrev pub is_light : QueueState → Section → Bool
-is_light q i = nat_lt ((bytes q i + bytes q (i + 1)) * q.shape.sections) (total q)
+is_light q i = nat_lt ((section_bytes q i + section_bytes q (i + 1)) * q.shape.sections) (total q)
 
 -- the first such pair, counted from the head, by its upper section
 abbrev pub light_pair : QueueState → Option Section
@@ -43,7 +43,7 @@ merge_once w = merge_at (light_pair w.queue) w
 -- whether the section holds more than two shares of all bytes, and at least two sealed blocks
 abbrev pub is_heavy : QueueState → Section → Bool
 is_heavy q i =
-    nat_lt (2 * total q) (bytes q i * q.shape.sections)
+    nat_lt (2 * total q) (section_bytes q i * q.shape.sections)
     && nat_le 2 (length (section_at q i).sealed)
 
 -- the first such section, counted from the head

@@ -5,14 +5,14 @@ use Rattle.std.specs.Option.{option_map}
 use Rattle.rw_blocks.specs.Words.{Object, Section}
 use Rattle.rw_ripq.specs.Words.{Level}
 use Rattle.rw_blocks.specs.State.{QueueState, row_at, row_or}
-use Rattle.rw_blocks.specs.Sums.{total, bytes, below}
+use Rattle.rw_blocks.specs.Sums.{total, section_bytes, bytes_below}
 use Rattle.rw_ripq.specs.declared.Policy.{Policy}
 use Rattle.rw_ripq.specs.declared.Policy.TheVariants.{Off, Lru, Slru3}
 use Rattle.rw_ripq.specs.Sealed.{section_with}
 
 -- in which third of all bytes, counted from the tail, the section begins
 abbrev pub level_of_section : QueueState → Section → Level
-level_of_section q i = 1 + min 2 (3 * below q i / total q)
+level_of_section q i = 1 + min 2 (3 * bytes_below q i / total q)
 
 -- the level of the section that holds the row's place
 abbrev pub level : QueueState → Object → Level
@@ -24,7 +24,7 @@ level_of q o = option_map (λ r. level_of_section q (section_with q r.place)) (r
 
 -- whether the section and those nearer the tail together hold l thirds of all bytes
 abbrev pub reaches : QueueState → Level → Section → Bool
-reaches q l i = nat_le (l * total q) (3 * (bytes q i + below q i))
+reaches q l i = nat_le (l * total q) (3 * (section_bytes q i + bytes_below q i))
 
 -- the sections from tail to head
 abbrev pub from_tail : QueueState → List Section

@@ -1,7 +1,7 @@
 use Rattle.std.proofs.Common.{arith, sym, ap, ◌≡◌, ◌∙◌, ◌<◌, ℕ, List, length}
 use Rattle.std.proofs.lemmas.List.{get_or_default}
 use Rattle.rw_blocks.specs.State.{QueueState, section_in}
-use Rattle.rw_blocks.specs.Sums.{bytes}
+use Rattle.rw_blocks.specs.Sums.{section_bytes}
 use Rattle.rw_blocks.specs.Weights.{IsWeighed}
 use Rattle.rw_blocks.proofs.Weighed.{bytes_in-weight}
 use Rattle.rw_blocks.proofs.queue.Queue.bytes.Goals as goal
@@ -19,4 +19,4 @@ returns c =
     ∙ (get_or_default bs i c.index.result.now 0 (omega arith)
     ∙ (w.each i within
     ∙ (sym (bytes_in-weight q (section_in q.sections i))
-    ∙ ap (λ (z : QueueState). bytes z i) view)))
+    ∙ ap (λ (z : QueueState). section_bytes z i) view)))

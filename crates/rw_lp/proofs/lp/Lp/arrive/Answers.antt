@@ -6,7 +6,7 @@ use Rattle.rw_lp.specs.Process.{Turned, undo_one}
 use Rattle.rw_lp.specs.Calls.{rules}
 use Rattle.rw_lp.specs.Arrival.{is_barred}
 use Rattle.rw_lp.proofs.Arriving.{barred_refuses, open_accepts, barred_some, undo_taken, going_start, going_more, arrived}
-use Rattle.rw_lp.specs.Sound.{Change}
+use Rattle.rw_lp.specs.Sound.{Balance}
 use Rattle.rw_lp.specs.Calls.{letters_taken}
 use Rattle.rw_lp.proofs.Balance.{arrival_balanced}
 use Rattle.rw_lp.proofs.lp.Lp.arrive.Goals as goal
@@ -61,9 +61,9 @@ returns-clause-balance g c =
     let z = c.in_ok-lp.lp in
     let known = c.undoing.invariant in
     let free : is_barred (event_cmp g.M.Body.Ord.cmp) c.args.letter x.process ≡ false = sym c.is_barred.ensures.is ∙ c.undoing-test.false in
-    let last : Change (rules g.M.Model g.M.Body.Ord.cmp c.args.self.model) c.args.self.number x.process z.process (letters_taken c.in_ok-lp._answer c.args.letter) [] =
-    subst (λ m. Change (rules g.M.Model g.M.Body.Ord.cmp m) c.args.self.number x.process z.process (letters_taken c.in_ok-lp._answer c.args.letter) []) known.model
-    (subst (λ n. Change (rules g.M.Model g.M.Body.Ord.cmp x.model) n x.process z.process (letters_taken c.in_ok-lp._answer c.args.letter) []) known.number c.in_ok-lp.ensures.balance) in (
+    let last : Balance (rules g.M.Model g.M.Body.Ord.cmp c.args.self.model) c.args.self.number x.process z.process (letters_taken c.in_ok-lp._answer c.args.letter) [] =
+    subst (λ m. Balance (rules g.M.Model g.M.Body.Ord.cmp m) c.args.self.number x.process z.process (letters_taken c.in_ok-lp._answer c.args.letter) []) known.model
+    (subst (λ n. Balance (rules g.M.Model g.M.Body.Ord.cmp x.model) n x.process z.process (letters_taken c.in_ok-lp._answer c.args.letter) []) known.number c.in_ok-lp.ensures.balance) in (
       known.given,
       known.out,
       arrival_balanced (rules g.M.Model g.M.Body.Ord.cmp c.args.self.model) o c.args.self.number c.args.self.process x.process z.process c.in_ok-lp._answer c.args.letter known.given known.going.count known.going.undone (open_accepts o c.args.letter x.process c.is_barred.ensures.order free).taken c.in_ok-lp.ensures.turn last,

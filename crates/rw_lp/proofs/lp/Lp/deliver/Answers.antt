@@ -3,7 +3,7 @@ use Rattle.rw_vt.specs.Order.{event_cmp}
 use Rattle.rw_lp.specs.Past.{IsFor}
 use Rattle.rw_lp.specs.Process.{ProcessState, deliver}
 use Rattle.rw_lp.specs.Calls.{LogicalProcess, process_of, rules, Took, letters_taken}
-use Rattle.rw_lp.specs.Sound.{Change}
+use Rattle.rw_lp.specs.Sound.{Balance}
 use Rattle.rw_lp.proofs.lp.Lp.deliver.Goals as goal
 
 pub meet-requires : goal.meet-requires
@@ -23,4 +23,4 @@ returns-clause-turn g c =
 pub returns-clause-balance : goal.returns-clause-balance
 returns-clause-balance g c =
     let z : ProcessState g.row.M-State.Denot g.row.M-Body.Denot = (process_of c.self.inside.history c.meet.new.pending c.meet.new.debts).process in
-    subst (λ (w : LogicalProcess g.row.M.Denot g.row.M-State.Denot g.row.M-Body.Denot). Change (rules g.M.Model g.M.Body.Ord.cmp w.model) w.number w.process z (letters_taken c.in_ok-answer.answer c.args.letter) []) c.self.view_is c.in_ok-answer.ensures.balance
+    subst (λ (w : LogicalProcess g.row.M.Denot g.row.M-State.Denot g.row.M-Body.Denot). Balance (rules g.M.Model g.M.Body.Ord.cmp w.model) w.number w.process z (letters_taken c.in_ok-answer.answer c.args.letter) []) c.self.view_is c.in_ok-answer.ensures.balance

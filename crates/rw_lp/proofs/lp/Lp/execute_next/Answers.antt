@@ -15,7 +15,7 @@ use Rattle.rw_lp.proofs.Bridges.{nothing_pending, is_straggler, is_executed}
 use Rattle.rw_lp.proofs.Own.{pending_less, still_for}
 use Rattle.rw_lp.proofs.Orders.{without_head}
 use Rattle.rw_lp.proofs.Balance.{unchanged, execution_balanced}
-use Rattle.rw_lp.specs.Sound.{Change}
+use Rattle.rw_lp.specs.Sound.{Balance}
 use Rattle.rw_lp.proofs.lp.Lp.execute_next.Goals as goal
 
 pub returns-in_default-clause-turn : goal.returns-in_default-clause-turn
@@ -103,5 +103,5 @@ returns-clause-balance g c =
     let is : now ≡ after_execution y x.number x.process e head.0 [] =
     ap (λ (h : HistoryState g.row.M.Denot g.row.M-State.Denot g.row.M-Body.Denot). (process_of h c.take-taken.new.self c.self.inside.debts).process) c.in_ok-history.ensures.after
     ∙ ap (λ l. after_execution y x.number x.process e l []) rest in
-    subst (λ (w : LogicalProcess g.row.M.Denot g.row.M-State.Denot g.row.M-Body.Denot). (given : List (Letter g.row.M-Body.Denot)) × (c.execute.new.out.items ≡ c.args.out.now.items ++ given) × Change (rules g.M.Model g.M.Body.Ord.cmp w.model) w.number w.process now [] given) c.self.view_is
+    subst (λ (w : LogicalProcess g.row.M.Denot g.row.M-State.Denot g.row.M-Body.Denot). (given : List (Letter g.row.M-Body.Denot)) × (c.execute.new.out.items ≡ c.args.out.now.items ++ given) × Balance (rules g.M.Model g.M.Body.Ord.cmp w.model) w.number w.process now [] given) c.self.view_is
     (given, c.in_ok-history.ensures.sent, execution_balanced y o x.number x.process now e head.0 given c.in_ok-history.ensures.fold refl head.1 is refl)

@@ -10,7 +10,7 @@ use Rattle.rw_lp.specs.Calls.{LogicalProcess, process_of, rules, Took}
 use Rattle.rw_lp.proofs.Bridges.{is_undone}
 use Rattle.rw_lp.proofs.Own.{pending_more, still_for}
 use Rattle.rw_lp.proofs.Balance.{undoing_balanced}
-use Rattle.rw_lp.specs.Sound.{Change}
+use Rattle.rw_lp.specs.Sound.{Balance}
 use Rattle.rw_vt.specs.System.{state_after}
 use Rattle.rw_lp.specs.Past.{TookBack, IsTakenBack}
 use Rattle.rw_lp.proofs.lp.Lp.undo_one.Goals as goal
@@ -61,5 +61,5 @@ returns-clause-balance g c =
     let is : now ≡ after_undoing y x.number x.process front e [] =
     ap (λ (h : HistoryState g.row.M.Denot g.row.M-State.Denot g.row.M-Body.Denot). (process_of h c.put.new.self c.self.inside.debts).process) last.rest
     ∙ ap (λ l. (process_of past l c.self.inside.debts).process) c.in_ok-put.ensures.ok in
-    subst (λ (w : LogicalProcess g.row.M.Denot g.row.M-State.Denot g.row.M-Body.Denot). (given : List (Letter g.row.M-Body.Denot)) × (c.undo.new.out.items ≡ c.args.out.now.items ++ given) × Change (rules g.M.Model g.M.Body.Ord.cmp w.model) w.number w.process now [] given) c.self.view_is
+    subst (λ (w : LogicalProcess g.row.M.Denot g.row.M-State.Denot g.row.M-Body.Denot). (given : List (Letter g.row.M-Body.Denot)) × (c.undo.new.out.items ≡ c.args.out.now.items ++ given) × Balance (rules g.M.Model g.M.Body.Ord.cmp w.model) w.number w.process now [] given) c.self.view_is
     (back.0, back.1, undoing_balanced y o x.number x.process now front e back.0 last.last is last.sent)
