@@ -38,7 +38,7 @@ impl<M: VtModel> Model for History<M> {
 
     ghost invariant = { λ x. IsLinked M.Model (event_cmp M.Body.cmp)
         (history_of x.model.value x.number x.start.value
-            x.committed.items x.processed.items x.state)
+        x.committed.items x.processed.items x.state)
         x.records.items };
 }
 

@@ -1,5 +1,5 @@
 -- Parcels between two stations: which events may come, what each does, and the laws of that.
-use Rattle.std.specs.Prelude.{◌≡◌, ◌<◌, ◌+◌, ◌-◌, ◌%◌, ◌^◌, ℕ, Bool, true, false, List, [], ◌∷◌, nat_lt, nat_le, ◌&&◌, cond, All, refl}
+use Rattle.std.specs.Prelude.{◌≡◌, ◌<◌, ◌+◌, ◌-◌, ◌%◌, ◌^◌, ℕ, Bool, true, false, List, [], ◌∷◌, nat_lt, nat_le, ◌&&◌, cond, All, refl, if◌then◌else◌}
 use Rattle.std.specs.declared.cmp.Ordering.TheVariants.{Equal}
 use Rattle.std.specs.Ordering.{nat_cmp}
 use Rattle.std.proofs.Common.{arith, ap}
@@ -37,11 +37,11 @@ station_after m s e =
     record {
       sum = (s.sum + e.body.hops) % 2 ^ 64;
       last = e.body.hops;
-      sends = cond (goes_on m e) ((s.sends + 1) % 2 ^ 64) s.sends;
+      sends = if goes_on m e then (s.sends + 1) % 2 ^ 64 else s.sends;
     }
 
 abbrev pub relay_step : Relay → ℕ → Station → Event Parcel → Station × List (Event Parcel)
-relay_step m p s e = (station_after m s e, cond (goes_on m e) (passed_on m p s e ∷ []) [])
+relay_step m p s e = (station_after m s e, if goes_on m e then passed_on m p s e ∷ [] else [])
 
 -- the track links the station before, the event and the station after
 pub record IsTrackOf (m : Relay) (p : ℕ) (before : Station) (e : Event Parcel) (t : Track) (later : Station) : Type 0 where

@@ -46,7 +46,7 @@ pub fn simulate<W: Write, R: Threads + Wait + Sync>(
     ensures output { (result ≡ Err SimFault.Output) ↔ (out.new.failures ≢ out.old.failures) }
     ensures cut_off { result ≡ Err SimFault.Output
         → HasWrittenBeginning mode config.now bytes.now
-            (W.contents out.old.writer) (W.contents out.new.writer) }
+        (W.contents out.old.writer) (W.contents out.new.writer) }
     ensures nothing { IfErr result (λ e. e ≢ SimFault.Output → out.new ≡ out.old) }
 {
     let (text, traffic) = text_of(rt, alloc, bytes, config, mode)?;
