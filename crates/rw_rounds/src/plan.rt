@@ -3,7 +3,8 @@ ghost use Rattle.rw_rounds.specs.Plans.{IsInRanges};
 
 use rw_vt::END;
 
-/// How rounds are run.
+/// How rounds are run. The first round of a [`run`](crate::run) is by its plan as it is; later ones may have less of its
+/// workers, its batch and its window.
 #[derive(Clone, Copy, Debug, PartialEq, Eq)]
 pub struct Plan {
     /// How many workers there are, 1 to 16. Process p belongs to worker p modulo this number.
