@@ -16,8 +16,9 @@ use std::alloc::Global;
 use std::sync::Wait;
 use std::thread::Threads;
 
-/// Makes rounds until nothing is outstanding, at a pace within the plan, and gives what each process has then executed and its state, and what the
-/// rounds did in counts.
+/// Makes rounds until nothing is outstanding, and gives what each process has then executed and its state, and what the
+/// rounds did in counts. The first round is by the plan as it is; the plan bounds the later ones, which have as many
+/// workers, as large a batch and as wide a window as the rounds before have shown to pay.
 ///
 /// Whatever the plan is and however the threads interleave, a result is what executing all events in order of time
 /// leaves (Jefferson 1985).
