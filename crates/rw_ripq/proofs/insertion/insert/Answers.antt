@@ -1,9 +1,23 @@
+use Rattle.std.proofs.Common.{ap, ◌∙◌}
+use Rattle.rw_ripq.specs.Work.{Work}
+use Rattle.rw_ripq.specs.Insert.{insert_at}
 use Rattle.rw_ripq.proofs.Laws.{insertable, insertion}
 use Rattle.rw_ripq.proofs.Weights.{insert-short}
 use Rattle.rw_ripq.proofs.insertion.insert.Goals as goal
 
 pub insert_at-requires-clause-insertable : goal.insert_at-requires-clause-insertable
 insert_at-requires-clause-insertable c = insertable _ _ _ c.requires.well_formed c.requires.new c.requires.some c.requires.small
+
+-- written out: a search would unfold all that adjusting may do
+pub returns-clause-effect : goal.returns-clause-effect
+returns-clause-effect c =
+    ap (λ (w : Work). w.queue) c.in_ok-insert_at.ensures.effect
+    ∙ ap (λ i. (insert_at c.args.queue.now c.args.object c.args.size i).queue) c.target-section.ensures.target
+
+pub returns-clause-tally : goal.returns-clause-tally
+returns-clause-tally c =
+    ap (λ (w : Work). w.tally) c.in_ok-insert_at.ensures.effect
+    ∙ ap (λ i. (insert_at c.args.queue.now c.args.object c.args.size i).tally) c.target-section.ensures.target
 
 pub returns-clause-short : goal.returns-clause-short
 returns-clause-short c =
