@@ -15,9 +15,12 @@ const TRIAL: u64 = 4;
 /// in a round, on the mean of the last few, times a gain that falls by a quarter where more than a quarter of the
 /// executions was undone, and else grows by an eighth; and the batch is so that a round can do twice what the last ones did
 /// for good. Where all workers find fewer than [`WORTHWHILE`] events each, one worker goes on alone, with no letter on its
-/// way and nothing undone, for a number of rounds that doubles with each trial in vain.
+/// way and nothing undone, for a number of rounds that doubles with each trial in vain. Once a sixteenth of the plan's rounds
+/// were made, all workers have to find as much as one does in a round, so that rounds do not run out where one worker would
+/// come to an end.
 ///
-/// The plan is the bound of it all, and the first round is the plan's as it is. No theorem rests on the pace.
+/// The plan is the bound of it all, and the first round is the plan's as it is; a plan of one worker stays as it is. No
+/// theorem rests on the pace.
 #[derive(Clone, Copy, Debug)]
 pub(crate) struct Pace {
     /// How far the floor moves in a round of all workers, in ticks: a mean, of which the last round is a quarter. `None`
@@ -29,6 +32,8 @@ pub(crate) struct Pace {
     gain: u64,
     /// Whether one worker goes on alone.
     alone: bool,
+    /// How many rounds were made.
+    made: u64,
     /// For how many rounds the workers have been as many as they are.
     rounds: u64,
     /// How many rounds one worker is to go on alone: 4 to 4096.
@@ -43,6 +48,7 @@ impl Pace {
             useful: 0,
             gain: 64,
             alone: false,
+            made: 0,
             rounds: 0,
             patience: TRIAL,
         }
@@ -75,6 +81,10 @@ impl Pace {
     /// A round of a run within `bounds` was made: its floor moved by `moved` ticks, and of `executed` events `undone` were
     /// undone. Takes no memory.
     pub(crate) fn note(&mut self, bounds: &Plan, moved: u64, executed: u64, undone: u64) {
+        if bounds.workers == 1 {
+            return;
+        }
+        self.made = self.made.saturating_add(1);
         self.rounds = self.rounds.saturating_add(1);
         if self.alone {
             if self.rounds >= self.patience {
@@ -84,9 +94,7 @@ impl Pace {
             return;
         }
         self.measure(moved, executed, undone);
-        if bounds.workers > 1 {
-            self.decide(u64::from(bounds.workers));
-        }
+        self.decide(self.least_worthwhile(bounds));
     }
 
     /// Takes the means and the gain on, after a round of all workers.
@@ -109,9 +117,19 @@ impl Pace {
         };
     }
 
-    /// After a round of all `workers`: whether one of them goes on alone.
-    fn decide(&mut self, workers: u64) {
-        if self.rounds >= TRIAL && self.useful < WORTHWHILE.saturating_mul(workers) {
+    /// How many events a round of all workers has to execute for good, so that they go on.
+    fn least_worthwhile(&self, bounds: &Plan) -> u64 {
+        if self.made.saturating_mul(16) > u64::from(bounds.max_rounds) {
+            u64::from(bounds.turns).saturating_mul(u64::from(bounds.batch))
+        } else {
+            u64::from(bounds.workers).saturating_mul(WORTHWHILE)
+        }
+    }
+
+    /// After a round of all workers: whether one of them goes on alone, since they execute fewer than `least` events for
+    /// good.
+    fn decide(&mut self, least: u64) {
+        if self.rounds >= TRIAL && self.useful < least {
             self.alone = true;
             self.rounds = 0;
             self.patience = self.patience.saturating_mul(2).min(4096);
