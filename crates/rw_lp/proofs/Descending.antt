@@ -6,19 +6,19 @@ use Rattle.std.specs.List.{position_or_len}
 use Rattle.std.specs.List.Sorted.{IsPartitionedBy, IsPartitionPoint}
 use Rattle.std.specs.declared.cmp.Ordering.{Ordering}
 use Rattle.std.specs.declared.cmp.Ordering.TheVariants.{Less, Equal, Greater}
-use Rattle.std.specs.Ordering.{is_gt, is_eq, is_le, ordering_reverse}
+use Rattle.std.specs.Ordering.{is_gt, is_eq, is_le, is_lt, ordering_reverse}
 use Rattle.std.proofs.lemmas.Bool.{cases_lt}
 use Rattle.std.proofs.lemmas.Grind.{reverse_onto}
 use Rattle.std.proofs.lemmas.List.{reverse-append, length-reverse, get_or-reverse, take-append-drop, length-drop}
-use Rattle.std.proofs.lemmas.List.Edits.{insert-append_right, remove-append_right}
+use Rattle.std.proofs.lemmas.List.Edits.{remove-append_right}
 use Rattle.std.proofs.lemmas.List.Sums.{position_or_len_is, fails_before_first}
 use Rattle.std.proofs.Math.Seq.{drop-cons}
-use Rattle.rw_vt.specs.Order.{AtMost, Has, IsAscending, insert_in_order, has, without}
-use Rattle.rw_vt.proofs.Sorting.{IsExactOrder, at_most_itself, at_most_chain, Has-head, Has-tail}
-use Rattle.rw_vt.proofs.Bags.{Has-test}
-use Rattle.rw_lp.proofs.Edits.{insert_is, remove_is, remove_absent, has_is, place_none, place_within}
+use Rattle.rw_vt.specs.Order.{AtMost, copies, Has, Each, IsAscending, has, without}
+use Rattle.rw_vt.proofs.Sorting.{IsExactOrder, absent, at_most_itself, at_most_chain, Has-head, Has-tail}
+use Rattle.rw_vt.proofs.Bags.{Has-test, Each-head}
+use Rattle.rw_lp.proofs.Edits.{remove_is, remove_absent, has_is, place_none, place_within}
 
-le_not_gt : (r : Ordering) → is_le r ≡ true → is_gt r ≡ false
+pub le_not_gt : (r : Ordering) → is_le r ≡ true → is_gt r ≡ false
 le_not_gt Less h = refl
 le_not_gt Equal h = refl
 le_not_gt Greater h = absurd (true≢false (sym h))
@@ -28,26 +28,28 @@ not_gt_le Less h = refl
 not_gt_le Equal h = refl
 not_gt_le Greater h = absurd (true≢false h)
 
+pub not_le_gt : (r : Ordering) → is_le r ≡ false → is_gt r ≡ true
+not_le_gt Less h = absurd (true≢false h)
+not_le_gt Equal h = absurd (true≢false h)
+not_le_gt Greater h = refl
+
 not_le_not_eq : (r : Ordering) → is_le r ≡ false → is_eq r ≡ false
 not_le_not_eq Less h = refl
 not_le_not_eq Equal h = absurd (true≢false h)
 not_le_not_eq Greater h = refl
 
+not_lt_back : (r : Ordering) → is_lt r ≡ false → is_gt (ordering_reverse r) ≡ false
+not_lt_back Less h = absurd (true≢false h)
+not_lt_back Equal h = refl
+not_lt_back Greater h = refl
+
+lt_back : (r : Ordering) → is_lt r ≡ true → is_gt (ordering_reverse r) ≡ true
+lt_back Less h = refl
+lt_back Equal h = absurd (true≢false (sym h))
+lt_back Greater h = absurd (true≢false (sym h))
+
 module _ {E : Type 0} where
   -- an edit of a list from its other end
-  insert-reverse : (xs : List E) (i p : ℕ) (x : E) → i + p ≡ length xs → lists.insert (reverse xs) p x ≡ reverse (lists.insert xs i x)
-  insert-reverse xs i p x h =
-      let parts : reverse xs ≡ reverse (drop i xs) ++ reverse (take i xs) = ap reverse (sym (take-append-drop i xs)) ∙ reverse-append (take i xs) (drop i xs) in
-      let long : length (reverse (drop i xs)) ≡ p = length-reverse (drop i xs) ∙ length-drop i xs ∙ omega arith in
-      let none : p - p ≡ 0 = omega arith in
-      let behind : reverse (x ∷ drop i xs) ≡ reverse (drop i xs) ++ x ∷ [] = reverse_onto (drop i xs) x [] in
-      ap (λ l. lists.insert l p x) parts
-      ∙ insert-append_right (reverse (drop i xs)) (reverse (take i xs)) p p x long (omega arith)
-      ∙ ap (λ n. reverse (drop i xs) ++ lists.insert (reverse (take i xs)) n x) none
-      ∙ sym (append_assoc (reverse (drop i xs)) (x ∷ []) (reverse (take i xs)))
-      ∙ ap (λ l. l ++ reverse (take i xs)) (sym behind)
-      ∙ sym (reverse-append (take i xs) (x ∷ drop i xs))
-
   remove-reverse : (xs : List E) (i p : ℕ) (d : E) → i + 1 + p ≡ length xs → lists.remove (reverse xs) p ≡ reverse (lists.remove xs i)
   remove-reverse xs i p d h =
       let rest = drop (suc i) xs in
@@ -83,13 +85,6 @@ module _ {E : Type 0} where
       here l = ap p (read_back xs ys (n - 1) (length ys - n) d is (omega (arith, long))) ∙ point.0 (n - 1) d (omega arith) (omega arith)
 
 module _ {E : Type 0} (cmp : E → E → Ordering) (e : E) where
-  -- behind those that are not less
-  pub inserted : (xs ys : List E) (n : ℕ) → reverse xs ≡ ys → n + position_or_len (λ y. is_le (cmp e y)) ys ≡ length ys → reverse (lists.insert xs n e) ≡ insert_in_order cmp e ys
-  inserted xs ys n is h =
-      let p = position_or_len (λ y. is_le (cmp e y)) ys in
-      let long : length ys ≡ length xs = sym (ap length is) ∙ length-reverse xs in
-      sym (insert-reverse xs n p e (h ∙ long)) ∙ ap (λ l. lists.insert l p e) is ∙ sym (insert_is cmp e ys)
-
   -- the last copy leaves
   pub removed : (xs ys : List E) (n : ℕ) → reverse xs ≡ ys → n + 1 + position_or_len (λ y. is_eq (cmp e y)) ys ≡ length ys → reverse (lists.remove xs n) ≡ without cmp e ys
   removed xs ys n is h =
@@ -121,12 +116,12 @@ module _ {E : Type 0} (cmp : E → E → Ordering) (e : E) where
       go (inr l) = remove_absent cmp e ys l
 
 module _ {E : Type 0} {cmp : E → E → Ordering} (o : IsExactOrder cmp) where
-  stands : (xs : List E) (k : ℕ) (d : E) → k < length xs → Has cmp xs (get_or xs k d)
+  pub stands : (xs : List E) (k : ℕ) (d : E) → k < length xs → Has cmp xs (get_or xs k d)
   stands [] k d h = absurd (omega arith)
   stands (x ∷ xs) zero d h = Has-head o x xs
   stands (x ∷ xs) (suc k) d h = Has-tail o (get_or xs k d) x xs (stands xs k d (omega arith))
 
-  rises : (xs : List E) → IsAscending cmp xs → (k l : ℕ) (d : E) → k ≤ l → l < length xs → AtMost cmp (get_or xs k d) (get_or xs l d)
+  pub rises : (xs : List E) → IsAscending cmp xs → (k l : ℕ) (d : E) → k ≤ l → l < length xs → AtMost cmp (get_or xs k d) (get_or xs l d)
   rises [] up k l d h i = absurd (omega arith)
   rises (x ∷ xs) up zero zero d h i = at_most_itself o x
   rises (x ∷ xs) up zero (suc l) d h i = up.0 (get_or xs l d) (stands xs l d (omega arith))
@@ -159,3 +154,39 @@ module _ {E : Type 0} {cmp : E → E → Ordering} (o : IsExactOrder cmp) where
       go Less q h rest = below_all e x xs up q (has cmp e xs) refl
       go Equal q h rest = absurd (true≢false (sym (ap is_eq q) ∙ h (omega arith)))
       go Greater q h rest = rest (λ l. let next : 1 + position_or_len (λ y. is_le (cmp e y)) xs ≡ suc (position_or_len (λ y. is_le (cmp e y)) xs) = omega arith in sym (ap (λ k. is_eq (cmp e (get_or (x ∷ xs) k d))) next) ∙ h (omega arith))
+
+  -- in descending order those that are greater stand first
+  pub greater_first : (e : E) (xs ys : List E) → reverse xs ≡ ys → IsAscending cmp ys → IsPartitionedBy (λ y. is_lt (cmp e y)) xs
+  greater_first e xs ys is up i j d h within passes =
+      let long : length ys ≡ length xs = sym (ap length is) ∙ length-reverse xs in
+      let at_j = read_back xs ys j (length xs - 1 - j) d is (omega arith) in
+      let at_i = read_back xs ys i (length xs - 1 - i) d is (omega arith) in
+      let up_to : AtMost cmp (get_or xs j d) (get_or xs i d) = subst (λ a. AtMost cmp a (get_or xs i d)) at_j (subst (λ b. AtMost cmp (get_or ys (length xs - 1 - j) d) b) at_i (rises ys up (length xs - 1 - j) (length xs - 1 - i) d (omega arith) (omega arith))) in
+      greater e (get_or xs j d) (get_or xs i d) passes up_to (is_lt (cmp e (get_or xs i d))) refl
+    where
+      greater : (e b a : E) → is_lt (cmp e b) ≡ true → AtMost cmp b a → (t : Bool) → is_lt (cmp e a) ≡ t → t ≡ true
+      greater e b a l m true q = refl
+      greater e b a l m false q =
+          let back : AtMost cmp a e = ap is_gt (o.total.antisymm a e) ∙ not_lt_back (cmp e a) q in
+          absurd (true≢false (sym (ap is_gt (o.total.antisymm b e) ∙ lt_back (cmp e b) l) ∙ at_most_chain o b a e m back))
+
+  -- where all are at least e, the first that is not less is the first
+  starts_here : (e : E) (ys : List E) → Each cmp (λ y. AtMost cmp e y) ys → position_or_len (λ y. is_le (cmp e y)) ys ≡ 0
+  starts_here e [] all = refl
+  starts_here e (y ∷ ys) all = let here : is_le (cmp e y) ≡ true = not_gt_le (cmp e y) (Each-head o (λ z. AtMost cmp e z) y ys all) in rw here refl
+
+  -- the copies stand between the first that is not less and the first that is greater
+  pub copies_between : (e : E) (ys : List E) → IsAscending cmp ys → copies cmp e ys + position_or_len (λ y. is_le (cmp e y)) ys ≡ position_or_len (λ y. is_lt (cmp e y)) ys
+  copies_between e [] up = refl
+  copies_between e (y ∷ ys) up = go (cmp e y) refl (copies_between e ys up.1)
+    where
+      go : (r : Ordering) → cmp e y ≡ r → copies cmp e ys + position_or_len (λ y. is_le (cmp e y)) ys ≡ position_or_len (λ y. is_lt (cmp e y)) ys
+          → cond (is_eq r) 1 0 + copies cmp e ys + cond (not (is_le r)) (1 + position_or_len (λ y. is_le (cmp e y)) ys) 0 ≡ cond (not (is_lt r)) (1 + position_or_len (λ y. is_lt (cmp e y)) ys) 0
+      go Less q h =
+          let none : copies cmp e ys ≡ 0 = absent o e ys (λ k. true≢false (sym (ap is_gt (o.total.antisymm y e ∙ ap ordering_reverse q)) ∙ up.0 e k)) in
+          omega arith
+      go Equal q h =
+          let same : e ≡ y = o.same e y q in
+          let first = starts_here e ys (subst (λ x. Each cmp (λ z. AtMost cmp x z) ys) (sym same) up.0) in
+          omega arith
+      go Greater q h = omega arith

@@ -5,6 +5,7 @@ pub mod Turns
 pub mod Committing
 pub mod Plain
 mod Edits
+mod Counting
 mod Descending
 pub mod Bridges
 mod Chains
@@ -16,3 +17,6 @@ mod Own
 pub mod WithBags
 mod PutBack
 pub mod Cited
+mod Filled
+mod Searching
+mod Pasts

@@ -1,12 +1,12 @@
 -- What contracts see of a logical process, and what a call on it answers against the turn that it is to take.
-use Rattle.std.specs.Prelude.{◌≡◌, min, Bool, true, false, List, [], ◌∷◌, ◌++◌}
+use Rattle.std.specs.Prelude.{◌≡◌, min, Bool, true, false, List, [], ◌∷◌, ◌++◌, Option, MatchOption}
 use Rattle.std.specs.declared.cmp.Ordering.{Ordering}
 use Rattle.rw_vt.specs.Words.{Process, Time}
 use Rattle.rw_vt.specs.declared.event.Event.{Event}
 use Rattle.rw_vt.specs.declared.event.Letter.{Letter}
 use Rattle.rw_vt.specs.declared.model.Model.{Ghosts}
 use Rattle.rw_vt.specs.System.{System, system}
-use Rattle.rw_vt.specs.Order.{in_order}
+use Rattle.rw_vt.specs.Order.{IsFirst, IsLeastOf, in_order}
 use Rattle.rw_lp.specs.declared.step.Answer.{Answer}
 use Rattle.rw_lp.specs.declared.step.Answer.TheVariants.{Done, Refused}
 use Rattle.rw_lp.specs.Past.{HistoryState}
@@ -68,6 +68,10 @@ pub record MeetsNext {S B : Type 0} (cmp : Event B → Event B → Ordering) (x 
   pub pending : x.pending ≡ next ∷ rest
   pub in_time : is_less_than_last cmp next (split_last (done x)) ≡ false
   pub passes : test x.state ≡ true
+
+-- the least of the pending events, where there are any
+abbrev pub IsNextOf : {B : Type 0} → (Event B → Event B → Ordering) → List (Event B) → Option (Event B) → Type 0
+IsNextOf cmp pending next = MatchOption next (pending ≡ []) (λ e. IsFirst pending e × IsLeastOf cmp pending e)
 
 -- what a delivery takes up: the letter, unless it is refused
 abbrev pub letters_taken : {B : Type 0} → Answer → Letter B → List (Letter B)

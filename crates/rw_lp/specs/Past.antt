@@ -39,7 +39,7 @@ IsFor model m p e = (model.is_valid m e ≡ true) × (e.to ≡ p)
 pub record IsRecordOf {M S B U : Type 0} (model : Ghosts M S B U) (m : M) (p : Process) (before : S) (e : Event B) (r : UndoRecord B U) : Type 0 where
   pub valid : model.is_valid m e ≡ true
   pub here : e.to ≡ p
-  pub sends : r.sends.items ≡ (model.step m p before e).1
+  pub sends : r.sends ≡ (model.step m p before e).1
   pub links : model.Links m p before e r.undo (model.step m p before e).0
 
 -- from the state s these events, each with its record, lead to the state t

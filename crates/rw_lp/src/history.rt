@@ -1,63 +1,83 @@
 ghost use Rattle.std.specs.Prelude.{◌≡◌, ◌<◌, ◌≤◌, ◌++◌, ◌∷◌, ◌↔◌, true, false, List, [], IfOk, IfErr, OnOk, filter, nat_lt, nat_le, length};
 ghost use Rattle.std.specs.List.{position_or_len};
+ghost use Rattle.std.specs.List.Sorted.{IsPartitionedBy};
 ghost use Rattle.rw_vt.specs.Order.{event_cmp, has, Each, IsAscending};
 ghost use Rattle.rw_vt.specs.Letters.{letters_of};
 ghost use Rattle.rw_vt.specs.System.{state_after};
 ghost use Rattle.rw_vt.specs.declared.event.Letter.{Letter};
 ghost use Rattle.rw_vt.specs.declared.refusal.Refusal.TheVariants.{Memory};
 ghost use Rattle.rw_lp.specs.Process.{is_less_than_last, split_last};
-ghost use Rattle.rw_lp.specs.Past.{HistoryState, IsFor, IsLinked, TookBack, IsFolded, done_in, history_of};
+ghost use Rattle.rw_lp.specs.Past.{HistoryState, IsFor, TookBack, IsFolded, done_in, history_of};
 ghost use Rattle.rw_lp.specs.Calls.{GivesOut};
 
-use crate::bags::holds;
 use crate::letters::give;
+use crate::runs::Runs;
+use crate::sends::Sends;
 use crate::undo_record::UndoRecord;
 use rw_vt::{Event, Letter, Model as VtModel, Refusal};
-use std::alloc::Global;
+use std::alloc::{AllocError, Global};
 use std::marker::Model;
 use std::snapshot::Snapshot;
 
 /// What a process has done: the committed events, which stay, and then the processed ones, each with the record that
-/// takes it back, and the state that they lead to.
+/// takes it back, and the state that they lead to. It stands in one box, so that moving a process moves a pointer.
 #[derive(Drop)]
 pub struct History<M: VtModel> {
+    past: Box<Past<M>>,
+}
+
+/// What stands in that box.
+#[derive(Drop)]
+struct Past<M: VtModel> {
     model: Snapshot<M>,
     number: u32,
     start: Snapshot<M::State>,
-    committed: Vec<Event<M::Body>>,
-    processed: Vec<Event<M::Body>>,
-    records: Vec<UndoRecord<M::Body, M::Undo>>,
+    /// All done events, in order: the committed ones stand before the cut, the processed ones behind it.
+    done: Vec<Event<M::Body>>,
+    cut: usize,
+    /// What takes the processed events back, one record for each.
+    records: Runs<UndoRecord<M::Body, M::Undo>>,
     state: M::State,
+    /// Where the model puts the sends of an execution; empty in between.
+    sends: Vec<Event<M::Body>>,
 }
 
 impl<M: VtModel> Model for History<M> {
+    ghost use Rattle.rw_vt.specs.Order.{event_cmp};
+    ghost use Rattle.rw_lp.specs.Cut.{IsKept, seen_of};
+    ghost use Rattle.rw_lp.specs.Past.{HistoryState};
+
     ghost Value = { HistoryState M M.State M.Body };
 
-    ghost view = { λ x. history_of x.model.value x.number x.start.value
-        x.committed.items x.processed.items x.state };
+    ghost view = { λ x. seen_of x.past.value };
 
-    ghost invariant = { λ x. IsLinked M.Model (event_cmp M.Body.cmp)
-        (history_of x.model.value x.number x.start.value
-        x.committed.items x.processed.items x.state)
-        x.records.items };
+    ghost invariant = { λ x. IsKept M.Model (event_cmp M.Body.cmp) x.past.value };
 }
 
 impl<M: VtModel> History<M> {
     /// Process `number` of the model, in its start state.
-    pub fn new(alloc: Global, model: &M, number: u32, start: M::State) -> History<M>
+    pub fn new(
+        alloc: Global,
+        model: &M,
+        number: u32,
+        start: M::State,
+    ) -> Result<History<M>, AllocError>
         requires number { number < M.process_count model.now }
         requires start { M.IsWellFormed model.now number start }
-        ensures is { result ≡ history_of model.now number start [] [] start }
+        ensures is { IfOk result (λ h. h ≡ history_of model.now number start [] [] start) }
     {
-        History {
+        let past = Past {
             model: Snapshot::of(model),
             number,
             start: Snapshot::of(&start),
-            committed: Vec::new(alloc),
-            processed: Vec::new(alloc),
-            records: Vec::new(alloc),
+            done: Vec::new(alloc),
+            cut: 0,
+            records: Runs::new(alloc),
             state: start,
-        }
+            sends: Vec::new(alloc),
+        };
+        let past = Box::new(alloc, past)?;
+        Ok(History { past })
     }
 
     /// Whether the event is less than the last done one: a straggler.
@@ -65,10 +85,7 @@ impl<M: VtModel> History<M> {
         ensures { result ≡ is_less_than_last (event_cmp M.Body.cmp) event.now
             (split_last (done_in self.now)) }
     {
-        if let Some((last, _front)) = self.processed.split_last() {
-            return last.cmp(event).is_gt();
-        }
-        if let Some((last, _front)) = self.committed.split_last() {
+        if let Some((last, _front)) = self.past.done.split_last() {
             return last.cmp(event).is_gt();
         }
         false
@@ -100,17 +117,12 @@ impl<M: VtModel> History<M> {
         ensures fold { OnOk result (IsFolded M.Model self) }
     {
         let mut history = self;
-        let mut sends = Vec::new(alloc);
-        let undo = model.execute(
-            alloc,
-            history.number,
-            &mut history.state,
-            &event,
-            &mut sends,
-        )?;
-        give(out, sends.as_slice(), false)?;
-        history.processed.push(event)?;
-        history.records.push(UndoRecord { sends, undo })?;
+        let past = &mut *history.past;
+        let undo = model.execute(alloc, past.number, &mut past.state, &event, &mut past.sends)?;
+        give(out, past.sends.as_slice(), false)?;
+        let sends = Sends::take_from(alloc, &mut past.sends);
+        past.done.push(event)?;
+        past.records.push(UndoRecord { sends, undo })?;
         Ok(history)
     }
 
@@ -128,14 +140,15 @@ impl<M: VtModel> History<M> {
         ensures memory { IfErr result (λ e. e ≡ Memory) }
     {
         let mut history = self;
-        let Some(event) = history.processed.pop() else {
+        let past = &mut *history.past;
+        let Some(UndoRecord { sends, undo }) = past.records.pop() else {
             return Ok((history, None));
         };
-        let Some(UndoRecord { sends, undo }) = history.records.pop() else {
+        let Some(event) = past.done.pop() else {
             unreachable!();
         };
-        model.reverse(alloc, history.number, &mut history.state, &event, undo)?;
-        give(out, sends.as_slice(), true)?;
+        model.reverse(alloc, past.number, &mut past.state, &event, undo)?;
+        sends.give_to(out, true)?;
         Ok((history, Some(event)))
     }
 
@@ -150,19 +163,18 @@ impl<M: VtModel> History<M> {
         ensures memory { IfErr result (λ e. e ≡ Memory) }
     {
         let mut history = self;
-        let count = count_before(history.processed.as_slice(), time);
-        let rest = history.processed.split_off(count)?;
-        history.committed.append(&mut history.processed)?;
-        history.processed = rest;
-        history.records = history.records.split_off(count)?;
+        let past = &mut *history.past;
+        let count = count_before(&past.done[past.cut..], time);
+        past.records.drop_front(count);
+        past.cut += count;
         Ok(history)
     }
 
-    /// Whether a copy of the event is processed.
+    /// Whether a copy of the event is processed. Searches by halves.
     pub fn holds(&self, event: Event<M::Body>) -> bool
         ensures { result ≡ has (event_cmp M.Body.cmp) event self.now.processed }
     {
-        holds(&self.processed, event)
+        self.processed().binary_search(&event).is_ok()
     }
 
     /// What is done is in order and for the process, and leads to the state. This is a law of every history; the call itself
@@ -175,14 +187,14 @@ impl<M: VtModel> History<M> {
             (IsFor M.Model self.now.model self.now.number) self.now.processed }
         ensures fold { IsFolded M.Model self.now }
     {
-        let _known = &self.state;
+        let _known = &self.past.state;
     }
 
     /// The committed events. Takes no memory.
     pub fn committed(&self) -> &[Event<M::Body>]
         ensures { result.now ≡ self.now.committed }
     {
-        &self.committed
+        &self.past.done[..self.past.cut]
     }
 
     /// The processed events that are not committed. Takes no memory.
@@ -190,7 +202,7 @@ impl<M: VtModel> History<M> {
         ensures is { result.now ≡ self.now.processed }
         ensures order { IsAscending (event_cmp M.Body.cmp) self.now.processed }
     {
-        &self.processed
+        &self.past.done[self.past.cut..]
     }
 
     /// The state after all of them. Takes no memory.
@@ -198,37 +210,33 @@ impl<M: VtModel> History<M> {
         ensures is { result.now ≡ self.now.state }
         ensures fold { IsFolded M.Model self.now }
     {
-        &self.state
+        &self.past.state
     }
 
     /// The committed events and the state. Takes no memory.
     pub fn into_outcome(self) -> (Vec<Event<M::Body>>, M::State)
         ensures { (result.0.items ≡ self.committed) × (result.1 ≡ self.state) }
     {
-        let History {
+        let Past {
             model: _,
             number: _,
             start: _,
-            committed,
-            processed: _,
+            mut done,
+            cut,
             records: _,
             state,
-        } = self;
-        (committed, state)
+            sends: _,
+        } = Box::into_inner(self.past);
+        done.truncate(cut);
+        (done, state)
     }
 }
 
-/// How many events at the front have times below `time`.
+/// How many events at the front have times below `time`, where the times rise.
 fn count_before<B>(events: &[Event<B>], time: u64) -> usize
+    requires order { IsPartitionedBy (λ e. nat_lt e.time time) events.now }
     ensures first { result ≡ position_or_len (λ e. nat_le time e.time) events.now }
     ensures within { result ≤ length events.now }
 {
-    let mut count = 0;
-    for event in events {
-        if time <= event.time {
-            return count;
-        }
-        count += 1;
-    }
-    count
+    events.partition_point(|event| event.time < time)
 }

@@ -16,6 +16,8 @@ mod history;
 mod letters;
 mod lp;
 mod places;
+mod runs;
+mod sends;
 mod step;
 mod undo_record;
 

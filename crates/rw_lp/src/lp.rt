@@ -1,19 +1,19 @@
 ghost use Rattle.std.specs.Prelude.{◌≡◌, ◌<◌, ◌≤◌, ◌++◌, ◌∷◌, ◌↔◌, ◌^◌, true, false, List, [], IfOk, IfErr, OnOk, MatchOption, All};
-ghost use Rattle.rw_vt.specs.Order.{event_cmp, AtMost, Each, Has, IsAscending, IsFirst, IsLeastOf};
+ghost use Rattle.rw_vt.specs.Order.{copies, event_cmp, AtMost, Each, Has, IsAscending, IsFirst, IsLeastOf};
 ghost use Rattle.rw_vt.specs.System.{state_after};
 ghost use Rattle.rw_vt.specs.declared.event.Event.{Event};
 ghost use Rattle.rw_vt.specs.declared.event.Letter.{Letter};
 ghost use Rattle.rw_vt.specs.declared.refusal.Refusal.TheVariants.{Memory};
 ghost use Rattle.rw_lp.specs.HeldMessages.{held_messages};
 ghost use Rattle.rw_lp.specs.Process.{ProcessState, done, deliver, execute_next, undo_one, collect};
-ghost use Rattle.rw_lp.specs.Calls.{LogicalProcess, process_of, rules, new_process, MeetsNext, Took, letters_taken, least_time, IsSameProcess, GivesOut, execution_by, undoing_by, IsDelivered, least_outstanding};
+ghost use Rattle.rw_lp.specs.Calls.{LogicalProcess, process_of, rules, new_process, MeetsNext, Took, letters_taken, least_time, IsSameProcess, GivesOut, IsNextOf, execution_by, undoing_by, IsDelivered, least_outstanding};
 ghost use Rattle.rw_lp.specs.Past.{AreFor, IsFor};
 ghost use Rattle.rw_lp.specs.Sound.{Balance, IsSoundOnceCollected, KeepsBalance};
 ghost use Rattle.rw_lp.specs.Arrival.{Arrived, is_barred};
 ghost use Rattle.rw_vt.specs.declared.event.TheConstants.{END};
 
 use crate::bag::Bag;
-use crate::bags::{ends_after, holds};
+use crate::bags::ends_after;
 use crate::history::History;
 use crate::step::{Answer, StepFault};
 use rw_vt::{Event, Letter, Model as VtModel, Refusal};
@@ -29,6 +29,8 @@ use std::marker::Model;
 /// hands nothing back, and nothing is then said of `out`.
 #[derive(Drop)]
 pub struct Lp<M: VtModel> {
+    /// The least pending event: of several processes, the one that is next is found without a look at what they hold.
+    next: Option<Event<M::Body>>,
     history: History<M>,
     pending: Bag<M>,
     debts: Bag<M>,
@@ -39,7 +41,8 @@ impl<M: VtModel> Model for Lp<M> {
 
     ghost view = { λ x. process_of x.history x.pending x.debts };
 
-    ghost invariant = { λ x. AreFor M.Model (event_cmp M.Body.cmp) x.history x.pending x.debts };
+    ghost invariant = { λ x. AreFor M.Model (event_cmp M.Body.cmp) x.history x.pending x.debts
+        × IsNextOf (event_cmp M.Body.cmp) x.pending x.next };
 }
 
 impl<M: VtModel> Lp<M> {
@@ -63,10 +66,13 @@ impl<M: VtModel> Lp<M> {
         ensures memory { IfErr result (λ e. e ≡ Memory) }
     {
         let pending = Bag::from_events(initial)?;
+        let debts = Bag::new(alloc)?;
+        let history = History::new(alloc, model, number, start)?;
         Ok(Lp {
-            history: History::new(alloc, model, number, start),
+            next: next_of(&pending),
+            history,
             pending,
-            debts: Bag::new(alloc),
+            debts,
         })
     }
 
@@ -85,12 +91,14 @@ impl<M: VtModel> Lp<M> {
         ensures memory { IfErr result (λ e. e ≡ Memory) }
     {
         let Lp {
+            next: _,
             history,
             mut pending,
             mut debts,
         } = self;
         let answer = meet(&history, &mut pending, &mut debts, letter)?;
         let lp = Lp {
+            next: next_of(&pending),
             history,
             pending,
             debts,
@@ -118,14 +126,15 @@ impl<M: VtModel> Lp<M> {
         ensures exhausted { result ≡ Err Refusal.Exhausted
             → MeetsNext (event_cmp M.Body.cmp) self.process (M.is_exhausted self.model) }
     {
-        let Some(first) = self.pending.first() else {
+        let next = self.next;
+        let Some(event) = next else {
             return Ok((self, Answer::Refused(StepFault::NothingPending)));
         };
-        let event = *first;
         if self.history.is_past(&event) {
             return Ok((self, Answer::Refused(StepFault::Straggler)));
         }
         let Lp {
+            next: _,
             history,
             mut pending,
             debts,
@@ -133,6 +142,7 @@ impl<M: VtModel> Lp<M> {
         let _taken = pending.take(event);
         let history = history.execute(alloc, model, event, out)?;
         let lp = Lp {
+            next: next_of(&pending),
             history,
             pending,
             debts,
@@ -160,6 +170,7 @@ impl<M: VtModel> Lp<M> {
         ensures memory { IfErr result (λ e. e ≡ Memory) }
     {
         let Lp {
+            next: _,
             history,
             mut pending,
             debts,
@@ -167,6 +178,7 @@ impl<M: VtModel> Lp<M> {
         let (history, undone) = history.undo(alloc, model, out)?;
         let Some(event) = undone else {
             let lp = Lp {
+                next: next_of(&pending),
                 history,
                 pending,
                 debts,
@@ -175,6 +187,7 @@ impl<M: VtModel> Lp<M> {
         };
         pending.put(event)?;
         let lp = Lp {
+            next: next_of(&pending),
             history,
             pending,
             debts,
@@ -219,7 +232,7 @@ impl<M: VtModel> Lp<M> {
     {
         let processed = self.history.processed();
         if letter.anti {
-            holds(processed, letter.event) && !self.pending.holds(letter.event)
+            self.history.holds(letter.event) && !self.pending.holds(letter.event)
         } else {
             ends_after(processed, &letter.event)
         }
@@ -236,12 +249,14 @@ impl<M: VtModel> Lp<M> {
         ensures memory { IfErr result (λ e. e ≡ Memory) }
     {
         let Lp {
+            next: _,
             history,
             pending,
             debts,
         } = self;
         let history = history.commit(time)?;
         Ok(Lp {
+            next: next_of(&pending),
             history,
             pending,
             debts,
@@ -276,7 +291,21 @@ impl<M: VtModel> Lp<M> {
         ensures least { MatchOption result (self.now.process.pending ≡ [])
             (λ e. IsLeastOf (event_cmp M.Body.cmp) self.now.process.pending e.now) }
     {
-        self.pending.first()
+        self.next.as_ref()
+    }
+
+    /// How many equal copies of the event are pending. Takes no memory.
+    pub fn pending_copies(&self, event: &Event<M::Body>) -> u64
+        ensures { result ≡ copies (event_cmp M.Body.cmp) event.now self.now.process.pending }
+    {
+        self.pending.copies(event)
+    }
+
+    /// How many equal anti-messages of the event came before their messages. Takes no memory.
+    pub fn debt_copies(&self, event: &Event<M::Body>) -> u64
+        ensures { result ≡ copies (event_cmp M.Body.cmp) event.now self.now.process.debts }
+    {
+        self.debts.copies(event)
     }
 
     /// The committed events, in order. Takes no memory.
@@ -309,12 +338,20 @@ impl<M: VtModel> Lp<M> {
         ensures state { result.1 ≡ self.process.state }
     {
         let Lp {
+            next: _,
             history,
             pending: _,
             debts: _,
         } = self;
         history.into_outcome()
     }
+}
+
+/// The least of the pending events, if there is one.
+fn next_of<M: VtModel>(pending: &Bag<M>) -> Option<Event<M::Body>>
+    ensures { IsNextOf (event_cmp M.Body.cmp) pending.now result }
+{
+    pending.first().copied()
 }
 
 /// A letter comes to what is pending and owed beside this history: see [`Lp::deliver`].

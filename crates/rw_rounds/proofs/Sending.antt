@@ -6,17 +6,24 @@ use denote.Struct.Struct.{Struct}
 use denote.Struct.Declared.{shape}
 use denote.Param.Send.{IsSend, AllSend, struct_send, recorded_send, view_send, sendable}
 use Rattle.std.proofs.Common.{rules}
-use Rattle.std.proofs.Crossing.{crosses}
+use Rattle.std.proofs.Crossing.{crosses, send, frees}
+use Rattle.std_collections.proofs.Crosses.{BTreeMap-send}
 use Rattle.std.specs.declared.cmp.Ord as ord
+use Rattle.std.specs.declared.cmp.Eq as whole
 use Rattle.std.specs.declared.cmp.PartialEq as eq
 use Rattle.std.specs.declared.cmp.PartialOrd as partial
 use Rattle.std.specs.contracts.alloc.Global as Global
 use Rattle.std.specs.contracts.impls.GlobalAllocator.TheImpl as global
 use Rattle.std.specs.contracts.vec.Vec as Vec
 use Rattle.rw_vt.specs.declared.model.Model.{Ghosts}
+use Rattle.rw_vt.specs.contracts.event.Event as Event
+use Rattle.rw_vt.specs.contracts.event.EventPartialEq.TheImpl as EventPartialEq
+use Rattle.rw_vt.specs.contracts.event.EventPartialOrd.TheImpl as EventPartialOrd
 use Rattle.rw_vt.specs.contracts.event.Letter as Letter
 use Rattle.rw_board.specs.contracts.board.Seat as Seat
 use Rattle.rw_exchange.specs.contracts.port.Port as Port
+use Rattle.rw_lp.specs.contracts.bag.Counted as Counted
+use Rattle.rw_lp.specs.contracts.bag.Counted.TheInside as CountedInside
 use Rattle.rw_lp.specs.contracts.lp.Lp as Lp
 use Rattle.rw_rounds.specs.contracts.plan.Plan as Plan
 use Rattle.rw_rounds.specs.contracts.sim.Traffic as Traffic
@@ -47,24 +54,34 @@ module _ (B : RattleType) where
   letters_may_move : IsSend B → IsSend Letters
   letters_may_move s = search (sendable, crosses) depth 40
 
-module _ (M S B U : RattleType) (g : Ghosts M.Denot S.Denot B.Denot U.Denot) (o : ord.Ghosts B.Denot) (e : eq.Ghosts B.Denot) (p : partial.Ghosts B.Denot) where
+module _ (M S B U : RattleType) (g : Ghosts M.Denot S.Denot B.Denot U.Denot) (o : ord.Ghosts B.Denot) (w : whole.Ghosts B.Denot) (e : eq.Ghosts B.Denot) (p : partial.Ghosts B.Denot) where
   abbrev Processes : RattleType
-  Processes = (Vec.the_field (Lp.the_row M S B U g o e p) Global.the_row global.ghosts).row
+  Processes = (Vec.the_field (Lp.the_row M S B U g o w e p) Global.the_row global.ghosts).row
 
-  processes_may_move : IsSend (Lp.the_row M S B U g o e p) → IsSend Processes
+  processes_may_move : IsSend (Lp.the_row M S B U g o w e p) → IsSend Processes
   processes_may_move s = search (sendable, crosses) depth 40
 
-  desk_may_move : IsSend B → IsSend (Lp.the_row M S B U g o e p) → IsSend (Port.the_row B) → IsSend Seat.the_row → IsSend (Desk.the_field M S B U g o e p).row
+  desk_may_move : IsSend B → IsSend (Lp.the_row M S B U g o w e p) → IsSend (Port.the_row B) → IsSend Seat.the_row → IsSend (Desk.the_field M S B U g o w e p).row
   desk_may_move b lp port seat =
       let letters = letters_may_move B b in
       let all : AllSend (u32-field.row ∷ Plan.the_field.row ∷ u64-field.row ∷ Processes ∷ Letters B ∷ Letters B ∷ (Port.the_field B).row ∷ Seat.the_field.row ∷ Traffic.the_field.row ∷ []) = (number_may_move, (plan_may_move, (time_may_move, (processes_may_move lp, (letters, (letters, (port, (seat, (traffic_may_move, tt))))))))) in
-      struct_send (shape (Desk.the_type M S B U g o e p)) all
+      struct_send (shape (Desk.the_type M S B U g o w e p)) all
 
-  process_may_move : IsSend S → IsSend B → IsSend U → IsSend (Lp.the_row M S B U g o e p)
-  process_may_move s b u = search (sendable, crosses) depth 60
+  event_may_move : IsSend B → IsSend (Event.the_row B)
+  event_may_move b = search sendable depth 40
 
-  pub worker_may_move : IsSend S → IsSend B → IsSend U → IsSend (Port.the_row B) → IsSend (Worker.the_row M S B U g o e p)
+  counted_may_move : IsSend B → IsSend (Counted.the_row M S B U g o w e p)
+  counted_may_move b =
+      let T = CountedInside.the_type M S B U g o w e p in
+      view_send _ _ _ _ _ (recorded_send (Struct (shape T)) T.D T.to T.to_one (struct_send (shape T) (BTreeMap-send _ _ _ _ (EventPartialEq.ghosts B e EventPartialEq.no_dict) (EventPartialOrd.ghosts B p EventPartialOrd.no_dict e EventPartialOrd.no_dict) _ (event_may_move b) time_may_move send frees, tt)))
+
+  process_may_move : IsSend S → IsSend B → IsSend U → IsSend (Lp.the_row M S B U g o w e p)
+  process_may_move s b u =
+      let counted = counted_may_move b in
+      search (sendable, crosses) depth 60 fits 20000
+
+  pub worker_may_move : IsSend S → IsSend B → IsSend U → IsSend (Port.the_row B) → IsSend (Worker.the_row M S B U g o w e p)
   worker_may_move s b u port =
-      let T = Inside.the_type M S B U g o e p in
-      let all : AllSend ((Desk.the_field M S B U g o e p).row ∷ Letters B ∷ []) = (desk_may_move b (process_may_move s b u) port seat_may_move, (letters_may_move B b, tt)) in
+      let T = Inside.the_type M S B U g o w e p in
+      let all : AllSend ((Desk.the_field M S B U g o w e p).row ∷ Letters B ∷ []) = (desk_may_move b (process_may_move s b u) port seat_may_move, (letters_may_move B b, tt)) in
       view_send _ _ _ _ _ (recorded_send (Struct (shape T)) T.D T.to T.to_one (struct_send (shape T) all))

@@ -376,12 +376,14 @@ fn next_before<M: VtModel>(processes: &[Lp<M>], bound: u64) -> Option<usize>
     Some(place)
 }
 
-/// Whether the event is less than the least one found so far, or none was found.
+/// Whether the event is less than the least one found so far, or none was found. Times are compared first: they tell most
+/// events apart.
 fn comes_before<B: Ord + Copy>(event: &Event<B>, least: &Option<(usize, Event<B>)>) -> bool
     ensures { result ≡ comes_before (event_cmp B.cmp) event.now least.now }
 {
     match least {
         None => true,
+        Some((_, other)) if event.time != other.time => event.time < other.time,
         Some((_, other)) => other.cmp(event).is_gt(),
     }
 }

@@ -6,8 +6,8 @@
 //! through rings; on the board it notes the time of each letter that it sends. It takes no lock and never waits. What
 //! it does in a turn is in `desk.rt`.
 //!
-//! [`run_round`] sets the workers up, lets each take its turns in a thread of its own, gathers what they hold at the
-//! end and commits what is final; [`run`] makes rounds until nothing is outstanding. How one round leads to the next
+//! [`run_round`] sets the workers up, lets each take its turns in a thread of its own (the last one in the calling thread),
+//! gathers what they hold at the end and commits what is final; [`run`] makes rounds until nothing is outstanding. How one round leads to the next
 //! is in `specs/Rounds.antt`.
 //!
 //! Worked examples: `rw_tests/src/relay_rounds.rt` and `photo_rounds.rt`.

@@ -33,8 +33,8 @@ impl Gate for Open {
     fn pass(&self, _worker: u32, _turn: u32) {}
 }
 
-/// Makes one round: each worker takes its turns in a thread of its own, and when all are done, what is final is
-/// committed.
+/// Makes one round: each worker takes its turns in a thread of its own, the last one in the calling thread, and when all
+/// are done, what is final is committed.
 ///
 /// # Errors
 ///

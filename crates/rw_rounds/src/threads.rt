@@ -42,7 +42,8 @@ impl<J: Job<T>, T> Promise<Result<T, Refusal>> for Began<J, T> {
     ghost kept_by = { λ p r. IfOk r (λ done. J.Gives p.job.value p.input.value done) };
 }
 
-/// Does the job with each input in a thread of its own, and gives what came of each, in order.
+/// Does the job with each input in a thread of its own, and gives what came of each, in order. The last one is done in
+/// the calling thread, so one input alone starts no thread.
 ///
 /// # Errors
 ///
@@ -75,10 +76,14 @@ where
                 (λ done. J.Gives job.entry.now (slice_index_or inputs.items i d) done)) }
             ensures others { IfErr result (λ stop. EndsRound stop) }
         {
-            let Ok(mut children) = Vec::with_capacity(alloc, inputs.len()) else {
+            let mut others = inputs;
+            let Some(own) = others.pop() else {
+                return Ok(Vec::new(alloc));
+            };
+            let Ok(mut children) = Vec::with_capacity(alloc, others.len()) else {
                 return Err(Stop::Memory);
             };
-            for input in inputs {
+            for input in others {
                 let promise = Began {
                     job: Snapshot::of(job),
                     input: Snapshot::of(&input),
@@ -88,10 +93,14 @@ where
                 };
                 children.push_reserved(child);
             }
-            match thread::join_promised(rt, children) {
-                Ok(results) => Ok(results),
-                Err(_) => Err(Stop::Memory),
-            }
+            let result = job.run(own);
+            let Ok(mut results) = thread::join_promised(rt, children) else {
+                return Err(Stop::Memory);
+            };
+            let Ok(()) = results.push(result) else {
+                return Err(Stop::Memory);
+            };
+            Ok(results)
         },
     )
 }

@@ -41,6 +41,8 @@ pub enum Line<'a, B> {
     Settled(&'a [Event<B>]),
     /// The first events are committed, the second processed, and so on.
     Shows(&'a [Event<B>], &'a [Event<B>], Option<Event<B>>, u64),
+    /// So many copies of the event are pending, and so many anti-messages of it are owed a message.
+    Copies(Event<B>, u64, u64),
 }
 
 impl<M: Model + Copy> Desk<M> {
@@ -90,6 +92,11 @@ impl<M: Model + Copy> Desk<M> {
             }
             Line::Shows(committed, processed, next, least) => {
                 let holds = self.shows(committed, processed, next, least);
+                self.if_it(holds)
+            }
+            Line::Copies(event, pending, debts) => {
+                let lp = &self.lp;
+                let holds = lp.pending_copies(&event) == pending && lp.debt_copies(&event) == debts;
                 self.if_it(holds)
             }
         }

@@ -2,8 +2,9 @@
 // cancelled again, an anti-message comes before its message, and the past is committed. Where it stores, a fill that
 // nobody awaits is stored and taken back.
 use crate::desk::Call::{Arrive, Collect, Deliver, ExecuteNext, UndoOne};
-use crate::desk::Line::{Ahead, Gives, Settled};
+use crate::desk::Line::{Ahead, Gives, Refuses, Settled, Shows};
 use crate::desk::{Desk, Line};
+use rw_lp::StepFault;
 use rw_photo::{Body, Config, Counters, Photo, Policy, Shape};
 use rw_ripqwarp::execute_and_reverse;
 use rw_vt::{END, Event, Letter, Model};
@@ -210,4 +211,46 @@ fn a_fill_at_the_start_leaves_the_very_state(rt: HostRuntime) -> Result<(), Fail
     assert!(rt; sent.is_empty());
     assert_eq!(rt; edge.counters(), Counters::default());
     Ok(())
+}
+
+/// A request of an object of its own, and what the edge asks of the origin for it.
+fn asked(number: u8) -> (Event<Body>, Event<Body>) {
+    let number = u64::from(number);
+    let (object, size, edge) = (number, 4, 0);
+    let request = Event {
+        body: Body::Request { object, size },
+        ..request(number + 1, number)
+    };
+    let miss = Event {
+        body: Body::Miss { object, size, edge },
+        ..miss(number + 4, number)
+    };
+    (request, miss)
+}
+
+#[test]
+fn the_past_is_committed_across_runs_of_records(rt: HostRuntime) -> Result<(), Fail> {
+    let alloc = rt.alloc();
+    let mut requests = Vec::new(alloc);
+    for number in 0..200 {
+        requests.push(asked(number).0)?;
+    }
+    let mut desk = edge(alloc, Policy::Off, requests.clone()?)?;
+    for number in 0..200 {
+        desk = desk.does(alloc, &[Gives(ExecuteNext, &[message(asked(number).1)])])?;
+    }
+    let (committed, processed) = requests.as_slice().split_at(129);
+    let lines = [
+        Gives(Collect(130), &[]),
+        Shows(committed, processed, None, END),
+    ];
+    desk = desk.does(alloc, &lines)?;
+    for number in (129..200).rev() {
+        desk = desk.does(alloc, &[Gives(UndoOne, &[anti(asked(number).1)])])?;
+    }
+    let lines = [
+        Refuses(UndoOne, StepFault::NothingToUndo),
+        Shows(committed, &[], Some(asked(129).0), 130),
+    ];
+    ends(alloc, &lines, missed(129, 0, 0), desk)
 }

@@ -1,6 +1,6 @@
 // A station of the relay, through every call of a logical process.
 use crate::desk::Call::{Arrive, Collect, Deliver, ExecuteNext, UndoOne};
-use crate::desk::Line::{Ahead, Gives, Refuses, Settled, Shows};
+use crate::desk::Line::{Ahead, Copies, Gives, Refuses, Settled, Shows};
 use crate::desk::{Desk, Line};
 use crate::parcels::{parcel, station};
 use rw_lp::StepFault;
@@ -212,6 +212,38 @@ fn a_debt_is_paid(rt: HostRuntime) -> Result<(), Fail> {
         &[],
         station(7, 4, 2),
         ahead(rt.alloc())?,
+    )
+}
+
+#[test]
+fn equal_copies_count(rt: HostRuntime) -> Result<(), Fail> {
+    let (first, second) = coming();
+    let (late, _, _) = late();
+    ends(
+        rt.alloc(),
+        &[
+            Gives(Deliver(message(late)), &[]),
+            Gives(Deliver(message(late)), &[]),
+            Gives(Deliver(message(second)), &[]),
+            Copies(late, 2, 0),
+            Copies(first, 1, 0),
+            Copies(second, 2, 0),
+            Gives(Deliver(anti(late)), &[]),
+            Copies(late, 1, 0),
+            Ahead(&[], Some(first), 5),
+            Gives(Deliver(anti(late)), &[]),
+            Gives(Deliver(anti(late)), &[]),
+            Gives(Deliver(anti(late)), &[]),
+            Copies(late, 0, 2),
+            Gives(Deliver(message(late)), &[]),
+            Copies(late, 0, 1),
+            Gives(Deliver(anti(first)), &[]),
+            Copies(first, 0, 0),
+            Ahead(&[], Some(second), 6),
+        ],
+        &[],
+        station(0, 0, 0),
+        opened(rt.alloc())?,
     )
 }
 

@@ -1,19 +1,17 @@
-use Rattle.std.proofs.Common.{◌≡◌, reverse, sym, ap, ◌∙◌, subst}
-use Rattle.std.proofs.lemmas.List.{reverse-reverse}
-use Rattle.rw_vt.specs.Order.{event_cmp, IsAscending}
+use Rattle.std.proofs.Common.{◌≡◌, ◌++◌, [], ap, ◌∙◌}
+use Rattle.rw_vt.specs.Order.{event_cmp, in_order}
 use Rattle.rw_vt.proofs.EventOrder.{events_exact}
-use Rattle.rw_vt.proofs.Sorting.{IsExactOrder}
-use Rattle.rw_lp.proofs.Orders.{sorted_ascending, sorted_is}
+use Rattle.rw_vt.proofs.Sorting.{IsExactOrder, IsAscending-in_order}
+use Rattle.rw_lp.specs.declared.bag.Parts.{Parts}
+use Rattle.rw_lp.proofs.Counting.{in_order_done}
 use Rattle.rw_lp.proofs.bag.Bag.from_events.Goals as goal
-
-pub invariant_of-result : goal.invariant_of-result
-invariant_of-result g c =
-    let o : IsExactOrder (event_cmp g.M.Body.Ord.cmp) = events_exact (record { total = g.met.M.Body.Ord.total; same = g.met.M.Model.same }) in
-    let sorted : reverse c.reverse.new.self.items ≡ c.sort.new.self.items = ap reverse c.reverse.ensures.items ∙ reverse-reverse c.sort.new.self.items in
-    subst (IsAscending (event_cmp g.M.Body.Ord.cmp)) (sym sorted) (sorted_ascending o c.sort.new.self.items c.in_ok-sort.ensures.sorted)
 
 pub returns : goal.returns
 returns g c =
     let o : IsExactOrder (event_cmp g.M.Body.Ord.cmp) = events_exact (record { total = g.met.M.Body.Ord.total; same = g.met.M.Model.same }) in
-    let sorted : reverse c.reverse.new.self.items ≡ c.sort.new.self.items = ap reverse c.reverse.ensures.items ∙ reverse-reverse c.sort.new.self.items in
-    record { all = sorted ∙ sorted_is o c.args.events.items c.sort.new.self.items c.in_ok-sort.ensures.permutation c.in_ok-sort.ensures.sorted }
+    let cmp = event_cmp g.M.Body.Ord.cmp in
+    let parts = c.in_ok-new.field-0.value in
+    let items = c.args.events.items in
+    let both : parts.sorted ++ parts.counted ≡ in_order cmp items ++ [] =
+    ap (λ (p : Parts g.row.M.Denot g.row.M-State.Denot g.row.M-Body.Denot g.row.M-Undo.Denot). p.sorted ++ p.counted) c.in_ok-new.ensures.ok ∙ ap (λ l. c.in_ok-from_events.field-0 ++ l) c.new.ensures ∙ ap (λ l. l ++ []) c.in_ok-from_events.ensures.all in
+    record { all = ap (in_order cmp) both ∙ in_order_done o (in_order cmp items) (IsAscending-in_order o items) }

@@ -1,51 +1,77 @@
-use Rattle.std.proofs.Common.{◌≡◌, ◌++◌, length, sym, ap, ◌∙◌, subst, arith, take, drop, append_assoc}
+use Rattle.std.proofs.Common.{◌≡◌, ◌+◌, ◌-◌, ◌≤◌, arith, ◌++◌, length, sym, ap, ◌∙◌, subst, take, drop}
 use Rattle.std.specs.Prelude.{nat_le, nat_lt, filter}
 use Rattle.std.specs.List.{position_or_len}
-use Rattle.std.proofs.Math.ListN.{take-append-drop}
+use Rattle.std.specs.List.Sorted.{IsPartitionedBy}
+use Rattle.std.proofs.lemmas.List.{take-append-drop, drop-drop}
 use Rattle.rw_vt.specs.declared.event.Event.{Event}
 use Rattle.rw_vt.specs.Order.{event_cmp}
-use Rattle.rw_vt.specs.System.{state_after}
 use Rattle.rw_vt.proofs.EventOrder.{events_exact, time_at_most}
 use Rattle.rw_vt.proofs.Sorting.{IsExactOrder}
+use Rattle.rw_lp.specs.declared.history.Past.{Past}
 use Rattle.rw_lp.specs.Past.{HistoryState}
-use Rattle.rw_lp.proofs.Chains.{leads_length, linked_commit, past_same}
 use Rattle.rw_vt.proofs.Bags.{IsAscending-back}
+use Rattle.rw_lp.proofs.Chains.{past_same}
 use Rattle.rw_lp.proofs.Orders.{cut_at}
+use Rattle.rw_lp.specs.Cut.{seen_of, IsKept}
+use Rattle.rw_lp.proofs.Pasts.{as_many, past_commit, slice_from, take_further}
+use Rattle.rw_lp.proofs.Searching.{early_first}
 use Rattle.rw_lp.proofs.history.History.commit.Goals as goal
 
-pub split_off-requires-2 : goal.split_off-requires-2
-split_off-requires-2 g c =
-    let x : HistoryState g.row.M.Denot g.row.M-State.Denot g.row.M-Body.Denot = record { model = c.history.inside.model.value; number = c.history.inside.number; start = c.history.inside.start.value; committed = c.history.inside.committed.items; processed = c.history.inside.processed.items; state = c.history.inside.state } in
-    let n = leads_length g.M.Model x.model x.number (state_after (g.M.Model.step x.model x.number) x.start x.committed) x.state x.processed c.history.inside.records.items c.history.invariant.leads in
-    let seen : length c.as_slice.result.now ≡ length c.history.inside.processed.items = ap length c.as_slice.ensures.value in
-    omega (arith, n, seen, c.count_before-count.ensures.within)
+pub count_before-count-requires : goal.count_before-count-requires
+count_before-count-requires g c =
+    let o : IsExactOrder (event_cmp g.M.Body.Ord.cmp) = events_exact (record { total = g.met.M.Body.Ord.total; same = g.met.M.Model.same }) in
+    let p = c.deref_mut-past.result.now in
+    let kept : IsKept g.M.Model (event_cmp g.M.Body.Ord.cmp) p = subst (λ (v : Past g.row.M.Denot g.row.M-State.Denot g.row.M-Body.Denot g.row.M-Undo.Denot). IsKept g.M.Model (event_cmp g.M.Body.Ord.cmp) v) (sym c.deref_mut-past.ensures.value) c.history.invariant in
+    let d = c.deref.result.now in
+    let behind : take (length d - p.cut) (drop p.cut d) ≡ drop p.cut p.done.items = slice_from p.cut d ∙ ap (drop p.cut) c.deref.ensures.value in
+    record { order = subst (IsPartitionedBy (λ (e : Event g.row.M-Body.Denot). nat_lt e.time c.args.time)) (sym behind) (early_first o (time_at_most g.M.Body.Ord.cmp) c.args.time (drop p.cut p.done.items) (IsAscending-back o (take p.cut p.done.items) (drop p.cut p.done.items) kept.linked.order)) }
+
+pub drop_front-requires : goal.drop_front-requires
+drop_front-requires g c =
+    let o : IsExactOrder (event_cmp g.M.Body.Ord.cmp) = events_exact (record { total = g.met.M.Body.Ord.total; same = g.met.M.Model.same }) in
+    let p = c.deref_mut-past.result.now in
+    let kept : IsKept g.M.Model (event_cmp g.M.Body.Ord.cmp) p = subst (λ (v : Past g.row.M.Denot g.row.M-State.Denot g.row.M-Body.Denot g.row.M-Undo.Denot). IsKept g.M.Model (event_cmp g.M.Body.Ord.cmp) v) (sym c.deref_mut-past.ensures.value) c.history.invariant in
+    let d = c.deref.result.now in
+    let behind : take (length d - p.cut) (drop p.cut d) ≡ drop p.cut p.done.items = slice_from p.cut d ∙ ap (drop p.cut) c.deref.ensures.value in
+    let most : c.count_before-count.result ≤ length (drop p.cut p.done.items) = subst (λ l. c.count_before-count.result ≤ length l) behind c.count_before-count.ensures.within in
+    let many = as_many g.M.Model o p kept in
+    omega (arith, many, most)
 
 pub invariant_of-history : goal.invariant_of-history
 invariant_of-history g c =
     let o : IsExactOrder (event_cmp g.M.Body.Ord.cmp) = events_exact (record { total = g.met.M.Body.Ord.total; same = g.met.M.Model.same }) in
-    let x : HistoryState g.row.M.Denot g.row.M-State.Denot g.row.M-Body.Denot = record { model = c.history.inside.model.value; number = c.history.inside.number; start = c.history.inside.start.value; committed = c.history.inside.committed.items; processed = c.history.inside.processed.items; state = c.history.inside.state } in
-    linked_commit g.M.Model o x c.history.inside.records.items c.count_before-count.result c.append.new.self.items c.in_ok-rest.rest.items c.in_ok-history-inside.field-0.items (g.met.M.Model.keeps x.model) c.history.invariant
-    (c.in_ok-append.ensures.items ∙ ap (λ l. x.committed ++ l) c.in_ok-rest.ensures.items) c.in_ok-rest.ensures.tail c.in_ok-history-inside.ensures.tail
+    let p = c.deref_mut-past.result.now in
+    let kept : IsKept g.M.Model (event_cmp g.M.Body.Ord.cmp) p = subst (λ (v : Past g.row.M.Denot g.row.M-State.Denot g.row.M-Body.Denot g.row.M-Undo.Denot). IsKept g.M.Model (event_cmp g.M.Body.Ord.cmp) v) (sym c.deref_mut-past.ensures.value) c.history.invariant in
+    let d = c.deref.result.now in
+    let behind : take (length d - p.cut) (drop p.cut d) ≡ drop p.cut p.done.items = slice_from p.cut d ∙ ap (drop p.cut) c.deref.ensures.value in
+    let most : c.count_before-count.result ≤ length (drop p.cut p.done.items) = subst (λ l. c.count_before-count.result ≤ length l) behind c.count_before-count.ensures.within in
+    past_commit g.M.Model o p kept (g.met.M.Model.keeps p.model.value) c.count_before-count.result c.drop_front.new.self most c.drop_front.ensures
 
 pub returns-clause-committed : goal.returns-clause-committed
 returns-clause-committed g c =
     let o : IsExactOrder (event_cmp g.M.Body.Ord.cmp) = events_exact (record { total = g.met.M.Body.Ord.total; same = g.met.M.Model.same }) in
-    let x : HistoryState g.row.M.Denot g.row.M-State.Denot g.row.M-Body.Denot = record { model = c.history.inside.model.value; number = c.history.inside.number; start = c.history.inside.start.value; committed = c.history.inside.committed.items; processed = c.history.inside.processed.items; state = c.history.inside.state } in
-    let place : c.count_before-count.result ≡ position_or_len (λ (e : Event g.row.M-Body.Denot). nat_le c.args.time e.time) x.processed = c.count_before-count.ensures.first ∙ ap (position_or_len (λ (e : Event g.row.M-Body.Denot). nat_le c.args.time e.time)) c.as_slice.ensures.value in
-    let cut = cut_at o (time_at_most g.M.Body.Ord.cmp) c.args.time x.processed (IsAscending-back o x.committed x.processed c.history.invariant.order) in
-    let first : c.append.new.self.items ≡ x.committed ++ filter (λ (e : Event g.row.M-Body.Denot). nat_lt e.time c.args.time) x.processed =
-    c.in_ok-append.ensures.items ∙ ap (λ l. x.committed ++ l) (c.in_ok-rest.ensures.items ∙ ap (λ n. take n x.processed) place ∙ sym cut.0) in
-    let rest : c.in_ok-rest.rest.items ≡ filter (λ (e : Event g.row.M-Body.Denot). nat_le c.args.time e.time) x.processed = c.in_ok-rest.ensures.tail ∙ ap (λ n. drop n x.processed) place ∙ sym cut.1 in
-    let now : HistoryState g.row.M.Denot g.row.M-State.Denot g.row.M-Body.Denot = record { model = x.model; number = x.number; start = x.start; committed = c.append.new.self.items; processed = c.in_ok-rest.rest.items; state = x.state } in
-    subst (λ (w : HistoryState g.row.M.Denot g.row.M-State.Denot g.row.M-Body.Denot). now ≡ record { model = w.model; number = w.number; start = w.start; committed = w.committed ++ filter (λ (e : Event g.row.M-Body.Denot). nat_lt e.time c.args.time) w.processed; processed = filter (λ (e : Event g.row.M-Body.Denot). nat_le c.args.time e.time) w.processed; state = w.state }) c.history.view_is
-    (past_same x.model x.number x.start x.state c.append.new.self.items (x.committed ++ filter (λ (e : Event g.row.M-Body.Denot). nat_lt e.time c.args.time) x.processed) c.in_ok-rest.rest.items (filter (λ (e : Event g.row.M-Body.Denot). nat_le c.args.time e.time) x.processed) first rest)
+    let p = c.deref_mut-past.result.now in
+    let seen : seen_of p ≡ c.args.self = ap (λ (v : Past g.row.M.Denot g.row.M-State.Denot g.row.M-Body.Denot g.row.M-Undo.Denot). seen_of v) c.deref_mut-past.ensures.value ∙ c.history.view_is in
+    let kept : IsKept g.M.Model (event_cmp g.M.Body.Ord.cmp) p = subst (λ (v : Past g.row.M.Denot g.row.M-State.Denot g.row.M-Body.Denot g.row.M-Undo.Denot). IsKept g.M.Model (event_cmp g.M.Body.Ord.cmp) v) (sym c.deref_mut-past.ensures.value) c.history.invariant in
+    let d = c.deref.result.now in
+    let behind : take (length d - p.cut) (drop p.cut d) ≡ drop p.cut p.done.items = slice_from p.cut d ∙ ap (drop p.cut) c.deref.ensures.value in
+    let x = seen_of p in
+    let n = c.count_before-count.result in
+    let place : n ≡ position_or_len (λ (e : Event g.row.M-Body.Denot). nat_le c.args.time e.time) x.processed =
+    c.count_before-count.ensures.first ∙ ap (position_or_len (λ (e : Event g.row.M-Body.Denot). nat_le c.args.time e.time)) behind in
+    let cut = cut_at o (time_at_most g.M.Body.Ord.cmp) c.args.time x.processed (IsAscending-back o x.committed x.processed kept.linked.order) in
+    let first : take (p.cut + n) p.done.items ≡ x.committed ++ filter (λ (e : Event g.row.M-Body.Denot). nat_lt e.time c.args.time) x.processed =
+    take_further p.cut n p.done.items ∙ ap (λ l. x.committed ++ l) (ap (λ k. take k x.processed) place ∙ sym cut.0) in
+    let rest : drop (p.cut + n) p.done.items ≡ filter (λ (e : Event g.row.M-Body.Denot). nat_le c.args.time e.time) x.processed =
+    sym (drop-drop n p.cut p.done.items) ∙ ap (λ k. drop k x.processed) place ∙ sym cut.1 in
+    let now : HistoryState g.row.M.Denot g.row.M-State.Denot g.row.M-Body.Denot = record { model = x.model; number = x.number; start = x.start; committed = take (p.cut + n) p.done.items; processed = drop (p.cut + n) p.done.items; state = x.state } in
+    subst (λ (w : HistoryState g.row.M.Denot g.row.M-State.Denot g.row.M-Body.Denot). now ≡ record { model = w.model; number = w.number; start = w.start; committed = w.committed ++ filter (λ (e : Event g.row.M-Body.Denot). nat_lt e.time c.args.time) w.processed; processed = filter (λ (e : Event g.row.M-Body.Denot). nat_le c.args.time e.time) w.processed; state = w.state }) seen
+    (past_same x.model x.number x.start x.state (take (p.cut + n) p.done.items) (x.committed ++ filter (λ (e : Event g.row.M-Body.Denot). nat_lt e.time c.args.time) x.processed) (drop (p.cut + n) p.done.items) (filter (λ (e : Event g.row.M-Body.Denot). nat_le c.args.time e.time) x.processed) first rest)
 
 pub returns-clause-done : goal.returns-clause-done
 returns-clause-done g c =
-    let x : HistoryState g.row.M.Denot g.row.M-State.Denot g.row.M-Body.Denot = record { model = c.history.inside.model.value; number = c.history.inside.number; start = c.history.inside.start.value; committed = c.history.inside.committed.items; processed = c.history.inside.processed.items; state = c.history.inside.state } in
-    let n = c.count_before-count.result in
-    subst (λ (w : HistoryState g.row.M.Denot g.row.M-State.Denot g.row.M-Body.Denot). c.append.new.self.items ++ c.in_ok-rest.rest.items ≡ w.committed ++ w.processed) c.history.view_is
-    (ap (λ l. l ++ c.in_ok-rest.rest.items) (c.in_ok-append.ensures.items ∙ ap (λ l. x.committed ++ l) c.in_ok-rest.ensures.items)
-    ∙ ap (λ l. (x.committed ++ take n x.processed) ++ l) c.in_ok-rest.ensures.tail
-    ∙ append_assoc x.committed (take n x.processed) (drop n x.processed)
-    ∙ ap (λ l. x.committed ++ l) (take-append-drop n x.processed))
+    let p = c.deref_mut-past.result.now in
+    let seen : seen_of p ≡ c.args.self = ap (λ (v : Past g.row.M.Denot g.row.M-State.Denot g.row.M-Body.Denot g.row.M-Undo.Denot). seen_of v) c.deref_mut-past.ensures.value ∙ c.history.view_is in
+    let kept : IsKept g.M.Model (event_cmp g.M.Body.Ord.cmp) p = subst (λ (v : Past g.row.M.Denot g.row.M-State.Denot g.row.M-Body.Denot g.row.M-Undo.Denot). IsKept g.M.Model (event_cmp g.M.Body.Ord.cmp) v) (sym c.deref_mut-past.ensures.value) c.history.invariant in
+    subst (λ (w : HistoryState g.row.M.Denot g.row.M-State.Denot g.row.M-Body.Denot). take (p.cut + c.count_before-count.result) p.done.items ++ drop (p.cut + c.count_before-count.result) p.done.items ≡ w.committed ++ w.processed) seen
+    (take-append-drop (p.cut + c.count_before-count.result) p.done.items ∙ sym (take-append-drop p.cut p.done.items))

@@ -3,6 +3,7 @@ use Rattle.rw_vt.specs.Order.{event_cmp}
 use Rattle.rw_vt.specs.System.{state_after}
 use Rattle.rw_vt.proofs.EventOrder.{events_exact}
 use Rattle.rw_vt.proofs.Sorting.{IsExactOrder}
+use Rattle.rw_lp.specs.Cut.{seen_of}
 use Rattle.rw_lp.specs.Past.{HistoryState}
 use Rattle.rw_lp.proofs.Chains.{linked_after}
 use Rattle.rw_lp.proofs.history.History.state.Goals as goal
@@ -10,6 +11,6 @@ use Rattle.rw_lp.proofs.history.History.state.Goals as goal
 pub returns-clause-fold : goal.returns-clause-fold
 returns-clause-fold g c =
     let o : IsExactOrder (event_cmp g.M.Body.Ord.cmp) = events_exact (record { total = g.met.M.Body.Ord.total; same = g.met.M.Model.same }) in
-    let x : HistoryState g.row.M.Denot g.row.M-State.Denot g.row.M-Body.Denot = record { model = c.self.inside.model.value; number = c.self.inside.number; start = c.self.inside.start.value; committed = c.self.inside.committed.items; processed = c.self.inside.processed.items; state = c.self.inside.state } in
+    let x = seen_of c.self.inside.past.value in
     subst (λ (w : HistoryState g.row.M.Denot g.row.M-State.Denot g.row.M-Body.Denot). w.state ≡ state_after (g.M.Model.step w.model w.number) w.start (w.committed ++ w.processed)) c.self.view_is
-    (linked_after g.M.Model o x c.self.inside.records.items c.self.invariant)
+    (linked_after g.M.Model o x c.self.inside.past.value.records c.self.invariant.linked)

@@ -1,85 +1,113 @@
-use Rattle.std.proofs.Common.{◌≡◌, true, [], ◌∷◌, ◌++◌, List, length, sym, ap, ◌∙◌, subst, arith, length-append}
+use Rattle.std.proofs.Common.{◌≡◌, true, [], ◌∷◌, ◌++◌, List, length, take, drop, refl, sym, ap, ◌∙◌, subst, arith, append-nil, length-append, length-drop}
 use Rattle.rw_vt.specs.declared.event.Letter.{Letter}
 use Rattle.rw_vt.specs.Letters.{letters_of}
 use Rattle.rw_vt.specs.Order.{event_cmp}
-use Rattle.rw_vt.specs.System.{state_after}
 use Rattle.rw_vt.proofs.EventOrder.{events_exact}
 use Rattle.rw_vt.proofs.Sorting.{IsExactOrder}
-use Rattle.rw_lp.specs.Past.{HistoryState, IsLinked, IsTakenBack}
-use Rattle.rw_lp.proofs.Chains.{leads_length, linked_last}
+use Rattle.rw_lp.specs.declared.history.Past.{Past}
+use Rattle.rw_lp.specs.Past.{HistoryState, IsTakenBack}
+use Rattle.rw_lp.proofs.Lasts.{nil_if}
+use Rattle.rw_lp.specs.Cut.{seen_of, IsKept}
+use Rattle.rw_lp.proofs.Pasts.{before_of, as_many, past_pop}
 use Rattle.rw_lp.proofs.history.History.undo.Goals as goal
+
+pub returns-in_default-clause-back : goal.returns-in_default-clause-back
+returns-in_default-clause-back g c =
+    let o : IsExactOrder (event_cmp g.M.Body.Ord.cmp) = events_exact (record { total = g.met.M.Body.Ord.total; same = g.met.M.Model.same }) in
+    let p = c.deref_mut-past.result.now in
+    let seen : seen_of p ≡ c.args.self = ap (λ (v : Past g.row.M.Denot g.row.M-State.Denot g.row.M-Body.Denot g.row.M-Undo.Denot). seen_of v) c.deref_mut-past.ensures.value ∙ c.history.view_is in
+    let kept : IsKept g.M.Model (event_cmp g.M.Body.Ord.cmp) p = subst (λ (v : Past g.row.M.Denot g.row.M-State.Denot g.row.M-Body.Denot g.row.M-Undo.Denot). IsKept g.M.Model (event_cmp g.M.Body.Ord.cmp) v) (sym c.deref_mut-past.ensures.value) c.history.invariant in
+    let none : length p.records ≡ 0 = ap length c.in_default.ensures.0 in
+    let many = as_many g.M.Model o p kept in
+    let nothing : drop p.cut p.done.items ≡ [] = nil_if (drop p.cut p.done.items) (omega (arith, none, many)) in
+    let empty : c.args.self.processed ≡ [] = sym (ap (λ (w : HistoryState g.row.M.Denot g.row.M-State.Denot g.row.M-Body.Denot). w.processed) seen) ∙ nothing in
+    ([], sym (append-nil c.args.out.now.items), (empty, seen, refl))
 
 pub unreachable-requires : goal.unreachable-requires
 unreachable-requires g c =
-    let x : HistoryState g.row.M.Denot g.row.M-State.Denot g.row.M-Body.Denot = record { model = c.history.inside.model.value; number = c.history.inside.number; start = c.history.inside.start.value; committed = c.history.inside.committed.items; processed = c.history.inside.processed.items; state = c.history.inside.state } in
-    let n = leads_length g.M.Model x.model x.number (state_after (g.M.Model.step x.model x.number) x.start x.committed) x.state x.processed c.history.inside.records.items c.history.invariant.leads in
-    let some : length c.history.inside.processed.items ≡ length (c.pop.new.self.items ++ c.in-Some.event ∷ []) = ap length c.in-Some.ensures.items in
-    let joined = length-append c.pop.new.self.items (c.in-Some.event ∷ []) in
+    let o : IsExactOrder (event_cmp g.M.Body.Ord.cmp) = events_exact (record { total = g.met.M.Body.Ord.total; same = g.met.M.Model.same }) in
+    let p = c.deref_mut-past.result.now in
+    let seen : seen_of p ≡ c.args.self = ap (λ (v : Past g.row.M.Denot g.row.M-State.Denot g.row.M-Body.Denot g.row.M-Undo.Denot). seen_of v) c.deref_mut-past.ensures.value ∙ c.history.view_is in
+    let kept : IsKept g.M.Model (event_cmp g.M.Body.Ord.cmp) p = subst (λ (v : Past g.row.M.Denot g.row.M-State.Denot g.row.M-Body.Denot g.row.M-Undo.Denot). IsKept g.M.Model (event_cmp g.M.Body.Ord.cmp) v) (sym c.deref_mut-past.ensures.value) c.history.invariant in
+    let many = as_many g.M.Model o p kept in
+    let some : length p.records ≡ length (c.pop.new.self ++ c.in-Some.field-0 ∷ []) = ap length c.in-Some.ensures in
+    let joined = length-append c.pop.new.self (c.in-Some.field-0 ∷ []) in
+    let rest = length-drop p.cut p.done.items in
     let none = c.in_default-pop.ensures.cases.0 in
-    omega (arith, n, some, joined, none)
+    omega (arith, many, some, joined, rest, none, p.done.ok)
 
 pub reverse-requires-clause-linked : goal.reverse-requires-clause-linked
 reverse-requires-clause-linked g c =
     let o : IsExactOrder (event_cmp g.M.Body.Ord.cmp) = events_exact (record { total = g.met.M.Body.Ord.total; same = g.met.M.Model.same }) in
-    let x : HistoryState g.row.M.Denot g.row.M-State.Denot g.row.M-Body.Denot = record { model = c.history.inside.model.value; number = c.history.inside.number; start = c.history.inside.start.value; committed = c.history.inside.committed.items; processed = c.history.inside.processed.items; state = c.history.inside.state } in
-    let last = linked_last g.M.Model o x c.pop.new.self.items c.in-Some.event c.history.inside.records.items c.pop-2.new.self.items c.in-Some-pop.field-0 (g.met.M.Model.keeps x.model) c.in-Some.ensures.items c.in-Some-pop.ensures.items c.history.invariant in
-    let before = state_after (g.M.Model.step x.model x.number) x.start (x.committed ++ c.pop.new.self.items) in
-    let same : c.history.inside.model.value ≡ c.args.model.now = ap (λ (w : HistoryState g.row.M.Denot g.row.M-State.Denot g.row.M-Body.Denot). w.model) c.history.view_is ∙ sym c.requires.model in
-    let links : g.M.Model.Links c.args.model.now x.number before c.in-Some.event c.in-Some-pop.field-0.undo x.state =
-    subst (λ m. g.M.Model.Links m x.number before c.in-Some.event c.in-Some-pop.field-0.undo x.state) same (subst (λ s. g.M.Model.Links x.model x.number before c.in-Some.event c.in-Some-pop.field-0.undo s) (sym last.2) last.1.links) in
-    let good : g.M.Model.IsWellFormed c.args.model.now x.number before = subst (λ m. g.M.Model.IsWellFormed m x.number before) same last.0 in
+    let p = c.deref_mut-past.result.now in
+    let seen : seen_of p ≡ c.args.self = ap (λ (v : Past g.row.M.Denot g.row.M-State.Denot g.row.M-Body.Denot g.row.M-Undo.Denot). seen_of v) c.deref_mut-past.ensures.value ∙ c.history.view_is in
+    let kept : IsKept g.M.Model (event_cmp g.M.Body.Ord.cmp) p = subst (λ (v : Past g.row.M.Denot g.row.M-State.Denot g.row.M-Body.Denot g.row.M-Undo.Denot). IsKept g.M.Model (event_cmp g.M.Body.Ord.cmp) v) (sym c.deref_mut-past.ensures.value) c.history.invariant in
+    let same : p.model.value ≡ c.args.model.now = ap (λ (w : HistoryState g.row.M.Denot g.row.M-State.Denot g.row.M-Body.Denot). w.model) seen ∙ sym c.requires.model in
+    let off = past_pop g.M.Model o p kept (g.met.M.Model.keeps p.model.value) c.pop-2.new.self c.pop.new.self c.in-Some-pop.event c.in-Some.field-0 c.in-Some-pop.ensures.items c.in-Some.ensures in
+    let before = before_of g.M.Model p c.pop-2.new.self in
+    let links : g.M.Model.Links c.args.model.now p.number before c.in-Some-pop.event c.in-Some.field-0.undo p.state =
+    subst (λ m. g.M.Model.Links m p.number before c.in-Some-pop.event c.in-Some.field-0.undo p.state) same (subst (λ s. g.M.Model.Links p.model.value p.number before c.in-Some-pop.event c.in-Some.field-0.undo s) (sym off.state) off.record_of.links) in
+    let good : g.M.Model.IsWellFormed c.args.model.now p.number before = subst (λ m. g.M.Model.IsWellFormed m p.number before) same off.well_formed in
     (before, good, links)
 
 pub reverse-requires-clause-valid : goal.reverse-requires-clause-valid
 reverse-requires-clause-valid g c =
     let o : IsExactOrder (event_cmp g.M.Body.Ord.cmp) = events_exact (record { total = g.met.M.Body.Ord.total; same = g.met.M.Model.same }) in
-    let x : HistoryState g.row.M.Denot g.row.M-State.Denot g.row.M-Body.Denot = record { model = c.history.inside.model.value; number = c.history.inside.number; start = c.history.inside.start.value; committed = c.history.inside.committed.items; processed = c.history.inside.processed.items; state = c.history.inside.state } in
-    let last = linked_last g.M.Model o x c.pop.new.self.items c.in-Some.event c.history.inside.records.items c.pop-2.new.self.items c.in-Some-pop.field-0 (g.met.M.Model.keeps x.model) c.in-Some.ensures.items c.in-Some-pop.ensures.items c.history.invariant in
-    let before = state_after (g.M.Model.step x.model x.number) x.start (x.committed ++ c.pop.new.self.items) in
-    let same : c.history.inside.model.value ≡ c.args.model.now = ap (λ (w : HistoryState g.row.M.Denot g.row.M-State.Denot g.row.M-Body.Denot). w.model) c.history.view_is ∙ sym c.requires.model in
-    subst (λ m. g.M.Model.is_valid m c.in-Some.event ≡ true) same last.1.valid
+    let p = c.deref_mut-past.result.now in
+    let seen : seen_of p ≡ c.args.self = ap (λ (v : Past g.row.M.Denot g.row.M-State.Denot g.row.M-Body.Denot g.row.M-Undo.Denot). seen_of v) c.deref_mut-past.ensures.value ∙ c.history.view_is in
+    let kept : IsKept g.M.Model (event_cmp g.M.Body.Ord.cmp) p = subst (λ (v : Past g.row.M.Denot g.row.M-State.Denot g.row.M-Body.Denot g.row.M-Undo.Denot). IsKept g.M.Model (event_cmp g.M.Body.Ord.cmp) v) (sym c.deref_mut-past.ensures.value) c.history.invariant in
+    let same : p.model.value ≡ c.args.model.now = ap (λ (w : HistoryState g.row.M.Denot g.row.M-State.Denot g.row.M-Body.Denot). w.model) seen ∙ sym c.requires.model in
+    let off = past_pop g.M.Model o p kept (g.met.M.Model.keeps p.model.value) c.pop-2.new.self c.pop.new.self c.in-Some-pop.event c.in-Some.field-0 c.in-Some-pop.ensures.items c.in-Some.ensures in
+    let before = before_of g.M.Model p c.pop-2.new.self in
+    subst (λ m. g.M.Model.is_valid m c.in-Some-pop.event ≡ true) same off.record_of.valid
 
 pub reverse-requires-clause-here : goal.reverse-requires-clause-here
 reverse-requires-clause-here g c =
     let o : IsExactOrder (event_cmp g.M.Body.Ord.cmp) = events_exact (record { total = g.met.M.Body.Ord.total; same = g.met.M.Model.same }) in
-    let x : HistoryState g.row.M.Denot g.row.M-State.Denot g.row.M-Body.Denot = record { model = c.history.inside.model.value; number = c.history.inside.number; start = c.history.inside.start.value; committed = c.history.inside.committed.items; processed = c.history.inside.processed.items; state = c.history.inside.state } in
-    let last = linked_last g.M.Model o x c.pop.new.self.items c.in-Some.event c.history.inside.records.items c.pop-2.new.self.items c.in-Some-pop.field-0 (g.met.M.Model.keeps x.model) c.in-Some.ensures.items c.in-Some-pop.ensures.items c.history.invariant in
-    let before = state_after (g.M.Model.step x.model x.number) x.start (x.committed ++ c.pop.new.self.items) in
-    last.1.here
+    let p = c.deref_mut-past.result.now in
+    let seen : seen_of p ≡ c.args.self = ap (λ (v : Past g.row.M.Denot g.row.M-State.Denot g.row.M-Body.Denot g.row.M-Undo.Denot). seen_of v) c.deref_mut-past.ensures.value ∙ c.history.view_is in
+    let kept : IsKept g.M.Model (event_cmp g.M.Body.Ord.cmp) p = subst (λ (v : Past g.row.M.Denot g.row.M-State.Denot g.row.M-Body.Denot g.row.M-Undo.Denot). IsKept g.M.Model (event_cmp g.M.Body.Ord.cmp) v) (sym c.deref_mut-past.ensures.value) c.history.invariant in
+    let off = past_pop g.M.Model o p kept (g.met.M.Model.keeps p.model.value) c.pop-2.new.self c.pop.new.self c.in-Some-pop.event c.in-Some.field-0 c.in-Some-pop.ensures.items c.in-Some.ensures in
+    let before = before_of g.M.Model p c.pop-2.new.self in
+    off.record_of.here
 
 pub invariant_of-history-2 : goal.invariant_of-history-2
 invariant_of-history-2 g c =
     let o : IsExactOrder (event_cmp g.M.Body.Ord.cmp) = events_exact (record { total = g.met.M.Body.Ord.total; same = g.met.M.Model.same }) in
-    let x : HistoryState g.row.M.Denot g.row.M-State.Denot g.row.M-Body.Denot = record { model = c.history.inside.model.value; number = c.history.inside.number; start = c.history.inside.start.value; committed = c.history.inside.committed.items; processed = c.history.inside.processed.items; state = c.history.inside.state } in
-    let last = linked_last g.M.Model o x c.pop.new.self.items c.in-Some.event c.history.inside.records.items c.pop-2.new.self.items c.in-Some-pop.field-0 (g.met.M.Model.keeps x.model) c.in-Some.ensures.items c.in-Some-pop.ensures.items c.history.invariant in
-    let before = state_after (g.M.Model.step x.model x.number) x.start (x.committed ++ c.pop.new.self.items) in
-    let same : c.history.inside.model.value ≡ c.args.model.now = ap (λ (w : HistoryState g.row.M.Denot g.row.M-State.Denot g.row.M-Body.Denot). w.model) c.history.view_is ∙ sym c.requires.model in
-    let links : g.M.Model.Links c.args.model.now x.number before c.in-Some.event c.in-Some-pop.field-0.undo x.state =
-    subst (λ m. g.M.Model.Links m x.number before c.in-Some.event c.in-Some-pop.field-0.undo x.state) same (subst (λ s. g.M.Model.Links x.model x.number before c.in-Some.event c.in-Some-pop.field-0.undo s) (sym last.2) last.1.links) in
-    let good : g.M.Model.IsWellFormed c.args.model.now x.number before = subst (λ m. g.M.Model.IsWellFormed m x.number before) same last.0 in
+    let p = c.deref_mut-past.result.now in
+    let seen : seen_of p ≡ c.args.self = ap (λ (v : Past g.row.M.Denot g.row.M-State.Denot g.row.M-Body.Denot g.row.M-Undo.Denot). seen_of v) c.deref_mut-past.ensures.value ∙ c.history.view_is in
+    let kept : IsKept g.M.Model (event_cmp g.M.Body.Ord.cmp) p = subst (λ (v : Past g.row.M.Denot g.row.M-State.Denot g.row.M-Body.Denot g.row.M-Undo.Denot). IsKept g.M.Model (event_cmp g.M.Body.Ord.cmp) v) (sym c.deref_mut-past.ensures.value) c.history.invariant in
+    let same : p.model.value ≡ c.args.model.now = ap (λ (w : HistoryState g.row.M.Denot g.row.M-State.Denot g.row.M-Body.Denot). w.model) seen ∙ sym c.requires.model in
+    let off = past_pop g.M.Model o p kept (g.met.M.Model.keeps p.model.value) c.pop-2.new.self c.pop.new.self c.in-Some-pop.event c.in-Some.field-0 c.in-Some-pop.ensures.items c.in-Some.ensures in
+    let before = before_of g.M.Model p c.pop-2.new.self in
+    let links : g.M.Model.Links c.args.model.now p.number before c.in-Some-pop.event c.in-Some.field-0.undo p.state =
+    subst (λ m. g.M.Model.Links m p.number before c.in-Some-pop.event c.in-Some.field-0.undo p.state) same (subst (λ s. g.M.Model.Links p.model.value p.number before c.in-Some-pop.event c.in-Some.field-0.undo s) (sym off.state) off.record_of.links) in
+    let good : g.M.Model.IsWellFormed c.args.model.now p.number before = subst (λ m. g.M.Model.IsWellFormed m p.number before) same off.well_formed in
     let is : c.reverse.new.state ≡ before = c.in_ok-reverse.ensures.before before good links in
-    subst (λ s. IsLinked g.M.Model (event_cmp g.M.Body.Ord.cmp) (record { model = x.model; number = x.number; start = x.start; committed = x.committed; processed = c.pop.new.self.items; state = s }) c.pop-2.new.self.items) (sym is) last.3
+    subst (λ s. IsKept g.M.Model (event_cmp g.M.Body.Ord.cmp) (record p { done = c.pop-2.new.self; records = c.pop.new.self; state = s })) (sym is) off.left
 
 pub returns-clause-back : goal.returns-clause-back
 returns-clause-back g c =
     let o : IsExactOrder (event_cmp g.M.Body.Ord.cmp) = events_exact (record { total = g.met.M.Body.Ord.total; same = g.met.M.Model.same }) in
-    let x : HistoryState g.row.M.Denot g.row.M-State.Denot g.row.M-Body.Denot = record { model = c.history.inside.model.value; number = c.history.inside.number; start = c.history.inside.start.value; committed = c.history.inside.committed.items; processed = c.history.inside.processed.items; state = c.history.inside.state } in
-    let last = linked_last g.M.Model o x c.pop.new.self.items c.in-Some.event c.history.inside.records.items c.pop-2.new.self.items c.in-Some-pop.field-0 (g.met.M.Model.keeps x.model) c.in-Some.ensures.items c.in-Some-pop.ensures.items c.history.invariant in
-    let before = state_after (g.M.Model.step x.model x.number) x.start (x.committed ++ c.pop.new.self.items) in
-    let same : c.history.inside.model.value ≡ c.args.model.now = ap (λ (w : HistoryState g.row.M.Denot g.row.M-State.Denot g.row.M-Body.Denot). w.model) c.history.view_is ∙ sym c.requires.model in
-    let links : g.M.Model.Links c.args.model.now x.number before c.in-Some.event c.in-Some-pop.field-0.undo x.state =
-    subst (λ m. g.M.Model.Links m x.number before c.in-Some.event c.in-Some-pop.field-0.undo x.state) same (subst (λ s. g.M.Model.Links x.model x.number before c.in-Some.event c.in-Some-pop.field-0.undo s) (sym last.2) last.1.links) in
-    let good : g.M.Model.IsWellFormed c.args.model.now x.number before = subst (λ m. g.M.Model.IsWellFormed m x.number before) same last.0 in
+    let p = c.deref_mut-past.result.now in
+    let seen : seen_of p ≡ c.args.self = ap (λ (v : Past g.row.M.Denot g.row.M-State.Denot g.row.M-Body.Denot g.row.M-Undo.Denot). seen_of v) c.deref_mut-past.ensures.value ∙ c.history.view_is in
+    let kept : IsKept g.M.Model (event_cmp g.M.Body.Ord.cmp) p = subst (λ (v : Past g.row.M.Denot g.row.M-State.Denot g.row.M-Body.Denot g.row.M-Undo.Denot). IsKept g.M.Model (event_cmp g.M.Body.Ord.cmp) v) (sym c.deref_mut-past.ensures.value) c.history.invariant in
+    let same : p.model.value ≡ c.args.model.now = ap (λ (w : HistoryState g.row.M.Denot g.row.M-State.Denot g.row.M-Body.Denot). w.model) seen ∙ sym c.requires.model in
+    let off = past_pop g.M.Model o p kept (g.met.M.Model.keeps p.model.value) c.pop-2.new.self c.pop.new.self c.in-Some-pop.event c.in-Some.field-0 c.in-Some-pop.ensures.items c.in-Some.ensures in
+    let before = before_of g.M.Model p c.pop-2.new.self in
+    let links : g.M.Model.Links c.args.model.now p.number before c.in-Some-pop.event c.in-Some.field-0.undo p.state =
+    subst (λ m. g.M.Model.Links m p.number before c.in-Some-pop.event c.in-Some.field-0.undo p.state) same (subst (λ s. g.M.Model.Links p.model.value p.number before c.in-Some-pop.event c.in-Some.field-0.undo s) (sym off.state) off.record_of.links) in
+    let good : g.M.Model.IsWellFormed c.args.model.now p.number before = subst (λ m. g.M.Model.IsWellFormed m p.number before) same off.well_formed in
     let is : c.reverse.new.state ≡ before = c.in_ok-reverse.ensures.before before good links in
-    let given : List (Letter g.row.M-Body.Denot) = letters_of true c.in-Some-pop.field-0.sends.items in
-    let out : c.give.new.out.items ≡ c.args.out.now.items ++ given = c.in_ok-give.ensures.given ∙ ap (λ l. c.args.out.now.items ++ letters_of true l) c.as_slice.ensures.value in
-    let z : HistoryState g.row.M.Denot g.row.M-State.Denot g.row.M-Body.Denot = record { model = x.model; number = x.number; start = x.start; committed = x.committed; processed = c.pop.new.self.items; state = c.reverse.new.state } in
-    let back : IsTakenBack g.M.Model x z c.in-Some.event given =
+    let given : List (Letter g.row.M-Body.Denot) = letters_of true c.in-Some.field-0.sends in
+    let z : HistoryState g.row.M.Denot g.row.M-State.Denot g.row.M-Body.Denot = record { model = p.model.value; number = p.number; start = p.start.value; committed = take p.cut c.pop-2.new.self.items; processed = drop p.cut c.pop-2.new.self.items; state = c.reverse.new.state } in
+    let back : IsTakenBack g.M.Model (seen_of p) z c.in-Some-pop.event given =
     record {
-      last = c.in-Some.ensures.items;
-      rest = ap (λ s. let v : HistoryState g.row.M.Denot g.row.M-State.Denot g.row.M-Body.Denot = record { model = x.model; number = x.number; start = x.start; committed = x.committed; processed = c.pop.new.self.items; state = s } in v) is;
-      valid = last.1.valid;
-      here = last.1.here;
-      sent = ap (letters_of true) last.1.sends;
+      last = off.last;
+      rest = ap (λ s. let v : HistoryState g.row.M.Denot g.row.M-State.Denot g.row.M-Body.Denot = record { model = p.model.value; number = p.number; start = p.start.value; committed = take p.cut c.pop-2.new.self.items; processed = z.processed; state = s } in v) is
+          ∙ ap (λ l. let v : HistoryState g.row.M.Denot g.row.M-State.Denot g.row.M-Body.Denot = record { model = p.model.value; number = p.number; start = p.start.value; committed = l; processed = z.processed; state = before } in v) off.same;
+      valid = off.record_of.valid;
+      here = off.record_of.here;
+      sent = ap (letters_of true) off.record_of.sends;
     } in
-    (given, out, subst (λ (w : HistoryState g.row.M.Denot g.row.M-State.Denot g.row.M-Body.Denot). IsTakenBack g.M.Model w z c.in-Some.event given) c.history.view_is back)
+    (given, c.in_ok-give_to.ensures.given, subst (λ (w : HistoryState g.row.M.Denot g.row.M-State.Denot g.row.M-Body.Denot). IsTakenBack g.M.Model w z c.in-Some-pop.event given) seen back)

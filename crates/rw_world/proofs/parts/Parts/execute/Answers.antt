@@ -5,6 +5,11 @@ use Rattle.rw_vt.specs.declared.refusal.Refusal.TheVariants.{Exhausted}
 use Rattle.rw_world.proofs.Made.{made_execute, exhausted_at}
 use Rattle.rw_world.proofs.parts.Parts.execute.Goals as goal
 
+pub execute_next-requires : goal.execute_next-requires
+execute_next-requires g c =
+    let there = slice_get_read c.args.self.now.processes.items (length c.args.self.now.processes.items) c.args.p c.swap_remove-process.result refl (omega arith) c.swap_remove-process.ensures.value in
+    record { model = sym (c.requires.whole.numbered c.args.p c.swap_remove-process.result there).0 }
+
 pub returns-in_err-process-clause-exhausted : goal.returns-in_err-process-clause-exhausted
 returns-in_err-process-clause-exhausted g c = λ e.
     let there = slice_get_read c.args.self.now.processes.items (length c.args.self.now.processes.items) c.args.p c.swap_remove-process.result refl (omega arith) c.swap_remove-process.ensures.value in

@@ -1,7 +1,12 @@
-use Rattle.std.proofs.Common.{length, refl, arith}
+use Rattle.std.proofs.Common.{length, refl, sym, arith}
 use Rattle.std.proofs.lemmas.Option.{slice_get_read}
 use Rattle.rw_world.proofs.Made.{made_undo}
 use Rattle.rw_world.proofs.parts.Parts.undo.Goals as goal
+
+pub undo_one-requires : goal.undo_one-requires
+undo_one-requires g c =
+    let there = slice_get_read c.args.self.now.processes.items (length c.args.self.now.processes.items) c.args.p c.swap_remove-process.result refl (omega arith) c.swap_remove-process.ensures.value in
+    record { model = sym (c.requires.whole.numbered c.args.p c.swap_remove-process.result there).0 }
 
 pub returns-clause-made : goal.returns-clause-made
 returns-clause-made g c =

@@ -5,7 +5,7 @@ use Rattle.rw_vt.specs.Order.{event_cmp, IsAscending}
 use Rattle.rw_vt.proofs.EventOrder.{events_exact}
 use Rattle.rw_vt.proofs.Sorting.{IsExactOrder}
 use Rattle.rw_lp.proofs.Descending.{read_back, found, present, absent_above, absent_if}
-use Rattle.rw_lp.proofs.bag.Bag.find.Goals as goal
+use Rattle.rw_lp.proofs.bag.Sorted.find.Goals as goal
 
 pub returns-in_err-at : goal.returns-in_err-at
 returns-in_err-at g c =

@@ -1,0 +1,67 @@
+ghost use Rattle.std.specs.Prelude.{◌≡◌, ◌++◌, [], OnOk};
+ghost use Rattle.rw_vt.specs.Letters.{letters_of};
+
+use crate::letters::give;
+use rw_vt::{Event, Letter};
+use std::alloc::{AllocError, Global};
+use std::marker::Model;
+use std::mem;
+
+/// What one execution sent, in order. One event takes no memory of its own.
+#[derive(Drop)]
+pub struct Sends<B> {
+    kept: Kept<B>,
+}
+
+/// No event, or one, or a list of more.
+#[derive(Drop)]
+enum Kept<B> {
+    Nothing,
+    One(Event<B>),
+    Many(Vec<Event<B>>),
+}
+
+impl<B> Model for Sends<B> {
+    ghost use Rattle.std.specs.Prelude.{List};
+    ghost use Rattle.rw_vt.specs.declared.event.Event.{Event};
+    ghost use Rattle.rw_lp.specs.Sends.{events_of};
+
+    ghost Value = { List (Event B) };
+
+    ghost view = { λ x. events_of x.kept };
+}
+
+impl<B: Copy> Sends<B> {
+    /// Takes the events, and leaves none. Takes no memory.
+    pub fn take_from(alloc: Global, events: &mut Vec<Event<B>>) -> Sends<B>
+        ensures taken { result ≡ events.old.items }
+        ensures emptied { events.new.items ≡ [] }
+    {
+        if events.len() > 1 {
+            let kept = Kept::Many(mem::replace(events, Vec::new(alloc)));
+            return Sends { kept };
+        }
+        let kept = match events.pop() {
+            Some(event) => Kept::One(event),
+            None => Kept::Nothing,
+        };
+        Sends { kept }
+    }
+
+    /// Appends a message, or an anti-message, of each event, in order.
+    pub fn give_to(&self, out: &mut Vec<Letter<B>>, anti: bool) -> Result<(), AllocError>
+        ensures given { OnOk result (out.new.items ≡ out.old.items ++ letters_of anti self.now) }
+    {
+        match &self.kept {
+            Kept::Nothing => Ok(()),
+            Kept::One(event) => {
+                out.push(Letter {
+                    event: *event,
+                    anti,
+                })?;
+                Ok(())
+            }
+            Kept::Many(events) => give(out, events.as_slice(), anti),
+        }
+    }
+}
