@@ -1,5 +1,5 @@
 -- Searches by halves in ascending lists: for a copy of an event, and for the first event that is not before a time.
-use Rattle.std.proofs.Common.{◌≡◌, ℕ, zero, suc, ◌+◌, ◌<◌, ◌≤◌, Bool, true, false, List, [], ◌∷◌, length, get_or, refl, sym, ap, ◌∙◌, arith, inl, inr, Result, Ok, Err}
+use Rattle.std.proofs.Common.{◌≡◌, ℕ, suc, ◌+◌, ◌<◌, ◌≤◌, Bool, true, false, List, [], ◌∷◌, length, get_or, refl, sym, ap, ◌∙◌, arith, inl, inr, Result, Ok, Err}
 use Rattle.std.specs.Prelude.{nat_lt, nat_le, ◌⊎◌, is_ok}
 use Rattle.std.specs.List.{list_any, position_or_len}
 use Rattle.std.specs.List.Sorted.{IsBinarySearchResult, IsPartitionedBy, IsPartitionPoint, IsSortedBy, IsSearchInRange}
@@ -12,9 +12,9 @@ use Rattle.std.proofs.lemmas.List.Folds.{list_any_at}
 use Rattle.std.proofs.lemmas.List.Sorted.{searchable_from_sorted}
 use Rattle.std.proofs.lemmas.List.Sums.{position_or_len_is}
 use Rattle.rw_vt.specs.declared.event.Event.{Event}
-use Rattle.rw_vt.specs.Order.{AtMost, Has, IsAscending, has}
+use Rattle.rw_vt.specs.Order.{AtMost, IsAscending, has}
 use Rattle.rw_vt.proofs.Sorting.{IsExactOrder}
-use Rattle.rw_lp.proofs.Descending.{stands, rises}
+use Rattle.rw_lp.proofs.Descending.{rises}
 
 not_below : (r : Ordering) → is_gt r ≡ false → is_lt (ordering_reverse r) ≡ false
 not_below Less h = refl

@@ -152,22 +152,20 @@ impl<M: VtModel> History<M> {
         Ok((history, Some(event)))
     }
 
-    /// Commits the processed events of time below `time`, and drops the records that would take them back.
-    pub fn commit(self, time: u64) -> Result<History<M>, Refusal>
-        ensures committed { IfOk result (λ h.
-            h ≡ record self {
-              committed = self.committed ++ filter (λ e. nat_lt e.time time) self.processed;
-              processed = filter (λ e. nat_le time e.time) self.processed;
-            }) }
-        ensures done { IfOk result (λ h. done_in h ≡ done_in self) }
-        ensures memory { IfErr result (λ e. e ≡ Memory) }
+    /// Commits the processed events of time below `time`, and drops the records that would take them back. Takes no memory.
+    pub fn commit(self, time: u64) -> History<M>
+        ensures committed { result ≡ record self {
+          committed = self.committed ++ filter (λ e. nat_lt e.time time) self.processed;
+          processed = filter (λ e. nat_le time e.time) self.processed;
+        } }
+        ensures done { done_in result ≡ done_in self }
     {
         let mut history = self;
         let past = &mut *history.past;
         let count = count_before(&past.done[past.cut..], time);
         past.records.drop_front(count);
         past.cut += count;
-        Ok(history)
+        history
     }
 
     /// Whether a copy of the event is processed. Searches by halves.

@@ -126,6 +126,7 @@ impl<M: VtModel> Lp<M> {
         ensures exhausted { result ≡ Err Refusal.Exhausted
             → MeetsNext (event_cmp M.Body.cmp) self.process (M.is_exhausted self.model) }
     {
+        // A copy: what is found in it is used after the process was taken apart.
         let next = self.next;
         let Some(event) = next else {
             return Ok((self, Answer::Refused(StepFault::NothingPending)));
@@ -239,7 +240,8 @@ impl<M: VtModel> Lp<M> {
     }
 
     /// Commits the processed events of time below `time`, in ticks, and drops what would take them back: fossil collection
-    /// (Jefferson 1985). No pending event and no debt may be earlier than `time`. Refused only as `Memory`.
+    /// (Jefferson 1985). No pending event and no debt may be earlier than `time`. It takes no memory as it is now, and is never
+    /// refused; callers hear of `Memory` as from the other calls that change a process.
     pub fn collect(self, time: u64) -> Result<Lp<M>, Refusal>
         requires pending { Each (event_cmp M.Body.cmp) (λ e. time ≤ e.time) self.process.pending }
         requires debts { Each (event_cmp M.Body.cmp) (λ e. time ≤ e.time) self.process.debts }
@@ -254,7 +256,7 @@ impl<M: VtModel> Lp<M> {
             pending,
             debts,
         } = self;
-        let history = history.commit(time)?;
+        let history = history.commit(time);
         Ok(Lp {
             next: next_of(&pending),
             history,

@@ -7,13 +7,13 @@ use Rattle.rw_lp.proofs.lp.Lp.collect.Goals as goal
 
 pub invariant_of-result : goal.invariant_of-result
 invariant_of-result g c = (
-  still_for g.M.Model c.self.inside.history c.self.inside.pending c.self.inside.debts c.self.invariant.0 c.in_ok-history.history
-      (ap (λ (w : HistoryState g.row.M.Denot g.row.M-State.Denot g.row.M-Body.Denot). w.model) c.in_ok-history.ensures.committed)
-      (ap (λ (w : HistoryState g.row.M.Denot g.row.M-State.Denot g.row.M-Body.Denot). w.number) c.in_ok-history.ensures.committed),
+  still_for g.M.Model c.self.inside.history c.self.inside.pending c.self.inside.debts c.self.invariant.0 c.commit-history.result
+      (ap (λ (w : HistoryState g.row.M.Denot g.row.M-State.Denot g.row.M-Body.Denot). w.model) c.commit-history.ensures.committed)
+      (ap (λ (w : HistoryState g.row.M.Denot g.row.M-State.Denot g.row.M-Body.Denot). w.number) c.commit-history.ensures.committed),
   c.next_of.ensures,
 )
 
 pub returns-clause-collected : goal.returns-clause-collected
 returns-clause-collected g c =
-    subst (λ (w : LogicalProcess g.row.M.Denot g.row.M-State.Denot g.row.M-Body.Denot). process_of c.in_ok-history.history c.self.inside.pending c.self.inside.debts ≡ record { model = w.model; number = w.number; process = collect c.args.time w.process }) c.self.view_is
-    (ap (λ (h : HistoryState g.row.M.Denot g.row.M-State.Denot g.row.M-Body.Denot). process_of h c.self.inside.pending c.self.inside.debts) c.in_ok-history.ensures.committed)
+    subst (λ (w : LogicalProcess g.row.M.Denot g.row.M-State.Denot g.row.M-Body.Denot). process_of c.commit-history.result c.self.inside.pending c.self.inside.debts ≡ record { model = w.model; number = w.number; process = collect c.args.time w.process }) c.self.view_is
+    (ap (λ (h : HistoryState g.row.M.Denot g.row.M-State.Denot g.row.M-Body.Denot). process_of h c.self.inside.pending c.self.inside.debts) c.commit-history.ensures.committed)
