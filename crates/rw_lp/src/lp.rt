@@ -29,8 +29,6 @@ use std::marker::Model;
 /// hands nothing back, and nothing is then said of `out`.
 #[derive(Drop)]
 pub struct Lp<M: VtModel> {
-    /// The least pending event: of several processes, the one that is next is found without a look at what they hold.
-    next: Option<Event<M::Body>>,
     history: History<M>,
     pending: Bag<M>,
     debts: Bag<M>,
@@ -41,8 +39,7 @@ impl<M: VtModel> Model for Lp<M> {
 
     ghost view = { λ x. process_of x.history x.pending x.debts };
 
-    ghost invariant = { λ x. AreFor M.Model (event_cmp M.Body.cmp) x.history x.pending x.debts
-        × IsNextOf (event_cmp M.Body.cmp) x.pending x.next };
+    ghost invariant = { λ x. AreFor M.Model (event_cmp M.Body.cmp) x.history x.pending x.debts };
 }
 
 impl<M: VtModel> Lp<M> {
@@ -69,7 +66,6 @@ impl<M: VtModel> Lp<M> {
         let debts = Bag::new(alloc)?;
         let history = History::new(alloc, model, number, start)?;
         Ok(Lp {
-            next: next_of(&pending),
             history,
             pending,
             debts,
@@ -91,14 +87,12 @@ impl<M: VtModel> Lp<M> {
         ensures memory { IfErr result (λ e. e ≡ Memory) }
     {
         let Lp {
-            next: _,
             history,
             mut pending,
             mut debts,
         } = self;
         let answer = meet(&history, &mut pending, &mut debts, letter)?;
         let lp = Lp {
-            next: next_of(&pending),
             history,
             pending,
             debts,
@@ -126,8 +120,7 @@ impl<M: VtModel> Lp<M> {
         ensures exhausted { result ≡ Err Refusal.Exhausted
             → MeetsNext (event_cmp M.Body.cmp) self.process (M.is_exhausted self.model) }
     {
-        // A copy: what is found in it is used after the process was taken apart.
-        let next = self.next;
+        let next = self.pending.first().copied();
         let Some(event) = next else {
             return Ok((self, Answer::Refused(StepFault::NothingPending)));
         };
@@ -135,7 +128,6 @@ impl<M: VtModel> Lp<M> {
             return Ok((self, Answer::Refused(StepFault::Straggler)));
         }
         let Lp {
-            next: _,
             history,
             mut pending,
             debts,
@@ -143,7 +135,6 @@ impl<M: VtModel> Lp<M> {
         let _taken = pending.take(event);
         let history = history.execute(alloc, model, event, out)?;
         let lp = Lp {
-            next: next_of(&pending),
             history,
             pending,
             debts,
@@ -171,7 +162,6 @@ impl<M: VtModel> Lp<M> {
         ensures memory { IfErr result (λ e. e ≡ Memory) }
     {
         let Lp {
-            next: _,
             history,
             mut pending,
             debts,
@@ -179,8 +169,7 @@ impl<M: VtModel> Lp<M> {
         let (history, undone) = history.undo(alloc, model, out)?;
         let Some(event) = undone else {
             let lp = Lp {
-                next: next_of(&pending),
-                history,
+                    history,
                 pending,
                 debts,
             };
@@ -188,7 +177,6 @@ impl<M: VtModel> Lp<M> {
         };
         pending.put(event)?;
         let lp = Lp {
-            next: next_of(&pending),
             history,
             pending,
             debts,
@@ -251,14 +239,12 @@ impl<M: VtModel> Lp<M> {
         ensures memory { IfErr result (λ e. e ≡ Memory) }
     {
         let Lp {
-            next: _,
             history,
             pending,
             debts,
         } = self;
         let history = history.commit(time);
         Ok(Lp {
-            next: next_of(&pending),
             history,
             pending,
             debts,
@@ -293,7 +279,7 @@ impl<M: VtModel> Lp<M> {
         ensures least { MatchOption result (self.now.process.pending ≡ [])
             (λ e. IsLeastOf (event_cmp M.Body.cmp) self.now.process.pending e.now) }
     {
-        self.next.as_ref()
+        self.pending.first()
     }
 
     /// How many equal copies of the event are pending. Takes no memory.
@@ -340,20 +326,12 @@ impl<M: VtModel> Lp<M> {
         ensures state { result.1 ≡ self.process.state }
     {
         let Lp {
-            next: _,
             history,
             pending: _,
             debts: _,
         } = self;
         history.into_outcome()
     }
-}
-
-/// The least of the pending events, if there is one.
-fn next_of<M: VtModel>(pending: &Bag<M>) -> Option<Event<M::Body>>
-    ensures { IsNextOf (event_cmp M.Body.cmp) pending.now result }
-{
-    pending.first().copied()
 }
 
 /// A letter comes to what is pending and owed beside this history: see [`Lp::deliver`].

@@ -8,12 +8,12 @@ use Rattle.rw_lp.proofs.lp.Lp.deliver.Goals as goal
 
 pub meet-requires : goal.meet-requires
 meet-requires g c = record {
-  own = c.self.invariant.0;
+  own = c.self.invariant;
   here = subst (λ (w : LogicalProcess g.row.M.Denot g.row.M-State.Denot g.row.M-Body.Denot). IsFor g.M.Model w.model w.number c.args.letter.event) (sym c.self.view_is) (c.requires.valid, c.requires.here);
 }
 
 pub invariant_of-lp : goal.invariant_of-lp
-invariant_of-lp g c = (c.in_ok-answer.ensures.own, c.next_of.ensures)
+invariant_of-lp g c = c.in_ok-answer.ensures.own
 
 pub returns-clause-turn : goal.returns-clause-turn
 returns-clause-turn g c =

@@ -1,4 +1,4 @@
-use Rattle.std.proofs.Common.{◌≡◌, ◌<◌, true, false, List, [], ◌++◌, refl, sym, ap, ◌∙◌, subst, append-nil, Err}
+use Rattle.std.proofs.Common.{◌≡◌, ◌<◌, true, false, List, [], ◌++◌, refl, sym, ap, ◌∙◌, subst, append-nil, Err, Some, None}
 use Rattle.std.proofs.lemmas.Result.{err_from_is_err_and}
 use Rattle.rw_vt.specs.declared.refusal.Refusal.TheVariants.{Exhausted}
 use Rattle.rw_vt.specs.declared.event.Letter.{Letter}
@@ -10,10 +10,11 @@ use Rattle.rw_lp.specs.declared.step.StepFault.TheVariants.{NothingPending, Stra
 use Rattle.rw_lp.specs.declared.step.Answer.TheVariants.{Done, Refused}
 use Rattle.rw_lp.specs.Past.{HistoryState}
 use Rattle.rw_lp.specs.Process.{ProcessState, after_execution, execute_next}
-use Rattle.rw_lp.specs.Calls.{LogicalProcess, process_of, rules, IsNextOf, MeetsNext, Took}
+use Rattle.rw_lp.specs.Calls.{LogicalProcess, process_of, rules, MeetsNext, Took}
 use Rattle.rw_lp.proofs.Bridges.{nothing_pending, is_straggler, is_executed}
 use Rattle.rw_lp.proofs.Own.{pending_less, still_for}
 use Rattle.rw_lp.proofs.Orders.{without_head}
+use Rattle.rw_lp.proofs.Lasts.{first_is}
 use Rattle.rw_lp.proofs.Balance.{unchanged, execution_balanced}
 use Rattle.rw_lp.specs.Sound.{Balance}
 use Rattle.rw_lp.proofs.lp.Lp.execute_next.Goals as goal
@@ -22,12 +23,12 @@ pub returns-in_default-clause-turn : goal.returns-in_default-clause-turn
 returns-in_default-clause-turn g c =
     let x = process_of c.self.inside.history c.self.inside.pending c.self.inside.debts in
     subst (λ (w : LogicalProcess g.row.M.Denot g.row.M-State.Denot g.row.M-Body.Denot). (given : List (Letter g.row.M-Body.Denot)) × (c.args.out.now.items ≡ c.args.out.now.items ++ given) × Took w.process w.process (Refused NothingPending) given (execute_next (rules g.M.Model g.M.Body.Ord.cmp w.model) w.number w.process)) c.self.view_is
-    ([], sym (append-nil c.args.out.now.items), nothing_pending (rules g.M.Model g.M.Body.Ord.cmp x.model) x.number x.process (subst (IsNextOf (event_cmp g.M.Body.Ord.cmp) c.self.inside.pending) c.in_default.is c.self.invariant.1))
+    ([], sym (append-nil c.args.out.now.items), nothing_pending (rules g.M.Model g.M.Body.Ord.cmp x.model) x.number x.process (first_is c.first.result c.copied-next.result None c.self.inside.pending c.copied-next.ensures c.first.ensures.first c.in_default.is))
 
 pub returns-then-is_past-clause-turn : goal.returns-then-is_past-clause-turn
 returns-then-is_past-clause-turn g c =
     let x = process_of c.self.inside.history c.self.inside.pending c.self.inside.debts in
-    let head = (subst (IsNextOf (event_cmp g.M.Body.Ord.cmp) c.self.inside.pending) c.in-Some.is c.self.invariant.1).0 in
+    let head = first_is c.first.result c.copied-next.result (Some c.in-Some.event) c.self.inside.pending c.copied-next.ensures c.first.ensures.first c.in-Some.is in
     let late = sym c.is_past.ensures ∙ c.if-is_past.true in
     subst (λ (w : LogicalProcess g.row.M.Denot g.row.M-State.Denot g.row.M-Body.Denot). (given : List (Letter g.row.M-Body.Denot)) × (c.args.out.now.items ≡ c.args.out.now.items ++ given) × Took w.process w.process (Refused Straggler) given (execute_next (rules g.M.Model g.M.Body.Ord.cmp w.model) w.number w.process)) c.self.view_is
     ([], sym (append-nil c.args.out.now.items), is_straggler (rules g.M.Model g.M.Body.Ord.cmp x.model) x.number x.process c.in-Some.event head.0 head.1 late)
@@ -35,28 +36,26 @@ returns-then-is_past-clause-turn g c =
 pub execute-requires-clause-valid : goal.execute-requires-clause-valid
 execute-requires-clause-valid g c =
     let o : IsExactOrder (event_cmp g.M.Body.Ord.cmp) = events_exact (record { total = g.met.M.Body.Ord.total; same = g.met.M.Model.same }) in
-    let head = (subst (IsNextOf (event_cmp g.M.Body.Ord.cmp) c.self.inside.pending) c.in-Some.is c.self.invariant.1).0 in
-    (c.self.invariant.0.pending c.in-Some.event (subst (λ l. 0 < copies (event_cmp g.M.Body.Ord.cmp) c.in-Some.event l) (sym head.1) (Has-head o c.in-Some.event head.0))).0
+    let head = first_is c.first.result c.copied-next.result (Some c.in-Some.event) c.self.inside.pending c.copied-next.ensures c.first.ensures.first c.in-Some.is in
+    (c.self.invariant.pending c.in-Some.event (subst (λ l. 0 < copies (event_cmp g.M.Body.Ord.cmp) c.in-Some.event l) (sym head.1) (Has-head o c.in-Some.event head.0))).0
 
 pub execute-requires-clause-here : goal.execute-requires-clause-here
 execute-requires-clause-here g c =
     let o : IsExactOrder (event_cmp g.M.Body.Ord.cmp) = events_exact (record { total = g.met.M.Body.Ord.total; same = g.met.M.Model.same }) in
-    let head = (subst (IsNextOf (event_cmp g.M.Body.Ord.cmp) c.self.inside.pending) c.in-Some.is c.self.invariant.1).0 in
-    (c.self.invariant.0.pending c.in-Some.event (subst (λ l. 0 < copies (event_cmp g.M.Body.Ord.cmp) c.in-Some.event l) (sym head.1) (Has-head o c.in-Some.event head.0))).1
+    let head = first_is c.first.result c.copied-next.result (Some c.in-Some.event) c.self.inside.pending c.copied-next.ensures c.first.ensures.first c.in-Some.is in
+    (c.self.invariant.pending c.in-Some.event (subst (λ l. 0 < copies (event_cmp g.M.Body.Ord.cmp) c.in-Some.event l) (sym head.1) (Has-head o c.in-Some.event head.0))).1
 
 pub invariant_of-lp : goal.invariant_of-lp
 invariant_of-lp g c =
     let o : IsExactOrder (event_cmp g.M.Body.Ord.cmp) = events_exact (record { total = g.met.M.Body.Ord.total; same = g.met.M.Model.same }) in
-    let less = pending_less g.M.Model c.self.inside.history c.self.inside.pending c.self.inside.debts c.self.invariant.0 o c.in-Some.event c.take-taken.new.self c.take-taken.ensures.rest in (
+    let less = pending_less g.M.Model c.self.inside.history c.self.inside.pending c.self.inside.debts c.self.invariant o c.in-Some.event c.take-taken.new.self c.take-taken.ensures.rest in
       still_for g.M.Model c.self.inside.history c.take-taken.new.self c.self.inside.debts less c.in_ok-history.history
-          (ap (λ (w : HistoryState g.row.M.Denot g.row.M-State.Denot g.row.M-Body.Denot). w.model) c.in_ok-history.ensures.after) (ap (λ (w : HistoryState g.row.M.Denot g.row.M-State.Denot g.row.M-Body.Denot). w.number) c.in_ok-history.ensures.after),
-      c.next_of.ensures,
-    )
+          (ap (λ (w : HistoryState g.row.M.Denot g.row.M-State.Denot g.row.M-Body.Denot). w.model) c.in_ok-history.ensures.after) (ap (λ (w : HistoryState g.row.M.Denot g.row.M-State.Denot g.row.M-Body.Denot). w.number) c.in_ok-history.ensures.after)
 
 pub returns-in_err-history-clause-exhausted : goal.returns-in_err-history-clause-exhausted
 returns-in_err-history-clause-exhausted g c = λ e.
     let x = process_of c.self.inside.history c.self.inside.pending c.self.inside.debts in
-    let head = (subst (IsNextOf (event_cmp g.M.Body.Ord.cmp) c.self.inside.pending) c.in-Some.is c.self.invariant.1).0 in
+    let head = first_is c.first.result c.copied-next.result (Some c.in-Some.event) c.self.inside.pending c.copied-next.ensures c.first.ensures.first c.in-Some.is in
     let p = err_from_is_err_and c.from_residual.result c.from_residual.ensures.1 in
     let same : Err p.0 ≡ Err Exhausted = sym p.1 ∙ e in
     let cause : p.0 ≡ Exhausted = cc in
@@ -71,7 +70,7 @@ returns-clause-turn g c =
     let x = process_of c.self.inside.history c.self.inside.pending c.self.inside.debts in
     let y = rules g.M.Model g.M.Body.Ord.cmp x.model in
     let e = c.in-Some.event in
-    let head = (subst (IsNextOf (event_cmp g.M.Body.Ord.cmp) c.self.inside.pending) c.in-Some.is c.self.invariant.1).0 in
+    let head = first_is c.first.result c.copied-next.result (Some c.in-Some.event) c.self.inside.pending c.copied-next.ensures c.first.ensures.first c.in-Some.is in
     let late = sym c.is_past.ensures ∙ c.if-is_past.false in
     let given : List (Letter g.row.M-Body.Denot) = letters_of false (y.step x.number x.process.state e).1 in
     let rest : c.take-taken.new.self ≡ head.0 = c.take-taken.ensures.rest ∙ ap (without (event_cmp g.M.Body.Ord.cmp) e) head.1 ∙ without_head o e head.0 in
@@ -98,7 +97,7 @@ returns-clause-balance g c =
     let x = process_of c.self.inside.history c.self.inside.pending c.self.inside.debts in
     let y = rules g.M.Model g.M.Body.Ord.cmp x.model in
     let e = c.in-Some.event in
-    let head = (subst (IsNextOf (event_cmp g.M.Body.Ord.cmp) c.self.inside.pending) c.in-Some.is c.self.invariant.1).0 in
+    let head = first_is c.first.result c.copied-next.result (Some c.in-Some.event) c.self.inside.pending c.copied-next.ensures c.first.ensures.first c.in-Some.is in
     let given : List (Letter g.row.M-Body.Denot) = letters_of false (y.step x.number x.process.state e).1 in
     let rest : c.take-taken.new.self ≡ head.0 = c.take-taken.ensures.rest ∙ ap (without (event_cmp g.M.Body.Ord.cmp) e) head.1 ∙ without_head o e head.0 in
     let now : ProcessState g.row.M-State.Denot g.row.M-Body.Denot = (process_of c.in_ok-history.history c.take-taken.new.self c.self.inside.debts).process in
