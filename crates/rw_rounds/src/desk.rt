@@ -1,4 +1,5 @@
 ghost use Rattle.std.specs.Prelude.{◌≡◌, ◌≢◌, ◌<◌, ◌≤◌, ◌+◌, ◌∷◌, ◌++◌, [], ℕ, true, false, if◌then◌else◌, length, map, OnOk, IfOk, IfSome, IfNone};
+ghost use Rattle.std.specs.Option.{option_map};
 ghost use Rattle.rw_vt.specs.Order.{event_cmp};
 ghost use Rattle.rw_lp.specs.Calls.{rules};
 ghost use Rattle.rw_lp.specs.Sound.{HasCollected};
@@ -364,10 +365,10 @@ fn next_before<M: VtModel>(processes: &[Lp<M>], bound: u64) -> Option<usize>
         let Some(event) = process.next() else {
             continue;
         };
-        if !comes_before(event, &least) {
+        if !comes_before(event, least) {
             continue;
         }
-        least = Some((place, *event));
+        least = Some((place, event));
     }
     let (place, event) = least?;
     if bound <= event.time {
@@ -376,16 +377,25 @@ fn next_before<M: VtModel>(processes: &[Lp<M>], bound: u64) -> Option<usize>
     Some(place)
 }
 
-/// Whether the event is less than the least one found so far, or none was found. Times are compared first: they tell most
-/// events apart.
-fn comes_before<B: Ord + Copy>(event: &Event<B>, least: &Option<(usize, Event<B>)>) -> bool
-    ensures { result ≡ comes_before (event_cmp B.cmp) event.now least.now }
+/// Whether the event is less than the least one found so far, or none was found. What tells most events apart is compared
+/// first: their times, sources and numbers.
+fn comes_before<B: Ord + Copy>(event: &Event<B>, least: Option<(usize, &Event<B>)>) -> bool
+    ensures { result ≡ comes_before (event_cmp B.cmp) event.now
+        (option_map (λ found. (found.0, found.1.now)) least.entry) }
 {
-    match least {
-        None => true,
-        Some((_, other)) if event.time != other.time => event.time < other.time,
-        Some((_, other)) => other.cmp(event).is_gt(),
+    let Some((_, other)) = least else {
+        return true;
+    };
+    if event.time != other.time {
+        return event.time < other.time;
     }
+    if event.source != other.source {
+        return event.source < other.source;
+    }
+    if event.number != other.number {
+        return event.number < other.number;
+    }
+    other.cmp(event).is_gt()
 }
 
 /// The process executes what is next, or undoes its last event where that is a straggler. What it gives out is
