@@ -148,18 +148,18 @@ module _ {E : Type 0} {cmp : E → E → Ordering} (o : IsExactOrder cmp) where
           omega arith
 
   -- each count is still none of 0, where the one that changed is not
-  pub counts_changed : (e : E) (w : Option ℕ) (es fs : List (E × ℕ)) → AreCopyCounts cmp es → ((k : ℕ) → w ≡ Some k → (0 < k) × (k < 2 ^ 63))
+  pub counts_changed : (e : E) (w : Option ℕ) (es fs : List (E × ℕ)) → AreCopyCounts cmp es → ((k : ℕ) → w ≡ Some k → (0 < k) × (k < 2 ^ 62))
       → ((q : E) → lookup (is_at (cmp q)) fs ≡ cond (is_at (cmp e) q) w (lookup (is_at (cmp q)) es)) → AreCopyCounts cmp fs
   counts_changed e w es fs all here is x n q = go (is_eq (cmp e x)) (sym (is x) ∙ q)
     where
-      go : (b : Bool) → cond b w (lookup (is_at (cmp x)) es) ≡ Some n → (0 < n) × (n < 2 ^ 63)
+      go : (b : Bool) → cond b w (lookup (is_at (cmp x)) es) ≡ Some n → (0 < n) × (n < 2 ^ 62)
       go true h = here n h
       go false h = all x n h
 
-  pub count_small : (e : E) (es : List (E × ℕ)) → AreCopyCounts cmp es → unwrap_or (lookup (is_at (cmp e)) es) 0 < 2 ^ 63
+  pub count_small : (e : E) (es : List (E × ℕ)) → AreCopyCounts cmp es → unwrap_or (lookup (is_at (cmp e)) es) 0 < 2 ^ 62
   count_small e es all = go (lookup (is_at (cmp e)) es) refl
     where
-      go : (r : Option ℕ) → lookup (is_at (cmp e)) es ≡ r → unwrap_or r 0 < 2 ^ 63
+      go : (r : Option ℕ) → lookup (is_at (cmp e)) es ≡ r → unwrap_or r 0 < 2 ^ 62
       go None q = omega arith
       go (Some n) q = (all e n q).1
 

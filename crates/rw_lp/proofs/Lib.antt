@@ -18,5 +18,6 @@ pub mod WithBags
 mod PutBack
 pub mod Cited
 mod Filled
+mod Queues
 mod Searching
 mod Pasts

@@ -15,7 +15,7 @@ unfoldable pub copies_of : {E : Type 0} → List (E × Count) → List E
 copies_of [] = []
 copies_of (entry ∷ entries) = with_copies entry.1 entry.0 (copies_of entries)
 
--- no count is 0, and each is below 2^63: at most MOST_COPIES of the code
+-- no count is 0, and each is below 2^62: at most MOST_COPIES of the code
 abbrev pub AreCopyCounts : {E : Type 0} → (E → E → Ordering) → List (E × Count) → Type 0
 AreCopyCounts {E} cmp entries =
-    (x : E) (n : Count) → lookup (is_at (cmp x)) entries ≡ Some n → (0 < n) × (n < 2 ^ 63)
+    (x : E) (n : Count) → lookup (is_at (cmp x)) entries ≡ Some n → (0 < n) × (n < 2 ^ 62)

@@ -11,13 +11,17 @@ ghost use Rattle.rw_lp.specs.Sound.{StepsKeepAll};
 
 mod bag;
 mod bags;
+mod counted;
 mod held;
 mod history;
+mod later;
 mod letters;
 mod lp;
 mod places;
+mod queue;
 mod runs;
 mod sends;
+mod sorted;
 mod step;
 mod undo_record;
 

@@ -12,8 +12,8 @@ returns g c =
     let cmp = event_cmp g.M.Body.Ord.cmp in
     let e = c.args.event.now in
     let xs = c.self.inside.parts.value.sorted in
-    let ys = c.self.inside.parts.value.counted in
+    let ys = c.self.inside.parts.value.later in
     let sorted : c.copies.result ≡ copies cmp e xs = c.copies.ensures.copies ∙ ap (λ (p : Parts g.row.M.Denot g.row.M-State.Denot g.row.M-Body.Denot g.row.M-Undo.Denot). copies cmp e p.sorted) c.deref.ensures in
-    let counted : c.copies-2.result ≡ copies cmp e ys = c.copies-2.ensures.copies ∙ ap (λ (p : Parts g.row.M.Denot g.row.M-State.Denot g.row.M-Body.Denot g.row.M-Undo.Denot). copies cmp e p.counted) c.deref-2.ensures in
+    let later : c.copies-2.result ≡ copies cmp e ys = c.copies-2.ensures.copies ∙ ap (λ (p : Parts g.row.M.Denot g.row.M-State.Denot g.row.M-Body.Denot g.row.M-Undo.Denot). copies cmp e p.later) c.deref-2.ensures in
     let both : copies cmp e (in_order cmp (xs ++ ys)) ≡ copies cmp e c.args.self.now = ap (copies cmp e) c.self.view_is in
     omega (arith, copies-both o e xs ys)

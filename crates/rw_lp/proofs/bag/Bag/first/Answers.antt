@@ -15,64 +15,64 @@ returns-in_default-clause-first g c =
     let o : IsExactOrder (event_cmp g.M.Body.Ord.cmp) = events_exact (record { total = g.met.M.Body.Ord.total; same = g.met.M.Model.same }) in
     let cmp = event_cmp g.M.Body.Ord.cmp in
     let xs = c.deref.result.now.sorted in
-    let ys = c.deref-in_default.result.now.counted in
+    let ys = c.deref-in_default.result.now.later in
     let seen : in_order cmp (xs ++ ys) ≡ c.args.self.now =
-    ap (λ (p : Parts g.row.M.Denot g.row.M-State.Denot g.row.M-Body.Denot g.row.M-Undo.Denot). in_order cmp (p.sorted ++ ys)) c.deref.ensures ∙ ap (λ (p : Parts g.row.M.Denot g.row.M-State.Denot g.row.M-Body.Denot g.row.M-Undo.Denot). in_order cmp (c.self.inside.parts.value.sorted ++ p.counted)) c.deref-in_default.ensures ∙ c.self.view_is in
+    ap (λ (p : Parts g.row.M.Denot g.row.M-State.Denot g.row.M-Body.Denot g.row.M-Undo.Denot). in_order cmp (p.sorted ++ ys)) c.deref.ensures ∙ ap (λ (p : Parts g.row.M.Denot g.row.M-State.Denot g.row.M-Body.Denot g.row.M-Undo.Denot). in_order cmp (c.self.inside.parts.value.sorted ++ p.later)) c.deref-in_default.ensures ∙ c.self.view_is in
     subst (λ l. MatchOption c.first-in_default.result (l ≡ []) (λ e. IsFirst l e.now)) (only_right o xs ys c.args.self.now seen c.in_default.ensures.first c.first-in_default.ensures.order) c.first-in_default.ensures.first
 
 pub returns-in_default-clause-order : goal.returns-in_default-clause-order
 returns-in_default-clause-order g c =
     let o : IsExactOrder (event_cmp g.M.Body.Ord.cmp) = events_exact (record { total = g.met.M.Body.Ord.total; same = g.met.M.Model.same }) in
-    subst (IsAscending (event_cmp g.M.Body.Ord.cmp)) c.self.view_is (IsAscending-in_order o (c.self.inside.parts.value.sorted ++ c.self.inside.parts.value.counted))
+    subst (IsAscending (event_cmp g.M.Body.Ord.cmp)) c.self.view_is (IsAscending-in_order o (c.self.inside.parts.value.sorted ++ c.self.inside.parts.value.later))
 
 pub returns-in_default-first-clause-first : goal.returns-in_default-first-clause-first
 returns-in_default-first-clause-first g c =
     let o : IsExactOrder (event_cmp g.M.Body.Ord.cmp) = events_exact (record { total = g.met.M.Body.Ord.total; same = g.met.M.Model.same }) in
     let cmp = event_cmp g.M.Body.Ord.cmp in
     let xs = c.deref.result.now.sorted in
-    let ys = c.deref-2.result.now.counted in
+    let ys = c.deref-2.result.now.later in
     let seen : in_order cmp (xs ++ ys) ≡ c.args.self.now =
-    ap (λ (p : Parts g.row.M.Denot g.row.M-State.Denot g.row.M-Body.Denot g.row.M-Undo.Denot). in_order cmp (p.sorted ++ ys)) c.deref.ensures ∙ ap (λ (p : Parts g.row.M.Denot g.row.M-State.Denot g.row.M-Body.Denot g.row.M-Undo.Denot). in_order cmp (c.self.inside.parts.value.sorted ++ p.counted)) c.deref-2.ensures ∙ c.self.view_is in
+    ap (λ (p : Parts g.row.M.Denot g.row.M-State.Denot g.row.M-Body.Denot g.row.M-Undo.Denot). in_order cmp (p.sorted ++ ys)) c.deref.ensures ∙ ap (λ (p : Parts g.row.M.Denot g.row.M-State.Denot g.row.M-Body.Denot g.row.M-Undo.Denot). in_order cmp (c.self.inside.parts.value.sorted ++ p.later)) c.deref-2.ensures ∙ c.self.view_is in
     let a = c.in-Some.sorted.now in
     subst (λ l. IsFirst l a) seen (first_left o a xs ys c.in-Some.ensures.first c.first.ensures.order (subst (Each cmp (λ y. AtMost cmp a y)) (sym c.in_default-first.ensures.first) (Each-nil o (λ y. AtMost cmp a y))))
 
 pub returns-in_default-first-clause-order : goal.returns-in_default-first-clause-order
 returns-in_default-first-clause-order g c =
     let o : IsExactOrder (event_cmp g.M.Body.Ord.cmp) = events_exact (record { total = g.met.M.Body.Ord.total; same = g.met.M.Model.same }) in
-    subst (IsAscending (event_cmp g.M.Body.Ord.cmp)) c.self.view_is (IsAscending-in_order o (c.self.inside.parts.value.sorted ++ c.self.inside.parts.value.counted))
+    subst (IsAscending (event_cmp g.M.Body.Ord.cmp)) c.self.view_is (IsAscending-in_order o (c.self.inside.parts.value.sorted ++ c.self.inside.parts.value.later))
 
 pub returns-then-is_le-clause-first : goal.returns-then-is_le-clause-first
 returns-then-is_le-clause-first g c =
     let o : IsExactOrder (event_cmp g.M.Body.Ord.cmp) = events_exact (record { total = g.met.M.Body.Ord.total; same = g.met.M.Model.same }) in
     let cmp = event_cmp g.M.Body.Ord.cmp in
     let xs = c.deref.result.now.sorted in
-    let ys = c.deref-2.result.now.counted in
+    let ys = c.deref-2.result.now.later in
     let seen : in_order cmp (xs ++ ys) ≡ c.args.self.now =
-    ap (λ (p : Parts g.row.M.Denot g.row.M-State.Denot g.row.M-Body.Denot g.row.M-Undo.Denot). in_order cmp (p.sorted ++ ys)) c.deref.ensures ∙ ap (λ (p : Parts g.row.M.Denot g.row.M-State.Denot g.row.M-Body.Denot g.row.M-Undo.Denot). in_order cmp (c.self.inside.parts.value.sorted ++ p.counted)) c.deref-2.ensures ∙ c.self.view_is in
+    ap (λ (p : Parts g.row.M.Denot g.row.M-State.Denot g.row.M-Body.Denot g.row.M-Undo.Denot). in_order cmp (p.sorted ++ ys)) c.deref.ensures ∙ ap (λ (p : Parts g.row.M.Denot g.row.M-State.Denot g.row.M-Body.Denot g.row.M-Undo.Denot). in_order cmp (c.self.inside.parts.value.sorted ++ p.later)) c.deref-2.ensures ∙ c.self.view_is in
     let a = c.in-Some.sorted.now in
-    let b = c.in-Some-first.counted.now in
+    let b = c.in-Some-first.later.now in
     let below : AtMost cmp a b = le_not_gt (cmp a b) (sym (c.is_le.ensures ∙ ap is_le c.cmp.ensures) ∙ c.if-is_le.true) in
     subst (λ l. IsFirst l a) seen (first_left o a xs ys c.in-Some.ensures.first c.first.ensures.order (first_least o a b ys below c.in-Some-first.ensures.first c.first-2.ensures.order))
 
 pub returns-then-is_le-clause-order : goal.returns-then-is_le-clause-order
 returns-then-is_le-clause-order g c =
     let o : IsExactOrder (event_cmp g.M.Body.Ord.cmp) = events_exact (record { total = g.met.M.Body.Ord.total; same = g.met.M.Model.same }) in
-    subst (IsAscending (event_cmp g.M.Body.Ord.cmp)) c.self.view_is (IsAscending-in_order o (c.self.inside.parts.value.sorted ++ c.self.inside.parts.value.counted))
+    subst (IsAscending (event_cmp g.M.Body.Ord.cmp)) c.self.view_is (IsAscending-in_order o (c.self.inside.parts.value.sorted ++ c.self.inside.parts.value.later))
 
 pub returns-clause-first : goal.returns-clause-first
 returns-clause-first g c =
     let o : IsExactOrder (event_cmp g.M.Body.Ord.cmp) = events_exact (record { total = g.met.M.Body.Ord.total; same = g.met.M.Model.same }) in
     let cmp = event_cmp g.M.Body.Ord.cmp in
     let xs = c.deref.result.now.sorted in
-    let ys = c.deref-2.result.now.counted in
+    let ys = c.deref-2.result.now.later in
     let seen : in_order cmp (xs ++ ys) ≡ c.args.self.now =
-    ap (λ (p : Parts g.row.M.Denot g.row.M-State.Denot g.row.M-Body.Denot g.row.M-Undo.Denot). in_order cmp (p.sorted ++ ys)) c.deref.ensures ∙ ap (λ (p : Parts g.row.M.Denot g.row.M-State.Denot g.row.M-Body.Denot g.row.M-Undo.Denot). in_order cmp (c.self.inside.parts.value.sorted ++ p.counted)) c.deref-2.ensures ∙ c.self.view_is in
+    ap (λ (p : Parts g.row.M.Denot g.row.M-State.Denot g.row.M-Body.Denot g.row.M-Undo.Denot). in_order cmp (p.sorted ++ ys)) c.deref.ensures ∙ ap (λ (p : Parts g.row.M.Denot g.row.M-State.Denot g.row.M-Body.Denot g.row.M-Undo.Denot). in_order cmp (c.self.inside.parts.value.sorted ++ p.later)) c.deref-2.ensures ∙ c.self.view_is in
     let a = c.in-Some.sorted.now in
-    let b = c.in-Some-first.counted.now in
+    let b = c.in-Some-first.later.now in
     let below : AtMost cmp b a = at_most_other o a b (not_le_gt (cmp a b) (sym (c.is_le.ensures ∙ ap is_le c.cmp.ensures) ∙ c.if-is_le.false)) in
     subst (λ l. IsFirst l b) seen (first_right o b xs ys c.in-Some-first.ensures.first c.first-2.ensures.order (first_least o b a xs below c.in-Some.ensures.first c.first.ensures.order))
 
 pub returns-clause-order : goal.returns-clause-order
 returns-clause-order g c =
     let o : IsExactOrder (event_cmp g.M.Body.Ord.cmp) = events_exact (record { total = g.met.M.Body.Ord.total; same = g.met.M.Model.same }) in
-    subst (IsAscending (event_cmp g.M.Body.Ord.cmp)) c.self.view_is (IsAscending-in_order o (c.self.inside.parts.value.sorted ++ c.self.inside.parts.value.counted))
+    subst (IsAscending (event_cmp g.M.Body.Ord.cmp)) c.self.view_is (IsAscending-in_order o (c.self.inside.parts.value.sorted ++ c.self.inside.parts.value.later))

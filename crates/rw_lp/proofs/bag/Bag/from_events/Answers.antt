@@ -12,6 +12,6 @@ returns g c =
     let cmp = event_cmp g.M.Body.Ord.cmp in
     let parts = c.in_ok-new.field-0.value in
     let items = c.args.events.items in
-    let both : parts.sorted ++ parts.counted ≡ in_order cmp items ++ [] =
-    ap (λ (p : Parts g.row.M.Denot g.row.M-State.Denot g.row.M-Body.Denot g.row.M-Undo.Denot). p.sorted ++ p.counted) c.in_ok-new.ensures.ok ∙ ap (λ l. c.in_ok-from_events.field-0 ++ l) c.new.ensures ∙ ap (λ l. l ++ []) c.in_ok-from_events.ensures.all in
+    let both : parts.sorted ++ parts.later ≡ in_order cmp items ++ [] =
+    ap (λ (p : Parts g.row.M.Denot g.row.M-State.Denot g.row.M-Body.Denot g.row.M-Undo.Denot). p.sorted ++ p.later) c.in_ok-new.ensures.ok ∙ ap (λ l. c.in_ok-from_events.field-0 ++ l) c.new.ensures ∙ ap (λ l. l ++ []) c.in_ok-from_events.ensures.all in
     record { all = ap (in_order cmp) both ∙ in_order_done o (in_order cmp items) (IsAscending-in_order o items) }

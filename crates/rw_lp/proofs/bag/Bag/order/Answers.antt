@@ -7,4 +7,4 @@ use Rattle.rw_lp.proofs.bag.Bag.order.Goals as goal
 pub returns : goal.returns
 returns g c =
     let o : IsExactOrder (event_cmp g.M.Body.Ord.cmp) = events_exact (record { total = g.met.M.Body.Ord.total; same = g.met.M.Model.same }) in
-    subst (IsAscending (event_cmp g.M.Body.Ord.cmp)) c.self.view_is (IsAscending-in_order o (c.self.inside.parts.value.sorted ++ c.self.inside.parts.value.counted))
+    subst (IsAscending (event_cmp g.M.Body.Ord.cmp)) c.self.view_is (IsAscending-in_order o (c.self.inside.parts.value.sorted ++ c.self.inside.parts.value.later))

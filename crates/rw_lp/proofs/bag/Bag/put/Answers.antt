@@ -12,6 +12,6 @@ returns-clause-ok g c =
     let cmp = event_cmp g.M.Body.Ord.cmp in
     let e = c.args.event in
     let xs = c.deref_mut-parts.result.now.sorted in
-    let ys = c.deref_mut-parts.result.now.counted in
-    let seen : in_order cmp (xs ++ ys) ≡ c.args.self.now = ap (λ (p : Parts g.row.M.Denot g.row.M-State.Denot g.row.M-Body.Denot g.row.M-Undo.Denot). in_order cmp (p.sorted ++ p.counted)) c.deref_mut-parts.ensures.value ∙ c.self.view_is in
+    let ys = c.deref_mut-parts.result.now.later in
+    let seen : in_order cmp (xs ++ ys) ≡ c.args.self.now = ap (λ (p : Parts g.row.M.Denot g.row.M-State.Denot g.row.M-Body.Denot g.row.M-Undo.Denot). in_order cmp (p.sorted ++ p.later)) c.deref_mut-parts.ensures.value ∙ c.self.view_is in
     onto c.put.result (λ (put : c.put.new.self ≡ insert_in_order cmp e ys). ap (λ l. in_order cmp (xs ++ l)) put ∙ put_right o e xs ys ∙ ap (insert_in_order cmp e) seen) c.put.ensures.ok

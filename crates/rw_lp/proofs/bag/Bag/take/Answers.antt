@@ -12,8 +12,8 @@ returns-then-take_first-clause-there g c =
     let cmp = event_cmp g.M.Body.Ord.cmp in
     let e = c.args.event in
     let xs = c.deref_mut-parts.result.now.sorted in
-    let ys = c.deref_mut-parts.result.now.counted in
-    let seen : in_order cmp (xs ++ ys) ≡ c.args.self.now = ap (λ (p : Parts g.row.M.Denot g.row.M-State.Denot g.row.M-Body.Denot g.row.M-Undo.Denot). in_order cmp (p.sorted ++ p.counted)) c.deref_mut-parts.ensures.value ∙ c.self.view_is in
+    let ys = c.deref_mut-parts.result.now.later in
+    let seen : in_order cmp (xs ++ ys) ≡ c.args.self.now = ap (λ (p : Parts g.row.M.Denot g.row.M-State.Denot g.row.M-Body.Denot g.row.M-Undo.Denot). in_order cmp (p.sorted ++ p.later)) c.deref_mut-parts.ensures.value ∙ c.self.view_is in
     sym (takes_first o e c.take_first.new.self xs ys c.args.self.now seen (c.take_first.ensures.taken c.if-take_first.true)).0
 
 pub returns-then-take_first-clause-rest : goal.returns-then-take_first-clause-rest
@@ -22,8 +22,8 @@ returns-then-take_first-clause-rest g c =
     let cmp = event_cmp g.M.Body.Ord.cmp in
     let e = c.args.event in
     let xs = c.deref_mut-parts.result.now.sorted in
-    let ys = c.deref_mut-parts.result.now.counted in
-    let seen : in_order cmp (xs ++ ys) ≡ c.args.self.now = ap (λ (p : Parts g.row.M.Denot g.row.M-State.Denot g.row.M-Body.Denot g.row.M-Undo.Denot). in_order cmp (p.sorted ++ p.counted)) c.deref_mut-parts.ensures.value ∙ c.self.view_is in
+    let ys = c.deref_mut-parts.result.now.later in
+    let seen : in_order cmp (xs ++ ys) ≡ c.args.self.now = ap (λ (p : Parts g.row.M.Denot g.row.M-State.Denot g.row.M-Body.Denot g.row.M-Undo.Denot). in_order cmp (p.sorted ++ p.later)) c.deref_mut-parts.ensures.value ∙ c.self.view_is in
     (takes_first o e c.take_first.new.self xs ys c.args.self.now seen (c.take_first.ensures.taken c.if-take_first.true)).1
 
 pub returns-then-take-clause-there : goal.returns-then-take-clause-there
@@ -32,8 +32,8 @@ returns-then-take-clause-there g c =
     let cmp = event_cmp g.M.Body.Ord.cmp in
     let e = c.args.event in
     let xs = c.deref_mut-parts.result.now.sorted in
-    let ys = c.deref_mut-parts.result.now.counted in
-    let seen : in_order cmp (xs ++ ys) ≡ c.args.self.now = ap (λ (p : Parts g.row.M.Denot g.row.M-State.Denot g.row.M-Body.Denot g.row.M-Undo.Denot). in_order cmp (p.sorted ++ p.counted)) c.deref_mut-parts.ensures.value ∙ c.self.view_is in
+    let ys = c.deref_mut-parts.result.now.later in
+    let seen : in_order cmp (xs ++ ys) ≡ c.args.self.now = ap (λ (p : Parts g.row.M.Denot g.row.M-State.Denot g.row.M-Body.Denot g.row.M-Undo.Denot). in_order cmp (p.sorted ++ p.later)) c.deref_mut-parts.ensures.value ∙ c.self.view_is in
     sym (takes_right o e xs ys c.args.self.now seen (sym c.take.ensures.there ∙ c.if-take.true)).0
 
 pub returns-then-take-clause-rest : goal.returns-then-take-clause-rest
@@ -42,8 +42,8 @@ returns-then-take-clause-rest g c =
     let cmp = event_cmp g.M.Body.Ord.cmp in
     let e = c.args.event in
     let xs = c.deref_mut-parts.result.now.sorted in
-    let ys = c.deref_mut-parts.result.now.counted in
-    let seen : in_order cmp (xs ++ ys) ≡ c.args.self.now = ap (λ (p : Parts g.row.M.Denot g.row.M-State.Denot g.row.M-Body.Denot g.row.M-Undo.Denot). in_order cmp (p.sorted ++ p.counted)) c.deref_mut-parts.ensures.value ∙ c.self.view_is in
+    let ys = c.deref_mut-parts.result.now.later in
+    let seen : in_order cmp (xs ++ ys) ≡ c.args.self.now = ap (λ (p : Parts g.row.M.Denot g.row.M-State.Denot g.row.M-Body.Denot g.row.M-Undo.Denot). in_order cmp (p.sorted ++ p.later)) c.deref_mut-parts.ensures.value ∙ c.self.view_is in
     let kept : c.take_first.new.self ≡ xs = c.take_first.ensures.kept c.if-take_first.false in
     ap (λ l. in_order cmp (l ++ c.take.new.self)) kept ∙ ap (λ l. in_order cmp (xs ++ l)) c.take.ensures.rest
     ∙ (takes_right o e xs ys c.args.self.now seen (sym c.take.ensures.there ∙ c.if-take.true)).1
@@ -54,8 +54,8 @@ returns-clause-there g c =
     let cmp = event_cmp g.M.Body.Ord.cmp in
     let e = c.args.event in
     let xs = c.deref_mut-parts.result.now.sorted in
-    let ys = c.deref_mut-parts.result.now.counted in
-    let seen : in_order cmp (xs ++ ys) ≡ c.args.self.now = ap (λ (p : Parts g.row.M.Denot g.row.M-State.Denot g.row.M-Body.Denot g.row.M-Undo.Denot). in_order cmp (p.sorted ++ p.counted)) c.deref_mut-parts.ensures.value ∙ c.self.view_is in
+    let ys = c.deref_mut-parts.result.now.later in
+    let seen : in_order cmp (xs ++ ys) ≡ c.args.self.now = ap (λ (p : Parts g.row.M.Denot g.row.M-State.Denot g.row.M-Body.Denot g.row.M-Undo.Denot). in_order cmp (p.sorted ++ p.later)) c.deref_mut-parts.ensures.value ∙ c.self.view_is in
     let kept : c.take_first.new.self ≡ xs = c.take_first.ensures.kept c.if-take_first.false in
     c.take-2.ensures.there ∙ ap (has cmp e) kept ∙ sym (takes_left o e xs ys c.args.self.now seen (sym c.take.ensures.there ∙ c.if-take.false)).0
 
@@ -65,8 +65,8 @@ returns-clause-rest g c =
     let cmp = event_cmp g.M.Body.Ord.cmp in
     let e = c.args.event in
     let xs = c.deref_mut-parts.result.now.sorted in
-    let ys = c.deref_mut-parts.result.now.counted in
-    let seen : in_order cmp (xs ++ ys) ≡ c.args.self.now = ap (λ (p : Parts g.row.M.Denot g.row.M-State.Denot g.row.M-Body.Denot g.row.M-Undo.Denot). in_order cmp (p.sorted ++ p.counted)) c.deref_mut-parts.ensures.value ∙ c.self.view_is in
+    let ys = c.deref_mut-parts.result.now.later in
+    let seen : in_order cmp (xs ++ ys) ≡ c.args.self.now = ap (λ (p : Parts g.row.M.Denot g.row.M-State.Denot g.row.M-Body.Denot g.row.M-Undo.Denot). in_order cmp (p.sorted ++ p.later)) c.deref_mut-parts.ensures.value ∙ c.self.view_is in
     let kept : c.take_first.new.self ≡ xs = c.take_first.ensures.kept c.if-take_first.false in
     let kept_too : c.take.new.self ≡ ys = c.take.ensures.kept c.if-take.false in
     ap (λ l. in_order cmp (l ++ c.take.new.self)) (c.take-2.ensures.rest ∙ ap (without cmp e) kept) ∙ ap (λ l. in_order cmp (without cmp e xs ++ l)) kept_too

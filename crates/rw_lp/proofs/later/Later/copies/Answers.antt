@@ -1,0 +1,16 @@
+use Rattle.std.proofs.Common.{◌≡◌, ◌++◌, ap, arith}
+use Rattle.rw_vt.specs.Order.{event_cmp, in_order, copies}
+use Rattle.rw_vt.proofs.EventOrder.{events_exact}
+use Rattle.rw_vt.proofs.Sorting.{IsExactOrder}
+use Rattle.rw_lp.proofs.Counting.{copies-both}
+use Rattle.rw_lp.proofs.later.Later.copies.Goals as goal
+
+pub returns-clause-copies : goal.returns-clause-copies
+returns-clause-copies g c =
+    let o : IsExactOrder (event_cmp g.M.Body.Ord.cmp) = events_exact (record { total = g.met.M.Body.Ord.total; same = g.met.M.Model.same }) in
+    let cmp = event_cmp g.M.Body.Ord.cmp in
+    let e = c.args.event.now in
+    let xs = c.self.inside.queue in
+    let ys = c.self.inside.counted in
+    let both : copies cmp e (in_order cmp (xs ++ ys)) ≡ copies cmp e c.args.self.now = ap (copies cmp e) c.self.view_is in
+    omega (arith, both, c.copies.ensures.copies, c.copies-2.ensures.copies, copies-both o e xs ys)

@@ -1,0 +1,87 @@
+ghost use Rattle.std.specs.Prelude.{◌≡◌, ◌<◌, ◌^◌, List, [], OnOk, OnErr, MatchOption, false};
+ghost use Rattle.std.specs.BTreeMap.{IsOrdered};
+ghost use Rattle.rw_vt.specs.Order.{event_cmp, insert_in_order, copies, has, without, IsAscending, IsFirst};
+ghost use Rattle.rw_vt.specs.declared.event.Event.{Event};
+ghost use Rattle.rw_lp.specs.Bags.{copies_of, AreCopyCounts};
+
+use rw_vt::{Event, Model as VtModel};
+use std::alloc::{AllocError, Global};
+use std::collections::BTreeMap;
+use std::marker::Model;
+
+/// A bag of events by their counts. Contracts see it as its events in order.
+#[derive(Drop)]
+pub struct Counted<M: VtModel> {
+    counts: BTreeMap<Event<M::Body>, u64>,
+}
+
+impl<M: VtModel> Model for Counted<M> {
+    ghost Value = { List (Event M.Body) };
+
+    ghost view = { λ x. copies_of x.counts.entries };
+
+    ghost invariant = { λ x. IsOrdered (event_cmp M.Body.cmp) x.counts
+        × AreCopyCounts (event_cmp M.Body.cmp) x.counts.entries };
+}
+
+/// How many copies of one event can be counted.
+const MOST_COPIES: u64 = (1 << 62) - 1;
+
+impl<M: VtModel> Counted<M> {
+    /// No event.
+    pub fn new(alloc: Global) -> Counted<M>
+        ensures { result ≡ [] }
+    {
+        Counted {
+            counts: BTreeMap::new(alloc),
+        }
+    }
+
+    /// Puts one copy of the event in. Copies past [`MOST_COPIES`] are refused as memory is.
+    pub fn put(&mut self, event: Event<M::Body>) -> Result<(), AllocError>
+        ensures ok { OnOk result
+            (self.new ≡ insert_in_order (event_cmp M.Body.cmp) event self.old) }
+        ensures err { OnErr result (self.new ≡ self.old) }
+    {
+        let count = self.copies(&event);
+        if count >= MOST_COPIES {
+            return Err(AllocError);
+        }
+        let _old = self.counts.insert(event, count + 1)?;
+        Ok(())
+    }
+
+    /// Takes one copy of the event out, and answers whether there was one.
+    pub fn take(&mut self, event: Event<M::Body>) -> bool
+        ensures there { result ≡ has (event_cmp M.Body.cmp) event self.old }
+        ensures rest { self.new ≡ without (event_cmp M.Body.cmp) event self.old }
+        ensures kept { result ≡ false → self.new ≡ self.old }
+    {
+        let Some(count) = self.counts.get_mut(&event) else {
+            return false;
+        };
+        if *count > 1 {
+            *count -= 1;
+            return true;
+        }
+        let _last = self.counts.remove(&event);
+        true
+    }
+
+    /// How many copies of the event are there.
+    pub fn copies(&self, event: &Event<M::Body>) -> u64
+        ensures copies { result ≡ copies (event_cmp M.Body.cmp) event.now self.now }
+        ensures small { result < 2 ^ 62 }
+    {
+        self.counts.get(event).copied().unwrap_or(0)
+    }
+
+    /// The least event.
+    pub fn first(&self) -> Option<&Event<M::Body>>
+        ensures first { MatchOption result (self.now ≡ []) (λ e. IsFirst self.now e.now) }
+        ensures order { IsAscending (event_cmp M.Body.cmp) self.now }
+    {
+        let (event, _count) = self.counts.first_key_value()?;
+        Some(event)
+    }
+}
