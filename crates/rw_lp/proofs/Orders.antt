@@ -118,11 +118,10 @@ module _ {B : Type 0} {cmp : Event B → Event B → Ordering} (o : IsExactOrder
   least_below m [] = omega arith
   least_below m (x ∷ xs) = omega (arith, least_below m xs)
 
-  pub least_first : (m : ℕ) (x : Event B) (xs : List (Event B)) → IsAscending cmp (x ∷ xs) → least_time m (x ∷ xs) ≡ min x.time m
-  least_first m x xs up =
+  pub least_first : (m : ℕ) (x : Event B) (xs : List (Event B)) → Each cmp (λ e. AtMost cmp x e) (x ∷ xs) → least_time m (x ∷ xs) ≡ min x.time m
+  least_first m x xs all =
       let below = least_below m xs in
-      let above = least_above (least_time m xs) (min x.time m) [] in
-      let h = least_above m (min x.time m) xs (omega arith) (λ e k. let late = by_time x e (up.0 e k) in omega arith) in
+      let h = least_above m (min x.time m) (x ∷ xs) (omega arith) (λ e k. let late = by_time x e (all e k) in omega arith) in
       omega arith
 
 -- no event is earlier than the least

@@ -1,40 +1,35 @@
-ghost use Rattle.std.specs.Prelude.{◌≡◌, ◌++◌, List, [], IfOk, OnOk, OnErr, MatchOption, false};
-ghost use Rattle.rw_vt.specs.Order.{event_cmp, in_order, insert_in_order, copies, has, without, IsAscending, IsFirst};
+ghost use Rattle.std.specs.Prelude.{◌≡◌, List, [], IfOk, OnOk, OnErr, MatchOption, false};
+ghost use Rattle.rw_vt.specs.Order.{event_cmp, in_order, insert_in_order, copies, has, without, IsAscending, IsFirst, IsLeastOf};
 ghost use Rattle.rw_vt.specs.declared.event.Event.{Event};
-ghost use Rattle.rw_lp.specs.Calls.{least_time};
+ghost use Rattle.rw_lp.specs.Calls.{IsNextOf, least_time};
 
-use crate::later::Later;
-use crate::sorted::Sorted;
+use crate::stock::Stock;
 use rw_vt::{END, Event, Model as VtModel};
 use std::alloc::{AllocError, Global};
 use std::marker::Model;
 
 /// A bag of events: whole events are compared, and equal copies count. Contracts see it as its events in order.
 ///
-/// The events that it was made of stand sorted. Of those that come later, the ones that come in order stand in a queue,
-/// and the others are counted. A call costs the logarithm of what is held, and where one of the sorted events is taken,
-/// the number of those that are less: 0 for the least. One is taken out of the queue for at most the number of those
-/// that are less, too. What is put before the sorted ones, or behind the queue, and what is taken as the first of
-/// either, costs constant time. It is boxed: moving a bag moves a pointer.
+/// The least event is at hand. What else a call costs, [`Stock`] says. It is boxed: moving a bag moves a pointer.
 #[derive(Drop)]
 pub struct Bag<M: VtModel> {
-    parts: Box<Parts<M>>,
+    held: Box<Held<M>>,
+}
+
+/// What a bag holds.
+#[derive(Drop)]
+struct Held<M: VtModel> {
+    /// A copy of the least event.
+    first: Option<Event<M::Body>>,
+    stock: Stock<M>,
 }
 
 impl<M: VtModel> Model for Bag<M> {
     ghost Value = { List (Event M.Body) };
 
-    ghost view = { λ x. in_order (event_cmp M.Body.cmp)
-        (x.parts.value.sorted ++ x.parts.value.later) };
-}
+    ghost view = { λ x. x.held.value.stock };
 
-/// What a bag holds.
-#[derive(Drop)]
-struct Parts<M: VtModel> {
-    /// What is left of the events that came first, and those put back before them.
-    sorted: Sorted<M>,
-    /// All others.
-    later: Later<M>,
+    ghost invariant = { λ x. IsNextOf (event_cmp M.Body.cmp) x.held.value.stock x.held.value.first };
 }
 
 impl<M: VtModel> Bag<M> {
@@ -42,12 +37,12 @@ impl<M: VtModel> Bag<M> {
     pub fn new(alloc: Global) -> Result<Bag<M>, AllocError>
         ensures { IfOk result (λ bag. bag ≡ []) }
     {
-        let parts = Parts {
-            sorted: Sorted::new(alloc),
-            later: Later::new(alloc),
+        let held = Held {
+            first: None,
+            stock: Stock::new(alloc),
         };
         Ok(Bag {
-            parts: Box::new(alloc, parts)?,
+            held: Box::new(alloc, held)?,
         })
     }
 
@@ -56,12 +51,13 @@ impl<M: VtModel> Bag<M> {
         ensures all { IfOk result (λ bag. bag ≡ in_order (event_cmp M.Body.cmp) events.items) }
     {
         let alloc = *events.allocator();
-        let parts = Parts {
-            sorted: Sorted::from_events(events)?,
-            later: Later::new(alloc),
+        let stock = Stock::from_events(events)?;
+        let held = Held {
+            first: least_of(&stock),
+            stock,
         };
         Ok(Bag {
-            parts: Box::new(alloc, parts)?,
+            held: Box::new(alloc, held)?,
         })
     }
 
@@ -71,11 +67,10 @@ impl<M: VtModel> Bag<M> {
             (self.new ≡ insert_in_order (event_cmp M.Body.cmp) event self.old) }
         ensures err { OnErr result (self.new ≡ self.old) }
     {
-        let parts = &mut *self.parts;
-        if parts.sorted.leads(event) {
-            return parts.sorted.push(event);
-        }
-        parts.later.put(event)
+        let held = &mut *self.held;
+        held.stock.put(event)?;
+        held.first = least_of(&held.stock);
+        Ok(())
     }
 
     /// Takes one copy of the event out, and answers whether there was one.
@@ -84,14 +79,13 @@ impl<M: VtModel> Bag<M> {
         ensures rest { self.new ≡ without (event_cmp M.Body.cmp) event self.old }
         ensures kept { result ≡ false → self.new ≡ self.old }
     {
-        let parts = &mut *self.parts;
-        if parts.sorted.take_first(event) {
-            return true;
+        let held = &mut *self.held;
+        if held.first.is_none() {
+            return false;
         }
-        if parts.later.take(event) {
-            return true;
-        }
-        parts.sorted.take(event)
+        let taken = held.stock.take(event);
+        held.first = least_of(&held.stock);
+        taken
     }
 
     /// Whether a copy of the event is there.
@@ -105,31 +99,23 @@ impl<M: VtModel> Bag<M> {
     pub fn copies(&self, event: &Event<M::Body>) -> u64
         ensures { result ≡ copies (event_cmp M.Body.cmp) event.now self.now }
     {
-        self.parts.sorted.copies(*event) + self.parts.later.copies(event)
+        self.held.stock.copies(event)
     }
 
     /// The events stand in order. This is a law of every bag; the call itself does nothing.
     pub fn order(&self)
         ensures { IsAscending (event_cmp M.Body.cmp) self.now }
     {
-        let _known = &self.parts;
+        let _known = self.held.stock.first();
     }
 
     /// The least event. Takes no memory.
     pub fn first(&self) -> Option<&Event<M::Body>>
         ensures first { MatchOption result (self.now ≡ []) (λ e. IsFirst self.now e.now) }
-        ensures order { IsAscending (event_cmp M.Body.cmp) self.now }
+        ensures least { MatchOption result (self.now ≡ []) (λ e.
+            IsLeastOf (event_cmp M.Body.cmp) self.now e.now) }
     {
-        let Some(sorted) = self.parts.sorted.first() else {
-            return self.parts.later.first();
-        };
-        let Some(later) = self.parts.later.first() else {
-            return Some(sorted);
-        };
-        if sorted.cmp(later).is_le() {
-            return Some(sorted);
-        }
-        Some(later)
+        self.held.first.as_ref()
     }
 
     /// The least time, or the end of time where the bag is empty. Takes no memory.
@@ -141,4 +127,11 @@ impl<M: VtModel> Bag<M> {
             None => END,
         }
     }
+}
+
+/// The least of the events, if there is one.
+fn least_of<M: VtModel>(stock: &Stock<M>) -> Option<Event<M::Body>>
+    ensures { IsNextOf (event_cmp M.Body.cmp) stock.now result }
+{
+    stock.first().copied()
 }

@@ -23,6 +23,7 @@ mod runs;
 mod sends;
 mod sorted;
 mod step;
+mod stock;
 mod undo_record;
 
 pub use held::Held;
