@@ -129,6 +129,17 @@ module _ {E : Type 0} {cmp : E → E → Ordering} (o : IsExactOrder cmp) where
           copies-copies_of q fs upf ∙ ap (λ r. unwrap_or r 0) (all q) ∙ ap (λ b. unwrap_or (cond b (Some (n + 1)) (lookup (is_at (cmp q)) es)) 0) (same_both e q)
           ∙ go q (is_eq (cmp q e)) refl ∙ sym (copies-insert o q e (copies_of es))
 
+  -- as many as before
+  pub counted_same : (e : E) (n : ℕ) (es fs : List (E × ℕ)) → IsStrictlySortedBy cmp (keys_of es) → IsStrictlySortedBy cmp (keys_of fs) → lookup (is_at (cmp e)) es ≡ Some n
+      → ((q : E) → lookup (is_at (cmp q)) fs ≡ cond (is_at (cmp e) q) (Some n) (lookup (is_at (cmp q)) es)) → copies_of fs ≡ copies_of es
+  counted_same e n es fs up upf is all =
+      ascending_settled o (copies_of fs) (copies_of es) (IsAscending-copies_of fs upf) (IsAscending-copies_of es up)
+      (λ q. copies-copies_of q fs upf ∙ ap (λ r. unwrap_or r 0) (all q ∙ go q (is_eq (cmp e q)) refl) ∙ sym (copies-copies_of q es up))
+    where
+      go : (q : E) (b : Bool) → is_eq (cmp e q) ≡ b → cond b (Some n) (lookup (is_at (cmp q)) es) ≡ lookup (is_at (cmp q)) es
+      go q true h = sym is ∙ ap (λ x. lookup (is_at (cmp x)) es) (tied o e q h)
+      go q false h = refl
+
   -- one less
   pub counted_less : (e : E) (w : Option ℕ) (es fs : List (E × ℕ)) → IsStrictlySortedBy cmp (keys_of es) → IsStrictlySortedBy cmp (keys_of fs) → unwrap_or w 0 + 1 ≡ copies cmp e (copies_of es)
       → ((q : E) → lookup (is_at (cmp q)) fs ≡ cond (is_at (cmp e) q) w (lookup (is_at (cmp q)) es)) → copies_of fs ≡ without cmp e (copies_of es)

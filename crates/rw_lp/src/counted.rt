@@ -1,5 +1,5 @@
-ghost use Rattle.std.specs.Prelude.{◌≡◌, ◌<◌, ◌^◌, List, [], OnOk, OnErr, MatchOption, false};
-ghost use Rattle.std.specs.BTreeMap.{IsOrdered};
+ghost use Rattle.std.specs.Prelude.{◌≡◌, ◌<◌, ◌^◌, List, [], OnOk, OnErr, MatchOption, IsSome, Some, false};
+ghost use Rattle.std.specs.BTreeMap.{get, IsOrdered, Updates};
 ghost use Rattle.rw_vt.specs.Order.{event_cmp, insert_in_order, copies, has, without, IsAscending, IsFirst};
 ghost use Rattle.rw_vt.specs.declared.event.Event.{Event};
 ghost use Rattle.rw_lp.specs.Bags.{copies_of, AreCopyCounts};
@@ -37,18 +37,33 @@ impl<M: VtModel> Counted<M> {
         }
     }
 
-    /// Puts one copy of the event in. Copies past [`MOST_COPIES`] are refused as memory is.
+    /// Puts one copy of the event in: one search where there was none, else two. Copies past [`MOST_COPIES`] are refused as
+    /// memory is.
     pub fn put(&mut self, event: Event<M::Body>) -> Result<(), AllocError>
         ensures ok { OnOk result
             (self.new ≡ insert_in_order (event_cmp M.Body.cmp) event self.old) }
         ensures err { OnErr result (self.new ≡ self.old) }
     {
-        let count = self.copies(&event);
+        let Some(count) = self.counts.insert(event, 1)? else {
+            return Ok(());
+        };
         if count >= MOST_COPIES {
+            Self::set(&mut self.counts, &event, count);
             return Err(AllocError);
         }
-        let _old = self.counts.insert(event, count + 1)?;
+        Self::set(&mut self.counts, &event, count + 1);
         Ok(())
+    }
+
+    /// Sets the count of an event that has one. Takes no memory.
+    fn set(counts: &mut BTreeMap<Event<M::Body>, u64>, event: &Event<M::Body>, count: u64)
+        requires { IsSome (get (event_cmp M.Body.cmp) counts.old event.now) }
+        ensures set { Updates (event_cmp M.Body.cmp) counts.old counts.new event.now (Some count) }
+        ensures ordered { IsOrdered (event_cmp M.Body.cmp) counts.new }
+    {
+        if let Some(number) = counts.get_mut(event) {
+            *number = count;
+        }
     }
 
     /// Takes one copy of the event out, and answers whether there was one.
