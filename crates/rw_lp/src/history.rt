@@ -55,12 +55,13 @@ impl<M: VtModel> Model for History<M> {
 }
 
 impl<M: VtModel> History<M> {
-    /// Process `number` of the model, in its start state.
+    /// Process `number` of the model, in its start state, with room for `room` events.
     pub fn new(
         alloc: Global,
         model: &M,
         number: u32,
         start: M::State,
+        room: usize,
     ) -> Result<History<M>, AllocError>
         requires number { number < M.process_count model.now }
         requires start { M.IsWellFormed model.now number start }
@@ -70,7 +71,7 @@ impl<M: VtModel> History<M> {
             model: Snapshot::of(model),
             number,
             start: Snapshot::of(&start),
-            done: Vec::new(alloc),
+            done: Vec::with_capacity(alloc, room)?,
             cut: 0,
             records: Runs::new(alloc),
             state: start,

@@ -62,9 +62,9 @@ impl<M: VtModel> Lp<M> {
         }) }
         ensures memory { IfErr result (λ e. e ≡ Memory) }
     {
+        let history = History::new(alloc, model, number, start, initial.len())?;
         let pending = Bag::from_events(initial)?;
         let debts = Bag::new(alloc)?;
-        let history = History::new(alloc, model, number, start)?;
         Ok(Lp {
             history,
             pending,
