@@ -29,7 +29,8 @@ impl<M: VtModel> Model for Bag<M> {
 
     ghost view = { λ x. x.held.value.stock };
 
-    ghost invariant = { λ x. IsNextOf (event_cmp M.Body.cmp) x.held.value.stock x.held.value.first };
+    ghost invariant = { λ x. IsNextOf (event_cmp M.Body.cmp)
+        x.held.value.stock x.held.value.first };
 }
 
 impl<M: VtModel> Bag<M> {
