@@ -24,7 +24,7 @@ impl<M: VtModel> Model for Counted<M> {
         × AreCopyCounts (event_cmp M.Body.cmp) x.counts.entries };
 }
 
-/// How many copies of one event can be counted.
+/// How many copies of one event can be counted: so many that a number of all copies in a bag fits 64 bits.
 const MOST_COPIES: u64 = (1 << 62) - 1;
 
 impl<M: VtModel> Counted<M> {
@@ -37,8 +37,8 @@ impl<M: VtModel> Counted<M> {
         }
     }
 
-    /// Puts one copy of the event in: one search where there was none, else two. Copies past [`MOST_COPIES`] are refused as
-    /// memory is.
+    /// Puts one copy of the event in: one search where there was none, else two. Copies past [`MOST_COPIES`] are
+    /// refused as memory is.
     pub fn put(&mut self, event: Event<M::Body>) -> Result<(), AllocError>
         ensures ok { OnOk result
             (self.new ≡ insert_in_order (event_cmp M.Body.cmp) event self.old) }

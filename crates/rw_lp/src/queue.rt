@@ -10,7 +10,7 @@ use std::alloc::{AllocError, Global};
 use std::collections::VecDeque;
 use std::marker::Model;
 
-/// How many events can stand in one queue.
+/// How many events can stand in one queue. One that follows them then is counted with the others.
 pub const MOST_QUEUED: usize = 1 << 32;
 
 /// Events that come in order. Contracts see them in order.
