@@ -8,10 +8,11 @@ use rw_vt::{Event, Model as VtModel};
 use std::alloc::{AllocError, Global};
 use std::marker::Model;
 
-/// A bag of events that is seldom added to. Contracts see it as its events in order.
+/// Events that come and go at the front: those that a process begins with, and those that it takes back. Contracts see
+/// them in order.
 ///
-/// It is a vector in descending order, so the least event stands last and is read, put and taken in constant time. Any
-/// other is found by binary search, and moves those that are less when it leaves.
+/// They stand in a vector in descending order, so the least event stands last and is read, put and taken in constant
+/// time. Any other is found by binary search, and moves those that are less when it leaves.
 #[derive(Drop)]
 pub struct Sorted<M: VtModel> {
     events: Vec<Event<M::Body>>,
@@ -44,13 +45,13 @@ impl<M: VtModel> Sorted<M> {
         Ok(Sorted { events })
     }
 
-    /// Whether the event may be pushed: there are others, and none is less.
+    /// Whether the event may be pushed: none is less.
     pub fn leads(&self, event: Event<M::Body>) -> bool
         ensures { IsTrue result
             → Each (event_cmp M.Body.cmp) (λ e. AtMost (event_cmp M.Body.cmp) event e) self.now }
     {
         let Some(first) = self.first() else {
-            return false;
+            return true;
         };
         event.cmp(first).is_le()
     }

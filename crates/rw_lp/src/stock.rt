@@ -10,13 +10,13 @@ use std::marker::Model;
 
 /// The events of a bag. Contracts see them in order.
 ///
-/// Those that it was made of stand sorted. Of those that come later, the ones that come in order stand in a queue, and
-/// the others are counted. A call costs the logarithm of what is held, and where an event is taken out of the middle of
-/// the sorted ones or of the queue, the number of those that move. What is put before the sorted ones, or behind the
-/// queue, and what is taken as the first of either, costs constant time.
+/// Those that it was made of stand sorted, and with them each that comes before them, as an undone event does. Of the
+/// others those that come in order stand in a queue, and the rest is counted. A call costs the logarithm of what is held,
+/// and where an event is taken out of the middle of the sorted ones or of the queue, the number of those that move. What
+/// is put before the sorted ones, or behind the queue, and what is taken as the first of either, costs constant time.
 #[derive(Drop)]
 pub struct Stock<M: VtModel> {
-    /// What is left of the events that came first, and those put back before them.
+    /// What is left of the events that it was made of, and those put before them.
     sorted: Sorted<M>,
     /// All others.
     later: Later<M>,
