@@ -169,7 +169,7 @@ impl<M: VtModel> Lp<M> {
         let (history, undone) = history.undo(alloc, model, out)?;
         let Some(event) = undone else {
             let lp = Lp {
-                    history,
+                history,
                 pending,
                 debts,
             };

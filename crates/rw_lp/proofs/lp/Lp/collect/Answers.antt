@@ -7,9 +7,9 @@ use Rattle.rw_lp.proofs.lp.Lp.collect.Goals as goal
 
 pub invariant_of-result : goal.invariant_of-result
 invariant_of-result g c =
-  still_for g.M.Model c.self.inside.history c.self.inside.pending c.self.inside.debts c.self.invariant c.commit-history.result
-      (ap (λ (w : HistoryState g.row.M.Denot g.row.M-State.Denot g.row.M-Body.Denot). w.model) c.commit-history.ensures.committed)
-      (ap (λ (w : HistoryState g.row.M.Denot g.row.M-State.Denot g.row.M-Body.Denot). w.number) c.commit-history.ensures.committed)
+    still_for g.M.Model c.self.inside.history c.self.inside.pending c.self.inside.debts c.self.invariant c.commit-history.result
+    (ap (λ (w : HistoryState g.row.M.Denot g.row.M-State.Denot g.row.M-Body.Denot). w.model) c.commit-history.ensures.committed)
+    (ap (λ (w : HistoryState g.row.M.Denot g.row.M-State.Denot g.row.M-Body.Denot). w.number) c.commit-history.ensures.committed)
 
 pub returns-clause-collected : goal.returns-clause-collected
 returns-clause-collected g c =

@@ -49,8 +49,8 @@ pub invariant_of-lp : goal.invariant_of-lp
 invariant_of-lp g c =
     let o : IsExactOrder (event_cmp g.M.Body.Ord.cmp) = events_exact (record { total = g.met.M.Body.Ord.total; same = g.met.M.Model.same }) in
     let less = pending_less g.M.Model c.self.inside.history c.self.inside.pending c.self.inside.debts c.self.invariant o c.in-Some.event c.take-taken.new.self c.take-taken.ensures.rest in
-      still_for g.M.Model c.self.inside.history c.take-taken.new.self c.self.inside.debts less c.in_ok-history.history
-          (ap (λ (w : HistoryState g.row.M.Denot g.row.M-State.Denot g.row.M-Body.Denot). w.model) c.in_ok-history.ensures.after) (ap (λ (w : HistoryState g.row.M.Denot g.row.M-State.Denot g.row.M-Body.Denot). w.number) c.in_ok-history.ensures.after)
+    still_for g.M.Model c.self.inside.history c.take-taken.new.self c.self.inside.debts less c.in_ok-history.history
+    (ap (λ (w : HistoryState g.row.M.Denot g.row.M-State.Denot g.row.M-Body.Denot). w.model) c.in_ok-history.ensures.after) (ap (λ (w : HistoryState g.row.M.Denot g.row.M-State.Denot g.row.M-Body.Denot). w.number) c.in_ok-history.ensures.after)
 
 pub returns-in_err-history-clause-exhausted : goal.returns-in_err-history-clause-exhausted
 returns-in_err-history-clause-exhausted g c = λ e.

@@ -9,10 +9,10 @@ use Rattle.rw_lp.proofs.lp.Lp.new.Goals as goal
 pub invariant_of-result : goal.invariant_of-result
 invariant_of-result g c =
     let o : IsExactOrder (event_cmp g.M.Body.Ord.cmp) = events_exact (record { total = g.met.M.Body.Ord.total; same = g.met.M.Model.same }) in
-      record {
-        pending = λ e k.
-            let there : 0 < copies (event_cmp g.M.Body.Ord.cmp) e c.args.initial.items = subst (λ n. 0 < n) (copies-in_order o e c.args.initial.items) (subst (λ l. 0 < copies (event_cmp g.M.Body.Ord.cmp) e l) c.in_ok-pending.ensures.all k) in
-            subst (λ (w : HistoryState g.row.M.Denot g.row.M-State.Denot g.row.M-Body.Denot). IsFor g.M.Model w.model w.number e) (sym c.in_ok-history.ensures.is)
-            (each_of_all o (IsFor g.M.Model c.args.model.now c.args.number) c.args.initial.items c.requires.initial e there);
-        debts = subst (Each (event_cmp g.M.Body.Ord.cmp) (IsFor g.M.Model c.in_ok-history.history.model c.in_ok-history.history.number)) (sym c.in_ok-debts.ensures) (Each-nil o (IsFor g.M.Model c.in_ok-history.history.model c.in_ok-history.history.number));
-      }
+    record {
+      pending = λ e k.
+          let there : 0 < copies (event_cmp g.M.Body.Ord.cmp) e c.args.initial.items = subst (λ n. 0 < n) (copies-in_order o e c.args.initial.items) (subst (λ l. 0 < copies (event_cmp g.M.Body.Ord.cmp) e l) c.in_ok-pending.ensures.all k) in
+          subst (λ (w : HistoryState g.row.M.Denot g.row.M-State.Denot g.row.M-Body.Denot). IsFor g.M.Model w.model w.number e) (sym c.in_ok-history.ensures.is)
+          (each_of_all o (IsFor g.M.Model c.args.model.now c.args.number) c.args.initial.items c.requires.initial e there);
+      debts = subst (Each (event_cmp g.M.Body.Ord.cmp) (IsFor g.M.Model c.in_ok-history.history.model c.in_ok-history.history.number)) (sym c.in_ok-debts.ensures) (Each-nil o (IsFor g.M.Model c.in_ok-history.history.model c.in_ok-history.history.number));
+    }

@@ -19,8 +19,8 @@ pub invariant_of-lp : goal.invariant_of-lp
 invariant_of-lp g c =
     let back = c.in_ok-history.ensures.back in
     let none = subst (λ r. TookBack g.M.Model c.self.inside.history c.in_ok-history.history r back.0) c.in_default.is back.2 in
-      still_for g.M.Model c.self.inside.history c.self.inside.pending c.self.inside.debts c.self.invariant c.in_ok-history.history
-          (ap (λ (w : HistoryState g.row.M.Denot g.row.M-State.Denot g.row.M-Body.Denot). w.model) none.1) (ap (λ (w : HistoryState g.row.M.Denot g.row.M-State.Denot g.row.M-Body.Denot). w.number) none.1)
+    still_for g.M.Model c.self.inside.history c.self.inside.pending c.self.inside.debts c.self.invariant c.in_ok-history.history
+    (ap (λ (w : HistoryState g.row.M.Denot g.row.M-State.Denot g.row.M-Body.Denot). w.model) none.1) (ap (λ (w : HistoryState g.row.M.Denot g.row.M-State.Denot g.row.M-Body.Denot). w.number) none.1)
 
 pub invariant_of-lp-2 : goal.invariant_of-lp-2
 invariant_of-lp-2 g c =
@@ -28,8 +28,8 @@ invariant_of-lp-2 g c =
     let back = c.in_ok-history.ensures.back in
     let last : IsTakenBack g.M.Model c.self.inside.history c.in_ok-history.history c.in-Some.event back.0 = subst (λ r. TookBack g.M.Model c.self.inside.history c.in_ok-history.history r back.0) c.in-Some.is back.2 in
     let more = pending_more g.M.Model c.self.inside.history c.self.inside.pending c.self.inside.debts c.self.invariant o c.in-Some.event c.put.new.self (last.valid, last.here) c.in_ok-put.ensures.ok in
-      still_for g.M.Model c.self.inside.history c.put.new.self c.self.inside.debts more c.in_ok-history.history
-          (ap (λ (w : HistoryState g.row.M.Denot g.row.M-State.Denot g.row.M-Body.Denot). w.model) last.rest) (ap (λ (w : HistoryState g.row.M.Denot g.row.M-State.Denot g.row.M-Body.Denot). w.number) last.rest)
+    still_for g.M.Model c.self.inside.history c.put.new.self c.self.inside.debts more c.in_ok-history.history
+    (ap (λ (w : HistoryState g.row.M.Denot g.row.M-State.Denot g.row.M-Body.Denot). w.model) last.rest) (ap (λ (w : HistoryState g.row.M.Denot g.row.M-State.Denot g.row.M-Body.Denot). w.number) last.rest)
 
 pub returns-clause-turn : goal.returns-clause-turn
 returns-clause-turn g c =
