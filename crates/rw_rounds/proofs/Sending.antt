@@ -22,8 +22,8 @@ use Rattle.rw_vt.specs.contracts.event.EventPartialOrd.TheImpl as EventPartialOr
 use Rattle.rw_vt.specs.contracts.event.Letter as Letter
 use Rattle.rw_board.specs.contracts.board.Seat as Seat
 use Rattle.rw_exchange.specs.contracts.port.Port as Port
-use Rattle.rw_lp.specs.contracts.bag.Counted as Counted
-use Rattle.rw_lp.specs.contracts.bag.Counted.TheInside as CountedInside
+use Rattle.rw_lp.specs.contracts.counted.Counted as Counted
+use Rattle.rw_lp.specs.contracts.counted.Counted.TheInside as CountedInside
 use Rattle.rw_lp.specs.contracts.lp.Lp as Lp
 use Rattle.rw_rounds.specs.contracts.plan.Plan as Plan
 use Rattle.rw_rounds.specs.contracts.sim.Traffic as Traffic
