@@ -239,7 +239,8 @@ fn the_past_is_committed_across_runs_of_records(rt: HostRuntime) -> Result<(), F
     for number in 0..200 {
         desk = desk.does(alloc, &[Gives(ExecuteNext, &[message(asked(number).1)])])?;
     }
-    let (committed, processed) = requests.as_slice().split_at(129);
+    let parts = requests.as_slice().split_at_checked(129);
+    let (committed, processed) = parts.ok_or("requests")?;
     let lines = [
         Gives(Collect(130), &[]),
         Shows(committed, processed, None, END),
