@@ -5,31 +5,81 @@
 //! Then runs drawn traces through drawn caches in rounds, under several plans, and compares each report with that of the run
 //! on one thread. Prints how many agree.
 //!
+//! With the words `call NAME` it makes a single call of the library instead, and tells what that answers; `calls` prints the
+//! names. So a call can be tried with its requests for memory refused, one after another.
+//!
 //! A case is a line: its name, the program's words behind its name (`args`), the bytes of standard input (`stdin`), the
 //! whole of standard output (`stdout`), the exit status and, where it is pinned, standard error (`stderr`).
 
+mod cache_calls;
+mod calls;
 mod case;
 mod drawn;
 mod given;
+mod process_calls;
+mod round_calls;
 mod run;
+mod setback;
+mod simulate_calls;
 mod tally;
 
 use anyhow::{Context, Result};
 use case::Case;
+use setback::Setback;
 use std::alloc::Global;
-use std::fs;
+use std::io::ErrorKind;
+use std::rt::{Env, Files};
 use std::sync::Wait;
 use std::thread::Threads;
+use std::{env, fs};
 use tally::Tally;
 
 /// How many traces are drawn.
 const SEEDS: u64 = 40;
 
 fn main(rt: HostRuntime) -> Result<()> {
-    let text = fs::read_to_string(&rt, "cases.jsonl").context("reading cases.jsonl")?;
-    let stored = stored(&rt, rt.alloc(), &text)?;
+    let alloc = rt.alloc();
+    let told = match words(&rt, alloc) {
+        Ok(words) => match words.as_slice() {
+            [] | [_] => return compare(&rt, alloc),
+            [_, word] if word.as_str() == "calls" => tell_names(&rt),
+            [_, word, name] if word.as_str() == "call" => calls::call(&rt, alloc, name.as_str()),
+            _ => Err(Setback::Other),
+        },
+        Err(setback) => Err(setback),
+    };
+    if let Err(setback) = told {
+        println!(rt; "{}", setback.words())?;
+    }
+    Ok(())
+}
+
+/// The program's words, its name first.
+fn words<R: Env + AllocGlobal>(rt: &R, alloc: Global) -> Result<Vec<String>, Setback> {
+    match env::args(rt) {
+        Ok(words) => Ok(words.collect(alloc)?),
+        Err(error) if error.kind() == ErrorKind::OutOfMemory => Err(Setback::Memory),
+        Err(_) => Err(Setback::Other),
+    }
+}
+
+/// Prints the names of the calls.
+fn tell_names<R: Print>(rt: &R) -> Result<(), Setback> {
+    for name in calls::NAMES {
+        println!(rt; "{name}")?;
+    }
+    Ok(())
+}
+
+/// Runs the stored cases and the drawn runs, and prints how many agree.
+fn compare<R: Files + Print + AllocGlobal + Threads + Wait + Sync>(
+    rt: &R,
+    alloc: Global,
+) -> Result<()> {
+    let text = fs::read_to_string(rt, "cases.jsonl").context("reading cases.jsonl")?;
+    let stored = stored(rt, alloc, &text)?;
     println!(rt; "{} agree, {} differ", stored.agree, stored.differ)?;
-    let drawn = drawn::compare(&rt, rt.alloc(), SEEDS)?;
+    let drawn = drawn::compare(rt, alloc, SEEDS)?;
     println!(rt; "{} drawn runs agree, {} differ", drawn.agree, drawn.differ)?;
     Ok(())
 }
