@@ -8,12 +8,13 @@ use std::sync::Wait;
 use std::thread::Threads;
 
 /// The names of the calls.
-pub const NAMES: [&str; 10] = [
+pub const NAMES: [&str; 11] = [
     "eviction",
     "promotion",
     "split-and-merge",
     "arrive-fill",
     "arrive-cancelling",
+    "arrive-straggler",
     "round",
     "run",
     "simulate-serial",
@@ -33,6 +34,7 @@ pub fn call<R: Print + Threads + Wait + Sync>(
         "split-and-merge" => cache_calls::tell(rt, alloc, &SPLIT_AND_MERGE),
         "arrive-fill" => process_calls::tell_fill(rt, alloc),
         "arrive-cancelling" => process_calls::tell_cancelling(rt, alloc),
+        "arrive-straggler" => process_calls::tell_straggler(rt, alloc),
         "round" => round_calls::tell_round(rt, alloc),
         "run" => round_calls::tell_run(rt, alloc),
         "simulate-serial" => simulate_calls::tell_serial(rt, alloc),

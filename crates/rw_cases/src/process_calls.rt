@@ -1,4 +1,5 @@
-//! `arrive` of a logical process: an edge that stores nothing, and to which a fill comes late and is cancelled again.
+//! `arrive` of a logical process: an edge that stores nothing, and to which a fill comes late and is cancelled again; and an
+//! edge that takes an eviction back.
 ghost use Rattle.std.specs.Prelude.{◌≡◌, ◌<◌, IfOk};
 
 use crate::setback::Setback;
@@ -30,10 +31,23 @@ pub fn tell_cancelling<R: Print>(rt: &R, alloc: Global) -> Result<(), Setback> {
     edge.tell(rt, &out)
 }
 
+/// A fill comes that is earlier than the last two events that an edge has executed, of which the last one evicted. Tells what
+/// the edge then is and gives out.
+pub fn tell_straggler<R: Print>(rt: &R, alloc: Global) -> Result<(), Setback> {
+    let mut out = Vec::new(alloc);
+    let body = Body::Fill { object: 4, size: 6 };
+    let letter = Letter {
+        event: event(25, 2, 3, body),
+        anti: false,
+    };
+    let edge = evicted(alloc)?.arrive(alloc, letter, &mut out)?;
+    edge.tell(rt, &out)
+}
+
 /// The edge after it has executed two requests, of which the second one has joined the first.
 fn joined(alloc: Global) -> Result<Edge, Setback> {
     let initial = Vec::from_array(alloc, [request(5, 0), request(22, 1)])?;
-    let edge = Edge::open(alloc, initial)?;
+    let edge = Edge::open(alloc, Policy::Off, initial)?;
     edge.execute_next(alloc)?.execute_next(alloc)
 }
 
@@ -44,28 +58,42 @@ fn filled(alloc: Global) -> Result<Edge, Setback> {
     edge.execute_next(alloc)?.execute_next(alloc)
 }
 
-/// A request of object 7, of 4 bytes.
-fn request(time: u64, number: u64) -> Event<Body> {
-    let body = Body::Request { object: 7, size: 4 };
+/// An edge that stores: two insertions, a promotion of the first object, and an insertion that puts it in again and evicts
+/// the second object.
+fn evicted(alloc: Global) -> Result<Edge, Setback> {
+    let size = 6;
+    let initial = [
+        event(10, 2, 0, Body::Fill { object: 1, size }),
+        event(20, 2, 1, Body::Fill { object: 2, size }),
+        event(30, 0, 0, Body::Request { object: 1, size }),
+        event(40, 2, 2, Body::Fill { object: 3, size }),
+    ];
+    let mut edge = Edge::open(alloc, Policy::Lru, Vec::from_array(alloc, initial)?)?;
+    for _event in 0..4 {
+        edge = edge.execute_next(alloc)?;
+    }
+    Ok(edge)
+}
+
+/// Something that happens at the edge.
+fn event(time: u64, source: u32, number: u64, body: Body) -> Event<Body> {
     Event {
         time,
-        source: 0,
+        source,
         number,
         to: 0,
         body,
     }
 }
 
+/// A request of object 7, of 4 bytes.
+fn request(time: u64, number: u64) -> Event<Body> {
+    event(time, 0, number, Body::Request { object: 7, size: 4 })
+}
+
 /// What the origin answers, or the anti-message that cancels it.
 fn fill(anti: bool) -> Letter<Body> {
-    let body = Body::Fill { object: 7, size: 4 };
-    let event = Event {
-        time: 21,
-        source: 2,
-        number: 0,
-        to: 0,
-        body,
-    };
+    let event = event(21, 2, 0, Body::Fill { object: 7, size: 4 });
     Letter { event, anti }
 }
 
@@ -89,12 +117,12 @@ fn first_process<M: Model>(
 }
 
 impl Edge {
-    /// The edge as it starts, with these events pending.
-    fn open(alloc: Global, initial: Vec<Event<Body>>) -> Result<Edge, Setback> {
+    /// The edge under a policy, as it starts, with these events pending.
+    fn open(alloc: Global, policy: Policy, initial: Vec<Event<Body>>) -> Result<Edge, Setback> {
         let Some(shape) = Shape::new(1, 10, 1) else {
             return Err(Setback::Other);
         };
-        let Some(config) = Config::new(1, 1, Policy::Off, shape, shape, 3, 3, 10) else {
+        let Some(config) = Config::new(1, 1, policy, shape, shape, 3, 3, 10) else {
             return Err(Setback::Other);
         };
         let photo = Photo::new(config);
