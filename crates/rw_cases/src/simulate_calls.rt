@@ -13,7 +13,7 @@ const ROOM: usize = 1024;
 /// One request.
 const ONE: &[u8] = b"time,edge,object,size\n5,0,7,4\n";
 
-/// Steps of which the seventh is refused: the anti-message of a message whose event is still done.
+/// Steps of which the fifth is refused: the anti-message of a message whose event is still done.
 const STEPS: &str = "E0 D0 E1 U0 D1 U1 D1 D1 E0 D0 D0 E1 D0 E0 C1099511627776";
 
 /// Runs the trace of two requests on one thread.

@@ -1,10 +1,11 @@
-// Reports to writers that fail, and a plan that is refused.
+// Reports and journals to writers that fail, and a plan that is refused.
 use crate::pipe::Pipe;
 use rw_photo::{Config, Policy, Shape};
-use rw_ripqwarp::{Mode, Out, Plan, SimFault, Traffic, simulate};
+use rw_ripqwarp::{Mode, Out, Plan, SimFault, Traffic, schedule, simulate};
 use rw_trace::TraceFault;
 use std::alloc::Global;
 use std::sync::Wait;
+use std::test::Fail;
 use std::thread::Threads;
 
 /// The trace of one request; its report with nothing stored has 409 bytes.
@@ -47,6 +48,75 @@ fn a_writer_that_fails_cuts_the_report_off(rt: HostRuntime) {
     assert!(rt; held(&rt, alloc, 1000, 9, true) == Some((409, 1)));
     assert!(rt; held(&rt, alloc, 1, 1000, false) == Some((409, 0)));
     assert!(rt; held(&rt, alloc, 1, 408, false) == Some((408, 1)));
+}
+
+/// The report of [`TRACE`] with nothing stored, whole.
+const REPORT: &str = "\
+edge 0 requests 1 hits 0 misses 1 coalesced 0 late 1 bypassed 0 inserted 0 evicted 0 reinserted 0 promoted 0 writes 0 splits 0 merges 0
+origin 0 requests 1 hits 0 misses 1 coalesced 0 late 0 bypassed 0 inserted 0 evicted 0 reinserted 0 promoted 0 writes 0 splits 0 merges 0
+total requests 2 hits 0 misses 2 coalesced 0 late 1 bypassed 0 inserted 0 evicted 0 reinserted 0 promoted 0 writes 0 splits 0 merges 0
+";
+
+/// Two requests at once, whose answers come with equal numbers.
+const TWO: &[u8] = b"time,edge,object,size\n5,0,7,4\n5,0,8,4\n";
+
+/// Steps in which the origin first answers the second request, and takes that back.
+const STEPS: &str = "E0 E0 D1 E1 D0 E1 U1 E1 D1 D1 D0 E1 D0 E0 E0 C1099511627776";
+
+/// What these steps answer, and the journal of all that is committed.
+const JOURNAL: &str = "\
+step 5 refused 4 Straggler
+process 0 time 5 source 0 number 0 request 7 4
+process 0 time 5 source 0 number 1 request 8 4
+process 0 time 21 source 2 number 0 fill 7 4
+process 0 time 21 source 2 number 1 fill 8 4
+process 1 time 8 source 1 number 0 miss 7 4 0
+process 1 time 8 source 1 number 1 miss 8 4 0
+floor 1099511627776
+finished yes
+";
+
+/// Whether a writer that takes a byte a write, and is interrupted from one write on, holds the text up to there: `None`
+/// where something else went wrong.
+fn is_cut_off_at<R: Threads + Wait + Sync>(
+    rt: &R,
+    alloc: Global,
+    (trace, mode, text): (&[u8], Mode, &str),
+    fails_in: u32,
+) -> Option<bool> {
+    let mut out = Out::new(Pipe::new(alloc, 1, fails_in, false));
+    let answer = simulate(rt, alloc, trace, &nothing_stored()?, mode, &mut out);
+    let is_whole = fails_in as usize == text.len();
+    let is_told = match answer {
+        Ok(_) => is_whole && out.failures() == 0,
+        Err(SimFault::Output) => !is_whole && out.failures() == 1,
+        Err(_) => return None,
+    };
+    let held = out.into_inner().held;
+    Some(is_told && held.len() == fails_in as usize && text.as_bytes().starts_with(&held))
+}
+
+#[test]
+fn a_report_is_cut_off_at_each_of_its_bytes(rt: HostRuntime) {
+    for fails_in in 0..=409 {
+        let run = (TRACE, Mode::Serial, REPORT);
+        let is_cut_off = is_cut_off_at(&rt, rt.alloc(), run, fails_in);
+        assert!(rt; is_cut_off == Some(true), "at byte {fails_in}");
+    }
+}
+
+#[test]
+fn a_journal_is_cut_off_at_each_of_its_bytes(rt: HostRuntime) -> Result<(), Fail> {
+    let alloc = rt.alloc();
+    for fails_in in 0..=JOURNAL.len() as u32 {
+        let Ok(steps) = schedule(alloc, STEPS) else {
+            return Err(Fail::from("schedule"));
+        };
+        let run = (TWO, Mode::Journal(steps), JOURNAL);
+        let is_cut_off = is_cut_off_at(&rt, alloc, run, fails_in);
+        assert!(rt; is_cut_off == Some(true), "at byte {fails_in}");
+    }
+    Ok(())
 }
 
 /// How many bytes are written of the run of a trace in rounds by the plan of no worker, and why it has no report.
