@@ -5,7 +5,7 @@ use std::sync::atomic::{AtomicU64, Ordering};
 const TRIES: u64 = 10_000_000;
 
 /// A gate that holds one worker back in its first turn of each round until another one has come to its last turn of that
-/// round. After [`TRIES`] looks it lets go.
+/// round. After [`TRIES`] looks it lets go, so also where a round has the one worker alone.
 #[derive(Drop)]
 pub struct Hold {
     held: u32,
@@ -16,7 +16,9 @@ pub struct Hold {
     ends: AtomicU64,
     /// How often it had when the held one was last let go.
     known: AtomicU64,
-    /// How often the held one was let go though the other one had not come.
+    /// How often the held one waited.
+    waits: AtomicU64,
+    /// How often it was let go though the other one had not come.
     misses: AtomicU64,
 }
 
@@ -29,8 +31,14 @@ impl Hold {
             last: turns.saturating_sub(1),
             ends: AtomicU64::new(0),
             known: AtomicU64::new(0),
+            waits: AtomicU64::new(0),
             misses: AtomicU64::new(0),
         }
+    }
+
+    /// How often the held worker waited.
+    pub fn waits(&self) -> u64 {
+        self.waits.load(Ordering::SeqCst)
     }
 
     /// How often the held worker was let go though the other one had not come to its last turn.
@@ -42,7 +50,8 @@ impl Hold {
     fn wait(&self) {
         let known = self.known.load(Ordering::SeqCst);
         let found = self.ends.load(Ordering::SeqCst);
-        // More than one end since then: the other worker was in rounds of its own, and is to come anew.
+        self.waits.fetch_add(1, Ordering::SeqCst);
+        // More than one end since then: the other worker had rounds of its own, and is to come anew.
         let from = if found > known.saturating_add(1) {
             found
         } else {

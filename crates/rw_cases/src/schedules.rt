@@ -14,11 +14,11 @@ use std::alloc::Global;
 use std::sync::Wait;
 use std::thread::Threads;
 
-/// Requests of few objects at two edges, one of them of an object that comes back after its fill.
+/// Requests of three objects at two edges, close to one another.
 const FEW: &[u8] =
     b"time,edge,object,size\n5,0,7,4\n6,1,7,4\n6,0,8,4\n9,1,9,6\n22,0,7,4\n22,1,8,4\n30,0,9,6\n41,1,7,4\n";
 
-/// Requests that, with the fills that follow, make all eight kinds of marks in queues of three sections and two blocks.
+/// Requests that evict, split, merge and put objects in again: taking back what they did undoes each kind of mark of a queue.
 const EVERY_MARK: &[u8] =
     b"time,edge,object,size\n3,0,8,6\n8,1,9,6\n9,1,8,6\n9,1,7,4\n14,1,12,6\n18,1,11,6\n22,1,12,6\n23,0,9,6\n27,1,12,6\n32,1,8,6\n32,0,11,6\n36,0,10,6\n";
 
@@ -83,7 +83,9 @@ pub struct Counts {
     pub undone: u64,
     /// Letters received through rings.
     pub ring: u64,
-    /// Rounds in which a gate let go of a worker though the other one had not come.
+    /// Rounds in which a gate held a worker back.
+    pub waits: u64,
+    /// Rounds in which it let go though the other worker had not come to its last turn.
     pub misses: u64,
 }
 
@@ -211,6 +213,7 @@ impl Example {
         for (held, other) in [(0, 1), (1, 0)] {
             let gate = Hold::new(held, other, plan.turns);
             self.run_through(rt, alloc, steps, plan, &gate, counts)?;
+            counts.waits = counts.waits.wrapping_add(gate.waits());
             counts.misses = counts.misses.wrapping_add(gate.misses());
         }
         Ok(())

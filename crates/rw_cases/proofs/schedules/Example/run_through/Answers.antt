@@ -1,4 +1,4 @@
-use Rattle.std.proofs.Common.{◌≡◌, ◌+◌, ◌^◌, ◌∙◌, map}
+use Rattle.std.proofs.Common.{◌^◌, ◌∙◌, map}
 use Rattle.rw_ripqwarp.proofs.Runs.{length-states}
 use Rattle.rw_cases.proofs.schedules.Example.run_through.Goals as goal
 
