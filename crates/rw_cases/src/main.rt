@@ -46,7 +46,7 @@ use tally::Tally;
 const SEEDS: u64 = 40;
 
 /// How many worlds of each trace are drawn.
-const WORLDS: u64 = 32;
+const WORLDS: u64 = 256;
 
 fn main(rt: HostRuntime) -> Result<()> {
     let alloc = rt.alloc();
