@@ -29,6 +29,7 @@ pub fn plan(workers: u32) -> Plan {
         window: END,
         ring: 64,
         max_rounds: 65536,
+        lazy: false,
     }
 }
 

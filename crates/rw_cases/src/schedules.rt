@@ -9,7 +9,7 @@ use rw_photo::{CacheState, Config, Photo, Policy, Shape};
 use rw_ripqwarp::{SimFault, beginning, report};
 use rw_rounds::{Gate, Open, Plan, Traffic};
 use rw_vt::{END, Model, Outcome};
-use rw_world::{Parts, Step, World, draw};
+use rw_world::{Parts, Step, World, draw, draw_mixed};
 use std::alloc::Global;
 use std::sync::Wait;
 use std::thread::Threads;
@@ -36,6 +36,7 @@ const PLAIN: Plan = Plan {
     window: END,
     ring: 64,
     max_rounds: 1_048_576,
+    lazy: false,
 };
 
 /// How rounds are run: by one worker, few letters at a time, many and by more workers than caches, and with all held back
@@ -108,7 +109,8 @@ impl Counts {
     }
 }
 
-/// Draws so many worlds of each of two traces, and runs each in rounds, under several plans and gates.
+/// Draws so many worlds of each of two traces, and as many where undoings are lazy too, and runs each in rounds, under
+/// several plans and gates; the latter with lazy undoings.
 pub fn compare<R: Threads + Wait + Sync>(rt: &R, alloc: Global, seeds: u64) -> Result<Counts> {
     let mut counts = Counts::default();
     let few = config(2, 1).context("caches")?;
@@ -124,7 +126,7 @@ fn config(sections: u64, blocks: u64) -> Option<Config> {
     Config::new(2, 1, Policy::Lru, shape, shape, 3, 3, 10)
 }
 
-/// Draws so many worlds of a trace, and runs each.
+/// Draws so many worlds of a trace, and as many where undoings are lazy too, and runs each.
 fn compare_trace<R: Threads + Wait + Sync>(
     rt: &R,
     alloc: Global,
@@ -135,7 +137,10 @@ fn compare_trace<R: Threads + Wait + Sync>(
 ) -> Result<(), SimFault> {
     let example = Example::of(alloc, trace, config)?;
     for seed in 0..seeds {
-        example.compare_world(rt, alloc, seed, counts)?;
+        let steps = draw(alloc, seed, STEPS, CACHES)?;
+        example.compare_world(rt, alloc, &steps, false, counts)?;
+        let steps = draw_mixed(alloc, seed, STEPS, CACHES)?;
+        example.compare_world(rt, alloc, &steps, true, counts)?;
     }
     Ok(())
 }
@@ -163,20 +168,20 @@ impl Example {
         })
     }
 
-    /// Draws the world of a seed, looks at it, and runs it by each plan.
+    /// Looks at the world to which these steps lead, and runs it by each plan, lazily or not.
     fn compare_world<R: Threads + Wait + Sync>(
         &self,
         rt: &R,
         alloc: Global,
-        seed: u64,
+        steps: &[Step],
+        lazy: bool,
         counts: &mut Counts,
     ) -> Result<(), SimFault> {
-        let steps = draw(alloc, seed, STEPS, CACHES)?;
-        let world = drawn(alloc, self.trace, &self.config, &steps)?;
+        let world = drawn(alloc, self.trace, &self.config, steps)?;
         counts.worlds.count(self.begins_with(&world));
         counts.look(&world.take());
         for plan in PLANS {
-            self.run_by(rt, alloc, &steps, plan, counts)?;
+            self.run_by(rt, alloc, steps, Plan { lazy, ..plan }, counts)?;
         }
         Ok(())
     }

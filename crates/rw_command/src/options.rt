@@ -1,5 +1,5 @@
 // The command line as `clap` reads it: what each command takes stands in tables, in the order of the help.
-use clap::{Arg, Command, value_parser};
+use clap::{Arg, ArgAction, Command, value_parser};
 use rw_photo::{Config, Shape};
 use rw_vt::END;
 use std::alloc::{AllocError, Global};
@@ -78,6 +78,8 @@ enum Argument {
     Trace,
     /// The steps by which a trace is run.
     Schedule,
+    /// Whether what an undone event had sent is held, until it is known whether it is sent again.
+    Lazy,
     /// How caches choose what they keep.
     Policy,
     /// A number from 1 to the greatest that is taken.
@@ -102,7 +104,7 @@ enum Kind {
 }
 
 /// The trace, then how the work of a round is shared out, and how far rounds go.
-const ROUNDS: [Argument; 7] = [
+const ROUNDS: [Argument; 8] = [
     Argument::Trace,
     Argument::Number {
         name: "workers",
@@ -146,6 +148,7 @@ const ROUNDS: [Argument; 7] = [
         default: "65536",
         help: "Rounds after which the run is given up, 1 to 1048576",
     },
+    Argument::Lazy,
 ];
 
 /// How many caches there are, what they keep, how large they are, and how long what is sent is on its way.
@@ -222,6 +225,7 @@ impl Argument {
         match *self {
             Argument::Trace => trace(alloc),
             Argument::Schedule => schedule(alloc),
+            Argument::Lazy => lazy(alloc),
             Argument::Policy => policy(alloc),
             Argument::Number {
                 name,
@@ -250,7 +254,15 @@ fn schedule<'a>(alloc: Global) -> Arg<'a> {
         .long("schedule")
         .value_name("TEXT")
         .required(true)
-        .help("The steps, one space between: E and U and a process, D and a letter, C and a time")
+        .help("The steps, one space between: E, U or L and a process, D and a letter, C and a time")
+}
+
+/// Whether messages of undone events are held.
+fn lazy<'a>(alloc: Global) -> Arg<'a> {
+    Arg::new(alloc, "lazy")
+        .long("lazy")
+        .action(ArgAction::SetTrue)
+        .help("Hold what an undone event had sent until it is sent again or cancelled")
 }
 
 /// How caches choose what they keep.

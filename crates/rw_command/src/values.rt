@@ -41,5 +41,6 @@ pub(crate) fn plan(options: &ArgMatches<'_>) -> Option<Plan> {
         window: options.get_one("window")?,
         ring: options.get_one("ring")?,
         max_rounds: options.get_one("rounds")?,
+        lazy: options.get_flag("lazy"),
     })
 }

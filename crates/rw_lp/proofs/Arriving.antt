@@ -1,5 +1,5 @@
 -- The arrival of a letter: when it is barred, and what one more undoing brings.
-use Rattle.std.proofs.Common.{◌≡◌, ℕ, suc, ◌<◌, ◌≤◌, Bool, true, false, cond, List, [], ◌∷◌, ◌++◌, length, length-append, refl, sym, ap, ◌∙◌, subst, arith, append-nil, true≢false, Option, Some, None, inl, inr}
+use Rattle.std.proofs.Common.{◌≡◌, ℕ, suc, ◌<◌, ◌≤◌, Bool, true, false, cond, List, [], ◌∷◌, ◌++◌, length, length-append, refl, sym, ap, ◌∙◌, subst, arith, true≢false, Option, Some, None, inl, inr}
 use Rattle.std.specs.Prelude.{not, ◌&&◌, ◌⊎◌}
 use Rattle.std.specs.declared.cmp.Ordering.{Ordering}
 use Rattle.std.proofs.lemmas.Bool.{cases_lt}
@@ -12,15 +12,15 @@ use Rattle.rw_vt.proofs.Sorting.{IsExactOrder, at_most_chain, Has-head, Has-righ
 use Rattle.rw_vt.proofs.Bags.{Each-nil, Each-cons}
 use Rattle.rw_lp.specs.declared.step.StepFault.TheVariants.{StillDone}
 use Rattle.rw_lp.specs.declared.step.Answer.{Answer}
-use Rattle.rw_lp.specs.HeldMessages.{held_with, held_without}
-use Rattle.rw_lp.specs.Process.{ProcessState, Turn, Turned, Stays, split_last, is_less_than_last, after_undoing, sends_of_last, undo_last, undo_one, annihilate, deliver_anti, deliver_message, deliver}
+use Rattle.rw_lp.specs.HeldMessages.{held_of, held_with, held_without}
+use Rattle.rw_lp.specs.Process.{ProcessState, Turn, Turned, Stays, split_last, is_less_than_last, after_undoing, sends_of_last, undo_last, undo_one, undo_last_lazily, undo_lazily, annihilate, deliver_anti, deliver_message, deliver}
 use Rattle.rw_lp.proofs.WithBags.{with_bags}
 use Rattle.rw_lp.specs.Calls.{LogicalProcess, Took, IsTaken}
-use Rattle.rw_lp.specs.Arrival.{undo_times, and_undo, with_out, is_barred, Accepts, Arrived}
+use Rattle.rw_lp.specs.Arrival.{Way, undo_by, undo_times, and_undo, with_out, is_barred, Accepts, ArrivedBy}
 use Rattle.rw_lp.proofs.Splits.{IsSplit, split_is}
 
 module _ {E : Type 0} {cmp : E → E → Ordering} (o : IsExactOrder cmp) (e : E) where
-  all_up_to_last : (front : List E) (l : E) → IsAscending cmp (front ++ l ∷ []) → AtMost cmp l e → Each cmp (λ a. AtMost cmp a e) (front ++ l ∷ [])
+  pub all_up_to_last : (front : List E) (l : E) → IsAscending cmp (front ++ l ∷ []) → AtMost cmp l e → Each cmp (λ a. AtMost cmp a e) (front ++ l ∷ [])
   all_up_to_last [] l up h = Each-cons o (λ a. AtMost cmp a e) l [] h (Each-nil o (λ a. AtMost cmp a e))
   all_up_to_last (x ∷ xs) l up h =
       let next : AtMost cmp x l = up.0 l (Has-right o l xs (l ∷ []) (Has-head o l [])) in
@@ -103,53 +103,65 @@ module _ {S B : Type 0} (y : System S B) (p : ℕ) where
           let whole : length x.processed ≡ length (r.0 ++ r.1 ∷ []) = ap length q in
           (ap (λ w. Turned w (letters_of true (sends_of_last y p x r.0 r.1))) (sym is) ∙ ap (Turned z) (sym t.2), omega (arith, front, whole, length-append r.0 (r.1 ∷ [])))
 
-  module _ (l : Letter B) where
-    -- so many undoings led from x to w and gave these letters out, and no fewer would do
-    pub record IsGoing (x w : ProcessState S B) (given : List (Letter B)) : Type 0 where
-      pub count : ℕ
-      pub undone : undo_times y p count x ≡ Turned w given
-      pub sooner : (k : ℕ) (v : ProcessState S B) (out : List (Letter B)) → k < count → undo_times y p k x ≡ Turned v out → Accepts y.order l v → ⊥
+  -- the same where its sends are held
+  pub lazy_undo_taken : (x z : ProcessState S B) (a : Answer) → (x.processed ≡ [] → ⊥) → Took x z a [] (undo_lazily y p x) → (undo_lazily y p x ≡ Turned z []) × (length z.processed < length x.processed)
+  lazy_undo_taken x z a some took = go (split_last x.processed) (split_is x.processed) took
+    where
+      go : (r : Option (List (Event B) × Event B)) → IsSplit x.processed r → Took x z a [] (undo_last_lazily y p x r) → (undo_last_lazily y p x r ≡ Turned z []) × (length z.processed < length x.processed)
+      go None q t = absurd (some q)
+      go (Some r) q t =
+          let is : z ≡ after_undoing y p x r.0 r.1 (x.held ++ held_of r.1 (sends_of_last y p x r.0 r.1)) = t.0 in
+          let front : length z.processed ≡ length r.0 = ap (λ (w : ProcessState S B). length w.processed) is in
+          let whole : length x.processed ≡ length (r.0 ++ r.1 ∷ []) = ap length q in
+          (ap (λ w. Turned w []) (sym is), omega (arith, front, whole, length-append r.0 (r.1 ∷ [])))
 
-    pub going_start : (x : ProcessState S B) → IsGoing x x []
-    going_start x = record { count = 0; undone = refl; sooner = λ k v out h. absurd (omega arith) }
+module _ {S B : Type 0} (undo : ProcessState S B → Turn S B) (cmp : Event B → Event B → Ordering) (l : Letter B) where
+  -- so many undoings led from x to w and gave these letters out, and no fewer would do
+  pub record IsGoing (x w : ProcessState S B) (given : List (Letter B)) : Type 0 where
+    pub count : ℕ
+    pub undone : undo_times undo count x ≡ Turned w given
+    pub sooner : (k : ℕ) (v : ProcessState S B) (out : List (Letter B)) → k < count → undo_times undo k x ≡ Turned v out → Accepts cmp l v → ⊥
 
-    pub going_more : (x w z : ProcessState S B) (given more : List (Letter B)) → IsGoing x w given → (Accepts y.order l w → ⊥) → undo_one y p w ≡ Turned z more → IsGoing x z (given ++ more)
-    going_more x w z given more g refused one = record {
-      count = suc g.count;
-      undone = ap (and_undo y p) g.undone ∙ ap (with_out given) one;
-      sooner = λ k v out h u a. go k v out u a (cases_lt k g.count) h;
-    }
-      where
-        same : (v : ProcessState S B) (out : List (Letter B)) → undo_times y p g.count x ≡ Turned v out → v ≡ w
-        same v out u = let both : Turned v out ≡ Turned w given = sym u ∙ g.undone in cc
+  pub going_start : (x : ProcessState S B) → IsGoing x x []
+  going_start x = record { count = 0; undone = refl; sooner = λ k v out h. absurd (omega arith) }
 
-        go : (k : ℕ) (v : ProcessState S B) (out : List (Letter B)) → undo_times y p k x ≡ Turned v out → Accepts y.order l v → (k < g.count) ⊎ (g.count ≤ k) → k < suc g.count → ⊥
-        go k v out u a (inl h) n = g.sooner k v out h u a
-        go k v out u a (inr h) n =
-            let last : k ≡ g.count = omega arith in
-            refused (subst (Accepts y.order l) (same v out (subst (λ i. undo_times y p i x ≡ Turned v out) last u)) a)
+  pub going_more : (x w z : ProcessState S B) (given more : List (Letter B)) → IsGoing x w given → (Accepts cmp l w → ⊥) → undo w ≡ Turned z more → IsGoing x z (given ++ more)
+  going_more x w z given more g refused one = record {
+    count = suc g.count;
+    undone = ap (and_undo undo) g.undone ∙ ap (with_out given) one;
+    sooner = λ k v out h u a. go k v out u a (cases_lt k g.count) h;
+  }
+    where
+      same : (v : ProcessState S B) (out : List (Letter B)) → undo_times undo g.count x ≡ Turned v out → v ≡ w
+      same v out u = let both : Turned v out ≡ Turned w given = sym u ∙ g.undone in cc
 
-    pub arrived : (x w z : ProcessState S B) (a : Answer) (given : List (Letter B)) → IsGoing x w given → Accepts y.order l w → Took w z a [] (deliver y.order l w) → Arrived y p l x z given
-    arrived x w z a given g accepts took = record {
-      count = g.count;
-      between = w;
-      unsent = given;
-      undone = g.undone;
-      accepts = accepts;
-      fewest = g.sooner;
-      rest = [];
-      delivered = go (deliver y.order l w) accepts.taken took;
-      all = sym (append-nil given);
-    }
-      where
-        go : (t : Turn S B) → IsTaken t → Took w z a [] t → t ≡ Turned z []
-        go (Stays fault) k q = absurd k
-        go (Turned v out) k q = ap (λ u. Turned u out) (sym q.0) ∙ ap (Turned z) (sym q.2)
+      go : (k : ℕ) (v : ProcessState S B) (out : List (Letter B)) → undo_times undo k x ≡ Turned v out → Accepts cmp l v → (k < g.count) ⊎ (g.count ≤ k) → k < suc g.count → ⊥
+      go k v out u a (inl h) n = g.sooner k v out h u a
+      go k v out u a (inr h) n =
+          let last : k ≡ g.count = omega arith in
+          refused (subst (Accepts cmp l) (same v out (subst (λ i. undo_times undo i x ≡ Turned v out) last u)) a)
+
+pub arrived : {S B : Type 0} (way : Way) (y : System S B) (p : ℕ) (l : Letter B) (x w z : ProcessState S B) (a : Answer) (given rest : List (Letter B)) → IsGoing (undo_by way y p) y.order l x w given → Accepts y.order l w → Took w z a rest (deliver y.order l w) → ArrivedBy way y p l x z (given ++ rest)
+arrived {S} {B} way y p l x w z a given rest g accepts took = record {
+  count = g.count;
+  between = w;
+  unsent = given;
+  undone = g.undone;
+  accepts = accepts;
+  fewest = g.sooner;
+  rest = rest;
+  delivered = go (deliver y.order l w) accepts.taken took;
+  all = refl;
+}
+  where
+    go : (t : Turn S B) → IsTaken t → Took w z a rest t → t ≡ Turned z rest
+    go (Stays fault) k q = absurd k
+    go (Turned v out) k q = ap (λ u. Turned u out) (sym q.0) ∙ ap (Turned z) (sym q.2)
 
 -- an arrival on its way, seen from the code
-pub record IsUnderway {M S B : Type 0} (y : System S B) (l : Letter B) (from now : LogicalProcess M S B) (old new : List (Letter B)) : Type 0 where
+pub record IsUnderway {M S B : Type 0} (way : Way) (y : System S B) (l : Letter B) (from now : LogicalProcess M S B) (old new : List (Letter B)) : Type 0 where
   pub model : now.model ≡ from.model
   pub number : now.number ≡ from.number
   pub given : List (Letter B)
   pub out : new ≡ old ++ given
-  pub going : IsGoing y from.number l from.process now.process given
+  pub going : IsGoing (undo_by way y from.number) y.order l from.process now.process given

@@ -21,3 +21,5 @@ mod Filled
 mod Queues
 mod Searching
 mod Pasts
+mod HeldRuns
+mod Meeting

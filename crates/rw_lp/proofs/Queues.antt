@@ -35,12 +35,12 @@ not_ge_lt Less h = refl
 not_ge_lt Equal h = absurd (true≢false h)
 not_ge_lt Greater h = absurd (true≢false h)
 
-ge_back : (r : Ordering) → is_ge r ≡ true → is_gt (ordering_reverse r) ≡ false
+pub ge_back : (r : Ordering) → is_ge r ≡ true → is_gt (ordering_reverse r) ≡ false
 ge_back Less h = absurd (true≢false (sym h))
 ge_back Equal h = refl
 ge_back Greater h = refl
 
-not_gt_back : (r : Ordering) → is_gt r ≡ false → is_ge (ordering_reverse r) ≡ true
+pub not_gt_back : (r : Ordering) → is_gt r ≡ false → is_ge (ordering_reverse r) ≡ true
 not_gt_back Less h = refl
 not_gt_back Equal h = refl
 not_gt_back Greater h = absurd (true≢false h)

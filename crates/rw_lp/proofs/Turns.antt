@@ -83,7 +83,7 @@ module _ {S B : Type 0} (y : System S B) {WellFormed : ℕ → S → Type 0} (la
           sent = λ a.
               let s1 : copies y.order a (sends_of (y.step p) x.start (done z)) ≡ copies y.order a (sends_of (y.step p) x.start (done x)) + copies y.order a sends =
               ap (λ l. copies y.order a (sends_of (y.step p) x.start l)) more ∙ sent_push p x.start (done x) e a ∙ ap (λ s. copies y.order a (sends_of (y.step p) x.start (done x)) + copies y.order a (y.step p s e).1) (sym at_p.state) in
-              omega (arith, messages-append y.order a (letters_of false fresh) (letters_of true cancelled), antis-append y.order a (letters_of false fresh) (letters_of true cancelled), messages_sent y.order a fresh, antis_sent y.order a fresh, messages_unsent y.order a cancelled, antis_unsent y.order a cancelled, count-unheld y law a sends x.held, count-held_parts y a e left);
+              omega (arith, messages-append y.order a (letters_of false fresh) (letters_of true cancelled), antis-append y.order a (letters_of false fresh) (letters_of true cancelled), messages_sent y.order a fresh, antis_sent y.order a fresh, messages_unsent y.order a cancelled, antis_unsent y.order a cancelled, count-unheld y law.exact a sends x.held, count-held_parts y a e left);
         }
 
         there : 0 < copies y.order e x.pending
@@ -122,8 +122,8 @@ module _ {S B : Type 0} (y : System S B) {WellFormed : ℕ → S → Type 0} (la
         letters =
             letters_join y g (letters_of false fresh) (letters_of true cancelled)
             (letters_sound y g false fresh
-            (λ a k. (each_sent law p x.state e a good (at_p.pending_stand e there).valid (at_p.pending_stand e there).here (omega (arith, count-unheld_le y law a sends x.held))).0)
-            (λ a k. let late : e.time < a.time = (each_sent law p x.state e a good (at_p.pending_stand e there).valid (at_p.pending_stand e there).here (omega (arith, count-unheld_le y law a sends x.held))).1 in let early = at_p.pending_from e there in omega arith))
+            (λ a k. (each_sent law p x.state e a good (at_p.pending_stand e there).valid (at_p.pending_stand e there).here (omega (arith, count-unheld_le y law.exact a sends x.held))).0)
+            (λ a k. let late : e.time < a.time = (each_sent law p x.state e a good (at_p.pending_stand e there).valid (at_p.pending_stand e there).here (omega (arith, count-unheld_le y law.exact a sends x.held))).1 in let early = at_p.pending_from e there in omega arith))
             (letters_sound y g true cancelled
             (λ a k. held_valid y law x.pending left all_left a (omega (arith, count-held_parts y a e left)))
             (λ a k. held_from y law g x.pending at_p.pending_from left all_left a (omega (arith, count-held_parts y a e left))))

@@ -6,7 +6,7 @@ use Rattle.rw_vt.specs.declared.event.Event.{Event}
 use Rattle.rw_vt.specs.declared.event.Letter.{Letter}
 use Rattle.rw_vt.specs.Order.{AtMost, Each, has}
 use Rattle.rw_vt.specs.System.{System}
-use Rattle.rw_lp.specs.Process.{ProcessState, Turn, Turned, Stays, split_last, is_less_than_last, undo_one, deliver}
+use Rattle.rw_lp.specs.Process.{ProcessState, Turn, Turned, Stays, split_last, is_less_than_last, undo_one, undo_lazily, deliver}
 use Rattle.rw_lp.specs.Calls.{IsTaken}
 
 -- a turn that gives these letters out first
@@ -14,15 +14,25 @@ abbrev pub with_out : {S B : Type 0} → List (Letter B) → Turn S B → Turn S
 with_out out (Stays fault) = Stays fault
 with_out out (Turned z more) = Turned z (out ++ more)
 
--- a turn, and then the undoing of the last processed event
-abbrev pub and_undo : {S B : Type 0} → System S B → Process → Turn S B → Turn S B
-and_undo y p (Stays fault) = Stays fault
-and_undo y p (Turned z out) = with_out out (undo_one y p z)
+-- how what was done too early is taken back: what it sent is cancelled, or held
+pub data Way : Type 0 where
+  Cancelling : Way
+  Holding : Way
+
+-- the undoing of the last processed event, that way
+abbrev pub undo_by : {S B : Type 0} → Way → System S B → Process → ProcessState S B → Turn S B
+undo_by Cancelling y p x = undo_one y p x
+undo_by Holding y p x = undo_lazily y p x
+
+-- a turn, and then such an undoing
+abbrev pub and_undo : {S B : Type 0} → (ProcessState S B → Turn S B) → Turn S B → Turn S B
+and_undo undo (Stays fault) = Stays fault
+and_undo undo (Turned z out) = with_out out (undo z)
 
 -- n undoings, one after another: a turn of its own
-abbrev pub undo_times : {S B : Type 0} → System S B → Process → Count → ProcessState S B → Turn S B
-undo_times y p zero x = Turned x []
-undo_times y p (suc n) x = and_undo y p (undo_times y p n x)
+abbrev pub undo_times : {S B : Type 0} → (ProcessState S B → Turn S B) → Count → ProcessState S B → Turn S B
+undo_times undo zero x = Turned x []
+undo_times undo (suc n) x = and_undo undo (undo_times undo n x)
 
 -- the letter cannot come before the last processed event is undone
 abbrev pub is_barred : {S B : Type 0} → (Event B → Event B → Ordering) → Letter B → ProcessState S B → Bool
@@ -36,17 +46,24 @@ pub record Accepts {S B : Type 0} (cmp : Event B → Event B → Ordering) (l : 
   pub taken : IsTaken (deliver cmp l x)
   pub in_time : l.anti ≡ false → Each cmp (λ e. AtMost cmp e l.event) x.processed
 
--- the letter arrives at x, which leads to z and gives these letters out
-pub record Arrived {S B : Type 0} (y : System S B) (p : Process) (l : Letter B) (x z : ProcessState S B) (given : List (Letter B)) : Type 0 where
+-- the letter arrives at x, which leads to z and gives these letters out; what has to be undone is undone that way
+pub record ArrivedBy {S B : Type 0} (way : Way) (y : System S B) (p : Process) (l : Letter B) (x z : ProcessState S B) (given : List (Letter B)) : Type 0 where
   -- `count` undoings lead to a process that accepts the letter
   pub count : Count
   pub between : ProcessState S B
   pub unsent : List (Letter B)
-  pub undone : undo_times y p count x ≡ Turned between unsent
+  pub undone : undo_times (undo_by way y p) count x ≡ Turned between unsent
   pub accepts : Accepts y.order l between
   -- fewer do not
-  pub fewest : (k : Count) (w : ProcessState S B) (out : List (Letter B)) → k < count → undo_times y p k x ≡ Turned w out → Accepts y.order l w → ⊥
+  pub fewest : (k : Count) (w : ProcessState S B) (out : List (Letter B)) → k < count → undo_times (undo_by way y p) k x ≡ Turned w out → Accepts y.order l w → ⊥
   -- then it is delivered
   pub rest : List (Letter B)
   pub delivered : deliver y.order l between ≡ Turned z rest
   pub all : given ≡ unsent ++ rest
+
+-- what is undone is cancelled; or what it sent is held
+abbrev pub Arrived : {S B : Type 0} → System S B → Process → Letter B → ProcessState S B → ProcessState S B → List (Letter B) → Type 0
+Arrived = ArrivedBy Cancelling
+
+abbrev pub ArrivedLazily : {S B : Type 0} → System S B → Process → Letter B → ProcessState S B → ProcessState S B → List (Letter B) → Type 0
+ArrivedLazily = ArrivedBy Holding

@@ -7,11 +7,12 @@ use Rattle.rw_vt.specs.declared.event.Letter.{Letter}
 use Rattle.rw_vt.specs.declared.model.Model.{Ghosts}
 use Rattle.rw_vt.specs.System.{System, system}
 use Rattle.rw_vt.specs.Order.{IsFirst, IsLeastOf, in_order}
+use Rattle.rw_lp.specs.declared.held.Held.{Held}
 use Rattle.rw_lp.specs.declared.step.Answer.{Answer}
 use Rattle.rw_lp.specs.declared.step.Answer.TheVariants.{Done, Refused}
 use Rattle.rw_lp.specs.Past.{HistoryState}
 use Rattle.rw_lp.specs.Process as process
-use Rattle.rw_lp.specs.Process.{ProcessState, done, Turn, Turned, Stays, is_less_than_last, split_last, execute_next, undo_one}
+use Rattle.rw_lp.specs.Process.{ProcessState, done, Turn, Turned, Stays, is_less_than_last, split_last, execute_next, undo_one, undo_lazily}
 use Rattle.rw_lp.specs.HeldMessages.{held_messages}
 
 -- a process, with the model that it runs and its number there
@@ -20,13 +21,13 @@ pub record LogicalProcess (M S B : Type 0) : Type 0 where
   pub number : Process
   pub process : ProcessState S B
 
--- what was done, with what is pending and owed
-abbrev pub process_of : {M S B : Type 0} → HistoryState M S B → List (Event B) → List (Event B) → LogicalProcess M S B
-process_of x pending debts =
+-- what was done, with what is pending, owed and held
+abbrev pub process_of : {M S B : Type 0} → HistoryState M S B → List (Event B) → List (Event B) → List (Held B) → LogicalProcess M S B
+process_of x pending debts held =
     record {
       model = x.model;
       number = x.number;
-      process = record { start = x.start; committed = x.committed; processed = x.processed; pending = pending; debts = debts; held = []; state = x.state };
+      process = record { start = x.start; committed = x.committed; processed = x.processed; pending = pending; debts = debts; held = held; state = x.state };
     }
 
 -- how processes of the model m step, whatever their starts are
@@ -44,6 +45,10 @@ execution_by model order l = execute_next (rules model order l.model) l.number l
 abbrev pub undoing_by : {M S B U : Type 0} → Ghosts M S B U → (B → B → Ordering) → LogicalProcess M S B → Turn S B
 undoing_by model order l = undo_one (rules model order l.model) l.number l.process
 
+-- the same, where what the undone event sent is held
+abbrev pub lazy_undoing_by : {M S B U : Type 0} → Ghosts M S B U → (B → B → Ordering) → LogicalProcess M S B → Turn S B
+lazy_undoing_by model order l = undo_lazily (rules model order l.model) l.number l.process
+
 -- l and k are of one model, and have one number
 abbrev pub IsSameProcess : {M S B : Type 0} → LogicalProcess M S B → LogicalProcess M S B → Type 0
 IsSameProcess l k = (k.model ≡ l.model) × (k.number ≡ l.number)
@@ -57,9 +62,9 @@ abbrev pub Took : {S B : Type 0} → ProcessState S B → ProcessState S B → A
 Took x z a given (Turned after out) = (z ≡ after) × (a ≡ Done) × (given ≡ out)
 Took x z a given (Stays fault) = (z ≡ x) × (a ≡ Refused fault) × (given ≡ [])
 
--- letter l came to process x, which answered and became z
-abbrev pub IsDelivered : {M S B : Type 0} → (Event B → Event B → Ordering) → Letter B → Answer → LogicalProcess M S B → LogicalProcess M S B → Type 0
-IsDelivered cmp l answer x z = Took x.process z.process answer [] (process.deliver cmp l x.process)
+-- letter l came to process x, which answered, became z and gave these letters out
+abbrev pub IsDelivered : {M S B : Type 0} → (Event B → Event B → Ordering) → Letter B → Answer → LogicalProcess M S B → LogicalProcess M S B → List (Letter B) → Type 0
+IsDelivered cmp l answer x z given = Took x.process z.process answer given (process.deliver cmp l x.process)
 
 -- next, x would execute its least pending event, which is no straggler, in a state that passes the test
 pub record MeetsNext {S B : Type 0} (cmp : Event B → Event B → Ordering) (x : ProcessState S B) (test : S → Bool) : Type 0 where

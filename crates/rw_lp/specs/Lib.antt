@@ -8,3 +8,5 @@ pub mod Bags
 pub mod Cut
 pub mod Runs
 pub mod Sends
+pub mod HeldBack
+pub mod Own

@@ -1,14 +1,14 @@
 -- What a process has done, and the records that take it back (reverse computation: Carothers, Perumalla and Fujimoto 1999).
-use Rattle.std.specs.Prelude.{◌≡◌, ◌<◌, true, List, [], ◌∷◌, ◌++◌, Option, Some, None}
+use Rattle.std.specs.Prelude.{◌≡◌, ◌<◌, true, List, [], ◌∷◌, ◌++◌, Option, Some, None, All}
 use Rattle.std.specs.declared.cmp.Ordering.{Ordering}
 use Rattle.rw_vt.specs.Words.{Process}
 use Rattle.rw_vt.specs.declared.event.Event.{Event}
-use Rattle.rw_vt.specs.declared.event.Letter.{Letter}
 use Rattle.rw_vt.specs.declared.model.Model.{Ghosts}
 use Rattle.rw_vt.specs.Order.{Each, IsAscending}
-use Rattle.rw_vt.specs.Letters.{letters_of}
+use Rattle.rw_vt.specs.Valid.{IsSentBy}
 use Rattle.rw_vt.specs.System.{state_after}
 use Rattle.rw_lp.specs.declared.undo_record.UndoRecord.{UndoRecord}
+use Rattle.rw_lp.specs.declared.undo_record.Undone.{Undone}
 
 -- a process of a model: its number, where it started, what it did, and where that led
 pub record HistoryState (M S B : Type 0) : Type 0 where
@@ -57,20 +57,17 @@ pub record IsLinked {M S B U : Type 0} (model : Ghosts M S B U) (cmp : Event B �
   pub committed : Each cmp (IsFor model x.model x.number) x.committed
   pub order : IsAscending cmp (x.committed ++ x.processed)
 
--- what is pending and what is owed is for the process
-pub record AreFor {M S B U : Type 0} (model : Ghosts M S B U) (cmp : Event B → Event B → Ordering) (x : HistoryState M S B) (ps ds : List (Event B)) : Type 0 where
-  pub pending : Each cmp (IsFor model x.model x.number) ps
-  pub debts : Each cmp (IsFor model x.model x.number) ds
-
--- the last processed event e of x is taken back, which leads to z and gives these letters out
-pub record IsTakenBack {M S B U : Type 0} (model : Ghosts M S B U) (x z : HistoryState M S B) (e : Event B) (given : List (Letter B)) : Type 0 where
+-- the last processed event e of x, which had sent this, is taken back, which leads to z
+pub record IsTakenBack {M S B U : Type 0} (model : Ghosts M S B U) (cmp : Event B → Event B → Ordering) (x z : HistoryState M S B) (e : Event B) (sends : List (Event B)) : Type 0 where
   pub last : x.processed ≡ z.processed ++ e ∷ []
   pub rest : z ≡ record x { processed = z.processed; state = state_after (model.step x.model x.number) x.start (x.committed ++ z.processed) }
   pub valid : model.is_valid x.model e ≡ true
   pub here : e.to ≡ x.number
-  pub sent : given ≡ letters_of true (model.step x.model x.number (state_after (model.step x.model x.number) x.start (x.committed ++ z.processed)) e).1
+  pub order : IsAscending cmp (done_in x)
+  pub sent : sends ≡ (model.step x.model x.number (state_after (model.step x.model x.number) x.start (x.committed ++ z.processed)) e).1
+  pub future : All (λ m. IsSentBy x.number e m × (model.is_valid x.model m ≡ true)) sends
 
 -- the last processed event of x, if there is one, is taken back
-abbrev pub TookBack : {M S B U : Type 0} → Ghosts M S B U → HistoryState M S B → HistoryState M S B → Option (Event B) → List (Letter B) → Type 0
-TookBack model x z None given = (x.processed ≡ []) × (z ≡ x) × (given ≡ [])
-TookBack model x z (Some e) given = IsTakenBack model x z e given
+abbrev pub TookBack : {M S B U : Type 0} → Ghosts M S B U → (Event B → Event B → Ordering) → HistoryState M S B → HistoryState M S B → Option (Undone B) → Type 0
+TookBack model cmp x z None = (x.processed ≡ []) × (z ≡ x)
+TookBack model cmp x z (Some u) = IsTakenBack model cmp x z u.event u.sends

@@ -1,6 +1,6 @@
 use rw_vt::Event;
 
-/// A message that an undone event sent and that is not cancelled yet (lazy cancellation). No call holds one back so far.
+/// A message that an undone event sent and that is not cancelled yet (lazy cancellation).
 #[derive(Clone, Copy, Debug, PartialEq, Eq)]
 pub struct Held<B> {
     /// The event that was undone, which is pending again.

@@ -2,18 +2,17 @@ ghost use Rattle.std.specs.Prelude.{◌≡◌, ◌<◌, ◌≤◌, ◌++◌, ◌
 ghost use Rattle.std.specs.List.{position_or_len};
 ghost use Rattle.std.specs.List.Sorted.{IsPartitionedBy};
 ghost use Rattle.rw_vt.specs.Order.{event_cmp, has, Each, IsAscending};
-ghost use Rattle.rw_vt.specs.Letters.{letters_of};
 ghost use Rattle.rw_vt.specs.System.{state_after};
 ghost use Rattle.rw_vt.specs.declared.event.Letter.{Letter};
 ghost use Rattle.rw_vt.specs.declared.refusal.Refusal.TheVariants.{Memory};
 ghost use Rattle.rw_lp.specs.Process.{is_less_than_last, split_last};
+ghost use Rattle.rw_lp.specs.HeldBack.{letters_given, held_after};
 ghost use Rattle.rw_lp.specs.Past.{HistoryState, IsFor, TookBack, IsFolded, done_in, history_of};
-ghost use Rattle.rw_lp.specs.Calls.{GivesOut};
 
-use crate::letters::give;
+use crate::held_back::HeldBack;
 use crate::runs::Runs;
 use crate::sends::Sends;
-use crate::undo_record::UndoRecord;
+use crate::undo_record::{UndoRecord, Undone};
 use rw_vt::{Event, Letter, Model as VtModel, Refusal};
 use std::alloc::{AllocError, Global};
 use std::marker::Model;
@@ -92,12 +91,13 @@ impl<M: VtModel> History<M> {
         false
     }
 
-    /// Executes an event that is not a straggler, and appends messages of its sends to `out`.
+    /// Executes an event that is not a straggler. Its sends are given out by [`HeldBack::resend`].
     pub fn execute(
         self,
         alloc: Global,
         model: &M,
         event: Event<M::Body>,
+        held: &mut HeldBack<M>,
         out: &mut Vec<Letter<M::Body>>,
     ) -> Result<History<M>, Refusal>
         requires model { model.now ≡ self.model }
@@ -110,9 +110,12 @@ impl<M: VtModel> History<M> {
               processed = self.processed ++ event ∷ [];
               state = (M.step self.model self.number self.state event).0;
             }) }
-        ensures sent { OnOk result
-            (out.new.items ≡ out.old.items
-            ++ letters_of false (M.step self.model self.number self.state event).1) }
+        ensures sent { OnOk result (out.new.items ≡ out.old.items ++ letters_given
+            (event_cmp M.Body.cmp) event
+            (M.step self.model self.number self.state event).1 held.old) }
+        ensures held { OnOk result (held.new ≡ held_after
+            (event_cmp M.Body.cmp) event
+            (M.step self.model self.number self.state event).1 held.old) }
         ensures exhausted { (result ≡ Err Refusal.Exhausted)
             ↔ (M.is_exhausted self.model self.state ≡ true) }
         ensures fold { OnOk result (IsFolded M.Model self) }
@@ -120,24 +123,21 @@ impl<M: VtModel> History<M> {
         let mut history = self;
         let past = &mut *history.past;
         let undo = model.execute(alloc, past.number, &mut past.state, &event, &mut past.sends)?;
-        give(out, past.sends.as_slice(), false)?;
+        held.resend(event, past.sends.as_slice(), out)?;
         let sends = Sends::take_from(alloc, &mut past.sends);
         past.done.push(event)?;
         past.records.push(UndoRecord { sends, undo })?;
         Ok(history)
     }
 
-    /// Takes the last processed event back, and appends anti-messages of its sends to `out`, in order. Where no event
-    /// is processed, nothing changes.
+    /// Takes the last processed event back. Where no event is processed, nothing changes.
     pub fn undo(
         self,
         alloc: Global,
         model: &M,
-        out: &mut Vec<Letter<M::Body>>,
-    ) -> Result<(History<M>, Option<Event<M::Body>>), Refusal>
+    ) -> Result<(History<M>, Option<Undone<M::Body>>), Refusal>
         requires model { model.now ≡ self.model }
-        ensures back { IfOk result (λ r.
-            GivesOut out.old.items out.new.items (TookBack M.Model self r.0 r.1)) }
+        ensures back { IfOk result (λ r. TookBack M.Model (event_cmp M.Body.cmp) self r.0 r.1) }
         ensures memory { IfErr result (λ e. e ≡ Memory) }
     {
         let mut history = self;
@@ -149,8 +149,7 @@ impl<M: VtModel> History<M> {
             unreachable!();
         };
         model.reverse(alloc, past.number, &mut past.state, &event, undo)?;
-        sends.give_to(out, true)?;
-        Ok((history, Some(event)))
+        Ok((history, Some(Undone { event, sends })))
     }
 
     /// Commits the processed events of time below `time`, and drops the records that would take them back. Takes no memory.

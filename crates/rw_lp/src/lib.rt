@@ -1,8 +1,8 @@
 #![tactic(auto)]
 //! A logical process of Time Warp (Jefferson 1985): it executes ahead of the others, and takes back what it did too early.
 //!
-//! [`Lp`] keeps what it did with the records that take it back, its pending events and its debts. Each call is one step
-//! of the relation that `specs/Process.antt` defines, or, for `arrive`, the fewest undoings and a delivery. Nothing here
+//! [`Lp`] keeps what it did with the records that take it back, its pending events, its debts and what it holds back. Each
+//! call is one step of the relation that `specs/Process.antt` defines, or an arrival: the fewest undoings and a delivery. Nothing here
 //! knows what a model's events mean: all rests on the laws of [`rw_vt::Model`].
 //!
 //! Worked examples: `rw_tests/src/edge_process.rt` and `station_process.rt`.
@@ -13,6 +13,7 @@ mod bag;
 mod bags;
 mod counted;
 mod held;
+mod held_back;
 mod history;
 mod later;
 mod letters;

@@ -1,21 +1,25 @@
 ghost use Rattle.std.specs.Prelude.{◌≡◌, ◌<◌, ◌≤◌, ◌++◌, ◌∷◌, ◌↔◌, ◌^◌, true, false, List, [], IfOk, IfErr, OnOk, MatchOption, All};
-ghost use Rattle.rw_vt.specs.Order.{copies, event_cmp, AtMost, Each, Has, IsAscending, IsFirst, IsLeastOf};
+ghost use Rattle.rw_vt.specs.Order.{copies, event_cmp, has, AtMost, Each, Has, IsAscending, IsFirst, IsLeastOf};
 ghost use Rattle.rw_vt.specs.System.{state_after};
 ghost use Rattle.rw_vt.specs.declared.event.Event.{Event};
 ghost use Rattle.rw_vt.specs.declared.event.Letter.{Letter};
 ghost use Rattle.rw_vt.specs.declared.refusal.Refusal.TheVariants.{Memory};
 ghost use Rattle.rw_lp.specs.HeldMessages.{held_messages};
 ghost use Rattle.rw_lp.specs.Process.{ProcessState, done, deliver, execute_next, undo_one, collect};
-ghost use Rattle.rw_lp.specs.Calls.{LogicalProcess, process_of, rules, new_process, MeetsNext, Took, letters_taken, least_time, IsSameProcess, GivesOut, IsNextOf, execution_by, undoing_by, IsDelivered, least_outstanding};
-ghost use Rattle.rw_lp.specs.Past.{AreFor, IsFor};
+ghost use Rattle.rw_lp.specs.Calls.{LogicalProcess, process_of, rules, new_process, MeetsNext, Took, letters_taken, least_time, IsSameProcess, GivesOut, IsNextOf, execution_by, undoing_by, lazy_undoing_by, IsDelivered, least_outstanding};
+ghost use Rattle.rw_lp.specs.Past.{IsFor};
+ghost use Rattle.rw_lp.specs.Own.{AreFor};
+ghost use Rattle.rw_lp.specs.HeldBack.{antis_unless, held_unless};
 ghost use Rattle.rw_lp.specs.Sound.{Balance, IsSoundOnceCollected, KeepsBalance};
-ghost use Rattle.rw_lp.specs.Arrival.{Arrived, is_barred};
+ghost use Rattle.rw_lp.specs.Arrival.{Arrived, ArrivedLazily, is_barred};
 ghost use Rattle.rw_vt.specs.declared.event.TheConstants.{END};
 
 use crate::bag::Bag;
 use crate::bags::ends_after;
+use crate::held_back::HeldBack;
 use crate::history::History;
 use crate::step::{Answer, StepFault};
+use crate::undo_record::Undone;
 use rw_vt::{Event, Letter, Model as VtModel, Refusal};
 use std::alloc::{AllocError, Global};
 use std::marker::Model;
@@ -24,22 +28,23 @@ use std::marker::Model;
 /// processes, and takes back what it did too early.
 ///
 /// Its events are done, first those committed and then those processed, or pending. A debt is an anti-message that
-/// came before its message. Contracts see a process with its model and its number, and name its start, which no running
-/// code reads. Each call that takes a model takes the one that `new` took. A call that is refused with a [`Refusal`]
-/// hands nothing back, and nothing is then said of `out`.
+/// came before its message. A held message is one that a pending event had sent before it was undone lazily. Contracts see a
+/// process with its model and its number, and name its start, which no running code reads. Each call that takes a model takes
+/// the one that `new` took. A call that is refused with a [`Refusal`] hands nothing back, and nothing is then said of `out`.
 #[derive(Drop)]
 pub struct Lp<M: VtModel> {
     history: History<M>,
     pending: Bag<M>,
     debts: Bag<M>,
+    held: HeldBack<M>,
 }
 
 impl<M: VtModel> Model for Lp<M> {
     ghost Value = { LogicalProcess M M.State M.Body };
 
-    ghost view = { λ x. process_of x.history x.pending x.debts };
+    ghost view = { λ x. process_of x.history x.pending x.debts x.held };
 
-    ghost invariant = { λ x. AreFor M.Model (event_cmp M.Body.cmp) x.history x.pending x.debts };
+    ghost invariant = { λ x. AreFor M.Model M.Body.cmp x.history x.pending x.debts x.held };
 }
 
 impl<M: VtModel> Lp<M> {
@@ -65,37 +70,47 @@ impl<M: VtModel> Lp<M> {
         let history = History::new(alloc, model, number, start, initial.len())?;
         let pending = Bag::from_events(initial)?;
         let debts = Bag::new(alloc)?;
+        let held = HeldBack::new(alloc)?;
         Ok(Lp {
             history,
             pending,
             debts,
+            held,
         })
     }
 
     /// A letter comes: a message and its anti-message annihilate, whichever comes first (Jefferson 1985).
     ///
     /// Whole events are compared, and equal copies count. A message takes one equal debt away, or else its event becomes
-    /// pending. An anti-message takes one equal pending event away; or else `StillDone` is answered where its event is processed,
-    /// and the process is as it was; or else it becomes a debt. Refused only as `Memory`.
-    pub fn deliver(self, letter: Letter<M::Body>) -> Result<(Lp<M>, Answer), Refusal>
+    /// pending. An anti-message takes one equal pending event away, and with the last copy what is held with it: anti-messages
+    /// of that are appended to `out`. Or else `StillDone` is answered where its event is processed, and the process and `out`
+    /// are as they were; or else it becomes a debt. Refused only as `Memory`.
+    pub fn deliver(
+        self,
+        letter: Letter<M::Body>,
+        out: &mut Vec<Letter<M::Body>>,
+    ) -> Result<(Lp<M>, Answer), Refusal>
         requires valid { M.is_valid self.model letter.event ≡ true }
         requires here { letter.event.to ≡ self.number }
         ensures same { IfOk result (λ r. IsSameProcess self r.0) }
-        ensures turn { IfOk result (λ r. IsDelivered (event_cmp M.Body.cmp) letter r.1 self r.0) }
-        ensures balance { IfOk result (λ r.
-            KeepsBalance M.Model M.Body.cmp self r.0 (letters_taken r.1 letter) []) }
+        ensures turn { IfOk result (λ r. GivesOut out.old.items out.new.items
+            (IsDelivered (event_cmp M.Body.cmp) letter r.1 self r.0)) }
+        ensures balance { IfOk result (λ r. GivesOut out.old.items out.new.items
+            (KeepsBalance M.Model M.Body.cmp self r.0 (letters_taken r.1 letter))) }
         ensures memory { IfErr result (λ e. e ≡ Memory) }
     {
         let Lp {
             history,
             mut pending,
             mut debts,
+            mut held,
         } = self;
-        let answer = meet(&history, &mut pending, &mut debts, letter)?;
+        let answer = meet(&history, &mut pending, &mut debts, &mut held, letter, out)?;
         let lp = Lp {
             history,
             pending,
             debts,
+            held,
         };
         Ok((lp, answer))
     }
@@ -131,13 +146,15 @@ impl<M: VtModel> Lp<M> {
             history,
             mut pending,
             debts,
+            mut held,
         } = self;
         let _taken = pending.take(event);
-        let history = history.execute(alloc, model, event, out)?;
+        let history = history.execute(alloc, model, event, &mut held, out)?;
         let lp = Lp {
             history,
             pending,
             debts,
+            held,
         };
         Ok((lp, Answer::Done))
     }
@@ -165,21 +182,64 @@ impl<M: VtModel> Lp<M> {
             history,
             mut pending,
             debts,
+            held,
         } = self;
-        let (history, undone) = history.undo(alloc, model, out)?;
-        let Some(event) = undone else {
+        let (history, undone) = history.undo(alloc, model)?;
+        let Some(Undone { event, sends }) = undone else {
             let lp = Lp {
                 history,
                 pending,
                 debts,
+                held,
             };
             return Ok((lp, Answer::Refused(StepFault::NothingToUndo)));
         };
+        sends.cancel(out)?;
         pending.put(event)?;
         let lp = Lp {
             history,
             pending,
             debts,
+            held,
+        };
+        Ok((lp, Answer::Done))
+    }
+
+    /// Takes the last processed event back as [`undo_one`](Self::undo_one) does, but sends no anti-messages: what it had sent is
+    /// held with it, in order, until the process has executed it again or an anti-message has cancelled it (lazy cancellation).
+    ///
+    /// Answers `NothingToUndo` where `undo_one` does. Refused only as `Memory`.
+    pub fn undo_lazily(self, alloc: Global, model: &M) -> Result<(Lp<M>, Answer), Refusal>
+        requires model { model.now ≡ self.model }
+        ensures same { IfOk result (λ r. IsSameProcess self r.0) }
+        ensures turn { IfOk result (λ r.
+            Took self.process r.0.process r.1 [] (lazy_undoing_by M.Model M.Body.cmp self)) }
+        ensures balance { IfOk result (λ r. KeepsBalance M.Model M.Body.cmp self r.0 [] []) }
+        ensures memory { IfErr result (λ e. e ≡ Memory) }
+    {
+        let Lp {
+            history,
+            mut pending,
+            debts,
+            held,
+        } = self;
+        let (history, undone) = history.undo(alloc, model)?;
+        let Some(Undone { event, sends }) = undone else {
+            let lp = Lp {
+                history,
+                pending,
+                debts,
+                held,
+            };
+            return Ok((lp, Answer::Refused(StepFault::NothingToUndo)));
+        };
+        let held = held.hold(event, &sends)?;
+        pending.put(event)?;
+        let lp = Lp {
+            history,
+            pending,
+            debts,
+            held,
         };
         Ok((lp, Answer::Done))
     }
@@ -210,7 +270,36 @@ impl<M: VtModel> Lp<M> {
             let (undone, _answer) = lp.undo_one(alloc, model, out)?;
             lp = undone;
         }
-        let (lp, _answer) = lp.deliver(letter)?;
+        let (lp, _answer) = lp.deliver(letter, out)?;
+        Ok(lp)
+    }
+
+    /// A letter arrives as by [`arrive`](Self::arrive), but each undoing is one of [`undo_lazily`](Self::undo_lazily). Refused
+    /// only as `Memory`.
+    pub fn arrive_lazily(
+        self,
+        alloc: Global,
+        model: &M,
+        letter: Letter<M::Body>,
+        out: &mut Vec<Letter<M::Body>>,
+    ) -> Result<Lp<M>, Refusal>
+        requires model { model.now ≡ self.model }
+        requires valid { M.is_valid self.model letter.event ≡ true }
+        requires here { letter.event.to ≡ self.number }
+        ensures same { IfOk result (IsSameProcess self) }
+        ensures arrived { IfOk result (λ lp. GivesOut out.old.items out.new.items
+            (ArrivedLazily (rules M.Model M.Body.cmp self.model) self.number letter
+            self.process lp.process)) }
+        ensures balance { IfOk result (λ lp. GivesOut out.old.items out.new.items
+            (KeepsBalance M.Model M.Body.cmp self lp (letter ∷ []))) }
+        ensures memory { IfErr result (λ e. e ≡ Memory) }
+    {
+        let mut lp = self;
+        'undoing: while lp.is_barred(&letter) {
+            let (undone, _answer) = lp.undo_lazily(alloc, model)?;
+            lp = undone;
+        }
+        let (lp, _answer) = lp.deliver(letter, out)?;
         Ok(lp)
     }
 
@@ -242,12 +331,14 @@ impl<M: VtModel> Lp<M> {
             history,
             pending,
             debts,
+            held,
         } = self;
         let history = history.commit(time);
         Ok(Lp {
             history,
             pending,
             debts,
+            held,
         })
     }
 
@@ -329,35 +420,39 @@ impl<M: VtModel> Lp<M> {
             history,
             pending: _,
             debts: _,
+            held: _,
         } = self;
         history.into_outcome()
     }
 }
 
-/// A letter comes to what is pending and owed beside this history: see [`Lp::deliver`].
+/// A letter comes to what is pending, owed and held beside this history: see [`Lp::deliver`].
 fn meet<M: VtModel>(
     history: &History<M>,
     pending: &mut Bag<M>,
     debts: &mut Bag<M>,
+    held: &mut HeldBack<M>,
     letter: Letter<M::Body>,
+    out: &mut Vec<Letter<M::Body>>,
 ) -> Result<Answer, AllocError>
-    requires own { AreFor M.Model (event_cmp M.Body.cmp) history.now pending.old debts.old }
+    requires own { AreFor M.Model M.Body.cmp history.now pending.old debts.old held.old }
     requires here { IsFor M.Model history.now.model history.now.number letter.event }
     ensures own { OnOk result
-        (AreFor M.Model (event_cmp M.Body.cmp) history.now pending.new debts.new) }
-    ensures turn { IfOk result (λ a.
-        IsDelivered (event_cmp M.Body.cmp) letter a
-        (process_of history.now pending.old debts.old)
-        (process_of history.now pending.new debts.new)) }
-    ensures balance { IfOk result (λ a.
-        KeepsBalance M.Model M.Body.cmp
-        (process_of history.now pending.old debts.old)
-        (process_of history.now pending.new debts.new)
-        (letters_taken a letter) []) }
+        (AreFor M.Model M.Body.cmp history.now pending.new debts.new held.new) }
+    ensures turn { IfOk result (λ a. GivesOut out.old.items out.new.items
+        (IsDelivered (event_cmp M.Body.cmp) letter a
+        (process_of history.now pending.old debts.old held.old)
+        (process_of history.now pending.new debts.new held.new))) }
+    ensures balance { IfOk result (λ a. GivesOut out.old.items out.new.items
+        (KeepsBalance M.Model M.Body.cmp
+        (process_of history.now pending.old debts.old held.old)
+        (process_of history.now pending.new debts.new held.new)
+        (letters_taken a letter))) }
 {
     let event = letter.event;
     if letter.anti {
         if pending.take(event) {
+            annihilate(pending, held, event, out)?;
             return Ok(Answer::Done);
         }
         if history.holds(event) {
@@ -371,4 +466,28 @@ fn meet<M: VtModel>(
     }
     pending.put(event)?;
     Ok(Answer::Done)
+}
+
+/// A copy of the event has left what is pending. With the last copy, what is held with it is cancelled: see [`Lp::deliver`].
+/// With nothing held that is one test.
+fn annihilate<M: VtModel>(
+    pending: &Bag<M>,
+    held: &mut HeldBack<M>,
+    event: Event<M::Body>,
+    out: &mut Vec<Letter<M::Body>>,
+) -> Result<(), AllocError>
+    ensures out { OnOk result (out.new.items ≡ out.old.items
+        ++ antis_unless (has (event_cmp M.Body.cmp) event pending.now)
+        (event_cmp M.Body.cmp) event held.old) }
+    ensures left { OnOk result (held.new
+        ≡ held_unless (has (event_cmp M.Body.cmp) event pending.now)
+        (event_cmp M.Body.cmp) event held.old) }
+{
+    if held.is_empty() {
+        return Ok(());
+    }
+    if pending.holds(event) {
+        return Ok(());
+    }
+    held.cancel(event, out)
 }

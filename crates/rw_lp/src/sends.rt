@@ -1,5 +1,6 @@
-ghost use Rattle.std.specs.Prelude.{◌≡◌, ◌++◌, [], OnOk};
+ghost use Rattle.std.specs.Prelude.{◌≡◌, ◌++◌, [], true, OnOk};
 ghost use Rattle.rw_vt.specs.Letters.{letters_of};
+ghost use Rattle.rw_lp.specs.Sends.{events_of};
 
 use crate::letters::give;
 use rw_vt::{Event, Letter};
@@ -15,9 +16,12 @@ pub struct Sends<B> {
 
 /// No event, or one, or a list of more.
 #[derive(Drop)]
-enum Kept<B> {
+pub enum Kept<B> {
+    /// Nothing was sent.
     Nothing,
+    /// One event.
     One(Event<B>),
+    /// All of them.
     Many(Vec<Event<B>>),
 }
 
@@ -48,20 +52,27 @@ impl<B: Copy> Sends<B> {
         Sends { kept }
     }
 
-    /// Appends a message, or an anti-message, of each event, in order.
-    pub fn give_to(&self, out: &mut Vec<Letter<B>>, anti: bool) -> Result<(), AllocError>
-        ensures given { OnOk result (out.new.items ≡ out.old.items ++ letters_of anti self.now) }
+    /// The events, as they are kept. Takes no memory.
+    pub fn kept(&self) -> &Kept<B>
+        ensures { events_of result.now ≡ self.now }
+    {
+        &self.kept
+    }
+
+    /// Appends anti-messages of the events, in order.
+    pub fn cancel(&self, out: &mut Vec<Letter<B>>) -> Result<(), AllocError>
+        ensures given { OnOk result (out.new.items ≡ out.old.items ++ letters_of true self.now) }
     {
         match &self.kept {
             Kept::Nothing => Ok(()),
             Kept::One(event) => {
                 out.push(Letter {
                     event: *event,
-                    anti,
+                    anti: true,
                 })?;
                 Ok(())
             }
-            Kept::Many(events) => give(out, events.as_slice(), anti),
+            Kept::Many(events) => give(out, events.as_slice(), true),
         }
     }
 }

@@ -3,7 +3,7 @@ use Rattle.std.specs.Prelude.{ℕ, ◌+◌, ◌^◌, ◌==◌, if◌then◌else�
 use Rattle.std.specs.List.{position_or_len}
 use Rattle.rw_trace.specs.Trace.{number_of}
 use Rattle.rw_world.specs.declared.step.Step.{Step}
-use Rattle.rw_world.specs.declared.step.Step.TheVariants.{Execute, Undo, Deliver, Collect}
+use Rattle.rw_world.specs.declared.step.Step.TheVariants.{Execute, Undo, UndoLazily, Deliver, Collect}
 use Rattle.rw_ripqwarp.specs.declared.schedule_text.ScheduleFault.{ScheduleFault}
 use Rattle.rw_ripqwarp.specs.declared.schedule_text.ScheduleFault.TheVariants.{Word}
 
@@ -29,11 +29,12 @@ abbrev pub step_below : ℕ → (ℕ → Step) → Option ℕ → Option Step
 step_below limit step None = None
 step_below limit step (Some n) = if nat_lt n limit then Some (step n) else None
 
--- the step that a letter and a number say: E, U, D and C stand for execute, undo, deliver and collect
+-- the step that a letter and a number say: E, U, L, D and C stand for execute, undo, undo lazily, deliver and collect
 abbrev pub step_of_letter : ℕ → Option ℕ → Option Step
 step_of_letter b n =
     if b == 69 then step_below (2 ^ 32) Execute n
     else if b == 85 then step_below (2 ^ 32) Undo n
+    else if b == 76 then step_below (2 ^ 32) UndoLazily n
     else if b == 68 then step_below (2 ^ 64) Deliver n
     else if b == 67 then step_below (2 ^ 64) Collect n
     else None

@@ -17,9 +17,9 @@ pub enum ScheduleFault {
     Memory,
 }
 
-/// The steps of a schedule: words parted by single blanks, each a letter and 1 to 20 digits. `E` and `U` execute and undo
-/// at a process, a number below 2^32; `D` delivers a letter and `C` collects to a time, numbers below 2^64. The empty
-/// text is the empty schedule.
+/// The steps of a schedule: words parted by single blanks, each a letter and 1 to 20 digits. `E`, `U` and `L` execute,
+/// undo and undo lazily at a process, a number below 2^32; `D` delivers a letter and `C` collects to a time, numbers below
+/// 2^64. The empty text is the empty schedule.
 ///
 /// # Errors
 ///
@@ -89,6 +89,9 @@ fn step_of_letter(letter: u8, number: u64) -> Option<Step>
     }
     if letter == b'U' {
         return Some(Step::Undo(process(number)?));
+    }
+    if letter == b'L' {
+        return Some(Step::UndoLazily(process(number)?));
     }
     if letter == b'D' {
         return Some(Step::Deliver(number));

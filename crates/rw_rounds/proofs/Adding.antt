@@ -6,18 +6,19 @@ use Rattle.std.proofs.lemmas.List.{get_or-set_same, get_or-set_other}
 use Rattle.rw_vt.specs.declared.event.Letter.{Letter}
 use Rattle.rw_vt.specs.System.{System}
 use Rattle.rw_lp.specs.Process.{ProcessState}
+use Rattle.rw_lp.specs.Arrival.{Way}
 use Rattle.rw_lp.specs.Calls.{LogicalProcess}
 use Rattle.rw_exchange.specs.Ports.{PortState, SamePort, sent_to, free_to, received_from, after_sending, after_receiving}
 use Rattle.rw_board.specs.Seats.{after_note}
 use Rattle.rw_rounds.specs.Bags.{weigh, only, Every, sum_below}
-use Rattle.rw_rounds.specs.Deeds.{Deed, Arrival, Undoing, Execution, Did, Goes, arrivals, executions}
+use Rattle.rw_rounds.specs.Deeds.{Deed, Arrival, Undoing, Execution, Did, Goes, arrivals, executions, way_of}
 use Rattle.rw_rounds.specs.Turns.{Role, WorkerState, owner, is_own, is_accepted, process_at}
 use Rattle.rw_rounds.specs.Working.{Works}
 use Rattle.rw_rounds.proofs.Sums.{total_same, total_add, total_zero, weigh-append, every_append, at_only, at_here, at_other, weigh_at}
 
-module _ {S B : Type 0} (y : System S B) (g : ℕ) where
-  pub goes_append : (ds es : List (Deed B)) (a b c : ℕ → Option (ProcessState S B)) (given more : List (Letter B)) → Goes y g ds a b given → Goes y g es b c more → Goes y g (ds ++ es) a c (given ++ more)
-  goes_append [] es a b c given more x z = subst (λ u. Goes y g es u c (given ++ more)) x.0 (subst (λ ls. Goes y g es b c ls) (sym (ap (λ l. l ++ more) x.1)) z)
+module _ {S B : Type 0} (y : System S B) (g : ℕ) (way : Way) where
+  pub goes_append : (ds es : List (Deed B)) (a b c : ℕ → Option (ProcessState S B)) (given more : List (Letter B)) → Goes y g way ds a b given → Goes y g way es b c more → Goes y g way (ds ++ es) a c (given ++ more)
+  goes_append [] es a b c given more x z = subst (λ u. Goes y g way es u c (given ++ more)) x.0 (subst (λ ls. Goes y g way es b c ls) (sym (ap (λ l. l ++ more) x.1)) z)
   goes_append (d ∷ ds) es a b c given more x z = (x.0, x.1, x.2 ++ more, x.3, goes_append ds es x.0 b c x.2 more x.4 z, ap (λ l. l ++ more) x.5 ∙ append_assoc x.1 x.2 more)
 
 pub arrivals_append : {B : Type 0} (ds es : List (Deed B)) → arrivals (ds ++ es) ≡ arrivals ds ++ arrivals es
@@ -138,7 +139,7 @@ module _ {M S B : Type 0} (y : System S B) (r : Role) where
     sent = λ k. x.sent k ++ z.sent k;
     received = λ k. x.received k ++ z.received k;
     noted = x.noted ++ z.noted;
-    goes = goes_append y r.collected x.deeds z.deeds (process_at r a.processes) (process_at r b.processes) (process_at r c.processes) x.given z.given x.goes z.goes;
+    goes = goes_append y r.collected (way_of r.plan.lazy) x.deeds z.deeds (process_at r a.processes) (process_at r b.processes) (process_at r c.processes) x.given z.given x.goes z.goes;
     sent_more = λ k. z.sent_more k ∙ ap (λ l. l ++ z.sent k) (x.sent_more k) ∙ append_assoc (sent_to a.port k) (x.sent k) (z.sent k);
     received_more = λ k. z.received_more k ∙ ap (λ l. l ++ z.received k) (x.received_more k) ∙ append_assoc (received_from a.port k) (x.received k) (z.received k);
     noted_more = z.noted_more ∙ ap (λ l. l ++ z.noted) x.noted_more ∙ append_assoc a.seat.noted x.noted z.noted;
@@ -397,7 +398,7 @@ module _ {M S B : Type 0} (y : System S B) (r : Role) where
       }
 
     -- a deed was done: what arrived was at hand, and what it gave out is at hand
-    pub works_deed : (d : Deed B) (out rest : List (Letter B)) → length b.processes ≡ length a.processes → Did y r.collected d (process_at r a.processes) (process_at r b.processes) out → Every (λ l. is_own r l ≡ true) (arrivals (d ∷ [])) → b.kept ≡ a.kept → b.aside ≡ a.aside → b.port ≡ a.port → b.seat ≡ a.seat →
+    pub works_deed : (d : Deed B) (out rest : List (Letter B)) → length b.processes ≡ length a.processes → Did y r.collected (way_of r.plan.lazy) d (process_at r a.processes) (process_at r b.processes) out → Every (λ l. is_own r l ≡ true) (arrivals (d ∷ [])) → b.kept ≡ a.kept → b.aside ≡ a.aside → b.port ≡ a.port → b.seat ≡ a.seat →
         ((place : ℕ) (l z : LogicalProcess M S B) → slice_get a.processes place ≡ Some l → slice_get b.processes place ≡ Some z → (z.model ≡ l.model) × (z.number ≡ l.number)) →
         Works y r a b (rest ++ arrivals (d ∷ [])) (rest ++ out) (executions (d ∷ []))
     works_deed d out rest many did own kept aside port seat named = record {

@@ -12,15 +12,19 @@ use Rattle.rw_vt.specs.System.{System, state_after, sends_of}
 use Rattle.rw_vt.proofs.Runs.{outs-append}
 use Rattle.rw_lp.specs.declared.held.Held.{Held}
 use Rattle.rw_lp.specs.declared.step.StepFault.TheVariants.{StillDone}
-use Rattle.rw_lp.specs.HeldMessages.{held_with, held_without}
-use Rattle.rw_lp.specs.Process.{ProcessState, done, Turn, Turned, Stays, split_last, undo_last, undo_one, annihilate, deliver_message, deliver_anti, deliver, execute_next, execute_least, execute_event, after_execution, is_less_than_last}
+use Rattle.rw_lp.specs.HeldMessages.{held_of, held_with, held_without}
+use Rattle.rw_lp.specs.Process.{ProcessState, done, Turn, Turned, Stays, split_last, after_undoing, sends_of_last, undo_last, undo_one, undo_last_lazily, undo_lazily, annihilate, deliver_message, deliver_anti, deliver, execute_next, execute_least, execute_event, after_execution, is_less_than_last}
 use Rattle.rw_lp.proofs.Cited.{with_bags, IsSplit, split_is}
 use Rattle.rw_lp.specs.Calls.{LogicalProcess}
-use Rattle.rw_lp.specs.Arrival.{with_out, and_undo, undo_times, Arrived}
+use Rattle.rw_lp.specs.Arrival.{Way, Cancelling, Holding, undo_by, with_out, and_undo, undo_times, ArrivedBy}
 use Rattle.rw_rounds.specs.Working.{size, sizes, dones}
 
 length-letters : {B : Type 0} (b : Bool) (es : List (Event B)) → length (letters_of b es) ≡ length es
 length-letters b es = length-map es (λ e. record { event = e; anti = b })
+
+length-held : {B : Type 0} (e : Event B) (ms : List (Event B)) → length (held_of e ms) ≡ length ms
+length-held e [] = refl
+length-held e (m ∷ ms) = ap suc (length-held e ms)
 
 held_parts : {B : Type 0} (cmp : Event B → Event B → Ordering) (e : Event B) (hs : List (Held B)) → length (held_with cmp e hs) + length (held_without cmp e hs) ≡ length hs
 held_parts cmp e [] = refl
@@ -41,7 +45,7 @@ module _ {S B : Type 0} (y : System S B) (p : ℕ) where
   Falls x (Stays f) = Unit {0}
   Falls x (Turned z out) = (work z + length out ≤ work x) × (length (done z) ≤ length (done x))
 
-  pub undo_falls : (x : ProcessState S B) → Falls x (undo_one y p x)
+  undo_falls : (x : ProcessState S B) → Falls x (undo_one y p x)
   undo_falls x = go (split_last x.processed) (split_is x.processed)
     where
       go : (o : Option (List (Event B) × Event B)) → IsSplit x.processed o → Falls x (undo_last y p x o)
@@ -55,6 +59,25 @@ module _ {S B : Type 0} (y : System S B) (p : ℕ) where
           ap (λ l. length (sends_of (y.step p) x.start l)) more ∙ ap length (outs-append (y.step p) x.start front (r.1 ∷ []) ∙ ap (λ l. sends_of (y.step p) x.start front ++ l) (append-nil sends)) ∙ length-append (sends_of (y.step p) x.start front) sends in
           let ls : length (letters_of true sends) ≡ length sends = length-letters true sends in
           ((omega arith), (omega arith))
+
+  lazily_falls : (x : ProcessState S B) → Falls x (undo_lazily y p x)
+  lazily_falls x = go (split_last x.processed) (split_is x.processed)
+    where
+      go : (o : Option (List (Event B) × Event B)) → IsSplit x.processed o → Falls x (undo_last_lazily y p x o)
+      go None q = tt
+      go (Some r) q =
+          let front : List (Event B) = x.committed ++ r.0 in
+          let sends : List (Event B) = (y.step p (state_after (y.step p) x.start front) r.1).1 in
+          let more : done x ≡ front ++ r.1 ∷ [] = ap (λ l. x.committed ++ l) q ∙ sym (append_assoc x.committed r.0 (r.1 ∷ [])) in
+          let d : length (done x) ≡ length front + 1 = ap length more ∙ length-append front (r.1 ∷ []) in
+          let o : length (sends_of (y.step p) x.start (done x)) ≡ length (sends_of (y.step p) x.start front) + length sends =
+          ap (λ l. length (sends_of (y.step p) x.start l)) more ∙ ap length (outs-append (y.step p) x.start front (r.1 ∷ []) ∙ ap (λ l. sends_of (y.step p) x.start front ++ l) (append-nil sends)) ∙ length-append (sends_of (y.step p) x.start front) sends in
+          let hs : length (x.held ++ held_of r.1 sends) ≡ length x.held + length sends = length-append x.held (held_of r.1 sends) ∙ ap (λ n. length x.held + n) (length-held r.1 sends) in
+          ((omega arith), (omega arith))
+
+  pub way_falls : (way : Way) (x : ProcessState S B) → Falls x (undo_by way y p x)
+  way_falls Cancelling x = undo_falls x
+  way_falls Holding x = lazily_falls x
 
   pub deliver_falls : (l : Letter B) (x : ProcessState S B) → Falls x (deliver y.order l x)
   deliver_falls l x = go l.anti
@@ -86,17 +109,17 @@ module _ {S B : Type 0} (y : System S B) (p : ℕ) where
   falls_out x z out a (Stays f) b = tt
   falls_out x z out a (Turned u more) b = ((omega (arith, a.0, b.0, length-append out more)), (omega (arith, a.1, b.1)))
 
-  falls_and : (x : ProcessState S B) (t : Turn S B) → Falls x t → Falls x (and_undo y p t)
-  falls_and x (Stays f) a = tt
-  falls_and x (Turned z out) a = falls_out x z out a (undo_one y p z) (undo_falls z)
+  falls_and : (way : Way) (x : ProcessState S B) (t : Turn S B) → Falls x t → Falls x (and_undo (undo_by way y p) t)
+  falls_and way x (Stays f) a = tt
+  falls_and way x (Turned z out) a = falls_out x z out a (undo_by way y p z) (way_falls way z)
 
-  undoings_fall : (k : ℕ) (x : ProcessState S B) → Falls x (undo_times y p k x)
-  undoings_fall zero x = ((omega arith), (omega arith))
-  undoings_fall (suc k) x = falls_and x (undo_times y p k x) (undoings_fall k x)
+  undoings_fall : (way : Way) (k : ℕ) (x : ProcessState S B) → Falls x (undo_times (undo_by way y p) k x)
+  undoings_fall way zero x = ((omega arith), (omega arith))
+  undoings_fall way (suc k) x = falls_and way x (undo_times (undo_by way y p) k x) (undoings_fall way k x)
 
-  pub arrival_falls : (l : Letter B) (x z : ProcessState S B) (given : List (Letter B)) → Arrived y p l x z given → (work z + length given ≤ work x) × (length (done z) ≤ length (done x))
-  arrival_falls l x z given a =
-      let first = subst (Falls x) a.undone (undoings_fall a.count x) in
+  pub arrival_falls : (way : Way) (l : Letter B) (x z : ProcessState S B) (given : List (Letter B)) → ArrivedBy way y p l x z given → (work z + length given ≤ work x) × (length (done z) ≤ length (done x))
+  arrival_falls way l x z given a =
+      let first = subst (Falls x) a.undone (undoings_fall way a.count x) in
       let then_ = subst (Falls a.between) a.delivered (deliver_falls l a.between) in
       let n : length given ≡ length a.unsent + length a.rest = ap length a.all ∙ length-append a.unsent a.rest in
       ((omega (arith, first.0, then_.0)), (omega (arith, first.1, then_.1)))
@@ -115,16 +138,27 @@ module _ {S B : Type 0} (y : System S B) (p : ℕ) where
       go [] k = cc
       go (e ∷ rest) k = late (is_less_than_last y.order e (split_last (done x))) e rest (Rattle.rw_lp.specs.HeldMessages.unheld_sends y.order (y.step p x.state e).1 x.held) k
 
-  pub undo_counts : (x z : ProcessState S B) (out : List (Letter B)) → undo_one y p x ≡ Turned z out → length (done z) + 1 ≡ length (done x)
-  undo_counts x z out h = go (split_last x.processed) (split_is x.processed) h
+  -- without its last event, however what that had sent is dealt with
+  one_fewer : (x z : ProcessState S B) (r : List (Event B) × Event B) (hs : List (Held B)) → x.processed ≡ r.0 ++ r.1 ∷ [] → after_undoing y p x r.0 r.1 hs ≡ z → length (done z) + 1 ≡ length (done x)
+  one_fewer x z r hs q is =
+      let a : length (done z) ≡ length (x.committed ++ r.0) = ap (λ u. length (done u)) (sym is) in
+      let b : length (done x) ≡ length (x.committed ++ r.0) + 1 = ap length (ap (λ l. x.committed ++ l) q ∙ sym (append_assoc x.committed r.0 (r.1 ∷ []))) ∙ length-append (x.committed ++ r.0) (r.1 ∷ []) in
+      omega arith
+
+  pub undo_counts : (way : Way) (x z : ProcessState S B) (out : List (Letter B)) → undo_by way y p x ≡ Turned z out → length (done z) + 1 ≡ length (done x)
+  undo_counts Cancelling x z out h = go (split_last x.processed) (split_is x.processed) h
     where
       go : (o : Option (List (Event B) × Event B)) → IsSplit x.processed o → undo_last y p x o ≡ Turned z out → length (done z) + 1 ≡ length (done x)
       go None q k = cc
-      go (Some r) q k =
-          let is : Rattle.rw_lp.specs.Process.after_undoing y p x r.0 r.1 x.held ≡ z = cc in
-          let a : length (done z) ≡ length (x.committed ++ r.0) = ap (λ u. length (done u)) (sym is) in
-          let b : length (done x) ≡ length (x.committed ++ r.0) + 1 = ap length (ap (λ l. x.committed ++ l) q ∙ sym (append_assoc x.committed r.0 (r.1 ∷ []))) ∙ length-append (x.committed ++ r.0) (r.1 ∷ []) in
-          omega arith
+      go (Some r) q k = one_fewer x z r x.held q (let is : after_undoing y p x r.0 r.1 x.held ≡ z = cc in is)
+  undo_counts Holding x z out h = go (split_last x.processed) (split_is x.processed) h
+    where
+      held_then : List (Event B) × Event B → List (Held B)
+      held_then r = x.held ++ held_of r.1 (sends_of_last y p x r.0 r.1)
+
+      go : (o : Option (List (Event B) × Event B)) → IsSplit x.processed o → undo_last_lazily y p x o ≡ Turned z out → length (done z) + 1 ≡ length (done x)
+      go None q k = cc
+      go (Some r) q k = one_fewer x z r (held_then r) q (let is : after_undoing y p x r.0 r.1 (held_then r) ≡ z = cc in is)
 
 -- one process among others
 module _ {M S B : Type 0} (y : System S B) where

@@ -12,7 +12,7 @@ use Rattle.rw_lp.specs.Sound.{SoundAt, HasCollected, IsSoundOnceCollected}
 use Rattle.rw_exchange.specs.Ports.{PortState, SamePort, IsWide}
 use Rattle.rw_board.specs.Seats.{SeatState}
 use Rattle.rw_rounds.specs.Bags.{weigh, only, Every}
-use Rattle.rw_rounds.specs.Deeds.{IsFair, arrivals}
+use Rattle.rw_rounds.specs.Deeds.{IsFair, arrivals, way_of}
 use Rattle.rw_rounds.specs.Turns.{Role, WorkerState, owner, is_own, process_at, IsInPlace, IsFit}
 use Rattle.rw_rounds.specs.Working.{IsFitAndSound, Works}
 use Rattle.rw_rounds.proofs.ByPlace.{get_within, at_place, place_of, number_place}
@@ -81,7 +81,7 @@ module _ {M S B U : Type 0} {model : Ghosts M S B U} {order : B → B → Orderi
     rule_of = governs model order m up.fit.starts laws up.fit.ready r.collected
 
     pub gone_by : Gone (rules model order m) r.collected (model.process_count m) (process_at r a.processes) (process_at r b.processes) (arrivals w.deeds) w.given
-    gone_by = goes_gone (rules model order m) r.collected (model.process_count m) rule_of w.deeds (process_at r a.processes) (process_at r b.processes) w.given well_before w.goes
+    gone_by = goes_gone (rules model order m) r.collected (model.process_count m) rule_of (way_of r.plan.lazy) w.deeds (process_at r a.processes) (process_at r b.processes) w.given well_before w.goes
 
     well_then : Well (rules model order m) (λ p s. slice_get up.fit.starts p ≡ Some s) r.collected (process_at r b.processes)
     well_then = well_after (rules model order m) r.collected (model.process_count m) rule_of (process_at r a.processes) (process_at r b.processes) (arrivals w.deeds) w.given well_before gone_by

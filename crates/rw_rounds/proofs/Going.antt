@@ -5,7 +5,8 @@ use Rattle.rw_vt.specs.declared.event.Letter.{Letter}
 use Rattle.rw_vt.specs.System.{System}
 use Rattle.rw_vt.proofs.Letters.{count-letter}
 use Rattle.rw_vt.proofs.Bags.{one_if-itself}
-use Rattle.rw_lp.specs.Process.{ProcessState, execute_next, undo_one}
+use Rattle.rw_lp.specs.Process.{ProcessState, execute_next}
+use Rattle.rw_lp.specs.Arrival.{Way, undo_by}
 use Rattle.rw_lp.specs.Sound.{SoundAt, SoundLetters, Kept}
 use Rattle.rw_rounds.specs.Bags.{weigh, Every, sum_below}
 use Rattle.rw_rounds.specs.Deeds.{Deed, Arrival, Undoing, Execution, Stepped, IsFair, Did, Goes, arrivals}
@@ -152,17 +153,17 @@ module _ {S B : Type 0} (y : System S B) {Started : ℕ → S → Type 0} (g n :
       go q z (Some w) None h k t = absurd t
       go q z None (Some v) h k t = absurd t
 
-  did_gone : (d : Deed B) (a b : ℕ → Option (ProcessState S B)) (out : List (Letter B)) → Well y Started g a → Did y g d a b out → Gone y g n a b (arrivals (d ∷ [])) out
-  did_gone (Arrival l) a b out well d =
+  did_gone : (way : Way) (d : Deed B) (a b : ℕ → Option (ProcessState S B)) (out : List (Letter B)) → Well y Started g a → Did y g way d a b out → Gone y g n a b (arrivals (d ∷ [])) out
+  did_gone way (Arrival l) a b out well d =
       let p : ℕ = l.event.to in
       let x = d.0 in let z = d.1 in let s = d.2 in
       gone_one a b p _ x z (l ∷ []) out well s
-      (arrival_keeps y g p rule x z l out (well.started p x s.was) (well.sound p x s.was) (record { valid = d.3.valid; here = refl }) d.3.from s.by)
+      (arrival_keeps y g p rule way x z l out (well.started p x s.was) (well.sound p x s.was) (record { valid = d.3.valid; here = refl }) d.3.from s.by)
       (refl, tt)
-  did_gone (Undoing p) a b out well d =
+  did_gone way (Undoing p) a b out well d =
       let x = d.0 in let z = d.1 in let s = d.2 in
-      gone_one a b p _ x z [] out well s (kept_of y g p x z [] out (undo_one y p x) s.by (rule.undoes p x (well.started p x s.was) (well.sound p x s.was))) tt
-  did_gone (Execution p) a b out well d =
+      gone_one a b p _ x z [] out well s (kept_of y g p x z [] out (undo_by way y p x) s.by (rule.undoes way p x (well.started p x s.was) (well.sound p x s.was))) tt
+  did_gone way (Execution p) a b out well d =
       let x = d.0 in let z = d.1 in let s = d.2 in
       gone_one a b p _ x z [] out well s (kept_of y g p x z [] out (execute_next y p x) s.by (rule.executes p x (well.started p x s.was) (well.sound p x s.was))) tt
 
@@ -171,10 +172,10 @@ module _ {S B : Type 0} (y : System S B) {Started : ℕ → S → Type 0} (g n :
   arrivals_more (Undoing p) ds = refl
   arrivals_more (Execution p) ds = refl
 
-  pub goes_gone : (ds : List (Deed B)) (a b : ℕ → Option (ProcessState S B)) (given : List (Letter B)) → Well y Started g a → Goes y g ds a b given → Gone y g n a b (arrivals ds) given
-  goes_gone [] a b given well go = subst (λ c. Gone y g n a c [] given) (sym go.0) (subst (λ ls. Gone y g n a a [] ls) (sym go.1) (gone_none a well))
-  goes_gone (d ∷ ds) a b given well go =
+  pub goes_gone : (way : Way) (ds : List (Deed B)) (a b : ℕ → Option (ProcessState S B)) (given : List (Letter B)) → Well y Started g a → Goes y g way ds a b given → Gone y g n a b (arrivals ds) given
+  goes_gone way [] a b given well go = subst (λ c. Gone y g n a c [] given) (sym go.0) (subst (λ ls. Gone y g n a a [] ls) (sym go.1) (gone_none a well))
+  goes_gone way (d ∷ ds) a b given well go =
       let c = go.0 in
-      let one = did_gone d a c go.1 well go.3 in
-      let rest = goes_gone ds c b go.2 (well_after a c (arrivals (d ∷ [])) go.1 well one) go.4 in
+      let one = did_gone way d a c go.1 well go.3 in
+      let rest = goes_gone way ds c b go.2 (well_after a c (arrivals (d ∷ [])) go.1 well one) go.4 in
       subst (λ ls. Gone y g n a b ls given) (arrivals_more d ds) (subst (λ ls. Gone y g n a b (arrivals (d ∷ []) ++ arrivals ds) ls) (sym go.5) (gone_more a c b (arrivals (d ∷ [])) go.1 (arrivals ds) go.2 one rest))

@@ -15,10 +15,11 @@ use Rattle.rw_vt.specs.System.{System, system, IsReady}
 use Rattle.rw_vt.proofs.Sorting.{IsExactOrder}
 use Rattle.rw_vt.proofs.Runs.{IsLawful}
 use Rattle.rw_vt.proofs.Laws.{lawful}
-use Rattle.rw_lp.specs.Process.{ProcessState, Turn, Turned, Stays, execute_least, execute_next, split_last, undo_last, undo_one, deliver}
+use Rattle.rw_lp.specs.Process.{ProcessState, Turn, Turned, Stays, execute_least, execute_next, split_last, undo_last, undo_one, undo_last_lazily, undo_lazily, deliver}
+use Rattle.rw_lp.specs.Arrival.{Way, Cancelling, Holding, undo_by}
 use Rattle.rw_lp.specs.Calls.{rules}
 use Rattle.rw_lp.specs.Sound.{Stands, IsHeldFor, SoundAt, Keeps}
-use Rattle.rw_lp.proofs.Cited.{execute_keeps, undo_keeps, deliver_keeps}
+use Rattle.rw_lp.proofs.Cited.{execute_keeps, undo_keeps, undo_lazily_keeps, deliver_keeps}
 use Rattle.rw_rounds.proofs.ByPlace.{get_within}
 
 -- what a trait bound gives of a model
@@ -35,7 +36,7 @@ pub record Governs {S B : Type 0} (y : System S B) (Started : ℕ → S → Type
   pub by_time : (e f : Event B) → AtMost y.order e f → e.time ≤ f.time
   pub in_range : (p : ℕ) (s : S) → Started p s → p < n
   pub executes : (p : ℕ) (x : ProcessState S B) → Started p x.start → SoundAt y g p x → Keeps y g p x [] (execute_next y p x)
-  pub undoes : (p : ℕ) (x : ProcessState S B) → Started p x.start → SoundAt y g p x → Keeps y g p x [] (undo_one y p x)
+  pub undoes : (way : Way) (p : ℕ) (x : ProcessState S B) → Started p x.start → SoundAt y g p x → Keeps y g p x [] (undo_by way y p x)
   pub delivers : (p : ℕ) (x : ProcessState S B) (l : Letter B) → Started p x.start → SoundAt y g p x → Stands y p l.event → g ≤ l.event.time → Keeps y g p x (l ∷ []) (deliver y.order l x)
 
 module _ {M S B U : Type 0} (model : Ghosts M S B U) (order : B → B → Ordering) (m : M) (starts : List S) where
@@ -51,6 +52,13 @@ module _ {M S B U : Type 0} (model : Ghosts M S B U) (order : B → B → Orderi
   undo_by_rules p x = go (split_last x.processed)
     where
       go : (o : Option (List (Event B) × Event B)) → undo_last (system model order m starts []) p x o ≡ undo_last (rules model order m) p x o
+      go None = refl
+      go (Some r) = refl
+
+  lazily_by_rules : (p : ℕ) (x : ProcessState S B) → undo_lazily (system model order m starts []) p x ≡ undo_lazily (rules model order m) p x
+  lazily_by_rules p x = go (split_last x.processed)
+    where
+      go : (o : Option (List (Event B) × Event B)) → undo_last_lazily (system model order m starts []) p x o ≡ undo_last_lazily (rules model order m) p x o
       go None = refl
       go (Some r) = refl
 
@@ -98,6 +106,11 @@ module _ {M S B U : Type 0} (model : Ghosts M S B U) (order : B → B → Orderi
     letters = record { valid = k.letters.valid; from = k.letters.from };
   }
 
+  -- what is undone that way
+  undoing_keeps : {WellFormed : ℕ → S → Type 0} (law : IsLawful (system model order m starts []) WellFormed) (g : ℕ) (way : Way) (p : ℕ) (x : ProcessState S B) → WellFormed p x.start → SoundAt (rules model order m) g p x → Keeps (rules model order m) g p x [] (undo_by way (rules model order m) p x)
+  undoing_keeps law g Cancelling p x start sound = keeps_without g p x [] (undo_one (rules model order m) p x) (subst (Keeps (system model order m starts []) g p x []) (undo_by_rules p x) (undo_keeps (system model order m starts []) law g p x start (sound_with g p x sound)))
+  undoing_keeps law g Holding p x start sound = keeps_without g p x [] (undo_lazily (rules model order m) p x) (subst (Keeps (system model order m starts []) g p x []) (lazily_by_rules p x) (undo_lazily_keeps (system model order m starts []) law g p x start (sound_with g p x sound)))
+
   pub governs : Laws model order → IsReady model m starts [] → (g : ℕ) → Governs (rules model order m) (λ p s. slice_get starts p ≡ Some s) g (model.process_count m)
   governs laws ready g =
       let y : System S B = system model order m starts [] in
@@ -107,6 +120,6 @@ module _ {M S B U : Type 0} (model : Ghosts M S B U) (order : B → B → Orderi
         by_time = law.by_time;
         in_range = λ p s there. subst (λ n. p < n) ready.enough (get_within starts p s there);
         executes = λ p x there sound. keeps_without g p x [] (execute_next (rules model order m) p x) (subst (Keeps y g p x []) (execute_by_rules p x) (execute_keeps y law g p x (law.starts p x.start there) (sound_with g p x sound)));
-        undoes = λ p x there sound. keeps_without g p x [] (undo_one (rules model order m) p x) (subst (Keeps y g p x []) (undo_by_rules p x) (undo_keeps y law g p x (law.starts p x.start there) (sound_with g p x sound)));
+        undoes = λ way p x there sound. undoing_keeps law g way p x (law.starts p x.start there) sound;
         delivers = λ p x l there sound stands from. keeps_without g p x (l ∷ []) (deliver (event_cmp order) l x) (deliver_keeps y law g p x (law.starts p x.start there) (sound_with g p x sound) l (record { valid = stands.valid; here = stands.here }) from);
       }

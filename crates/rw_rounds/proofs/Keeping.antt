@@ -3,8 +3,8 @@ use Rattle.std.proofs.Common.{◌≡◌, ℕ, zero, suc, ◌≤◌, List, [], �
 use Rattle.rw_vt.specs.declared.event.Letter.{Letter}
 use Rattle.rw_vt.specs.System.{System}
 use Rattle.rw_vt.proofs.Letters.{messages-append, antis-append}
-use Rattle.rw_lp.specs.Process.{ProcessState, Turn, Turned, Stays, undo_one, deliver}
-use Rattle.rw_lp.specs.Arrival.{with_out, and_undo, undo_times, Arrived}
+use Rattle.rw_lp.specs.Process.{ProcessState, Turn, Turned, Stays, deliver}
+use Rattle.rw_lp.specs.Arrival.{Way, undo_by, with_out, and_undo, undo_times, ArrivedBy}
 use Rattle.rw_lp.specs.Sound.{Stands, SoundAt, Kept, Keeps}
 use Rattle.rw_lp.proofs.Cited.{no_letters, letters_join}
 use Rattle.rw_rounds.proofs.Governing.{Governs}
@@ -33,16 +33,16 @@ module _ {S B : Type 0} (y : System S B) (g p : ℕ) where
     then_keeps x z out a (Stays fault) k = tt
     then_keeps x z out a (Turned u more) k = kept_more x z u [] out [] more a k
 
-    and_keeps : (x : ProcessState S B) → Started p x.start → (t : Turn S B) → Keeps y g p x [] t → Keeps y g p x [] (and_undo y p t)
-    and_keeps x started (Stays fault) k = tt
-    and_keeps x started (Turned z out) k = then_keeps x z out k (undo_one y p z) (rule.undoes p z (subst (Started p) (sym k.change.start) started) k.sound)
+    and_keeps : (way : Way) (x : ProcessState S B) → Started p x.start → (t : Turn S B) → Keeps y g p x [] t → Keeps y g p x [] (and_undo (undo_by way y p) t)
+    and_keeps way x started (Stays fault) k = tt
+    and_keeps way x started (Turned z out) k = then_keeps x z out k (undo_by way y p z) (rule.undoes way p z (subst (Started p) (sym k.change.start) started) k.sound)
 
-    undoings_keep : (k : ℕ) (x : ProcessState S B) → Started p x.start → SoundAt y g p x → Keeps y g p x [] (undo_times y p k x)
-    undoings_keep zero x started sound = kept_none x sound
-    undoings_keep (suc k) x started sound = and_keeps x started (undo_times y p k x) (undoings_keep k x started sound)
+    undoings_keep : (way : Way) (k : ℕ) (x : ProcessState S B) → Started p x.start → SoundAt y g p x → Keeps y g p x [] (undo_times (undo_by way y p) k x)
+    undoings_keep way zero x started sound = kept_none x sound
+    undoings_keep way (suc k) x started sound = and_keeps way x started (undo_times (undo_by way y p) k x) (undoings_keep way k x started sound)
 
-    pub arrival_keeps : (x z : ProcessState S B) (l : Letter B) (given : List (Letter B)) → Started p x.start → SoundAt y g p x → Stands y p l.event → g ≤ l.event.time → Arrived y p l x z given → Kept y g p x z (l ∷ []) given
-    arrival_keeps x z l given started sound stands from a =
-        let first : Kept y g p x a.between [] a.unsent = kept_of x a.between [] a.unsent (undo_times y p a.count x) a.undone (undoings_keep a.count x started sound) in
+    pub arrival_keeps : (way : Way) (x z : ProcessState S B) (l : Letter B) (given : List (Letter B)) → Started p x.start → SoundAt y g p x → Stands y p l.event → g ≤ l.event.time → ArrivedBy way y p l x z given → Kept y g p x z (l ∷ []) given
+    arrival_keeps way x z l given started sound stands from a =
+        let first : Kept y g p x a.between [] a.unsent = kept_of x a.between [] a.unsent (undo_times (undo_by way y p) a.count x) a.undone (undoings_keep way a.count x started sound) in
         let then_ : Kept y g p a.between z (l ∷ []) a.rest = kept_of a.between z (l ∷ []) a.rest (deliver y.order l a.between) a.delivered (rule.delivers p a.between l (subst (Started p) (sym first.change.start) started) first.sound stands from) in
         subst (Kept y g p x z (l ∷ [])) (sym a.all) (kept_more x a.between z [] a.unsent (l ∷ []) a.rest first then_)

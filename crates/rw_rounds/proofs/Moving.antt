@@ -12,7 +12,8 @@ use Rattle.rw_lp.specs.declared.step.Answer.{Answer}
 use Rattle.rw_lp.specs.declared.step.Answer.TheVariants.{Done, Refused}
 use Rattle.rw_lp.specs.declared.step.StepFault.TheVariants.{Straggler}
 use Rattle.rw_lp.specs.HeldMessages.{unheld_sends}
-use Rattle.rw_lp.specs.Process.{ProcessState, Turn, Turned, Stays, done, split_last, is_less_than_last, execute_event, execute_least, execute_next, undo_last, undo_one}
+use Rattle.rw_lp.specs.Process.{ProcessState, Turn, Turned, Stays, done, split_last, is_less_than_last, execute_event, execute_least, execute_next, undo_last, undo_last_lazily}
+use Rattle.rw_lp.specs.Arrival.{Way, Cancelling, Holding, undo_by}
 use Rattle.rw_lp.specs.Calls.{LogicalProcess, rules, Took}
 use Rattle.rw_lp.specs.Sound.{HasCollected}
 use Rattle.rw_lp.proofs.Cited.{IsSplit, split_is}
@@ -60,25 +61,30 @@ module _ {S B : Type 0} (y : System S B) (p : ℕ) where
             go true k h = least e rest q (split_last x.committed) (split_is x.committed) (ap (λ l. is_less_than_last y.order e (split_last l)) (sym all) ∙ k)
             go false k h = cc
 
-    pub undone : (g : ℕ) (x z : ProcessState S B) (a : Answer) (given : List (Letter B)) → HasCollected y.order g x → execute_next y p x ≡ Stays Straggler → Took x z a given (undo_one y p x) → undo_one y p x ≡ Turned z given
-    undone g x z a given collected refused took = go (split_last x.processed) (split_is x.processed) took
+    pub undone : (way : Way) (g : ℕ) (x z : ProcessState S B) (a : Answer) (given : List (Letter B)) → HasCollected y.order g x → execute_next y p x ≡ Stays Straggler → Took x z a given (undo_by way y p x) → undo_by way y p x ≡ Turned z given
+    undone Holding g x z a given collected refused took = go (split_last x.processed) (split_is x.processed) took
+      where
+        go : (r : Option (List (Event B) × Event B)) → IsSplit x.processed r → Took x z a given (undo_last_lazily y p x r) → undo_last_lazily y p x r ≡ Turned z given
+        go None q k = absurd (never_stuck g x collected refused q)
+        go (Some r) q k = taken x z a given (undo_last_lazily y p x (Some r)) k.1 k
+    undone Cancelling g x z a given collected refused took = go (split_last x.processed) (split_is x.processed) took
       where
         go : (r : Option (List (Event B) × Event B)) → IsSplit x.processed r → Took x z a given (undo_last y p x r) → undo_last y p x r ≡ Turned z given
         go None q k = absurd (never_stuck g x collected refused q)
         go (Some r) q k = taken x z a given (undo_last y p x (Some r)) k.1 k
 
 -- the same from what the code knows: an execution that was refused, and then an undoing
-module _ {M S B U : Type 0} (model : Ghosts M S B U) (order : B → B → Ordering) (o : IsExactOrder (event_cmp order)) (x z u : LogicalProcess M S B) (a b : Answer) (given more old mid new : List (Letter B)) where
+module _ {M S B U : Type 0} (model : Ghosts M S B U) (order : B → B → Ordering) (o : IsExactOrder (event_cmp order)) (x z u : LogicalProcess M S B) (a b : Answer) (given more old mid new : List (Letter B)) (way : Way) where
   pub moved_undone : (x.process.pending ≡ [] → ⊥) → (g : ℕ) → HasCollected (event_cmp order) g x.process → (a ≡ Done → ⊥) → (z.model ≡ x.model) × (z.number ≡ x.number) →
       mid ≡ old ++ given → Took x.process z.process a given (execute_next (rules model order x.model) x.number x.process) →
-      new ≡ mid ++ more → Took z.process u.process b more (undo_one (rules model order z.model) z.number z.process) →
-      (gone : List (Letter B)) × (new ≡ old ++ gone) × Moved (rules model order x.model) x.number x.process u.process false gone
+      new ≡ mid ++ more → Took z.process u.process b more (undo_by way (rules model order z.model) z.number z.process) →
+      (gone : List (Letter B)) × (new ≡ old ++ gone) × Moved (rules model order x.model) way x.number x.process u.process false gone
   moved_undone some g collected refused same first took second then_ =
       let l = late (rules model order x.model) x.number x.process z.process a given some refused took in
-      let by_model = subst (λ k. Took z.process u.process b more (undo_one (rules model order k) z.number z.process)) same.0 then_ in
-      let by_number = subst (λ k. Took z.process u.process b more (undo_one (rules model order x.model) k z.process)) same.1 by_model in
-      let here = subst (λ k. Took k u.process b more (undo_one (rules model order x.model) x.number k)) l.1 by_number in (
+      let by_model = subst (λ k. Took z.process u.process b more (undo_by way (rules model order k) z.number z.process)) same.0 then_ in
+      let by_number = subst (λ k. Took z.process u.process b more (undo_by way (rules model order x.model) k z.process)) same.1 by_model in
+      let here = subst (λ k. Took k u.process b more (undo_by way (rules model order x.model) x.number k)) l.1 by_number in (
         more,
         second ∙ ap (λ k. k ++ more) (first ∙ ap (λ k. old ++ k) l.2 ∙ append-nil old),
-        (undone (rules model order x.model) x.number o (time_at_most order) g x.process u.process b more collected l.0 here, l.0),
+        (undone (rules model order x.model) x.number o (time_at_most order) way g x.process u.process b more collected l.0 here, l.0),
       )

@@ -1,12 +1,11 @@
 -- A round keeps the parts whole, and what the board gave may be collected.
 use Rattle.std.proofs.Common.{◌≡◌, ℕ, ◌^◌, ◌<◌, ◌≤◌, max, true, List, [], ◌∷◌, ◌++◌, map, refl, sym, ap, ◌∙◌, subst, arith, Option, Some, None}
-use Rattle.std.specs.Prelude.{◌↔◌, ◌/◌, ◌%◌, nat_le, slice_get}
+use Rattle.std.specs.Prelude.{◌/◌, ◌%◌, nat_le, slice_get}
 use Rattle.std.specs.Option.{option_map}
 use Rattle.std.specs.declared.cmp.Ordering.{Ordering}
 use Rattle.std.proofs.lemmas.Bool.{le-leb}
 use Rattle.std.proofs.lemmas.Option.{slice_get-map}
 use Rattle.rw_vt.specs.declared.event.Event.{Event}
-use Rattle.rw_vt.specs.declared.event.Letter.{Letter}
 use Rattle.rw_vt.specs.declared.model.Model.{Ghosts}
 use Rattle.rw_vt.specs.System.{Setting, system, journal_below, IsReady}
 use Rattle.rw_lp.specs.declared.step.Answer.TheVariants.{Done}
@@ -16,7 +15,6 @@ use Rattle.rw_lp.specs.Process.{ProcessState}
 use Rattle.rw_lp.specs.Calls as lp
 use Rattle.rw_lp.specs.Calls.{LogicalProcess}
 use Rattle.rw_world.specs.declared.parts.Parts.{Parts}
-use Rattle.rw_world.specs.declared.step.Step.{Step}
 use Rattle.rw_world.specs.declared.step.Step.TheVariants.{Collect}
 use Rattle.rw_world.specs.WorldState.{WorldState, least_of_processes, least_of_letters, floor}
 use Rattle.rw_world.specs.Steps.{apply}

@@ -6,12 +6,12 @@ use Rattle.std.proofs.lemmas.Bool.{cases_eq, eqb-true}
 use Rattle.rw_vt.specs.declared.event.Letter.{Letter}
 use Rattle.rw_vt.specs.declared.model.Model.{Ghosts}
 use Rattle.rw_vt.specs.Order.{event_cmp, Each, AtMost}
-use Rattle.rw_lp.specs.Process.{ProcessState, Turned, Stays, execute_next, undo_one}
+use Rattle.rw_lp.specs.Process.{ProcessState, Turned, Stays, execute_next}
 use Rattle.rw_lp.specs.Calls.{LogicalProcess, rules}
-use Rattle.rw_lp.specs.Arrival.{Arrived}
+use Rattle.rw_lp.specs.Arrival.{undo_by, ArrivedBy}
 use Rattle.rw_lp.specs.Sound.{SoundAt, HasCollected, Kept}
 use Rattle.rw_rounds.specs.Bags.{Every}
-use Rattle.rw_rounds.specs.Deeds.{Arrival, Undoing, Execution, Stepped, IsFair, IsLeast}
+use Rattle.rw_rounds.specs.Deeds.{Arrival, Undoing, Execution, Stepped, IsFair, IsLeast, way_of}
 use Rattle.rw_rounds.specs.Turns.{Role, WorkerState, is_own, process_at, IsInPlace, IsFit}
 use Rattle.rw_rounds.specs.Working.{IsFitAndSound, Works, Moved, IsNext, size, sizes, dones}
 use Rattle.rw_rounds.proofs.ByPlace.{get_set-same, get_set-other, length_set, at_place, place_of, set_here, set_elsewhere, number_place}
@@ -72,7 +72,7 @@ module _ {M S B U : Type 0} {model : Ghosts M S B U} {order : B → B → Orderi
   as_many : length b.processes ≡ length a.processes
   as_many = ap length set ∙ length_set a.processes place z
 
-  module _ (letter : Letter B) (fair : IsFair (rules model order m) a.role.collected letter) (own : is_own a.role letter ≡ true) (at : place ≡ letter.event.to / a.role.plan.workers) (given : List (Letter B)) (arrived : Arrived (rules model order l.model) l.number letter l.process z.process given) where
+  module _ (letter : Letter B) (fair : IsFair (rules model order m) a.role.collected letter) (own : is_own a.role letter ≡ true) (at : place ≡ letter.event.to / a.role.plan.workers) (given : List (Letter B)) (arrived : ArrivedBy (way_of a.role.plan.lazy) (rules model order l.model) l.number letter l.process z.process given) where
     owned : letter.event.to % a.role.plan.workers ≡ a.role.number
     owned = eqb-true (letter.event.to % a.role.plan.workers) a.role.number own
 
@@ -82,31 +82,31 @@ module _ {M S B U : Type 0} {model : Ghosts M S B U} {order : B → B → Orderi
     number_is : l.number ≡ letter.event.to
     number_is = stands.number ∙ sym to_is
 
-    by_model : Arrived (rules model order m) l.number letter l.process z.process given
-    by_model = subst (λ k. Arrived (rules model order k) l.number letter l.process z.process given) stands.model_is arrived
+    by_model : ArrivedBy (way_of a.role.plan.lazy) (rules model order m) l.number letter l.process z.process given
+    by_model = subst (λ k. ArrivedBy (way_of a.role.plan.lazy) (rules model order k) l.number letter l.process z.process given) stands.model_is arrived
 
     pub works_arrival : (old new : List (Letter B)) → new ≡ old ++ given → Works (rules model order m) a.role a b (old ++ letter ∷ []) new 0
     works_arrival old new is =
         subst (λ ls. Works (rules model order m) a.role a b (old ++ letter ∷ []) ls 0) (sym is)
         (works_deed (rules model order m) a.role a b refl same_role inbox (Arrival letter) given old as_many
-        (l.process, z.process, stepped a.role up.fit.number a.processes b.processes place l z there set letter.event.to _ given to_is (subst (λ p. Arrived (rules model order m) p letter l.process z.process given) number_is by_model), fair)
+        (l.process, z.process, stepped a.role up.fit.number a.processes b.processes place l z there set letter.event.to _ given to_is (subst (λ p. ArrivedBy (way_of a.role.plan.lazy) (rules model order m) p letter l.process z.process given) number_is by_model), fair)
         (own, tt) kept aside port seat (named_set a.role up.fit.number a.processes b.processes place l z there set same))
 
     pub arrival_fair : Every (IsFair (rules model order m) a.role.collected) given
     arrival_fair =
-        let kept_here = arrival_keeps (rules model order m) a.role.collected l.number rule_here l.process z.process letter given stands.start sound_here (record { valid = fair.valid; here = sym number_is }) fair.from by_model in
+        let kept_here = arrival_keeps (rules model order m) a.role.collected l.number rule_here (way_of a.role.plan.lazy) l.process z.process letter given stands.start sound_here (record { valid = fair.valid; here = sym number_is }) fair.from by_model in
         fair_letters (rules model order m) a.role.collected (model.process_count m) rule_here given kept_here.letters
 
     pub arrival_sizes : sizes (rules model order m) b.processes + length given ≤ sizes (rules model order m) a.processes
     arrival_sizes =
-        let f = arrival_falls (rules model order m) l.number letter l.process z.process given by_model in
+        let f = arrival_falls (rules model order m) l.number (way_of a.role.plan.lazy) letter l.process z.process given by_model in
         let s = sizes_set (rules model order m) place a.processes l z there in
         let now : size (rules model order m) z ≡ size (rules model order m) (record z { number = l.number }) = ap (λ p. size (rules model order m) (record z { number = p })) same.1 in
         omega (arith, f.0, ap (sizes (rules model order m)) set)
 
     pub arrival_dones : dones b.processes ≤ dones a.processes
     arrival_dones =
-        let f = arrival_falls (rules model order m) l.number letter l.process z.process given by_model in
+        let f = arrival_falls (rules model order m) l.number (way_of a.role.plan.lazy) letter l.process z.process given by_model in
         omega (arith, f.1, dones_set a.processes place l z there, ap dones set)
 
   -- what is next is the least of all
@@ -121,13 +121,13 @@ module _ {M S B U : Type 0} {model : Ghosts M S B U} {order : B → B → Orderi
       (subst (λ d. Each (rules model order m).order (λ g. AtMost (rules model order m).order d g) f.0.process.pending) same_event (next.least (q / a.role.plan.workers) f.0 f.1))
 
   module _ (bound : ℕ) (next : IsNext (rules model order m) bound a.processes place) (given : List (Letter B)) where
-    executed_by : Moved (rules model order l.model) l.number l.process z.process true given → execute_next (rules model order m) l.number l.process ≡ Turned z.process given
+    executed_by : Moved (rules model order l.model) (way_of a.role.plan.lazy) l.number l.process z.process true given → execute_next (rules model order m) l.number l.process ≡ Turned z.process given
     executed_by moved = subst (λ k. execute_next (rules model order k) l.number l.process ≡ Turned z.process given) stands.model_is moved
 
-    undone_by : Moved (rules model order l.model) l.number l.process z.process false given → (undo_one (rules model order m) l.number l.process ≡ Turned z.process given) × (execute_next (rules model order m) l.number l.process ≡ Stays Rattle.rw_lp.specs.declared.step.StepFault.TheVariants.Straggler)
-    undone_by moved = subst (λ k. (undo_one (rules model order k) l.number l.process ≡ Turned z.process given) × (execute_next (rules model order k) l.number l.process ≡ Stays Rattle.rw_lp.specs.declared.step.StepFault.TheVariants.Straggler)) stands.model_is moved
+    undone_by : Moved (rules model order l.model) (way_of a.role.plan.lazy) l.number l.process z.process false given → (undo_by (way_of a.role.plan.lazy) (rules model order m) l.number l.process ≡ Turned z.process given) × (execute_next (rules model order m) l.number l.process ≡ Stays Rattle.rw_lp.specs.declared.step.StepFault.TheVariants.Straggler)
+    undone_by moved = subst (λ k. (undo_by (way_of a.role.plan.lazy) (rules model order k) l.number l.process ≡ Turned z.process given) × (execute_next (rules model order k) l.number l.process ≡ Stays Rattle.rw_lp.specs.declared.step.StepFault.TheVariants.Straggler)) stands.model_is moved
 
-    pub works_moved : (executed : Bool) → Moved (rules model order l.model) l.number l.process z.process executed given → Works (rules model order m) a.role a b [] given (cond executed 1 0)
+    pub works_moved : (executed : Bool) → Moved (rules model order l.model) (way_of a.role.plan.lazy) l.number l.process z.process executed given → Works (rules model order m) a.role a b [] given (cond executed 1 0)
     works_moved true moved =
         works_deed (rules model order m) a.role a b refl same_role inbox (Execution l.number) given [] as_many
         (l.process, z.process, stepped a.role up.fit.number a.processes b.processes place l z there set l.number _ given stands.number (executed_by moved), next_is_least bound next)
@@ -137,19 +137,19 @@ module _ {M S B U : Type 0} {model : Ghosts M S B U} {order : B → B → Orderi
         (l.process, z.process, stepped a.role up.fit.number a.processes b.processes place l z there set l.number _ given stands.number (undone_by moved).0, (undone_by moved).1)
         tt kept aside port seat (named_set a.role up.fit.number a.processes b.processes place l z there set same)
 
-    pub moved_fair : (executed : Bool) → Moved (rules model order l.model) l.number l.process z.process executed given → Every (IsFair (rules model order m) a.role.collected) given
+    pub moved_fair : (executed : Bool) → Moved (rules model order l.model) (way_of a.role.plan.lazy) l.number l.process z.process executed given → Every (IsFair (rules model order m) a.role.collected) given
     moved_fair true moved =
         let k : Kept (rules model order m) a.role.collected l.number l.process z.process [] given = kept_of (rules model order m) a.role.collected l.number l.process z.process [] given (execute_next (rules model order m) l.number l.process) (executed_by moved) (rule_here.executes l.number l.process stands.start sound_here) in
         fair_letters (rules model order m) a.role.collected (model.process_count m) rule_here given k.letters
     moved_fair false moved =
-        let k : Kept (rules model order m) a.role.collected l.number l.process z.process [] given = kept_of (rules model order m) a.role.collected l.number l.process z.process [] given (undo_one (rules model order m) l.number l.process) (undone_by moved).0 (rule_here.undoes l.number l.process stands.start sound_here) in
+        let k : Kept (rules model order m) a.role.collected l.number l.process z.process [] given = kept_of (rules model order m) a.role.collected l.number l.process z.process [] given (undo_by (way_of a.role.plan.lazy) (rules model order m) l.number l.process) (undone_by moved).0 (rule_here.undoes (way_of a.role.plan.lazy) l.number l.process stands.start sound_here) in
         fair_letters (rules model order m) a.role.collected (model.process_count m) rule_here given k.letters
 
-    pub executed_dones : Moved (rules model order l.model) l.number l.process z.process true given → dones b.processes ≡ dones a.processes + 1
+    pub executed_dones : Moved (rules model order l.model) (way_of a.role.plan.lazy) l.number l.process z.process true given → dones b.processes ≡ dones a.processes + 1
     executed_dones moved = omega (arith, execute_counts (rules model order m) l.number l.process z.process given (executed_by moved), dones_set a.processes place l z there, ap dones set)
 
-    pub undone_dones : Moved (rules model order l.model) l.number l.process z.process false given → dones b.processes + 1 ≡ dones a.processes
-    undone_dones moved = omega (arith, undo_counts (rules model order m) l.number l.process z.process given (undone_by moved).0, dones_set a.processes place l z there, ap dones set)
+    pub undone_dones : Moved (rules model order l.model) (way_of a.role.plan.lazy) l.number l.process z.process false given → dones b.processes + 1 ≡ dones a.processes
+    undone_dones moved = omega (arith, undo_counts (rules model order m) l.number (way_of a.role.plan.lazy) l.process z.process given (undone_by moved).0, dones_set a.processes place l z there, ap dones set)
 
 -- where an own letter goes
 module _ {M S B U : Type 0} {model : Ghosts M S B U} {order : B → B → Ordering} (laws : Laws model order) (m : M) (a : WorkerState M S B) (fit : IsFit model order m a) (letter : Letter B) (fair : IsFair (rules model order m) a.role.collected letter) (own : is_own a.role letter ≡ true) where

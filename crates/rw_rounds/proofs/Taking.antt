@@ -4,7 +4,7 @@ use Rattle.rw_vt.specs.Order.{Each}
 use Rattle.rw_vt.specs.System.{System}
 use Rattle.rw_lp.specs.Process.{ProcessState}
 use Rattle.rw_rounds.specs.Bags.{Every}
-use Rattle.rw_rounds.specs.Deeds.{Goes}
+use Rattle.rw_rounds.specs.Deeds.{Goes, way_of}
 use Rattle.rw_rounds.specs.Turns.{WorkerState, is_own, process_at, TookTurn}
 use Rattle.rw_rounds.specs.Working.{Works, HeldBack}
 use Rattle.rw_rounds.proofs.ByPlace.{place_of}
@@ -21,7 +21,7 @@ module _ {M S B : Type 0} (y : System S B) (a z : WorkerState M S B) (n : ℕ) w
     sent = w.sent;
     received = w.received;
     noted = w.noted;
-    goes = subst (λ k. Goes y a.role.collected w.deeds (process_at a.role a.processes) (process_at k z.processes) w.given) (sym w.after) w.goes;
+    goes = subst (λ k. Goes y a.role.collected (way_of a.role.plan.lazy) w.deeds (process_at a.role a.processes) (process_at k z.processes) w.given) (sym w.after) w.goes;
     emptied = w.inbox;
     sent_more = w.sent_more;
     received_more = w.received_more;

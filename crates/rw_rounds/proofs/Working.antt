@@ -6,7 +6,7 @@ use Rattle.rw_vt.specs.declared.event.Letter.{Letter}
 use Rattle.rw_vt.specs.System.{System}
 use Rattle.rw_exchange.specs.Ports.{sent_to, received_from}
 use Rattle.rw_rounds.specs.Bags.{weigh, only, Every, sum_below}
-use Rattle.rw_rounds.specs.Deeds.{IsFair, Goes, arrivals}
+use Rattle.rw_rounds.specs.Deeds.{IsFair, Goes, arrivals, way_of}
 use Rattle.rw_rounds.specs.Turns.{Role, WorkerState, owner, is_own, is_accepted, process_at, TookTurn, TookTurns}
 use Rattle.rw_rounds.specs.Rounds.{Closes}
 use Rattle.rw_rounds.proofs.Governing.{Governs}
@@ -66,8 +66,8 @@ module _ {S B : Type 0} (y : System S B) where
     module _ (a b : WorkerState M S B) (executed : ℕ) (up : IsConsistent Started a.role a) (t : TookTurn y a b executed) where
       gone : Gone y a.role.collected n (process_at a.role a.processes) (process_at a.role b.processes) (arrivals t.deeds) t.given
       gone =
-          goes_gone y a.role.collected n (rule a.role.collected) t.deeds (process_at a.role a.processes) (process_at a.role b.processes) t.given up.well
-          (subst (λ k. Goes y a.role.collected t.deeds (process_at a.role a.processes) (process_at k b.processes) t.given) t.role t.goes)
+          goes_gone y a.role.collected n (rule a.role.collected) (way_of a.role.plan.lazy) t.deeds (process_at a.role a.processes) (process_at a.role b.processes) t.given up.well
+          (subst (λ k. Goes y a.role.collected (way_of a.role.plan.lazy) t.deeds (process_at a.role a.processes) (process_at k b.processes) t.given) t.role t.goes)
 
       own_worked : Worked n a.role a b
       own_worked = record {

@@ -1,12 +1,12 @@
 -- What one worker's processes do, one deed after another, and what they give out.
-use Rattle.std.specs.Prelude.{◌≡◌, suc, ◌≤◌, true, List, [], ◌∷◌, ◌++◌, Option, Some}
+use Rattle.std.specs.Prelude.{◌≡◌, suc, ◌≤◌, Bool, true, false, List, [], ◌∷◌, ◌++◌, Option, Some}
 use Rattle.rw_vt.specs.Words.{Count, Process, Time}
 use Rattle.rw_vt.specs.declared.event.Event.{Event}
 use Rattle.rw_vt.specs.declared.event.Letter.{Letter}
 use Rattle.rw_vt.specs.Order.{AtMost, Each}
 use Rattle.rw_vt.specs.System.{System}
-use Rattle.rw_lp.specs.Process.{ProcessState, Turned, Stays, execute_next, undo_one}
-use Rattle.rw_lp.specs.Arrival.{Arrived}
+use Rattle.rw_lp.specs.Process.{ProcessState, Turned, Stays, execute_next}
+use Rattle.rw_lp.specs.Arrival.{Way, Cancelling, Holding, undo_by, ArrivedBy}
 use Rattle.rw_lp.specs.declared.step.StepFault.TheVariants.{Straggler}
 
 pub data Deed (B : Type 0) : Type 0 where
@@ -16,6 +16,11 @@ pub data Deed (B : Type 0) : Type 0 where
   Undoing : (p : Process) → Deed B
   -- the least pending event of process p is executed
   Execution : (p : Process) → Deed B
+
+-- how a worker takes events back, where it does so lazily or not
+abbrev pub way_of : Bool → Way
+way_of false = Cancelling
+way_of true = Holding
 
 -- the processes that a worker has, by their numbers
 abbrev pub Owned : Type 0 → Type 0 → Type 0
@@ -41,26 +46,27 @@ IsLeast {S} {B} y a x = (e : Event B) (rest : List (Event B)) → x.pending ≡ 
     → (q : Process) (z : ProcessState S B) → a q ≡ Some z
     → Each y.order (λ f. AtMost y.order e f) z.pending
 
--- the deed, done by processes none of which may go back before g
-abbrev pub Did : {S B : Type 0} → System S B → Time → Deed B
+-- the deed, done by processes none of which may go back before g; what has to be undone is undone
+-- that way
+abbrev pub Did : {S B : Type 0} → System S B → Time → Way → Deed B
     → Owned S B → Owned S B → List (Letter B) → Type 0
-Did {S} {B} y g (Arrival l) a b out = (x z : ProcessState S B)
-    × Stepped l.event.to (Arrived y l.event.to l) a b x z out
+Did {S} {B} y g way (Arrival l) a b out = (x z : ProcessState S B)
+    × Stepped l.event.to (ArrivedBy way y l.event.to l) a b x z out
     × IsFair y g l
 -- an undoing, where what is next is a straggler
-Did {S} {B} y g (Undoing p) a b out = (x z : ProcessState S B)
-    × Stepped p (λ x z out. undo_one y p x ≡ Turned z out) a b x z out
+Did {S} {B} y g way (Undoing p) a b out = (x z : ProcessState S B)
+    × Stepped p (λ x z out. undo_by way y p x ≡ Turned z out) a b x z out
     × (execute_next y p x ≡ Stays Straggler)
-Did {S} {B} y g (Execution p) a b out = (x z : ProcessState S B)
+Did {S} {B} y g way (Execution p) a b out = (x z : ProcessState S B)
     × Stepped p (λ x z out. execute_next y p x ≡ Turned z out) a b x z out
     × IsLeast y a x
 
 -- the deeds lead from a to b, and give out these letters
-abbrev pub Goes : {S B : Type 0} → System S B → Time → List (Deed B)
+abbrev pub Goes : {S B : Type 0} → System S B → Time → Way → List (Deed B)
     → Owned S B → Owned S B → List (Letter B) → Type 0
-Goes y g [] a b given = (b ≡ a) × (given ≡ [])
-Goes {S} {B} y g (d ∷ ds) a b given = (c : Owned S B) × (out rest : List (Letter B))
-    × Did y g d a c out × Goes y g ds c b rest × (given ≡ out ++ rest)
+Goes y g way [] a b given = (b ≡ a) × (given ≡ [])
+Goes {S} {B} y g way (d ∷ ds) a b given = (c : Owned S B) × (out rest : List (Letter B))
+    × Did y g way d a c out × Goes y g way ds c b rest × (given ≡ out ++ rest)
 
 -- the letters that arrive
 abbrev pub arrivals : {B : Type 0} → List (Deed B) → List (Letter B)

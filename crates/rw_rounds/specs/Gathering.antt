@@ -1,6 +1,6 @@
 -- What is gathered once the workers of a round are joined: only contracts of private functions
 -- cite what stands here.
-use Rattle.std.specs.Prelude.{◌≡◌, ◌/◌, ◌%◌, ◌^◌, ◌<◌, ◌≤◌, List, [], All, length, map, slice_get, slice_index_or, Option}
+use Rattle.std.specs.Prelude.{◌≡◌, ◌/◌, ◌%◌, ◌<◌, ◌≤◌, List, [], All, length, map, slice_get, slice_index_or, Option}
 use Rattle.rw_vt.specs.Words.{Count, Process, Time}
 use Rattle.rw_vt.specs.declared.event.Letter.{Letter}
 use Rattle.rw_lp.specs.Calls.{LogicalProcess}

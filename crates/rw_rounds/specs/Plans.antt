@@ -1,5 +1,5 @@
 -- Which plans may be run.
-use Rattle.std.specs.Prelude.{◌≤◌, ◌^◌}
+use Rattle.std.specs.Prelude.{◌≤◌}
 use Rattle.rw_rounds.specs.declared.plan.Plan.{Plan}
 use Rattle.rw_vt.specs.declared.event.TheConstants.{END}
 

@@ -14,7 +14,7 @@ use Rattle.rw_exchange.specs.Ports.{PortState, SamePort, IsWide, sent_to, receiv
 use Rattle.rw_board.specs.Seats.{SeatState}
 use Rattle.rw_rounds.specs.declared.plan.Plan.{Plan}
 use Rattle.rw_rounds.specs.Bags.{weigh, only, Every, sum_below}
-use Rattle.rw_rounds.specs.Deeds.{Deed, Owned, Goes, IsFair, arrivals, executions}
+use Rattle.rw_rounds.specs.Deeds.{Deed, Owned, Goes, IsFair, arrivals, executions, way_of}
 use Rattle.rw_vt.specs.declared.event.TheConstants.{END}
 
 -- who the worker is, how it is to work, and the greatest time collected
@@ -125,7 +125,8 @@ pub record TookTurn {M S B : Type 0} (y : System S B) (a b : WorkerState M S B) 
   pub sent : Worker → List (Letter B)
   pub received : Worker → List (Letter B)
   pub noted : List Time
-  pub goes : Goes y a.role.collected deeds (processes_of a) (processes_of b) given
+  pub goes : Goes y a.role.collected (way_of a.role.plan.lazy) deeds
+      (processes_of a) (processes_of b) given
   pub emptied : b.inbox ≡ []
   pub sent_more : (k : Worker) → sent_to b.port k ≡ sent_to a.port k ++ sent k
   pub received_more : (k : Worker)

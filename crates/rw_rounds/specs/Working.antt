@@ -9,7 +9,8 @@ use Rattle.rw_vt.specs.declared.event.Letter.{Letter}
 use Rattle.rw_vt.specs.declared.model.Model.{Ghosts}
 use Rattle.rw_vt.specs.Order.{Each, AtMost}
 use Rattle.rw_vt.specs.System.{System, sends_of}
-use Rattle.rw_lp.specs.Process.{ProcessState, done, Turned, Stays, execute_next, undo_one}
+use Rattle.rw_lp.specs.Process.{ProcessState, done, Turned, Stays, execute_next}
+use Rattle.rw_lp.specs.Arrival.{Way, undo_by}
 use Rattle.rw_lp.specs.Calls.{LogicalProcess, rules}
 use Rattle.rw_lp.specs.Sound.{SoundAt}
 use Rattle.rw_lp.specs.declared.step.StepFault.TheVariants.{Straggler}
@@ -17,7 +18,7 @@ use Rattle.rw_exchange.specs.Ports.{SamePort, sent_to, received_from}
 use Rattle.rw_rounds.specs.declared.desk.Bench.{Bench}
 use Rattle.rw_rounds.specs.declared.desk.Desk.{Desk}
 use Rattle.rw_rounds.specs.Bags.{weigh, Every}
-use Rattle.rw_rounds.specs.Deeds.{Deed, Goes, IsFair, arrivals, executions}
+use Rattle.rw_rounds.specs.Deeds.{Deed, Goes, IsFair, arrivals, executions, way_of}
 use Rattle.rw_rounds.specs.Turns.{Role, WorkerState, owner, process_at, weigh_all, if_own, if_other, if_passes, if_fails, IsFit}
 use Rattle.rw_rounds.specs.Rounds.{Closes, NoneBefore}
 
@@ -62,7 +63,8 @@ pub record Works {M S B : Type 0} (y : System S B) (r : Role) (a b : WorkerState
   pub sent : Worker → List (Letter B)
   pub received : Worker → List (Letter B)
   pub noted : List Time
-  pub goes : Goes y r.collected deeds (process_at r a.processes) (process_at r b.processes) given
+  pub goes : Goes y r.collected (way_of r.plan.lazy) deeds
+      (process_at r a.processes) (process_at r b.processes) given
   pub sent_more : (k : Worker) → sent_to b.port k ≡ sent_to a.port k ++ sent k
   pub received_more : (k : Worker)
       → received_from b.port k ≡ received_from a.port k ++ received k
@@ -112,21 +114,21 @@ ClosesDesk model order m a b = Closes (rules model order m) (desk_of a) (desk_of
 
 -- Which process executes next
 
--- x executed what was next, or undid its last event where what is next is a straggler
-abbrev pub Moved : {S B : Type 0} → System S B → Process → ProcessState S B → ProcessState S B
+-- x executed what was next, or undid its last event, that way, where what is next is a straggler
+abbrev pub Moved : {S B : Type 0} → System S B → Way → Process → ProcessState S B → ProcessState S B
     → Bool → List (Letter B) → Type 0
-Moved y p x z true given = execute_next y p x ≡ Turned z given
-Moved y p x z false given =
-    (undo_one y p x ≡ Turned z given) × (execute_next y p x ≡ Stays Straggler)
+Moved y way p x z true given = execute_next y p x ≡ Turned z given
+Moved y way p x z false given =
+    (undo_by way y p x ≡ Turned z given) × (execute_next y p x ≡ Stays Straggler)
 
--- x became z by executing what was next, or by undoing its last event where that is a straggler;
--- what it gave out was appended to the letters
-abbrev pub Advances : {M S B U : Type 0} → Ghosts M S B U → (B → B → Ordering)
+-- x became z by executing what was next, or by undoing its last event, that way, where that is a
+-- straggler; what it gave out was appended to the letters
+abbrev pub Advances : {M S B U : Type 0} → Ghosts M S B U → (B → B → Ordering) → Way
     → LogicalProcess M S B → LogicalProcess M S B → Bool
     → List (Letter B) → List (Letter B) → Type 0
-Advances {M} {S} {B} model order x z executed before after =
+Advances {M} {S} {B} model order way x z executed before after =
     (given : List (Letter B)) × (after ≡ before ++ given)
-    × Moved (rules model order x.model) x.number x.process z.process executed given
+    × Moved (rules model order x.model) way x.number x.process z.process executed given
 
 -- no pending event is before the bound
 abbrev pub HeldBack : {M S B : Type 0} → System S B → Time → List (LogicalProcess M S B) → Type 0

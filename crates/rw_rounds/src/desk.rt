@@ -1,10 +1,11 @@
 ghost use Rattle.std.specs.Prelude.{◌≡◌, ◌≢◌, ◌<◌, ◌≤◌, ◌+◌, ◌∷◌, ◌++◌, [], ℕ, true, false, if◌then◌else◌, length, map, OnOk, IfOk, IfSome, IfNone};
 ghost use Rattle.std.specs.Option.{option_map};
 ghost use Rattle.rw_vt.specs.Order.{event_cmp};
-ghost use Rattle.rw_lp.specs.Calls.{rules};
+ghost use Rattle.rw_lp.specs.Arrival.{undo_by, ArrivedBy};
+ghost use Rattle.rw_lp.specs.Calls.{rules, GivesOut, IsSameProcess, Took};
 ghost use Rattle.rw_lp.specs.Sound.{HasCollected};
 ghost use Rattle.rw_exchange.specs.Ports.{IsWide};
-ghost use Rattle.rw_rounds.specs.Deeds.{IsFair};
+ghost use Rattle.rw_rounds.specs.Deeds.{IsFair, way_of};
 ghost use Rattle.rw_rounds.specs.Turns.{is_own, owner, is_accepted};
 ghost use Rattle.rw_rounds.specs.Working.{role_of, CanWork, Deals, AreFair, HoldsBackRest, ClosesDesk, HeldBack, IsNext, Advances, comes_before, done_count, work_left};
 
@@ -138,7 +139,14 @@ impl<M: VtModel> Desk<M> {
         let place = (letter.event.to / self.plan.workers) as usize;
         let process = self.processes.swap_remove(place);
         let before = process.processed().len();
-        let process = process.arrive(bench.alloc, bench.model, letter, out)?;
+        let process = arrive_by(
+            self.plan.lazy,
+            bench.alloc,
+            bench.model,
+            process,
+            letter,
+            out,
+        )?;
         let undone = before.saturating_sub(process.processed().len());
         put_back(&mut self.processes, place, process)?;
         self.traffic.undone = self.traffic.undone.wrapping_add(undone as u64);
@@ -332,7 +340,13 @@ impl<M: VtModel> Desk<M> {
             executed ≡ false → done_count self.new < done_count self.old) }
     {
         let process = self.processes.swap_remove(place);
-        let (process, executed) = execute_or_undo(bench.alloc, bench.model, process, at_hand)?;
+        let (process, executed) = execute_or_undo(
+            self.plan.lazy,
+            bench.alloc,
+            bench.model,
+            process,
+            at_hand,
+        )?;
         put_back(&mut self.processes, place, process)?;
         self.traffic.executed = self.traffic.executed.wrapping_add(u64::from(executed));
         self.traffic.undone = self.traffic.undone.wrapping_add(u64::from(!executed));
@@ -398,9 +412,10 @@ fn comes_before<B: Ord + Copy>(event: &Event<B>, least: Option<(usize, &Event<B>
     other.cmp(event).is_gt()
 }
 
-/// The process executes what is next, or undoes its last event where that is a straggler. What it gives out is
-/// appended to `out`. Answers whether it executed.
+/// The process executes what is next, or undoes its last event, lazily or not, where that is a straggler. What it gives
+/// out is appended to `out`. Answers whether it executed.
 fn execute_or_undo<M: VtModel>(
+    lazy: bool,
     alloc: Global,
     model: &M,
     process: Lp<M>,
@@ -412,14 +427,60 @@ fn execute_or_undo<M: VtModel>(
     ensures same { IfOk result (λ r.
         (r.0.model ≡ process.model) × (r.0.number ≡ process.number)) }
     ensures moved { IfOk result (λ r.
-        Advances M.Model M.Body.cmp process r.0 r.1 out.old.items out.new.items) }
+        Advances M.Model M.Body.cmp (way_of lazy) process r.0 r.1 out.old.items out.new.items) }
 {
     let (process, answer) = process.execute_next(alloc, model, out)?;
     if let Answer::Done = answer {
         return Ok((process, true));
     }
-    let (process, _answer) = process.undo_one(alloc, model, out)?;
+    let (process, _answer) = undo_by(lazy, alloc, model, process, out)?;
     Ok((process, false))
+}
+
+/// The letter arrives at the process; what has to be undone is undone lazily, or not. What is given out is appended to `out`.
+fn arrive_by<M: VtModel>(
+    lazy: bool,
+    alloc: Global,
+    model: &M,
+    process: Lp<M>,
+    letter: Letter<M::Body>,
+    out: &mut Vec<Letter<M::Body>>,
+) -> Result<Lp<M>, Refusal>
+    requires model { model.now ≡ process.model }
+    requires valid { M.is_valid process.model letter.event ≡ true }
+    requires here { letter.event.to ≡ process.number }
+    ensures same { IfOk result (IsSameProcess process) }
+    ensures arrived { IfOk result (λ lp. GivesOut out.old.items out.new.items
+        (ArrivedBy (way_of lazy) (rules M.Model M.Body.cmp process.model) process.number letter
+        process.process lp.process)) }
+{
+    if lazy {
+        process.arrive_lazily(alloc, model, letter, out)
+    } else {
+        process.arrive(alloc, model, letter, out)
+    }
+}
+
+/// The process takes its last processed event back, lazily or not. What is given out is appended to `out`.
+fn undo_by<M: VtModel>(
+    lazy: bool,
+    alloc: Global,
+    model: &M,
+    process: Lp<M>,
+    out: &mut Vec<Letter<M::Body>>,
+) -> Result<(Lp<M>, Answer), Refusal>
+    requires model { model.now ≡ process.model }
+    ensures same { IfOk result (λ r. IsSameProcess process r.0) }
+    ensures turn { IfOk result (λ r. GivesOut out.old.items out.new.items (λ given.
+        Took process.process r.0.process r.1 given
+        (undo_by (way_of lazy) (rules M.Model M.Body.cmp process.model) process.number
+        process.process))) }
+{
+    if lazy {
+        process.undo_lazily(alloc, model)
+    } else {
+        process.undo_one(alloc, model, out)
+    }
 }
 
 /// Notes the time of each of the letters.

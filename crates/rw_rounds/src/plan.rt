@@ -19,6 +19,9 @@ pub struct Plan {
     pub ring: u32,
     /// After how many rounds a run is given up, 1 to 1048576.
     pub max_rounds: u32,
+    /// Whether what an undone event had sent is held until the event is executed again or cancelled, and not cancelled at once
+    /// (lazy cancellation).
+    pub lazy: bool,
 }
 
 impl Plan {

@@ -22,8 +22,10 @@ pub struct Desk<M: Model + Copy> {
 pub enum Call<B> {
     ExecuteNext,
     UndoOne,
+    UndoLazily,
     Deliver(Letter<B>),
     Arrive(Letter<B>),
+    ArriveLazily(Letter<B>),
     Collect(u64),
 }
 
@@ -184,12 +186,19 @@ fn make<M: Model + Copy>(
     match call {
         Call::ExecuteNext => lp.execute_next(alloc, model, out),
         Call::UndoOne => lp.undo_one(alloc, model, out),
-        Call::Deliver(letter) if is_here(model, number, &letter) => lp.deliver(letter),
+        Call::UndoLazily => lp.undo_lazily(alloc, model),
+        Call::Deliver(letter) if is_here(model, number, &letter) => lp.deliver(letter, out),
         Call::Arrive(letter) if is_here(model, number, &letter) => {
             let lp = lp.arrive(alloc, model, letter, out)?;
             Ok((lp, Answer::Done))
         }
-        Call::Deliver(_) | Call::Arrive(_) => Ok((lp, Answer::Refused(StepFault::NoSuchProcess))),
+        Call::ArriveLazily(letter) if is_here(model, number, &letter) => {
+            let lp = lp.arrive_lazily(alloc, model, letter, out)?;
+            Ok((lp, Answer::Done))
+        }
+        Call::Deliver(_) | Call::Arrive(_) | Call::ArriveLazily(_) => {
+            Ok((lp, Answer::Refused(StepFault::NoSuchProcess)))
+        }
         Call::Collect(time) if time <= lp.least() => {
             let lp = lp.collect(time)?;
             Ok((lp, Answer::Done))

@@ -1,7 +1,8 @@
 // One edge process of the photo caches. With nothing stored it executes two requests ahead, a fill comes late and is
-// cancelled again, an anti-message comes before its message, and the past is committed. Where it stores, a fill that
-// nobody awaits is stored and taken back.
-use crate::desk::Call::{Arrive, Collect, Deliver, ExecuteNext, UndoOne};
+// cancelled again, an anti-message comes before its message, and the past is committed; undone lazily, what a request
+// had sent is sent again, or cancelled when the request is executed again or cancelled itself. Where it stores, a fill
+// that nobody awaits is stored and taken back.
+use crate::desk::Call::{Arrive, ArriveLazily, Collect, Deliver, ExecuteNext, UndoLazily, UndoOne};
 use crate::desk::Line::{Ahead, Gives, Refuses, Settled, Shows};
 use crate::desk::{Desk, Line};
 use rw_lp::StepFault;
@@ -164,6 +165,50 @@ fn an_anti_message_comes_before_its_message(rt: HostRuntime) -> Result<(), Fail>
         ],
         missed(2, 1, 0),
         cancelled(rt.alloc())?,
+    )
+}
+
+#[test]
+fn a_held_message_is_not_sent_again(rt: HostRuntime) -> Result<(), Fail> {
+    ends(
+        rt.alloc(),
+        &[
+            Gives(UndoLazily, &[]),
+            Ahead(&[request(5, 0), fill(21, 0)], Some(request(22, 1)), 22),
+            Gives(ExecuteNext, &[]),
+            Ahead(&[request(5, 0), fill(21, 0), request(22, 1)], None, END),
+        ],
+        missed(2, 0, 1),
+        filled(rt.alloc())?,
+    )
+}
+
+#[test]
+fn a_held_message_is_cancelled_that_is_not_sent_again(rt: HostRuntime) -> Result<(), Fail> {
+    ends(
+        rt.alloc(),
+        &[
+            Gives(ArriveLazily(anti(fill(21, 0))), &[]),
+            Ahead(&[request(5, 0)], Some(request(22, 1)), 22),
+            Gives(ExecuteNext, &[anti(miss(25, 1))]),
+            Ahead(&[request(5, 0), request(22, 1)], None, END),
+        ],
+        missed(2, 1, 0),
+        filled(rt.alloc())?,
+    )
+}
+
+#[test]
+fn a_held_message_is_cancelled_with_its_event(rt: HostRuntime) -> Result<(), Fail> {
+    ends(
+        rt.alloc(),
+        &[
+            Gives(UndoLazily, &[]),
+            Gives(Deliver(anti(request(22, 1))), &[anti(miss(25, 1))]),
+            Ahead(&[request(5, 0), fill(21, 0)], None, END),
+        ],
+        missed(1, 0, 1),
+        filled(rt.alloc())?,
     )
 }
 

@@ -93,6 +93,7 @@ fn plan(window: u64) -> Plan {
         window,
         ring: 64,
         max_rounds: 65536,
+        lazy: false,
     }
 }
 
@@ -155,6 +156,21 @@ fn a_straggling_fill_is_made_room_for(rt: HostRuntime) -> Result<(), Fail> {
     assert!(rt; free.undone >= 1);
     let gate = Handshake::new(PATIENCE);
     let held = traffic(&rt, alloc, plan(END), &gate)?;
+    assert!(rt; held.undone >= 1);
+    assert!(rt; held.ring >= 2);
+    assert!(rt; gate.saw_both());
+    assert_eq!(rt; gate.misses(), 0);
+    Ok(())
+}
+
+#[test]
+fn a_straggling_fill_is_made_room_for_lazily(rt: HostRuntime) -> Result<(), Fail> {
+    let lazily = Plan {
+        lazy: true,
+        ..plan(END)
+    };
+    let gate = Handshake::new(PATIENCE);
+    let held = traffic(&rt, rt.alloc(), lazily, &gate)?;
     assert!(rt; held.undone >= 1);
     assert!(rt; held.ring >= 2);
     assert!(rt; gate.saw_both());

@@ -29,6 +29,7 @@ fn plan(of: (u32, u32, u32, u64, u32), max_rounds: u32) -> Plan {
         window,
         ring,
         max_rounds,
+        lazy: false,
     }
 }
 

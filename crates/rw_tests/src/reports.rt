@@ -133,6 +133,7 @@ fn without_workers<R: Threads + Wait + Sync>(
         window: 1,
         ring: 64,
         max_rounds: 1,
+        lazy: false,
     };
     let mut out = Out::new(Vec::new(alloc));
     let fault = simulate(rt, alloc, trace, &config, Mode::Warp(plan), &mut out).err()?;

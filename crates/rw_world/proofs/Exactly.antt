@@ -8,17 +8,17 @@ use Rattle.rw_vt.specs.Order.{has, without, insert_in_order}
 use Rattle.rw_vt.specs.System.{System}
 use Rattle.rw_lp.specs.HeldMessages.{unheld_sends}
 use Rattle.rw_lp.specs.Process as process
-use Rattle.rw_lp.specs.Process.{ProcessState, Turn, Turned, Stays, done, is_less_than_last, split_last, execute_event, execute_least, execute_next, undo_last, undo_one, annihilate, deliver_anti, deliver_message}
+use Rattle.rw_lp.specs.Process.{ProcessState, Turn, Turned, Stays, done, is_less_than_last, split_last, execute_event, execute_least, execute_next, undo_last, undo_one, undo_last_lazily, undo_lazily, annihilate, deliver_anti, deliver_message}
 use Rattle.rw_lp.proofs.Cited.{with_bags}
 use Rattle.rw_lp.specs.declared.step.StepFault.{StepFault}
 use Rattle.rw_lp.specs.declared.step.StepFault.TheVariants.{NoSuchProcess, NoSuchLetter, NothingPending, Straggler, NothingToUndo, StillDone, AboveFloor}
 use Rattle.rw_lp.specs.declared.step.Answer.{Answer}
 use Rattle.rw_lp.specs.declared.step.Answer.TheVariants.{Done, Refused}
 use Rattle.rw_world.specs.declared.step.Step.{Step}
-use Rattle.rw_world.specs.declared.step.Step.TheVariants.{Execute, Undo, Deliver, Collect}
+use Rattle.rw_world.specs.declared.step.Step.TheVariants.{Execute, Undo, UndoLazily, Deliver, Collect}
 use Rattle.rw_world.specs.WorldState.{WorldState, floor}
 use Rattle.rw_world.specs.Steps.{refusal, world_after, turn_at, remove_at, deliver_to, deliver_letter, apply}
-use Rattle.rw_world.specs.Faults.{Applies}
+use Rattle.rw_world.specs.Faults.{Applies, IsUndoing}
 
 absent : {A : Type 0} (xs : List A) (p : ℕ) → slice_get xs p ≡ None → length xs ≤ p
 absent [] p h = omega arith
@@ -60,11 +60,22 @@ module _ {S B : Type 0} (y : System S B) (w : WorldState S B) where
   when_undone p g e = go (slice_get w.processes p) refl e
     where
       at_last : (x : ProcessState S B) → slice_get w.processes p ≡ Some x → (o : Option (List (Event B) × Event B)) → split_last x.processed ≡ o → (world_after w p w.letters (undo_last y p x o)).1 ≡ Refused g → Applies y.order w (Undo p) g
-      at_last x at None is e = same_fault (Undo p) NothingToUndo g e (record { number = p; process = x; step_is = refl; there = at; none = some_last x.processed is })
+      at_last x at None is e = same_fault (Undo p) NothingToUndo g e (record { number = p; process = x; step_is = inl refl; there = at; none = some_last x.processed is })
       at_last x at (Some r) is e = cc
 
       go : (o : Option (ProcessState S B)) → slice_get w.processes p ≡ o → (turn_at w p (undo_one y p) o).1 ≡ Refused g → Applies y.order w (Undo p) g
-      go None at e = same_fault (Undo p) NoSuchProcess g e (record { number = p; step_is = inr refl; absent = absent w.processes p at })
+      go None at e = same_fault (Undo p) NoSuchProcess g e (record { number = p; step_is = inr (inl refl); absent = absent w.processes p at })
+      go (Some x) at e = at_last x at (split_last x.processed) refl e
+
+  when_undone_lazily : (p : ℕ) (g : StepFault) → (apply y w (UndoLazily p)).1 ≡ Refused g → Applies y.order w (UndoLazily p) g
+  when_undone_lazily p g e = go (slice_get w.processes p) refl e
+    where
+      at_last : (x : ProcessState S B) → slice_get w.processes p ≡ Some x → (o : Option (List (Event B) × Event B)) → split_last x.processed ≡ o → (world_after w p w.letters (undo_last_lazily y p x o)).1 ≡ Refused g → Applies y.order w (UndoLazily p) g
+      at_last x at None is e = same_fault (UndoLazily p) NothingToUndo g e (record { number = p; process = x; step_is = inr refl; there = at; none = some_last x.processed is })
+      at_last x at (Some r) is e = cc
+
+      go : (o : Option (ProcessState S B)) → slice_get w.processes p ≡ o → (turn_at w p (undo_lazily y p) o).1 ≡ Refused g → Applies y.order w (UndoLazily p) g
+      go None at e = same_fault (UndoLazily p) NoSuchProcess g e (record { number = p; step_is = inr (inr refl); absent = absent w.processes p at })
       go (Some x) at e = at_last x at (split_last x.processed) refl e
 
   when_collected : (t : ℕ) (g : StepFault) → (apply y w (Collect t)).1 ≡ Refused g → Applies y.order w (Collect t) g
@@ -111,6 +122,7 @@ module _ {S B : Type 0} (y : System S B) (w : WorldState S B) where
     applies : (step : Step) (g : StepFault) → (apply y w step).1 ≡ Refused g → Applies y.order w step g
     applies (Execute p) g e = when_executed p g e
     applies (Undo p) g e = when_undone p g e
+    applies (UndoLazily p) g e = when_undone_lazily p g e
     applies (Deliver i) g e = when_delivered i g e
     applies (Collect t) g e = when_collected t g e
 
@@ -121,9 +133,10 @@ module _ {S B : Type 0} (y : System S B) (w : WorldState S B) where
       none : slice_get w.processes h.number ≡ None
       none = none_past w.processes h.number h.absent
 
-      go : (step ≡ Execute h.number) ⊎ (step ≡ Undo h.number) → (apply y w step).1 ≡ Refused NoSuchProcess
+      go : (step ≡ Execute h.number) ⊎ IsUndoing step h.number → (apply y w step).1 ≡ Refused NoSuchProcess
       go (inl is) = ap (λ s. (apply y w s).1) is ∙ ap (λ o. (turn_at w h.number (execute_next y h.number) o).1) none
-      go (inr is) = ap (λ s. (apply y w s).1) is ∙ ap (λ o. (turn_at w h.number (undo_one y h.number) o).1) none
+      go (inr (inl is)) = ap (λ s. (apply y w s).1) is ∙ ap (λ o. (turn_at w h.number (undo_one y h.number) o).1) none
+      go (inr (inr is)) = ap (λ s. (apply y w s).1) is ∙ ap (λ o. (turn_at w h.number (undo_lazily y h.number) o).1) none
   refuses step NoSuchLetter h = ap (λ s. (apply y w s).1) h.step_is ∙ ap (λ o. (deliver_letter y w h.number o).1) (none_past w.letters h.number h.absent)
   refuses step NothingPending h =
       ap (λ s. (apply y w s).1) h.step_is
@@ -134,10 +147,17 @@ module _ {S B : Type 0} (y : System S B) (w : WorldState S B) where
       ∙ ap (λ o. (turn_at w h.number (execute_next y h.number) o).1) h.there
       ∙ ap (λ es. (world_after w h.number w.letters (execute_least y h.number h.process es)).1) h.pending
       ∙ ap (λ b. (world_after w h.number w.letters (cond b (Stays Straggler) (execute_event y h.number h.process h.least h.rest (unheld_sends y.order (y.step h.number h.process.state h.least).1 h.process.held)))).1) h.late
-  refuses step NothingToUndo h =
-      ap (λ s. (apply y w s).1) h.step_is
-      ∙ ap (λ o. (turn_at w h.number (undo_one y h.number) o).1) h.there
-      ∙ ap (λ es. (world_after w h.number w.letters (undo_last y h.number h.process (split_last es))).1) h.none
+  refuses step NothingToUndo h = go h.step_is
+    where
+      go : IsUndoing step h.number → (apply y w step).1 ≡ Refused NothingToUndo
+      go (inl is) =
+          ap (λ s. (apply y w s).1) is
+          ∙ ap (λ o. (turn_at w h.number (undo_one y h.number) o).1) h.there
+          ∙ ap (λ es. (world_after w h.number w.letters (undo_last y h.number h.process (split_last es))).1) h.none
+      go (inr is) =
+          ap (λ s. (apply y w s).1) is
+          ∙ ap (λ o. (turn_at w h.number (undo_lazily y h.number) o).1) h.there
+          ∙ ap (λ es. (world_after w h.number w.letters (undo_last_lazily y h.number h.process (split_last es))).1) h.none
   refuses step StillDone h =
       let owed : Turn S B = Turned (with_bags h.process h.process.pending (insert_in_order y.order h.letter.event h.process.debts) h.process.held) [] in
       ap (λ s. (apply y w s).1) h.step_is

@@ -9,9 +9,9 @@ use Rattle.rw_lp.specs.declared.step.Answer.{Answer}
 use Rattle.rw_lp.specs.declared.step.Answer.TheVariants.{Done}
 use Rattle.rw_lp.specs.declared.step.StepFault.TheVariants.{AboveFloor}
 use Rattle.rw_lp.specs.Process as process
-use Rattle.rw_lp.specs.Process.{ProcessState, Turn, Turned, Stays, execute_next, undo_one}
+use Rattle.rw_lp.specs.Process.{ProcessState, Turn, Turned, Stays, execute_next, undo_one, undo_lazily}
 use Rattle.rw_world.specs.declared.step.Step.{Step}
-use Rattle.rw_world.specs.declared.step.Step.TheVariants.{Execute, Undo, Deliver, Collect}
+use Rattle.rw_world.specs.declared.step.Step.TheVariants.{Execute, Undo, UndoLazily, Deliver, Collect}
 use Rattle.rw_world.specs.WorldState.{WorldState, floor}
 use Rattle.rw_world.specs.Steps.{refusal, world_after, turn_at, remove_at, deliver_to, deliver_letter, apply}
 use Rattle.rw_world.specs.Sound.{Sound}
@@ -58,6 +58,7 @@ module _ {S B : Type 0} (y : System S B) where
     pub collected_grows : (s : Step) → w.collected ≤ (apply y w s).0.collected
     collected_grows (Execute p) = at_turn p (execute_next y p) (slice_get w.processes p)
     collected_grows (Undo p) = at_turn p (undo_one y p) (slice_get w.processes p)
+    collected_grows (UndoLazily p) = at_turn p (undo_lazily y p) (slice_get w.processes p)
     collected_grows (Deliver i) = at_deliver i (slice_get w.letters i)
     collected_grows (Collect t) = at_collect t (nat_le t (floor w))
 

@@ -1,5 +1,5 @@
 -- From what a body did with one process to the step that it made.
-use Rattle.std.proofs.Common.{◌≡◌, ℕ, zero, suc, List, [], ◌∷◌, ◌++◌, length, map, take, drop, refl, sym, ap, ◌∙◌, subst, append-nil, inl, inr, Option, Some, None}
+use Rattle.std.proofs.Common.{◌≡◌, ℕ, zero, suc, ◌<◌, List, [], ◌∷◌, ◌++◌, length, map, take, drop, refl, sym, ap, ◌∙◌, subst, arith, append-nil, inl, inr, Option, Some, None}
 use Rattle.std.specs.Prelude.{◌⊎◌, slice_get, slice_set}
 use Rattle.std.specs.Option.{option_map}
 use Rattle.std.specs.declared.cmp.Ordering.{Ordering}
@@ -14,11 +14,11 @@ use Rattle.rw_vt.specs.System.{System, system}
 use Rattle.rw_lp.specs.declared.step.Answer.{Answer}
 use Rattle.rw_lp.specs.declared.step.Answer.TheVariants.{Done, Refused}
 use Rattle.rw_lp.specs.Process as process
-use Rattle.rw_lp.specs.Process.{ProcessState, Turn, Turned, Stays, execute_least, execute_next, undo_last, undo_one, split_last}
+use Rattle.rw_lp.specs.Process.{ProcessState, Turn, Turned, Stays, execute_least, execute_next, undo_last, undo_one, split_last, undo_last_lazily, undo_lazily}
 use Rattle.rw_lp.specs.Calls.{LogicalProcess, MeetsNext, rules, Took}
 use Rattle.rw_world.specs.declared.parts.Parts.{Parts}
 use Rattle.rw_world.specs.declared.step.Step.{Step}
-use Rattle.rw_world.specs.declared.step.Step.TheVariants.{Execute, Undo, Deliver}
+use Rattle.rw_world.specs.declared.step.Step.TheVariants.{Execute, Undo, UndoLazily, Deliver}
 use Rattle.rw_world.specs.WorldState.{WorldState}
 use Rattle.rw_world.specs.Steps.{world_after, turn_at, remove_at, deliver_to, deliver_letter, apply}
 use Rattle.rw_world.specs.Calls.{system_of, with_world, world_of, simulation_of, AreNumbered, IsWhole, Made, ExecutesAt}
@@ -31,20 +31,27 @@ remove_at_is [] (suc i) = refl
 remove_at_is (x ∷ xs) zero = refl
 remove_at_is (x ∷ xs) (suc i) = ap (λ l. x ∷ l) (remove_at_is xs i)
 
+-- what was appended stays
+pub remove_at-append : {A : Type 0} (xs more : List A) (i : ℕ) → i < length xs → remove_at (xs ++ more) i ≡ remove_at xs i ++ more
+remove_at-append [] more i h = absurd (omega arith)
+remove_at-append (x ∷ xs) more zero h = refl
+remove_at-append (x ∷ xs) more (suc i) h = ap (λ l. x ∷ l) (remove_at-append xs more i (omega arith))
+
 module _ {S B : Type 0} (w : WorldState S B) (p : ℕ) (u v : ProcessState S B) (answer : Answer) (at : slice_get w.processes p ≡ Some u) where
   -- the world after process p took a turn, by what the process did
   pub turned_is : (given : List (Letter B)) (t : Turn S B) → Took u v answer given t → world_after w p w.letters t ≡ (record { processes = slice_set w.processes p v; letters = w.letters ++ given; collected = w.collected }, answer)
   turned_is given (Turned after out) k = rw (k.0, k.1, k.2) refl
   turned_is given (Stays f) k = let same = set_there w.processes p u at in rw (k.0, k.1, k.2, same, append-nil w.letters) refl
 
-  -- the same where a letter was taken up, and nothing given out
-  pub delivered_is : (left : List (Letter B)) (t : Turn S B) → answer ≡ Done → Took u v answer [] t → world_after w p left t ≡ (record { processes = slice_set w.processes p v; letters = left; collected = w.collected }, answer)
-  delivered_is left (Turned after out) done k = rw (k.0, k.1, sym k.2, append-nil left) refl
-  delivered_is left (Stays f) done k = let never : Done ≡ Refused f = sym done ∙ k.1 in cc
+  -- the same where a letter was taken up
+  pub delivered_is : (left given : List (Letter B)) (t : Turn S B) → answer ≡ Done → Took u v answer given t → world_after w p left t ≡ (record { processes = slice_set w.processes p v; letters = left ++ given; collected = w.collected }, answer)
+  delivered_is left given (Turned after out) done k = rw (k.0, k.1, k.2) refl
+  delivered_is left given (Stays f) done k = let never : Done ≡ Refused f = sym done ∙ k.1 in cc
 
-  pub undelivered_is : (left : List (Letter B)) (t : Turn S B) → (answer ≡ Done → ⊥) → Took u v answer [] t → world_after w p left t ≡ (record { processes = slice_set w.processes p v; letters = w.letters; collected = w.collected }, answer)
-  undelivered_is left (Turned after out) not_done k = absurd (not_done k.1)
-  undelivered_is left (Stays f) not_done k = let same = set_there w.processes p u at in rw (k.0, k.1, same) refl
+  -- where it was refused, nothing was given out
+  pub undelivered_is : (left given : List (Letter B)) (t : Turn S B) → (answer ≡ Done → ⊥) → Took u v answer given t → world_after w p left t ≡ (record { processes = slice_set w.processes p v; letters = w.letters ++ given; collected = w.collected }, answer)
+  undelivered_is left given (Turned after out) not_done k = absurd (not_done k.1)
+  undelivered_is left given (Stays f) not_done k = let same = set_there w.processes p u at in rw (k.0, k.1, k.2, same, append-nil w.letters) refl
 
 -- starts and initial events say nothing of a turn
 module _ {M S B U : Type 0} (model : Ghosts M S B U) (order : B → B → Ordering) (m : M) (starts : List S) (initial : List (Event B)) (p : ℕ) (x : ProcessState S B) where
@@ -59,6 +66,13 @@ module _ {M S B U : Type 0} (model : Ghosts M S B U) (order : B → B → Orderi
   undo_by_rules = go (split_last x.processed)
     where
       go : (o : Option (List (Event B) × Event B)) → undo_last (rules model order m) p x o ≡ undo_last (system model order m starts initial) p x o
+      go None = refl
+      go (Some r) = refl
+
+  lazily_by_rules : undo_lazily (rules model order m) p x ≡ undo_lazily (system model order m starts initial) p x
+  lazily_by_rules = go (split_last x.processed)
+    where
+      go : (o : Option (List (Event B) × Event B)) → undo_last_lazily (rules model order m) p x o ≡ undo_last_lazily (system model order m starts initial) p x o
       go None = refl
       go (Some r) = refl
 
@@ -111,8 +125,18 @@ module _ {M S B U : Type 0} (model : Ghosts M S B U) (order : B → B → Orderi
       made (Undo p) answer (x.letters.items ++ given) is
       (ap (turn_at (world_of x) p (undo_one y p)) process_there ∙ turned_is (world_of x) p old.process new.process answer process_there given (undo_one y p old.process) turn_taken)
 
+  pub made_undo_lazily : (answer : Answer) → z.letters.items ≡ x.letters.items → Took old.process new.process answer [] (undo_lazily (rules model order old.model) old.number old.process) → Made model order x z (UndoLazily p) answer
+  made_undo_lazily answer is took =
+      let known = whole.numbered p old there in
+      let y : System S B = system_of model order (simulation_of x) in
+      let by_model = subst (λ m. Took old.process new.process answer [] (undo_lazily (rules model order m) old.number old.process)) known.0 took in
+      let by_number = subst (λ n. Took old.process new.process answer [] (undo_lazily (rules model order x.model) n old.process)) known.1 by_model in
+      let turn_taken = subst (Took old.process new.process answer []) (lazily_by_rules model order x.model x.starts.value.items x.initial.value.items p old.process) by_number in
+      made (UndoLazily p) answer (x.letters.items ++ []) (is ∙ sym (append-nil x.letters.items))
+      (ap (turn_at (world_of x) p (undo_lazily y p)) process_there ∙ turned_is (world_of x) p old.process new.process answer process_there [] (undo_lazily y p old.process) turn_taken)
+
   -- letter i, which goes to p, comes
-  module _ (i : ℕ) (letter : Letter B) (letter_there : slice_get x.letters.items i ≡ Some letter) (to : letter.event.to ≡ p) (answer : Answer) (took : Took old.process new.process answer [] (process.deliver (event_cmp order) letter old.process)) where
+  module _ (i : ℕ) (letter : Letter B) (letter_there : slice_get x.letters.items i ≡ Some letter) (to : letter.event.to ≡ p) (answer : Answer) (given : List (Letter B)) (took : Took old.process new.process answer given (process.deliver (event_cmp order) letter old.process)) where
     deliver_is : apply (system_of model order (simulation_of x)) (world_of x) (Deliver i) ≡ world_after (world_of x) p (remove_at x.letters.items i) (process.deliver (event_cmp order) letter old.process)
     deliver_is =
         let y : System S B = system_of model order (simulation_of x) in
@@ -121,13 +145,15 @@ module _ {M S B U : Type 0} (model : Ghosts M S B U) (order : B → B → Orderi
         ∙ ap (deliver_to y (world_of x) i letter) process_there
         ∙ ap (λ q. world_after (world_of x) q (remove_at x.letters.items i) (process.deliver (event_cmp order) letter old.process)) to
 
-    pub made_deliver : answer ≡ Done → z.letters.items ≡ take i x.letters.items ++ drop (suc i) x.letters.items → Made model order x z (Deliver i) answer
-    made_deliver done is = made (Deliver i) answer (remove_at x.letters.items i) (is ∙ remove_at_is x.letters.items i)
-        (deliver_is ∙ delivered_is (world_of x) p old.process new.process answer process_there (remove_at x.letters.items i) (process.deliver (event_cmp order) letter old.process) done took)
+    -- what it gave out was appended, and then the letter taken out
+    pub made_deliver : (all : List (Letter B)) → all ≡ x.letters.items ++ given → i < length x.letters.items → answer ≡ Done → z.letters.items ≡ take i all ++ drop (suc i) all → Made model order x z (Deliver i) answer
+    made_deliver all all_are within done is = made (Deliver i) answer (remove_at x.letters.items i ++ given)
+        (is ∙ remove_at_is all i ∙ ap (λ ls. remove_at ls i) all_are ∙ remove_at-append x.letters.items given i within)
+        (deliver_is ∙ delivered_is (world_of x) p old.process new.process answer process_there (remove_at x.letters.items i) given (process.deliver (event_cmp order) letter old.process) done took)
 
-    pub made_no_delivery : (answer ≡ Done → ⊥) → z.letters.items ≡ x.letters.items → Made model order x z (Deliver i) answer
-    made_no_delivery not_done is = made (Deliver i) answer x.letters.items is
-        (deliver_is ∙ undelivered_is (world_of x) p old.process new.process answer process_there (remove_at x.letters.items i) (process.deliver (event_cmp order) letter old.process) not_done took)
+    pub made_no_delivery : (answer ≡ Done → ⊥) → z.letters.items ≡ x.letters.items ++ given → Made model order x z (Deliver i) answer
+    made_no_delivery not_done is = made (Deliver i) answer (x.letters.items ++ given) is
+        (deliver_is ∙ undelivered_is (world_of x) p old.process new.process answer process_there (remove_at x.letters.items i) given (process.deliver (event_cmp order) letter old.process) not_done took)
 
 module _ {M S B U : Type 0} (model : Ghosts M S B U) (order : B → B → Ordering) (x : Parts M S B U) (whole : IsWhole model order x) where
   -- one process a start

@@ -8,9 +8,9 @@ use Rattle.rw_lp.specs.declared.step.StepFault.TheVariants.{AboveFloor}
 use Rattle.rw_lp.specs.declared.step.Answer.{Answer}
 use Rattle.rw_lp.specs.declared.step.Answer.TheVariants.{Done, Refused}
 use Rattle.rw_lp.specs.Process as process
-use Rattle.rw_lp.specs.Process.{ProcessState, Turn, Turned, Stays, execute_next, undo_one}
+use Rattle.rw_lp.specs.Process.{ProcessState, Turn, Turned, Stays, execute_next, undo_one, undo_lazily}
 use Rattle.rw_world.specs.declared.step.Step.{Step}
-use Rattle.rw_world.specs.declared.step.Step.TheVariants.{Execute, Undo, Deliver, Collect}
+use Rattle.rw_world.specs.declared.step.Step.TheVariants.{Execute, Undo, UndoLazily, Deliver, Collect}
 use Rattle.rw_world.specs.WorldState.{WorldState, floor}
 use Rattle.rw_world.specs.Steps.{refusal, world_after, turn_at, remove_at, deliver_to, deliver_letter, apply}
 
@@ -42,5 +42,6 @@ module _ {S B : Type 0} (y : System S B) (w : WorldState S B) where
   pub refused_is_same : (s : Step) → Same (apply y w s)
   refused_is_same (Execute p) = at_turn p (execute_next y p) (slice_get w.processes p)
   refused_is_same (Undo p) = at_turn p (undo_one y p) (slice_get w.processes p)
+  refused_is_same (UndoLazily p) = at_turn p (undo_lazily y p) (slice_get w.processes p)
   refused_is_same (Deliver i) = at_deliver i (slice_get w.letters i)
   refused_is_same (Collect t) = at_collect (nat_le t (floor w)) (record { processes = map (process.collect t) w.processes; letters = w.letters; collected = max w.collected t })

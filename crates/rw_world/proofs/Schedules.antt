@@ -2,10 +2,10 @@
 use Rattle.std.proofs.Common.{ℕ}
 use Rattle.rw_vt.specs.System.{System}
 use Rattle.rw_vt.proofs.Runs.{IsLawful}
-use Rattle.rw_lp.specs.Process.{execute_next, undo_one}
-use Rattle.rw_lp.proofs.Cited.{execute_keeps, undo_keeps}
+use Rattle.rw_lp.specs.Process.{execute_next, undo_one, undo_lazily}
+use Rattle.rw_lp.proofs.Cited.{execute_keeps, undo_keeps, undo_lazily_keeps}
 use Rattle.rw_world.specs.declared.step.Step.{Step}
-use Rattle.rw_world.specs.declared.step.Step.TheVariants.{Execute, Undo, Deliver, Collect}
+use Rattle.rw_world.specs.declared.step.Step.TheVariants.{Execute, Undo, UndoLazily, Deliver, Collect}
 use Rattle.rw_world.specs.WorldState.{WorldState}
 use Rattle.rw_world.specs.Steps.{apply}
 use Rattle.rw_world.specs.Sound.{Sound}
@@ -16,5 +16,6 @@ module _ {S B : Type 0} (y : System S B) {WellFormed : ℕ → S → Type 0} (la
   pub apply_sound : (w : WorldState S B) → Sound y w → (s : Step) → Sound y (apply y w s).0
   apply_sound w sound (Execute p) = turn_sound y law w sound p (execute_next y p) (execute_keeps y law w.collected p)
   apply_sound w sound (Undo p) = turn_sound y law w sound p (undo_one y p) (undo_keeps y law w.collected p)
+  apply_sound w sound (UndoLazily p) = turn_sound y law w sound p (undo_lazily y p) (undo_lazily_keeps y law w.collected p)
   apply_sound w sound (Deliver i) = deliver_sound y law w sound i
   apply_sound w sound (Collect t) = collect_sound y law t w sound

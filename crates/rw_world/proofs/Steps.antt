@@ -1,4 +1,4 @@
--- Execute, Undo and Deliver keep a sound world sound.
+-- Execute, Undo, UndoLazily and Deliver keep a sound world sound.
 use Rattle.std.proofs.Common.{◌≡◌, ℕ, ◌+◌, ◌<◌, true, false, [], ◌∷◌, refl, ap, arith, inl, inr, Option, Some, None}
 use Rattle.std.specs.Prelude.{◌⊎◌, slice_get}
 use Rattle.std.specs.Ordering.{is_eq}

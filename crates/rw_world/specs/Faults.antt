@@ -9,13 +9,17 @@ use Rattle.rw_lp.specs.Process.{ProcessState, done, is_less_than_last, split_las
 use Rattle.rw_lp.specs.declared.step.StepFault.{StepFault}
 use Rattle.rw_lp.specs.declared.step.StepFault.TheVariants.{NoSuchProcess, NoSuchLetter, NothingPending, Straggler, NothingToUndo, StillDone, AboveFloor}
 use Rattle.rw_world.specs.declared.step.Step.{Step}
-use Rattle.rw_world.specs.declared.step.Step.TheVariants.{Execute, Undo, Deliver, Collect}
+use Rattle.rw_world.specs.declared.step.Step.TheVariants.{Execute, Undo, UndoLazily, Deliver, Collect}
 use Rattle.rw_world.specs.WorldState.{WorldState, floor}
+
+-- the step takes the last processed event of process p back
+abbrev pub IsUndoing : Step → Process → Type 0
+IsUndoing step p = (step ≡ Undo p) ⊎ (step ≡ UndoLazily p)
 
 -- the step names a process that is not there
 pub record NamesNoProcess {S B : Type 0} (w : WorldState S B) (step : Step) : Type 0 where
   pub number : Process
-  pub step_is : (step ≡ Execute number) ⊎ (step ≡ Undo number)
+  pub step_is : (step ≡ Execute number) ⊎ IsUndoing step number
   pub absent : length w.processes ≤ number
 
 -- the step names a letter that is not there
@@ -47,7 +51,7 @@ pub record FindsStraggler {S B : Type 0} (cmp : Event B → Event B → Ordering
 pub record FindsNothingDone {S B : Type 0} (w : WorldState S B) (step : Step) : Type 0 where
   pub number : Process
   pub process : ProcessState S B
-  pub step_is : step ≡ Undo number
+  pub step_is : IsUndoing step number
   pub there : slice_get w.processes number ≡ Some process
   pub none : process.processed ≡ []
 

@@ -8,9 +8,9 @@ use Rattle.rw_lp.specs.declared.step.StepFault.TheVariants.{NoSuchProcess, NoSuc
 use Rattle.rw_lp.specs.declared.step.Answer.{Answer}
 use Rattle.rw_lp.specs.declared.step.Answer.TheVariants.{Done, Refused}
 use Rattle.rw_lp.specs.Process as process
-use Rattle.rw_lp.specs.Process.{ProcessState, Turn, Turned, Stays, execute_next, undo_one}
+use Rattle.rw_lp.specs.Process.{ProcessState, Turn, Turned, Stays, execute_next, undo_one, undo_lazily}
 use Rattle.rw_world.specs.declared.step.Step.{Step}
-use Rattle.rw_world.specs.declared.step.Step.TheVariants.{Execute, Undo, Deliver, Collect}
+use Rattle.rw_world.specs.declared.step.Step.TheVariants.{Execute, Undo, UndoLazily, Deliver, Collect}
 use Rattle.rw_world.specs.WorldState.{WorldState, floor}
 
 -- the world as it is, with the fault for which a step does not apply
@@ -54,6 +54,7 @@ collect_to w t =
 abbrev pub apply : {S B : Type 0} → System S B → WorldState S B → Step → WorldState S B × Answer
 apply y w (Execute p) = turn_at w p (execute_next y p) (slice_get w.processes p)
 apply y w (Undo p) = turn_at w p (undo_one y p) (slice_get w.processes p)
+apply y w (UndoLazily p) = turn_at w p (undo_lazily y p) (slice_get w.processes p)
 apply y w (Deliver i) = deliver_letter y w i (slice_get w.letters i)
 apply y w (Collect t) = collect_to w t
 

@@ -18,7 +18,7 @@ mod step;
 mod turns;
 mod world;
 
-pub use drawing::draw;
+pub use drawing::{draw, draw_mixed};
 pub use least::least_of_processes;
 pub use parts::Parts;
 pub use rw_lp::{Answer, Lp, StepFault};

@@ -24,6 +24,7 @@ impl<M: VtModel> Parts<M> {
         match step {
             Step::Execute(p) => self.execute(alloc, p),
             Step::Undo(p) => self.undo(alloc, p),
+            Step::UndoLazily(p) => self.undo_lazily(alloc, p),
             Step::Deliver(number) => self.deliver(number),
             Step::Collect(time) => self.collect(time),
         }
@@ -65,7 +66,26 @@ impl<M: VtModel> Parts<M> {
         Ok(answer)
     }
 
-    /// Letter `number`, from 0, comes to its process. On `Err` the parts are only good for dropping.
+    /// Process `p` takes its last processed event back, and holds what that had sent. On `Err` the parts are only good for
+    /// dropping.
+    fn undo_lazily(&mut self, alloc: Global, p: u32) -> Result<Answer, Refusal>
+        requires whole { IsWhole M.Model M.Body.cmp self.old }
+        ensures made { IfOk result (λ a.
+            Made M.Model M.Body.cmp self.old self.new (Step.UndoLazily p) a) }
+        ensures memory { IfErr result (λ e. e ≡ Memory) }
+    {
+        let place = p as usize;
+        if self.processes.len() <= place {
+            return Ok(Answer::Refused(StepFault::NoSuchProcess));
+        }
+        let process = self.processes.swap_remove(place);
+        let (process, answer) = process.undo_lazily(alloc, &self.model)?;
+        put_back(&mut self.processes, place, process)?;
+        Ok(answer)
+    }
+
+    /// Letter `number`, from 0, comes to its process, and what that gives out is appended. On `Err` the parts are only good for
+    /// dropping.
     fn deliver(&mut self, number: u64) -> Result<Answer, Refusal>
         requires whole { IsWhole M.Model M.Body.cmp self.old }
         ensures made { IfOk result (λ a.
@@ -78,7 +98,7 @@ impl<M: VtModel> Parts<M> {
         let letter = self.letters[number as usize];
         let place = letter.event.to as usize;
         let process = self.processes.swap_remove(place);
-        let (process, answer) = process.deliver(letter)?;
+        let (process, answer) = process.deliver(letter, &mut self.letters)?;
         put_back(&mut self.processes, place, process)?;
         if let Answer::Done = answer {
             let _delivered = self.letters.remove(number as usize);

@@ -131,8 +131,8 @@ impl<M: VtModel + Drop> World<M> {
         Ok((World { parts }, answers))
     }
 
-    /// The least time of pending events, debts and letters on their way, in ticks, or [`END`](rw_vt::END) if there is
-    /// none: global virtual time (Jefferson 1985). What is done before it stays done. Takes no memory.
+    /// The least time of pending events, debts, held messages and letters on their way, in ticks, or [`END`](rw_vt::END)
+    /// if there is none: global virtual time (Jefferson 1985). What is done before it stays done. Takes no memory.
     pub fn floor(&self) -> u64
         ensures least { result ≡ floor self.now.world }
         ensures before { (t q : ℕ) → t ≤ result
@@ -142,8 +142,8 @@ impl<M: VtModel + Drop> World<M> {
         self.parts.floor()
     }
 
-    /// Whether no event is pending or owed and no letter is on its way. The world is then the outcome of executing all
-    /// events in order of time. Takes no memory.
+    /// Whether no event is pending or owed, no message is held and no letter is on its way. The world is then the outcome
+    /// of executing all events in order of time. Takes no memory.
     pub fn finished(&self) -> bool
         ensures is { result ≡ is_finished self.now.world }
         ensures outcome { result ≡ true

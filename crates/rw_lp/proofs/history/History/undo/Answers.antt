@@ -1,6 +1,7 @@
-use Rattle.std.proofs.Common.{◌≡◌, true, [], ◌∷◌, ◌++◌, List, length, take, drop, refl, sym, ap, ◌∙◌, subst, arith, append-nil, length-append, length-drop}
-use Rattle.rw_vt.specs.declared.event.Letter.{Letter}
-use Rattle.rw_vt.specs.Letters.{letters_of}
+use Rattle.std.proofs.Common.{◌≡◌, true, [], ◌∷◌, ◌++◌, List, length, take, drop, sym, ap, ◌∙◌, subst, arith, length-append, length-drop}
+use Rattle.std.proofs.lemmas.List.Elements.{All-same}
+use Rattle.rw_vt.specs.declared.event.Event.{Event}
+use Rattle.rw_vt.specs.Valid.{IsSentBy}
 use Rattle.rw_vt.specs.Order.{event_cmp}
 use Rattle.rw_vt.proofs.EventOrder.{events_exact}
 use Rattle.rw_vt.proofs.Sorting.{IsExactOrder}
@@ -21,7 +22,7 @@ returns-in_default-clause-back g c =
     let many = as_many g.M.Model o p kept in
     let nothing : drop p.cut p.done.items ≡ [] = nil_if (drop p.cut p.done.items) (omega (arith, none, many)) in
     let empty : c.args.self.processed ≡ [] = sym (ap (λ (w : HistoryState g.row.M.Denot g.row.M-State.Denot g.row.M-Body.Denot). w.processed) seen) ∙ nothing in
-    ([], sym (append-nil c.args.out.now.items), (empty, seen, refl))
+    (empty, seen)
 
 pub unreachable-requires : goal.unreachable-requires
 unreachable-requires g c =
@@ -99,15 +100,18 @@ returns-clause-back g c =
     subst (λ m. g.M.Model.Links m p.number before c.in-Some-pop.event c.in-Some.field-0.undo p.state) same (subst (λ s. g.M.Model.Links p.model.value p.number before c.in-Some-pop.event c.in-Some.field-0.undo s) (sym off.state) off.record_of.links) in
     let good : g.M.Model.IsWellFormed c.args.model.now p.number before = subst (λ m. g.M.Model.IsWellFormed m p.number before) same off.well_formed in
     let is : c.reverse.new.state ≡ before = c.in_ok-reverse.ensures.before before good links in
-    let given : List (Letter g.row.M-Body.Denot) = letters_of true c.in-Some.field-0.sends in
+    let sends : List (Event g.row.M-Body.Denot) = c.in-Some.field-0.sends in
     let z : HistoryState g.row.M.Denot g.row.M-State.Denot g.row.M-Body.Denot = record { model = p.model.value; number = p.number; start = p.start.value; committed = take p.cut c.pop-2.new.self.items; processed = drop p.cut c.pop-2.new.self.items; state = c.reverse.new.state } in
-    let back : IsTakenBack g.M.Model (seen_of p) z c.in-Some-pop.event given =
+    let back : IsTakenBack g.M.Model (event_cmp g.M.Body.Ord.cmp) (seen_of p) z c.in-Some-pop.event sends =
     record {
       last = off.last;
       rest = ap (λ s. let v : HistoryState g.row.M.Denot g.row.M-State.Denot g.row.M-Body.Denot = record { model = p.model.value; number = p.number; start = p.start.value; committed = take p.cut c.pop-2.new.self.items; processed = z.processed; state = s } in v) is
           ∙ ap (λ l. let v : HistoryState g.row.M.Denot g.row.M-State.Denot g.row.M-Body.Denot = record { model = p.model.value; number = p.number; start = p.start.value; committed = l; processed = z.processed; state = before } in v) off.same;
       valid = off.record_of.valid;
       here = off.record_of.here;
-      sent = ap (letters_of true) off.record_of.sends;
+      order = kept.linked.order;
+      sent = off.record_of.sends;
+      future = All-same (λ (m : Event g.row.M-Body.Denot). IsSentBy p.number c.in-Some-pop.event m × (g.M.Model.is_valid p.model.value m ≡ true)) sends (g.M.Model.step p.model.value p.number before c.in-Some-pop.event).1 off.record_of.sends
+          (g.met.M.Model.future p.model.value p.number before c.in-Some-pop.event off.well_formed off.record_of.valid off.record_of.here);
     } in
-    (given, c.in_ok-give_to.ensures.given, subst (λ (w : HistoryState g.row.M.Denot g.row.M-State.Denot g.row.M-Body.Denot). IsTakenBack g.M.Model w z c.in-Some-pop.event given) seen back)
+    subst (λ (w : HistoryState g.row.M.Denot g.row.M-State.Denot g.row.M-Body.Denot). IsTakenBack g.M.Model (event_cmp g.M.Body.Ord.cmp) w z c.in-Some-pop.event sends) seen back

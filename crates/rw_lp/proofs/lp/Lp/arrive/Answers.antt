@@ -1,10 +1,11 @@
 use Rattle.std.proofs.Common.{◌≡◌, true, false, [], ◌++◌, refl, sym, ap, ◌∙◌, subst, append-nil, append_assoc}
+use Rattle.std.proofs.lemmas.List.{append_cancel_left}
 use Rattle.rw_vt.specs.Order.{event_cmp}
 use Rattle.rw_vt.proofs.EventOrder.{events_exact}
 use Rattle.rw_vt.proofs.Sorting.{IsExactOrder}
 use Rattle.rw_lp.specs.Process.{Turned, undo_one}
 use Rattle.rw_lp.specs.Calls.{rules}
-use Rattle.rw_lp.specs.Arrival.{is_barred}
+use Rattle.rw_lp.specs.Arrival.{Cancelling, undo_by, is_barred}
 use Rattle.rw_lp.proofs.Arriving.{barred_refuses, open_accepts, barred_some, undo_taken, going_start, going_more, arrived}
 use Rattle.rw_lp.specs.Sound.{Balance}
 use Rattle.rw_lp.specs.Calls.{letters_taken}
@@ -13,7 +14,7 @@ use Rattle.rw_lp.proofs.lp.Lp.arrive.Goals as goal
 
 pub undoing-init : goal.undoing-init
 undoing-init g c =
-    record { model = refl; number = refl; given = []; out = sym (append-nil c.args.out.now.items); going = going_start (rules g.M.Model g.M.Body.Ord.cmp c.args.self.model) c.args.self.number c.args.letter c.args.self.process }
+    record { model = refl; number = refl; given = []; out = sym (append-nil c.args.out.now.items); going = going_start (undo_by Cancelling (rules g.M.Model g.M.Body.Ord.cmp c.args.self.model) c.args.self.number) (event_cmp g.M.Body.Ord.cmp) c.args.letter c.args.self.process }
 
 pub undoing-smaller : goal.undoing-smaller
 undoing-smaller g c =
@@ -40,7 +41,7 @@ undoing-preserved g c =
       number = c.in_ok-undone.ensures.same.1 ∙ known.number;
       given = known.given ++ turn.0;
       out = turn.1 ∙ ap (λ l. l ++ turn.0) known.out ∙ append_assoc c.args.out.now.items known.given turn.0;
-      going = going_more (rules g.M.Model g.M.Body.Ord.cmp c.args.self.model) c.args.self.number c.args.letter c.args.self.process x.process z.process known.given turn.0 known.going (barred_refuses o c.args.letter x.process barred) one;
+      going = going_more (undo_by Cancelling (rules g.M.Model g.M.Body.Ord.cmp c.args.self.model) c.args.self.number) (event_cmp g.M.Body.Ord.cmp) c.args.letter c.args.self.process x.process z.process known.given turn.0 known.going (barred_refuses o c.args.letter x.process barred) one;
     }
 
 pub returns-clause-arrived : goal.returns-clause-arrived
@@ -48,10 +49,11 @@ returns-clause-arrived g c =
     let o : IsExactOrder (event_cmp g.M.Body.Ord.cmp) = events_exact (record { total = g.met.M.Body.Ord.total; same = g.met.M.Model.same }) in
     let x = c.undoing.lp in
     let known = c.undoing.invariant in
+    let turn = c.in_ok-lp.ensures.turn in
     let free : is_barred (event_cmp g.M.Body.Ord.cmp) c.args.letter x.process ≡ false = sym c.is_barred.ensures.is ∙ c.undoing-test.false in (
-      known.given,
-      known.out,
-      arrived (rules g.M.Model g.M.Body.Ord.cmp c.args.self.model) c.args.self.number c.args.letter c.args.self.process x.process c.in_ok-lp.lp.process c.in_ok-lp._answer known.given known.going (open_accepts o c.args.letter x.process c.is_barred.ensures.order free) c.in_ok-lp.ensures.turn,
+      known.given ++ turn.0,
+      turn.1 ∙ ap (λ l. l ++ turn.0) known.out ∙ append_assoc c.args.out.now.items known.given turn.0,
+      arrived Cancelling (rules g.M.Model g.M.Body.Ord.cmp c.args.self.model) c.args.self.number c.args.letter c.args.self.process x.process c.in_ok-lp.lp.process c.in_ok-lp._answer known.given turn.0 known.going (open_accepts o c.args.letter x.process c.is_barred.ensures.order free) turn.2,
     )
 
 pub returns-clause-balance : goal.returns-clause-balance
@@ -60,11 +62,15 @@ returns-clause-balance g c =
     let x = c.undoing.lp in
     let z = c.in_ok-lp.lp in
     let known = c.undoing.invariant in
+    let turn = c.in_ok-lp.ensures.turn in
+    let change = c.in_ok-lp.ensures.balance in
     let free : is_barred (event_cmp g.M.Body.Ord.cmp) c.args.letter x.process ≡ false = sym c.is_barred.ensures.is ∙ c.undoing-test.false in
-    let last : Balance (rules g.M.Model g.M.Body.Ord.cmp c.args.self.model) c.args.self.number x.process z.process (letters_taken c.in_ok-lp._answer c.args.letter) [] =
-    subst (λ m. Balance (rules g.M.Model g.M.Body.Ord.cmp m) c.args.self.number x.process z.process (letters_taken c.in_ok-lp._answer c.args.letter) []) known.model
-    (subst (λ n. Balance (rules g.M.Model g.M.Body.Ord.cmp x.model) n x.process z.process (letters_taken c.in_ok-lp._answer c.args.letter) []) known.number c.in_ok-lp.ensures.balance) in (
-      known.given,
-      known.out,
-      arrival_balanced (rules g.M.Model g.M.Body.Ord.cmp c.args.self.model) o c.args.self.number c.args.self.process x.process z.process c.in_ok-lp._answer c.args.letter known.given known.going.count known.going.undone (open_accepts o c.args.letter x.process c.is_barred.ensures.order free).taken c.in_ok-lp.ensures.turn last,
+    let both : turn.0 ≡ change.0 = append_cancel_left c.undoing.out.items turn.0 change.0 (sym turn.1 ∙ change.1) in
+    let last : Balance (rules g.M.Model g.M.Body.Ord.cmp c.args.self.model) c.args.self.number x.process z.process (letters_taken c.in_ok-lp._answer c.args.letter) turn.0 =
+    subst (λ m. Balance (rules g.M.Model g.M.Body.Ord.cmp m) c.args.self.number x.process z.process (letters_taken c.in_ok-lp._answer c.args.letter) turn.0) known.model
+    (subst (λ n. Balance (rules g.M.Model g.M.Body.Ord.cmp x.model) n x.process z.process (letters_taken c.in_ok-lp._answer c.args.letter) turn.0) known.number
+    (subst (λ l. Balance (rules g.M.Model g.M.Body.Ord.cmp x.model) x.number x.process z.process (letters_taken c.in_ok-lp._answer c.args.letter) l) (sym both) change.2)) in (
+      known.given ++ turn.0,
+      turn.1 ∙ ap (λ l. l ++ turn.0) known.out ∙ append_assoc c.args.out.now.items known.given turn.0,
+      arrival_balanced (rules g.M.Model g.M.Body.Ord.cmp c.args.self.model) o c.args.self.number Cancelling c.args.self.process x.process z.process c.in_ok-lp._answer c.args.letter known.given turn.0 known.going.count known.going.undone (open_accepts o c.args.letter x.process c.is_barred.ensures.order free).taken turn.2 last,
     )

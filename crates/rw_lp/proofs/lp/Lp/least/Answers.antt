@@ -3,14 +3,16 @@ use Rattle.rw_vt.specs.Order.{event_cmp, Each}
 use Rattle.rw_vt.proofs.EventOrder.{events_exact}
 use Rattle.rw_vt.proofs.Sorting.{IsExactOrder}
 use Rattle.rw_lp.specs.HeldMessages.{held_messages}
-use Rattle.rw_lp.specs.Calls.{LogicalProcess, least_time}
-use Rattle.rw_lp.proofs.Orders.{least_both, least_each}
+use Rattle.rw_lp.specs.Calls.{LogicalProcess, least_time, rules}
+use Rattle.rw_lp.proofs.Orders.{least_each}
+use Rattle.rw_lp.proofs.HeldRuns.{held_least}
 use Rattle.rw_lp.proofs.lp.Lp.least.Goals as goal
 
 pub returns-clause-is : goal.returns-clause-is
 returns-clause-is g c =
     subst (λ (w : LogicalProcess g.row.M.Denot g.row.M-State.Denot g.row.M-Body.Denot). c.min.result ≡ least_time (least_time (least_time 1099511627776 (held_messages w.process.held)) w.process.debts) w.process.pending) c.self.view_is
-    (c.min.ensures ∙ ap (λ n. min n c.least-2.result) c.least.ensures ∙ ap (min (least_time 1099511627776 c.self.inside.pending)) c.least-2.ensures ∙ sym (least_both 1099511627776 c.self.inside.pending c.self.inside.debts))
+    (c.min.ensures ∙ ap (λ n. min n c.least-2.result) c.least.ensures ∙ ap (min (least_time 1099511627776 c.self.inside.pending)) c.least-2.ensures
+    ∙ sym (held_least (rules g.M.Model g.M.Body.Ord.cmp c.self.inside.history.model) (events_exact (record { total = g.met.M.Body.Ord.total; same = g.met.M.Model.same })) c.self.inside.pending 1099511627776 c.self.inside.debts c.self.inside.held c.self.invariant.held))
 
 pub returns-clause-pending : goal.returns-clause-pending
 returns-clause-pending g c =

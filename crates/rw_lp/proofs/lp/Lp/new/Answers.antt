@@ -1,9 +1,14 @@
 use Rattle.std.proofs.Common.{◌<◌, sym, subst}
-use Rattle.rw_vt.specs.Order.{event_cmp, copies, Each}
+use Rattle.rw_vt.specs.Order.{event_cmp, copies, AtMost, Each}
 use Rattle.rw_vt.proofs.EventOrder.{events_exact}
 use Rattle.rw_vt.proofs.Sorting.{IsExactOrder, each_of_all, copies-in_order}
 use Rattle.rw_vt.proofs.Bags.{Each-nil}
-use Rattle.rw_lp.specs.Past.{HistoryState, IsFor}
+use Rattle.std.specs.Prelude.{All}
+use Rattle.std.proofs.lemmas.List.Elements.{All-nil}
+use Rattle.rw_lp.specs.declared.held.Held.{Held}
+use Rattle.rw_lp.specs.Calls.{rules}
+use Rattle.rw_lp.specs.Sound.{IsHeldFor}
+use Rattle.rw_lp.specs.Past.{HistoryState, IsFor, done_in}
 use Rattle.rw_lp.proofs.lp.Lp.new.Goals as goal
 
 pub invariant_of-result : goal.invariant_of-result
@@ -15,4 +20,6 @@ invariant_of-result g c =
           subst (λ (w : HistoryState g.row.M.Denot g.row.M-State.Denot g.row.M-Body.Denot). IsFor g.M.Model w.model w.number e) (sym c.in_ok-history.ensures.is)
           (each_of_all o (IsFor g.M.Model c.args.model.now c.args.number) c.args.initial.items c.requires.initial e there);
       debts = subst (Each (event_cmp g.M.Body.Ord.cmp) (IsFor g.M.Model c.in_ok-history.history.model c.in_ok-history.history.number)) (sym c.in_ok-debts.ensures) (Each-nil o (IsFor g.M.Model c.in_ok-history.history.model c.in_ok-history.history.number));
+      held = subst (All (IsHeldFor (rules g.M.Model g.M.Body.Ord.cmp c.in_ok-history.history.model) c.in_ok-pending.pending)) (sym c.in_ok-held.ensures) (All-nil (IsHeldFor (rules g.M.Model g.M.Body.Ord.cmp c.in_ok-history.history.model) c.in_ok-pending.pending));
+      late = subst (All (λ (h : Held g.row.M-Body.Denot). Each (event_cmp g.M.Body.Ord.cmp) (λ e. AtMost (event_cmp g.M.Body.Ord.cmp) e h.undone) (done_in c.in_ok-history.history))) (sym c.in_ok-held.ensures) (All-nil (λ (h : Held g.row.M-Body.Denot). Each (event_cmp g.M.Body.Ord.cmp) (λ e. AtMost (event_cmp g.M.Body.Ord.cmp) e h.undone) (done_in c.in_ok-history.history)));
     }

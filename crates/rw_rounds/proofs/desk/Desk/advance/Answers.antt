@@ -2,7 +2,7 @@ use Rattle.std.proofs.Common.{◌≡◌, ◌+◌, cond, [], ◌++◌, length, re
 use Rattle.std.proofs.lemmas.Option.{slice_get_read}
 use Rattle.rw_lp.specs.Calls.{rules}
 use Rattle.rw_rounds.specs.Bags.{Every}
-use Rattle.rw_rounds.specs.Deeds.{IsFair}
+use Rattle.rw_rounds.specs.Deeds.{IsFair, way_of}
 use Rattle.rw_rounds.specs.Working.{role_of, desk_of, Works, Moved}
 use Rattle.rw_rounds.proofs.Governing.{Laws}
 use Rattle.rw_rounds.proofs.Adding.{works_then}
@@ -77,7 +77,7 @@ returns-clause-executed g c =
     let moved = c.in_ok-process.ensures.moved in
     let given : c.execute_or_undo.new.out.items ≡ moved.0 = moved.1 ∙ ap (λ l. l ++ moved.0) c.requires.none in
     λ did.
-    let by = subst (λ b. Moved (rules g.M.Model g.M.Body.Ord.cmp c.swap_remove-process.result.model) c.swap_remove-process.result.number c.swap_remove-process.result.process c.in_ok-process.process.process b moved.0) did moved.2 in
+    let by = subst (λ b. Moved (rules g.M.Model g.M.Body.Ord.cmp c.swap_remove-process.result.model) (way_of x.plan.lazy) c.swap_remove-process.result.number c.swap_remove-process.result.process c.in_ok-process.process.process b moved.0) did moved.2 in
     omega (arith, c.in_ok-deal.ensures.fewer, executed_dones laws c.args.bench.now.model.now (desk_of x) (record (desk_of x) { processes = c.put_back.new.items.items }) c.requires.fit refl refl refl refl refl refl c.args.place c.swap_remove-process.result c.in_ok-process.process there set c.in_ok-process.ensures.same next.0 next.1 moved.0 by)
 
 pub returns-clause-undone : goal.returns-clause-undone
@@ -90,5 +90,5 @@ returns-clause-undone g c =
     let moved = c.in_ok-process.ensures.moved in
     let given : c.execute_or_undo.new.out.items ≡ moved.0 = moved.1 ∙ ap (λ l. l ++ moved.0) c.requires.none in
     λ did.
-    let by = subst (λ b. Moved (rules g.M.Model g.M.Body.Ord.cmp c.swap_remove-process.result.model) c.swap_remove-process.result.number c.swap_remove-process.result.process c.in_ok-process.process.process b moved.0) did moved.2 in
+    let by = subst (λ b. Moved (rules g.M.Model g.M.Body.Ord.cmp c.swap_remove-process.result.model) (way_of x.plan.lazy) c.swap_remove-process.result.number c.swap_remove-process.result.process c.in_ok-process.process.process b moved.0) did moved.2 in
     omega (arith, c.in_ok-deal.ensures.fewer, undone_dones laws c.args.bench.now.model.now (desk_of x) (record (desk_of x) { processes = c.put_back.new.items.items }) c.requires.fit refl refl refl refl refl refl c.args.place c.swap_remove-process.result c.in_ok-process.process there set c.in_ok-process.ensures.same next.0 next.1 moved.0 by)

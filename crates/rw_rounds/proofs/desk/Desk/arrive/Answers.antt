@@ -11,8 +11,8 @@ use Rattle.rw_rounds.proofs.Stepping.{place_within, its_process, works_arrival, 
 use Rattle.rw_rounds.proofs.Sums.{every_append}
 use Rattle.rw_rounds.proofs.desk.Desk.arrive.Goals as goal
 
-pub arrive-requires-clause-model : goal.arrive-requires-clause-model
-arrive-requires-clause-model g c =
+pub arrive_by-requires-clause-model : goal.arrive_by-requires-clause-model
+arrive_by-requires-clause-model g c =
     let laws : Laws g.M.Model g.M.Body.Ord.cmp = record { total = g.met.M.Body.Ord.total; same = g.met.M.Model.same; keeps = g.met.M.Model.keeps; future = g.met.M.Model.future; ranges = g.met.M.Model.ranges } in
     let x = c.args.self.now in
     let within = place_within laws c.args.bench.now.model.now (desk_of c.args.self.now) c.requires.fit.fit c.args.letter c.requires.fair c.requires.own in
@@ -20,8 +20,8 @@ arrive-requires-clause-model g c =
     let its = its_process laws c.args.bench.now.model.now (desk_of c.args.self.now) c.requires.fit.fit c.args.letter c.requires.fair c.requires.own c.swap_remove-process.result there in
     sym its.0
 
-pub arrive-requires-clause-valid : goal.arrive-requires-clause-valid
-arrive-requires-clause-valid g c =
+pub arrive_by-requires-clause-valid : goal.arrive_by-requires-clause-valid
+arrive_by-requires-clause-valid g c =
     let laws : Laws g.M.Model g.M.Body.Ord.cmp = record { total = g.met.M.Body.Ord.total; same = g.met.M.Model.same; keeps = g.met.M.Model.keeps; future = g.met.M.Model.future; ranges = g.met.M.Model.ranges } in
     let x = c.args.self.now in
     let within = place_within laws c.args.bench.now.model.now (desk_of c.args.self.now) c.requires.fit.fit c.args.letter c.requires.fair c.requires.own in
@@ -29,8 +29,8 @@ arrive-requires-clause-valid g c =
     let its = its_process laws c.args.bench.now.model.now (desk_of c.args.self.now) c.requires.fit.fit c.args.letter c.requires.fair c.requires.own c.swap_remove-process.result there in
     subst (λ k. g.M.Model.is_valid k c.args.letter.event ≡ true) (sym its.0) c.requires.fair.valid
 
-pub arrive-requires-clause-here : goal.arrive-requires-clause-here
-arrive-requires-clause-here g c =
+pub arrive_by-requires-clause-here : goal.arrive_by-requires-clause-here
+arrive_by-requires-clause-here g c =
     let laws : Laws g.M.Model g.M.Body.Ord.cmp = record { total = g.met.M.Body.Ord.total; same = g.met.M.Model.same; keeps = g.met.M.Model.keeps; future = g.met.M.Model.future; ranges = g.met.M.Model.ranges } in
     let x = c.args.self.now in
     let within = place_within laws c.args.bench.now.model.now (desk_of c.args.self.now) c.requires.fit.fit c.args.letter c.requires.fair c.requires.own in
@@ -54,7 +54,7 @@ returns-clause-works g c =
     let its = its_process laws c.args.bench.now.model.now (desk_of c.args.self.now) c.requires.fit.fit c.args.letter c.requires.fair c.requires.own c.swap_remove-process.result there in
     let set = c.in_ok-put_back.ensures.back x.processes.items c.swap_remove-process.result within c.swap_remove-process.ensures.items in
     let arrived = c.in_ok-process.ensures.arrived in
-    works_arrival laws c.args.bench.now.model.now (desk_of x) _ c.requires.fit refl refl refl refl refl refl (c.args.letter.event.to / x.plan.workers) c.swap_remove-process.result c.in_ok-process.process there set c.in_ok-process.ensures.same c.args.letter c.requires.fair c.requires.own refl arrived.0 arrived.2 c.args.out.now.items c.arrive.new.out.items arrived.1
+    works_arrival laws c.args.bench.now.model.now (desk_of x) _ c.requires.fit refl refl refl refl refl refl (c.args.letter.event.to / x.plan.workers) c.swap_remove-process.result c.in_ok-process.process there set c.in_ok-process.ensures.same c.args.letter c.requires.fair c.requires.own refl arrived.0 arrived.2 c.args.out.now.items c.arrive_by.new.out.items arrived.1
 
 pub returns-clause-fit : goal.returns-clause-fit
 returns-clause-fit g c =
@@ -65,7 +65,7 @@ returns-clause-fit g c =
     let its = its_process laws c.args.bench.now.model.now (desk_of c.args.self.now) c.requires.fit.fit c.args.letter c.requires.fair c.requires.own c.swap_remove-process.result there in
     let set = c.in_ok-put_back.ensures.back x.processes.items c.swap_remove-process.result within c.swap_remove-process.ensures.items in
     let arrived = c.in_ok-process.ensures.arrived in
-    fit_after laws c.args.bench.now.model.now (role_of x) (desk_of x) _ (c.args.out.now.items ++ c.args.letter ∷ []) c.arrive.new.out.items 0 c.requires.fit (works_arrival laws c.args.bench.now.model.now (desk_of x) _ c.requires.fit refl refl refl refl refl refl (c.args.letter.event.to / x.plan.workers) c.swap_remove-process.result c.in_ok-process.process there set c.in_ok-process.ensures.same c.args.letter c.requires.fair c.requires.own refl arrived.0 arrived.2 c.args.out.now.items c.arrive.new.out.items arrived.1)
+    fit_after laws c.args.bench.now.model.now (role_of x) (desk_of x) _ (c.args.out.now.items ++ c.args.letter ∷ []) c.arrive_by.new.out.items 0 c.requires.fit (works_arrival laws c.args.bench.now.model.now (desk_of x) _ c.requires.fit refl refl refl refl refl refl (c.args.letter.event.to / x.plan.workers) c.swap_remove-process.result c.in_ok-process.process there set c.in_ok-process.ensures.same c.args.letter c.requires.fair c.requires.own refl arrived.0 arrived.2 c.args.out.now.items c.arrive_by.new.out.items arrived.1)
 
 pub returns-clause-fair : goal.returns-clause-fair
 returns-clause-fair g c =

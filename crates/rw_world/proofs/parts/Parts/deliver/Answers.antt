@@ -62,10 +62,11 @@ returns-in-Done-clause-made g c =
     let inside = letter_inside laws x c.requires.whole c.args.number letter found in
     let there = slice_get_read x.processes.items (length x.processes.items) letter.event.to c.swap_remove-process.result refl inside.1 c.swap_remove-process.ensures.value in
     let known = c.requires.whole.numbered letter.event.to c.swap_remove-process.result there in
+    let turn = c.in_ok-process.ensures.turn in
     made_deliver g.M.Model g.M.Body.Ord.cmp x _ c.requires.whole refl refl refl refl letter.event.to c.swap_remove-process.result c.in_ok-process.process there c.in_ok-process.ensures.same
     (c.in_ok-put_back.ensures.back x.processes.items c.swap_remove-process.result inside.1 c.swap_remove-process.ensures.items)
-    c.args.number letter found refl c.in_ok-process.answer c.in_ok-process.ensures.turn
-    c.in-Done.is c.remove-delivered.ensures.items
+    c.args.number letter found refl c.in_ok-process.answer turn.0 turn.2
+    c.deliver.new.out.items turn.1 (omega arith) c.in-Done.is c.remove-delivered.ensures.items
 
 pub returns-in_default-clause-made : goal.returns-in_default-clause-made
 returns-in_default-clause-made g c =
@@ -76,7 +77,8 @@ returns-in_default-clause-made g c =
     let inside = letter_inside laws x c.requires.whole c.args.number letter found in
     let there = slice_get_read x.processes.items (length x.processes.items) letter.event.to c.swap_remove-process.result refl inside.1 c.swap_remove-process.ensures.value in
     let known = c.requires.whole.numbered letter.event.to c.swap_remove-process.result there in
+    let turn = c.in_ok-process.ensures.turn in
     made_no_delivery g.M.Model g.M.Body.Ord.cmp x _ c.requires.whole refl refl refl refl letter.event.to c.swap_remove-process.result c.in_ok-process.process there c.in_ok-process.ensures.same
     (c.in_ok-put_back.ensures.back x.processes.items c.swap_remove-process.result inside.1 c.swap_remove-process.ensures.items)
-    c.args.number letter found refl c.in_ok-process.answer c.in_ok-process.ensures.turn
-    c.in_default.not-Done refl
+    c.args.number letter found refl c.in_ok-process.answer turn.0 turn.2
+    c.in_default.not-Done turn.1

@@ -1,7 +1,7 @@
-use Rattle.std.proofs.Common.{◌≡◌, ◌+◌, ◌<◌, ◌≤◌, ◌++◌, ◌∷◌, [], Some, map, length, ap, ◌∙◌, sym, subst, arith, vec_len, get_or, IfOk, All, inl, inr, length-append}
+use Rattle.std.proofs.Common.{◌≡◌, ◌+◌, ◌<◌, ◌++◌, ◌∷◌, [], Some, map, length, ap, ◌∙◌, sym, subst, arith, vec_len, get_or, IfOk, inl, inr, length-append}
 use Rattle.std.proofs.lemmas.Bool.{cases_lt}
 use Rattle.std.proofs.lemmas.List.{length-map, get_or-map, get_or_append_left}
-use Rattle.std.proofs.lemmas.List.Elements.{All-head, All-rest, All-same, All-push, All-pop}
+use Rattle.std.proofs.lemmas.List.Elements.{All-rest, All-same, All-push, All-pop}
 use Rattle.std.proofs.Math.Seq.{get_or-append_seam}
 use Rattle.rw_rounds.proofs.Shares.{one_done, all_walked}
 use Rattle.rw_rounds.proofs.threads.fn.run_each.scope.Goals as goal
