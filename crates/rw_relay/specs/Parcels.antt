@@ -71,7 +71,7 @@ relay_future m p s e w h t = by_case (goes_on m e) refl
     by_case false g = All-nil (λ f. IsSentBy p e f × (is_sound_event f ≡ true))
 
 -- numbers that compare as equal are the same
-nat_cmp_same : (m n : ℕ) → nat_cmp m n ≡ Equal → m ≡ n
+pub nat_cmp_same : (m n : ℕ) → nat_cmp m n ≡ Equal → m ≡ n
 nat_cmp_same m n h = by_ranked (m < n) (m ≡ n) (n < m) (nat_cmp m n) (ranked m n (nat_cmp m n) refl) (λ e _. cc) (λ _ same. same) (λ e _. cc)
 
 pub parcel_same : (a b : Parcel) → nat_cmp a.hops b.hops ≡ Equal → a ≡ b

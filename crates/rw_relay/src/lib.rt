@@ -1,8 +1,12 @@
 #![tactic(auto)]
-//! Two stations that pass parcels to and fro: a small lawful model, on which generic code is tried beside the photo caches.
+//! Small lawful models, on which generic code is tried beside the photo caches: two stations that pass parcels to and fro, and a
+//! bus stop that calls its bus.
+
+mod stop;
 
 use rw_vt::{END, Event, Model as VtModel, NoMemory, Refusal};
 use std::alloc::Global;
+pub use stop::{Note, Seen, Stop};
 
 /// Two stations, processes 0 and 1. A parcel that has hops left is passed on to the other one with a hop less, `delay` ticks
 /// later, as long as that is before the end of time.

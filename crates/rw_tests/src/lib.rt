@@ -12,7 +12,11 @@ mod desk;
 #[cfg(test)]
 mod edge_process;
 #[cfg(test)]
+mod held_messages;
+#[cfg(test)]
 mod insertions;
+#[cfg(test)]
+mod notes;
 #[cfg(test)]
 mod parcels;
 #[cfg(test)]
