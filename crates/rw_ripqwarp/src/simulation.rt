@@ -6,6 +6,7 @@ ghost use Rattle.rw_ripqwarp.specs.Sink.{AppendsBeginning};
 ghost use Rattle.rw_ripqwarp.specs.Simulate.{IsBeginningOf, IsTextOf, IsWarp, no_traffic, HasGoodPlan, IsRunFault, IsBeginningFault};
 ghost use Rattle.rw_ripqwarp.specs.Headline.{HasWritten, HasWrittenBeginning};
 
+use crate::headline::run_schedule;
 use crate::journal_text::journal;
 use crate::mode::Mode;
 use crate::output::Out;
@@ -86,7 +87,7 @@ fn text_of<R: Threads + Wait + Sync>(
         }
         Mode::Journal(steps) => {
             let world = World::open(alloc, photo, starts, initial)?;
-            let (world, answers) = world.run_steps(alloc, steps.as_slice())?;
+            let (world, answers) = run_schedule(alloc, world, steps.as_slice())?;
             let text = journal(alloc, answers.as_slice(), &world, photo.processes())?;
             Ok((text, Traffic::default()))
         }

@@ -1,4 +1,4 @@
-// A writer that fails.
+// Writers that fail.
 use std::alloc::Global;
 use std::io;
 use std::io::{ErrorKind, Write};
@@ -37,6 +37,50 @@ impl Write for Pipe {
 
     fn flush(&mut self) -> io::Result<()> {
         if self.flush_fails {
+            return Err(io::Error::from(ErrorKind::BrokenPipe));
+        }
+        Ok(())
+    }
+}
+
+/// A writer that takes at most 100 bytes a write and fails at one of its calls, a write or a flush, counted from 0. It then
+/// takes everything, and counts on.
+#[derive(Drop)]
+pub struct Hiccup {
+    pub held: Vec<u8>,
+    pub calls: u32,
+    pub fails_at: u32,
+}
+
+impl Hiccup {
+    pub fn new(alloc: Global, fails_at: u32) -> Hiccup {
+        Hiccup {
+            held: Vec::new(alloc),
+            calls: 0,
+            fails_at,
+        }
+    }
+
+    /// Counts a call, and answers whether it is the one that fails.
+    fn fails(&mut self) -> bool {
+        let call = self.calls;
+        self.calls = call.saturating_add(1);
+        call == self.fails_at
+    }
+}
+
+impl Write for Hiccup {
+    fn write(&mut self, buf: &[u8]) -> io::Result<usize> {
+        if self.fails() {
+            return Err(io::Error::from(ErrorKind::BrokenPipe));
+        }
+        let taken = buf.len().min(100);
+        self.held.extend_from_slice(&buf[..taken])?;
+        Ok(taken)
+    }
+
+    fn flush(&mut self) -> io::Result<()> {
+        if self.fails() {
             return Err(io::Error::from(ErrorKind::BrokenPipe));
         }
         Ok(())

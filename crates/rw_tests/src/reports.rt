@@ -1,5 +1,5 @@
 // Reports and journals to writers that fail, and a plan that is refused.
-use crate::pipe::Pipe;
+use crate::pipe::{Hiccup, Pipe};
 use rw_photo::{Config, Policy, Shape};
 use rw_ripqwarp::{Mode, Out, Plan, SimFault, Traffic, schedule, simulate};
 use rw_trace::TraceFault;
@@ -48,6 +48,39 @@ fn a_writer_that_fails_cuts_the_report_off(rt: HostRuntime) {
     assert!(rt; held(&rt, alloc, 1000, 9, true) == Some((409, 1)));
     assert!(rt; held(&rt, alloc, 1, 1000, false) == Some((409, 0)));
     assert!(rt; held(&rt, alloc, 1, 408, false) == Some((408, 1)));
+}
+
+/// How many bytes of the report a writer holds that fails at one of its calls alone, how often it was called, and how many
+/// failures were counted.
+fn after_a_hiccup<R: Threads + Wait + Sync>(
+    rt: &R,
+    alloc: Global,
+    fails_at: u32,
+) -> Option<(usize, u32, u64)> {
+    let mut out = Out::new(Hiccup::new(alloc, fails_at));
+    let answer = simulate(rt, alloc, TRACE, &nothing_stored()?, Mode::Serial, &mut out);
+    let failures = out.failures();
+    let is_told = match answer {
+        Ok(_) => failures == 0,
+        Err(SimFault::Output) => failures == 1,
+        Err(_) => false,
+    };
+    if !is_told {
+        return None;
+    }
+    let Hiccup { held, calls, .. } = out.into_inner();
+    Some((held.len(), calls, failures))
+}
+
+#[test]
+fn nothing_is_tried_after_a_failure(rt: HostRuntime) {
+    // Five writes, of 100 bytes and the last of 9, and a flush.
+    let alloc = rt.alloc();
+    assert!(rt; after_a_hiccup(&rt, alloc, 0) == Some((0, 1, 1)));
+    assert!(rt; after_a_hiccup(&rt, alloc, 2) == Some((200, 3, 1)));
+    assert!(rt; after_a_hiccup(&rt, alloc, 4) == Some((400, 5, 1)));
+    assert!(rt; after_a_hiccup(&rt, alloc, 5) == Some((409, 6, 1)));
+    assert!(rt; after_a_hiccup(&rt, alloc, 6) == Some((409, 6, 0)));
 }
 
 /// The report of [`TRACE`] with nothing stored, whole.

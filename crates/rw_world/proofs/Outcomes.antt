@@ -2,6 +2,8 @@
 use Rattle.std.proofs.Common.{◌≡◌, ℕ, ◌^◌, ◌+◌, Bool, true, [], ◌++◌, map, sym, ap, ◌∙◌, arith, append-nil, Some}
 use Rattle.std.specs.Prelude.{filter, nat_lt, slice_get}
 use Rattle.std.proofs.lemmas.Bool.{lt-ltb, le-ltb}
+use Rattle.std.specs.Option.{option_map}
+use Rattle.std.proofs.lemmas.Option.{slice_get-map}
 use Rattle.std.proofs.lemmas.List.Elements.{filter-append}
 use Rattle.rw_vt.specs.declared.event.Event.{Event}
 use Rattle.rw_vt.specs.Order.{Each}
@@ -49,10 +51,26 @@ module _ {S B : Type 0} (y : System S B) {WellFormed : ℕ → S → Type 0} (la
       state_is : (q : ℕ) (x : ProcessState S B) → slice_get w.processes q ≡ Some x → x.state ≡ state_after (y.step q) x.start (journal_below y (2 ^ 40) q)
       state_is q x h = (sound.each q x h).state ∙ ap (state_after (y.step q) x.start) (done_is finished q x h)
 
+  -- the start of a process is the one that the system gives it
+  start_is : (q : ℕ) (x : ProcessState S B) (s : S) → slice_get w.processes q ≡ Some x → slice_get y.starts q ≡ Some s → x.start ≡ s
+  start_is q x s h there =
+      let mapped = slice_get-map (λ u. u.start) w.processes q ∙ ap (option_map (λ u. u.start)) h in
+      let same : Some x.start ≡ Some s = sym mapped ∙ ap (λ l. slice_get l q) sound.starts ∙ there in
+      cc
+
+  -- where nothing is processed, the state is that of what is committed
+  settled_is : (q : ℕ) (x : ProcessState S B) (s : S) → slice_get w.processes q ≡ Some x → slice_get y.starts q ≡ Some s → x.processed ≡ []
+      → x.state ≡ state_after (y.step q) s (journal_below y w.collected q)
+  settled_is q x s h there none =
+      (sound.each q x h).state
+      ∙ ap (λ l. state_after (y.step q) x.start (x.committed ++ l)) none
+      ∙ ap (state_after (y.step q) x.start) (append-nil x.committed ∙ committed_is q x h)
+      ∙ ap (λ b. state_after (y.step q) b (journal_below y w.collected q)) (start_is q x s h there)
+
   pub in_order : IsInOrder y w
   in_order = record {
     committed = committed_is;
-    left = λ q x h. ap (state_after (y.step q) x.start) (committed_is q x h);
+    left = settled_is;
     before_floor = λ t q h. done_below y law w sound t (quiet_to_floor y law t w h) q;
     finished = outcome_is;
   }

@@ -8,7 +8,8 @@ use Rattle.rw_vt.specs.System.{Setting, System, system_in}
 use Rattle.rw_lp.specs.Process.{ProcessState}
 use Rattle.rw_lp.specs.Sound.{Kept}
 use Rattle.rw_world.specs.declared.step.Step.{Step}
-use Rattle.rw_world.specs.WorldState.{WorldState, floor}
+use Rattle.rw_world.specs.WorldState.{WorldState, opening_world, floor}
+use Rattle.rw_world.specs.Steps.{run}
 use Rattle.rw_world.specs.Sound.{Sound, IsInOrder, IsQuiet, StepKept}
 use Rattle.rw_world.specs.Rounds.{Exchanged}
 use Rattle.rw_vt.specs.declared.event.TheConstants.{END}
@@ -22,6 +23,12 @@ StepsKeepSound {M} {S} {B} model order =
 abbrev pub SoundIsInOrder : {M S B U : Type 0} → Ghosts M S B U → (B → B → Ordering) → Type 0
 SoundIsInOrder {M} {S} {B} model order =
     (k : Setting model) (w : WorldState S B) → Sound (system_in order k) w → IsInOrder (system_in order k) w
+
+-- in every setting: whatever the steps, refused ones included, the world to which they lead from the one in which nothing is
+-- done is in order
+abbrev pub SchedulesLeadInOrder : {M S B U : Type 0} → Ghosts M S B U → (B → B → Ordering) → Type 0
+SchedulesLeadInOrder model order =
+    (k : Setting model) (steps : List Step) → IsInOrder (system_in order k) (run (system_in order k) (opening_world (system_in order k)) steps)
 
 -- the floor is the greatest time, up to the end, before which nothing is outstanding
 abbrev pub FloorIsGreatest : {M S B U : Type 0} → Ghosts M S B U → (B → B → Ordering) → Type 0

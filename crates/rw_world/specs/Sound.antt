@@ -60,11 +60,12 @@ pub record IsQuiet {S B : Type 0} (y : System S B) (t : Time) (w : WorldState S 
   pub letters : (e : Event B) → 0 < messages y.order e w.letters + antis y.order e w.letters → t ≤ e.time
   pub held : Each y.order (λ e. t ≤ e.time) (held_in w.processes)
 
--- the committed events, the states that they leave, and all that is done before the floor, are those of executing all events
--- in order of time, and a finished world is the outcome of that
+-- the committed events, the state of a process that has done nothing beyond them, and all that is done before the floor, are
+-- those of executing all events in order of time, and a finished world is the outcome of that
 pub record IsInOrder {S B : Type 0} (y : System S B) (w : WorldState S B) : Type 0 where
   pub committed : (q : Process) (x : ProcessState S B) → slice_get w.processes q ≡ Some x → x.committed ≡ journal_below y w.collected q
-  pub left : (q : Process) (x : ProcessState S B) → slice_get w.processes q ≡ Some x → state_after (y.step q) x.start x.committed ≡ state_after (y.step q) x.start (journal_below y w.collected q)
+  pub left : (q : Process) (x : ProcessState S B) (s : S) → slice_get w.processes q ≡ Some x → slice_get y.starts q ≡ Some s → x.processed ≡ []
+      → x.state ≡ state_after (y.step q) s (journal_below y w.collected q)
   pub before_floor : (t : Time) (q : Process) → t ≤ floor w → filter (λ e. nat_lt e.time t) (done_of w.processes q) ≡ journal_below y t q
   pub finished : is_finished w ≡ true → IsOutcome y END (map done w.processes) (map (λ x. x.state) w.processes)
 

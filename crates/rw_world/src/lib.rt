@@ -8,7 +8,7 @@
 //!
 //! Worked examples: `rw_tests/src/relay_world.rt`.
 
-ghost use Rattle.rw_world.specs.Laws.{BalancesAddUp, ExchangesKeepSound, FloorIsGreatest, SoundIsInOrder, StepsKeepSound};
+ghost use Rattle.rw_world.specs.Laws.{BalancesAddUp, ExchangesKeepSound, FloorIsGreatest, SchedulesLeadInOrder, SoundIsInOrder, StepsKeepSound};
 
 mod drawing;
 mod least;
@@ -37,6 +37,13 @@ pub fn every_step<M: Model>()
 /// nothing.
 pub fn every_sound_world<M: Model>()
     ensures { SoundIsInOrder M.Model M.Body.cmp }
+{}
+
+/// Whatever the steps of a schedule, sensible or not, refused ones included: in the world to which they lead the committed
+/// events, and all that is done before the floor, are those of the run in order of time (Jefferson 1985). This is a law of the
+/// definitions, for every model; the call itself does nothing.
+pub fn every_schedule<M: Model>()
+    ensures { SchedulesLeadInOrder M.Model M.Body.cmp }
 {}
 
 /// The floor is the greatest time, up to the end, before which nothing is pending, owed, held or on its way. This is a law of
