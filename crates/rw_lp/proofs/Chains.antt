@@ -91,6 +91,7 @@ module _ {M S B U : Type 0} (model : Ghosts M S B U) {cmp : Event B → Event B 
       → IsLinked model cmp (record { model = x.model; number = x.number; start = x.start; committed = x.committed; processed = events; state = now }) all
   linked_push x rs all events now e r h k rs_is es_is now_is up = record {
     number = h.number;
+    start = h.start;
     well_formed = h.well_formed;
     leads = rw (rs_is, es_is, now_is) (leads_push model x.model x.number (state_after (model.step x.model x.number) x.start x.committed) x.state x.processed rs e r h.leads k);
     committed = h.committed;
@@ -112,6 +113,7 @@ module _ {M S B U : Type 0} (model : Ghosts M S B U) {cmp : Event B → Event B 
         subst (λ w. x.state ≡ (model.step m p w e).0) same q.3,
         record {
           number = h.number;
+          start = h.start;
           well_formed = h.well_formed;
           leads = subst (LeadsByRecords model m p s front rs) same q.1;
           committed = h.committed;
@@ -138,6 +140,7 @@ module _ {M S B U : Type 0} (model : Ghosts M S B U) {cmp : Event B → Event B 
       let same : state_after (model.step m p) s (take k x.processed) ≡ state_after (model.step m p) x.start committed = sym (ap (state_after (model.step m p) x.start) c_is ∙ after-append (model.step m p) x.start x.committed (take k x.processed)) in
       record {
         number = h.number;
+        start = h.start;
         well_formed = subst (model.IsWellFormed m p) same q.0;
         leads = rw (k_is, l_is) (subst (λ w. LeadsByRecords model m p w (drop k x.processed) (drop k rs) x.state) same q.1);
         committed = subst (Each cmp (IsFor model m p)) (sym c_is) (Each-append o (IsFor model m p) x.committed (take k x.processed) h.committed first);

@@ -49,9 +49,10 @@ LeadsByRecords model m p s [] (r ∷ rs) t = ⊥
 LeadsByRecords model m p s (e ∷ es) [] t = ⊥
 LeadsByRecords model m p s (e ∷ es) (r ∷ rs) t = IsRecordOf model m p s e r × LeadsByRecords model m p (model.step m p s e).0 es rs t
 
--- from a well-formed start the committed events and then the processed ones, which are in order and for the process, lead to the state, and each processed one can be taken back
+-- from a well-formed start the committed events lead to a well-formed state, and the processed ones from there to the state; all are in order and for the process, and each processed one can be taken back
 pub record IsLinked {M S B U : Type 0} (model : Ghosts M S B U) (cmp : Event B → Event B → Ordering) (x : HistoryState M S B) (records : List (UndoRecord B U)) : Type 0 where
   pub number : x.number < model.process_count x.model
+  pub start : model.IsWellFormed x.model x.number x.start
   pub well_formed : model.IsWellFormed x.model x.number (state_after (model.step x.model x.number) x.start x.committed)
   pub leads : LeadsByRecords model x.model x.number (state_after (model.step x.model x.number) x.start x.committed) x.processed records x.state
   pub committed : Each cmp (IsFor model x.model x.number) x.committed

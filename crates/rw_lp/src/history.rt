@@ -175,9 +175,11 @@ impl<M: VtModel> History<M> {
         self.processed().binary_search(&event).is_ok()
     }
 
-    /// What is done is in order and for the process, and leads to the state. This is a law of every history; the call itself
-    /// does nothing.
+    /// The process is one of the model's and starts well formed; what is done is in order and for the process, and leads
+    /// to the state. This is a law of every history; the call itself does nothing.
     pub fn soundness(&self)
+        ensures number { self.now.number < M.process_count self.now.model }
+        ensures start { M.IsWellFormed self.now.model self.now.number self.now.start }
         ensures order { IsAscending (event_cmp M.Body.cmp) (done_in self.now) }
         ensures committed { Each (event_cmp M.Body.cmp)
             (IsFor M.Model self.now.model self.now.number) self.now.committed }

@@ -10,7 +10,7 @@ ghost use Rattle.rw_lp.specs.Calls.{LogicalProcess, process_of, rules, new_proce
 ghost use Rattle.rw_lp.specs.Past.{IsFor};
 ghost use Rattle.rw_lp.specs.Own.{AreFor};
 ghost use Rattle.rw_lp.specs.HeldBack.{antis_unless, held_unless};
-ghost use Rattle.rw_lp.specs.Sound.{Balance, IsSoundOnceCollected, KeepsBalance};
+ghost use Rattle.rw_lp.specs.Sound.{Balance, IsSoundOnceCollected, KeepsBalance, StartsWell};
 ghost use Rattle.rw_lp.specs.Arrival.{Arrived, ArrivedLazily, is_barred};
 ghost use Rattle.rw_vt.specs.declared.event.TheConstants.{END};
 
@@ -342,10 +342,12 @@ impl<M: VtModel> Lp<M> {
         })
     }
 
-    /// A process that has collected up to some time is sound there: what it has done is in order and leads to its state, and
-    /// all its events are valid and go to it. This is a law of every process; the call itself does nothing.
+    /// A process is one of its model's and starts well formed. Where it has collected up to some time it is sound: what it
+    /// has done is in order and leads to its state, and all its events are valid and go to it. This is a law of every
+    /// process; the call itself does nothing.
     pub fn soundness(&self)
-        ensures { IsSoundOnceCollected M.Model M.Body.cmp self.now }
+        ensures starts { StartsWell M.Model self.now }
+        ensures sound { IsSoundOnceCollected M.Model M.Body.cmp self.now }
     {
         self.history.soundness();
         self.pending.order();

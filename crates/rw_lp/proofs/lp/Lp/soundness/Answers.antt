@@ -4,8 +4,8 @@ use Rattle.rw_lp.specs.Sound.{IsSoundOnceCollected}
 use Rattle.rw_lp.proofs.Own.{sound_where}
 use Rattle.rw_lp.proofs.lp.Lp.soundness.Goals as goal
 
-pub returns : goal.returns
-returns g c =
+pub returns-clause-sound : goal.returns-clause-sound
+returns-clause-sound g c =
     let known = c.soundness.ensures in
     let x = c.self.inside.history in
     subst (λ (w : LogicalProcess g.row.M.Denot g.row.M-State.Denot g.row.M-Body.Denot). IsSoundOnceCollected g.M.Model g.M.Body.Ord.cmp w) c.self.view_is
