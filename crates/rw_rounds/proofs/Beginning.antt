@@ -4,10 +4,8 @@ use Rattle.std.specs.Prelude.{◌/◌, ◌%◌, slice_get}
 use Rattle.std.specs.Option.{option_map}
 use Rattle.std.specs.declared.cmp.Ordering.{Ordering}
 use Rattle.std.proofs.lemmas.List.{length-map}
-use Rattle.std.proofs.lemmas.List.Elements.{All-nil}
 use Rattle.std.proofs.lemmas.Option.{slice_get-map}
 use Rattle.rw_vt.specs.declared.model.Model.{Ghosts}
-use Rattle.rw_vt.specs.System.{IsReady}
 use Rattle.rw_lp.specs.Process.{ProcessState}
 use Rattle.rw_lp.specs.Calls.{LogicalProcess, rules}
 use Rattle.rw_lp.specs.Sound.{SoundAt}
@@ -20,7 +18,7 @@ use Rattle.rw_rounds.specs.Deeds.{IsFair}
 use Rattle.rw_rounds.specs.Turns.{WorkerState, owner, is_own, process_at, IsInPlace, IsFit}
 use Rattle.rw_rounds.specs.Rounds.{role, Begins}
 use Rattle.rw_rounds.proofs.ByPlace.{get_within, place_of}
-use Rattle.rw_rounds.proofs.Governing.{Laws, Governs, governs}
+use Rattle.rw_rounds.proofs.Governing.{Laws, Governs, StartsIn, governs}
 use Rattle.rw_rounds.proofs.Going.{Well, fair_letters}
 use Rattle.rw_rounds.proofs.Fits.{there_is, collected_of}
 use Rattle.rw_rounds.proofs.Stepping.{number_of}
@@ -28,13 +26,6 @@ use Rattle.rw_rounds.proofs.Systems.{sound_among, letters_among}
 use Rattle.rw_rounds.proofs.Totals.{every_filter, every_passes}
 
 module _ {M S B U : Type 0} {model : Ghosts M S B U} {order : B → B → Ordering} (x : Parts M S B U) (whole : IsWhole model order x) where
-  -- a process is started as the parts name it
-  abbrev pub Started : ℕ → S → Type 0
-  Started p s = slice_get x.starts.value.items p ≡ Some s
-
-  pub ready_without : IsReady model x.model x.starts.value.items []
-  ready_without = record { enough = whole.ready.enough; well_formed = whole.ready.well_formed; valid = All-nil (λ e. model.is_valid x.model e ≡ true) }
-
   pub in_world : (q : ℕ) → slice_get (world_of x).processes q ≡ option_map (λ l. l.process) (slice_get x.processes.items q)
   in_world q = slice_get-map (λ l. l.process) x.processes.items q
 
@@ -45,19 +36,21 @@ module _ {M S B U : Type 0} {model : Ghosts M S B U} {order : B → B → Orderi
       let c = ap length whole.sound.starts in
       sym a ∙ sym b ∙ c ∙ whole.ready.enough
 
-  -- each process of the world is sound, and started so
+  -- each process of the world is sound, and starts well
   pub sound_there : (q : ℕ) (u : ProcessState S B) → slice_get (world_of x).processes q ≡ Some u → SoundAt (rules model order x.model) x.collected q u
   sound_there q u at = sound_among model order x.model x.starts.value.items [] x.initial.value.items [] x.collected q u (whole.sound.each q u at)
 
-  pub started_there : (q : ℕ) (u : ProcessState S B) → slice_get (world_of x).processes q ≡ Some u → Started q u.start
-  started_there q u at = ap (λ ss. slice_get ss q) (sym whole.sound.starts) ∙ slice_get-map (λ v. v.start) (world_of x).processes q ∙ ap (option_map (λ v. v.start)) at
+  pub started_there : (q : ℕ) (u : ProcessState S B) → slice_get (world_of x).processes q ≡ Some u → StartsIn model x.model q u.start
+  started_there q u at =
+      let named : slice_get x.starts.value.items q ≡ Some u.start = ap (λ ss. slice_get ss q) (sym whole.sound.starts) ∙ slice_get-map (λ v. v.start) (world_of x).processes q ∙ ap (option_map (λ v. v.start)) at in
+      (subst (λ n. q < n) whole.ready.enough (get_within x.starts.value.items q u.start named), whole.ready.well_formed q u.start named)
 
   module _ (plan : Plan) (i : ℕ) (below : i < plan.workers) (a : WorkerState M S B) (begins : Begins x.processes.items x.letters.items (role plan x.collected i) a) where
     -- what stands at a place of the worker
     there : (place : ℕ) (l : LogicalProcess M S B) → slice_get a.processes place ≡ Some l → slice_get x.processes.items (i + place * plan.workers) ≡ Some l
     there place l at = sym (begins.processes_are place) ∙ at
 
-    stands : (place : ℕ) (l : LogicalProcess M S B) → slice_get a.processes place ≡ Some l → IsInPlace order x.model x.starts.value.items (role plan x.collected i) place l
+    stands : (place : ℕ) (l : LogicalProcess M S B) → slice_get a.processes place ≡ Some l → IsInPlace order x.model (role plan x.collected i) place l
     stands place l at =
         let q : ℕ = i + place * plan.workers in
         let here : slice_get (world_of x).processes q ≡ Some l.process = in_world q ∙ ap (option_map (λ l. l.process)) (there place l at) in
@@ -65,7 +58,6 @@ module _ {M S B U : Type 0} {model : Ghosts M S B U} {order : B → B → Orderi
         record {
           model_is = known.0;
           number = known.1;
-          start = ap (slice_get x.starts.value.items) known.1 ∙ started_there q l.process here;
           collected = collected_of model order x.model x.collected q l.process (sound_there q l.process here);
         }
 
@@ -79,7 +71,7 @@ module _ {M S B U : Type 0} {model : Ghosts M S B U} {order : B → B → Orderi
         ∙ ap (option_map (λ l. l.process)) (there (q / plan.workers) f.0 f.1)
         ∙ ap (λ v. Some v) f.2
 
-    pub begun_well : Well (rules model order x.model) Started x.collected (process_at (role plan x.collected i) a.processes)
+    pub begun_well : Well (rules model order x.model) (StartsIn model x.model) x.collected (process_at (role plan x.collected i) a.processes)
     begun_well = record { sound = λ q u h. sound_there q u (begun_there q u h); started = λ q u h. started_there q u (begun_there q u h) }
 
     begun_complete : (q : ℕ) → q < model.process_count x.model → q % plan.workers ≡ i → q / plan.workers < length a.processes
@@ -90,7 +82,7 @@ module _ {M S B U : Type 0} {model : Ghosts M S B U} {order : B → B → Orderi
 
     begun_fair : Laws model order → Every (IsFair (rules model order x.model) x.collected) x.letters.items
     begun_fair laws =
-        let rule : Governs (rules model order x.model) Started x.collected (model.process_count x.model) = governs model order x.model x.starts.value.items laws ready_without x.collected in
+        let rule : Governs (rules model order x.model) (StartsIn model x.model) x.collected (model.process_count x.model) = governs model order x.model laws x.collected in
         fair_letters (rules model order x.model) x.collected (model.process_count x.model) rule x.letters.items (letters_among model order x.model x.starts.value.items [] x.initial.value.items [] x.collected x.letters.items whole.sound.letters)
 
     -- a worker that begins a round is fit for a turn
@@ -99,8 +91,6 @@ module _ {M S B U : Type 0} {model : Ghosts M S B U} {order : B → B → Orderi
       where
         fit : IsFit model order x.model (record a { role = role plan x.collected i })
         fit = record {
-          starts = x.starts.value.items;
-          ready = ready_without;
           number = below;
           window = ranges.window.1;
           in_place = stands;

@@ -22,8 +22,6 @@ module _ {M S B U : Type 0} (model : Ghosts M S B U) (order : B → B → Orderi
   -- a worker that closes stays fit
   pub fit_closed : (a b : WorkerState M S B) → Closes (rules model order m) a b → IsFit model order m a → IsFit model order m b
   fit_closed a b k f = subst (IsFit model order m) (sym k.closed) (record {
-    starts = f.starts;
-    ready = f.ready;
     number = f.number;
     window = f.window;
     in_place = f.in_place;

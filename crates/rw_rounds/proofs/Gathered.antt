@@ -1,13 +1,16 @@
 -- The workers of a round: as they are set up, and as they are taken apart.
-use Rattle.std.proofs.Common.{◌≡◌, ℕ, zero, suc, ◌+◌, ◌*◌, ◌<◌, ◌≤◌, List, [], ◌∷◌, ◌++◌, length, map, get_or, refl, sym, ap, ◌∙◌, subst, arith, inl, inr, Option, Some, None, Result, Ok, IfOk, All}
+use Rattle.std.proofs.Common.{◌≡◌, ℕ, zero, suc, ◌+◌, ◌*◌, ◌<◌, ◌≤◌, cond, List, [], ◌∷◌, ◌++◌, length, map, get_or, refl, sym, ap, ◌∙◌, subst, arith, inl, inr, Option, Some, None, Result, Ok, IfOk, All}
 use Rattle.std.specs.Prelude.{◌⊎◌, ◌/◌, ◌%◌, ◌==◌, filter, slice_get}
 use Rattle.std.specs.declared.cmp.Ordering.{Ordering}
-use Rattle.std.proofs.lemmas.Bool.{cases_lt}
+use Rattle.std.specs.Option.{option_map}
+use Rattle.std.proofs.lemmas.Bool.{cases_lt, eq-eqb}
 use Rattle.std.proofs.lemmas.List.{get_or-map, length-map}
 use Rattle.std.proofs.lemmas.Option.{get_or_from_slice_get}
 use Rattle.rw_vt.specs.declared.event.Letter.{Letter}
 use Rattle.rw_vt.specs.declared.model.Model.{Ghosts}
 use Rattle.rw_vt.specs.System.{System, flatten}
+use Rattle.rw_lp.specs.Process.{ProcessState}
+use Rattle.rw_lp.specs.Arrival.{Way}
 use Rattle.rw_lp.specs.Calls.{LogicalProcess, rules}
 use Rattle.rw_world.specs.declared.parts.Parts.{Parts}
 use Rattle.rw_world.specs.Calls.{IsWhole}
@@ -17,13 +20,13 @@ use Rattle.rw_board.specs.Seats.{SeatState, BoardState, new_seat}
 use Rattle.rw_rounds.specs.declared.plan.Plan.{Plan}
 use Rattle.rw_rounds.specs.Plans.{IsInRanges}
 use Rattle.rw_rounds.specs.Bags.{weigh, Every, sum_below}
-use Rattle.rw_rounds.specs.Turns.{WorkerState, IsInPlace, TookTurns}
+use Rattle.rw_rounds.specs.Deeds.{Deed, Arrival, Undoing, Execution, Owned, Stepped, Did, Goes, way_of}
+use Rattle.rw_rounds.specs.Turns.{WorkerState, process_at, processes_of, TookTurns}
 use Rattle.rw_rounds.specs.Rounds.{role, Begins, Closes, TookRound}
 use Rattle.rw_rounds.specs.Seated.{IsSeated}
 use Rattle.rw_rounds.specs.Setting.{AreSetUp}
 use Rattle.rw_rounds.proofs.Governing.{Laws}
 use Rattle.rw_rounds.proofs.Sums.{total_add, weigh-append}
-use Rattle.rw_rounds.proofs.ByPlace.{get_within}
 use Rattle.rw_rounds.proofs.Beginning.{as_many, begins_fit}
 use Rattle.rw_rounds.proofs.Shares.{AreDealt, get_there, get_past}
 
@@ -45,6 +48,20 @@ pairs {W} {E} Went ws ws' rs all each long =
           subst (λ r. IfOk r (Went (get_or ws i d))) is (each i d (Ok d') lt),
     )
 
+-- a worker gets no process that it did not have
+module _ {S B : Type 0} (y : System S B) where
+  stepped_none : (p : ℕ) (By : ProcessState S B → ProcessState S B → List (Letter B) → Type 0) (a b : Owned S B) (x z : ProcessState S B) (out : List (Letter B)) → Stepped p By a b x z out → (q : ℕ) → a q ≡ None → b q ≡ None
+  stepped_none p By a b x z out s q none = s.others q (λ is. (let some : None ≡ Some x = sym none ∙ ap a is ∙ s.was in cc)) ∙ none
+
+  did_none : (g : ℕ) (way : Way) (d : Deed B) (a b : Owned S B) (out : List (Letter B)) → Did y g way d a b out → (q : ℕ) → a q ≡ None → b q ≡ None
+  did_none g way (Arrival l) a b out d = stepped_none l.event.to _ a b d.0 d.1 out d.2
+  did_none g way (Undoing p) a b out d = stepped_none p _ a b d.0 d.1 out d.2
+  did_none g way (Execution p) a b out d = stepped_none p _ a b d.0 d.1 out d.2
+
+  goes_none : (g : ℕ) (way : Way) (ds : List (Deed B)) (a b : Owned S B) (given : List (Letter B)) → Goes y g way ds a b given → (q : ℕ) → a q ≡ None → b q ≡ None
+  goes_none g way [] a b given go q none = ap (λ f. f q) go.0 ∙ none
+  goes_none g way (d ∷ ds) a b given go q none = goes_none g way ds go.0 b go.2 go.4 q (did_none g way d a go.0 go.1 go.3 q none)
+
 -- what turns leave as it was
 pub record Stays {M S B : Type 0} (a b : WorkerState M S B) : Type 0 where
   pub role : b.role ≡ a.role
@@ -65,6 +82,10 @@ module _ {M S B : Type 0} (y : System S B) where
   pub turns_stay : (turns : ℕ) (a b : WorkerState M S B) → TookTurns y turns a b → Stays a b
   turns_stay zero a b same = stays_none a b same
   turns_stay (suc turns) a b h = stays_then a h.0 b (record { role = h.2.role; port = h.2.same_port; board = h.2.same_board }) (turns_stay turns h.0 b h.3)
+
+  pub turns_none : (turns : ℕ) (a b : WorkerState M S B) → TookTurns y turns a b → (q : ℕ) → processes_of a q ≡ None → processes_of b q ≡ None
+  turns_none zero a b same q none = ap (λ w. processes_of w q) same ∙ none
+  turns_none (suc turns) a b h q none = turns_none turns h.0 b h.3 q (goes_none y a.role.collected (way_of a.role.plan.lazy) h.2.deeds (processes_of a) (processes_of h.0) h.2.given h.2.goes q none)
 
   closing_stays : (a b : WorkerState M S B) → Closes y a b → Stays a b
   closing_stays a b k = subst (Stays a) (sym k.closed) (record { role = refl; port = record { worker = refl; capacity = refl; out = refl; into = refl; sent = refl; received = refl }; board = refl })
@@ -209,24 +230,25 @@ module _ {M S B U : Type 0} {model : Ghosts M S B U} {order : B → B → Orderi
 
       -- and no other process is
       pub none_past : (d : WorkerState M S B) (q : ℕ) → length x.processes.items ≤ q → slice_get (get_or ws' (q % plan.workers) d).processes (q / plan.workers) ≡ None
-      none_past d q past = go (slice_get (get_or ws' (q % plan.workers) d).processes (q / plan.workers)) refl
+      none_past d q past =
+          let some : 0 < plan.workers = omega (arith, ranges.workers.0) in
+          let below : q % plan.workers < plan.workers = omega arith in
+          let number : q % plan.workers + (q / plan.workers) * plan.workers ≡ q = omega arith in
+          let first = get_or ws (q % plan.workers) d in
+          let last = get_or ws' (q % plan.workers) d in
+          let begins = begins_at (q % plan.workers) d below in
+          let w = took.went (q % plan.workers) d d (subst (λ n. q % plan.workers < n) (sym up.many) below) in
+          let was : slice_get first.processes (q / plan.workers) ≡ None = begins.processes_are (q / plan.workers) ∙ ap (slice_get x.processes.items) number ∙ get_past x.processes.items q past in
+          let before : processes_of first q ≡ None = subst (λ k. process_at k first.processes q ≡ None) (sym begins.role) (at_its_worker first.processes (q % plan.workers) q refl ∙ ap (option_map (λ l. l.process)) was) in
+          let after : processes_of last q ≡ None = ap (λ v. processes_of v q) w.closes.closed ∙ turns_none (rules model order x.model) plan.turns first w.between w.turns_are q before in
+          nowhere (slice_get last.processes (q / plan.workers)) (sym (at_its_worker last.processes (q % plan.workers) q refl) ∙ subst (λ k. process_at k last.processes q ≡ None) (role_after (q % plan.workers) d below) after)
         where
-          some : 0 < plan.workers
-          some = omega (arith, ranges.workers.0)
+          at_its_worker : (ls : List (LogicalProcess M S B)) (i q : ℕ) → q % plan.workers ≡ i → process_at (role plan x.collected i) ls q ≡ option_map (λ l. l.process) (slice_get ls (q / plan.workers))
+          at_its_worker ls i q own = ap (λ b. cond b (option_map (λ l. l.process) (slice_get ls (q / plan.workers))) None) (eq-eqb (q % plan.workers) i own)
 
-          below : q % plan.workers < plan.workers
-          below = omega arith
-
-          go : (o : Option (LogicalProcess M S B)) → slice_get (get_or ws' (q % plan.workers) d).processes (q / plan.workers) ≡ o → o ≡ None
-          go None at = refl
-          go (Some l) at =
-              let r = role_after (q % plan.workers) d below in
-              let fit = (took.went (q % plan.workers) d d (subst (λ n. q % plan.workers < n) (sym up.many) below)).fit in
-              let stands : IsInPlace order x.model fit.starts (role plan x.collected (q % plan.workers)) (q / plan.workers) l = subst (λ k. IsInPlace order x.model fit.starts k (q / plan.workers) l) r (fit.in_place (q / plan.workers) l at) in
-              let inside = get_within fit.starts l.number l.process.start stands.start in
-              let whole_q : q % plan.workers + (q / plan.workers) * plan.workers ≡ q = omega arith in
-              let n = as_many x whole in
-              absurd (omega (arith, stands.number, whole_q, inside, fit.ready.enough, n, past))
+          nowhere : (o : Option (LogicalProcess M S B)) → option_map (λ l. l.process) o ≡ None → o ≡ None
+          nowhere None none = refl
+          nowhere (Some l) none = cc
 
       hand_after : (shares' : List (List (LogicalProcess M S B))) (d : WorkerState M S B) (i : ℕ) → shares' ≡ map (λ w. w.processes) ws' → i < plan.workers → get_or shares' i [] ≡ (get_or ws' i d).processes
       hand_after shares' d i is below = ap (λ z. get_or z i []) is ∙ get_or-map (λ w. w.processes) ws' i d [] (subst (λ n. i < n) (sym (took.long ∙ up.many)) below)

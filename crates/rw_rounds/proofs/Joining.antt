@@ -21,14 +21,14 @@ use Rattle.rw_rounds.specs.Bags.{weigh, only, Every, sum_below}
 use Rattle.rw_rounds.specs.Deeds.{IsFair}
 use Rattle.rw_rounds.specs.Turns.{Role, WorkerState, owner, is_own, is_accepted, process_at}
 use Rattle.rw_rounds.specs.Rounds.{role, Round}
-use Rattle.rw_rounds.proofs.Governing.{Laws, Governs, governs}
+use Rattle.rw_rounds.proofs.Governing.{Laws, Governs, StartsIn, governs}
 use Rattle.rw_rounds.proofs.Going.{KeptAt}
 use Rattle.rw_rounds.proofs.Stepping.{number_of}
 use Rattle.rw_rounds.proofs.Sums.{total_same, total_add, total_zero, total_one, weigh-append, weigh_zero, every_front}
 use Rattle.rw_rounds.proofs.Totals.{total_swap, weigh_by, weigh_joined, weightless, every_both, message, anti, messages_weigh, antis_weigh, every_counted}
 use Rattle.rw_rounds.proofs.Systems.{kept_in_world}
 use Rattle.rw_rounds.proofs.Working.{IsConsistent, Worked, turns_keep, closing_keeps, inbox_empties}
-use Rattle.rw_rounds.proofs.Beginning.{Started, ready_without, in_world, begun_well}
+use Rattle.rw_rounds.proofs.Beginning.{in_world, begun_well}
 
 -- one function in place of a choice for each number below n
 pub choose : {A : Type 0} (P : ℕ → A → Type 0) → A → (n : ℕ) → ((i : ℕ) → i < n → (x : A) × P i x) → (f : ℕ → A) × ((i : ℕ) → i < n → P i (f i))
@@ -62,13 +62,13 @@ module _ {M S B U : Type 0} {model : Ghosts M S B U} {order : B → B → Orderi
   abbrev count : ℕ
   count = model.process_count x.model
 
-  rule : (g : ℕ) → Governs (rules model order x.model) (Started x whole) g (model.process_count x.model)
-  rule g = governs model order x.model x.starts.value.items laws (ready_without x whole) g
+  rule : (g : ℕ) → Governs (rules model order x.model) (StartsIn model x.model) g (model.process_count x.model)
+  rule g = governs model order x.model laws g
 
   pub owned : (q : ℕ) → q % plan.workers < plan.workers
   owned q = let some = ranges.workers.0 in omega arith
 
-  begun_consistent : (i : ℕ) → i < plan.workers → IsConsistent y (Started x whole) (r i) (round.first i)
+  begun_consistent : (i : ℕ) → i < plan.workers → IsConsistent y (StartsIn model x.model) (r i) (round.first i)
   begun_consistent i l =
       let b = round.begins i l in
       record {
@@ -84,7 +84,7 @@ module _ {M S B U : Type 0} {model : Ghosts M S B U} {order : B → B → Orderi
       }
 
   -- what holds of each worker after its closing
-  pub closed : (i : ℕ) → i < plan.workers → IsConsistent y (Started x whole) (r i) (round.last i) × Worked y (model.process_count x.model) (r i) (round.first i) (round.last i)
+  pub closed : (i : ℕ) → i < plan.workers → IsConsistent y (StartsIn model x.model) (r i) (round.last i) × Worked y (model.process_count x.model) (r i) (round.first i) (round.last i)
   closed i l =
       let w = round.works i l in
       closing_keeps y count rule (r i) (round.first i) w.between (round.last i)

@@ -1,5 +1,6 @@
 pub mod ByPlace
 pub mod Sums
+pub mod OneProcess
 pub mod Governing
 pub mod Keeping
 pub mod Falling

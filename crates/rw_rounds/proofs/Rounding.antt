@@ -66,7 +66,7 @@ module _ {M S B U : Type 0} {model : Ghosts M S B U} {order : B → B → Orderi
       let fit = (round.works (q % plan.workers) inside).fit in
       let same : (round.last (q % plan.workers)).role ≡ role plan x.collected (q % plan.workers) = (closed laws plan x z least ranges whole round (q % plan.workers) inside).0.role in
       let there : slice_get (round.last (q % plan.workers)).processes (q / plan.workers) ≡ Some l = sym (round.processes_are q) ∙ at in
-      let stands : IsInPlace order x.model fit.starts (role plan x.collected (q % plan.workers)) (q / plan.workers) l = subst (λ k. IsInPlace order x.model fit.starts k (q / plan.workers) l) same (fit.in_place (q / plan.workers) l there) in
+      let stands : IsInPlace order x.model (role plan x.collected (q % plan.workers)) (q / plan.workers) l = subst (λ k. IsInPlace order x.model k (q / plan.workers) l) same (fit.in_place (q / plan.workers) l there) in
       (stands.model_is ∙ sym round.model_is, stands.number ∙ number_of (role plan x.collected (q % plan.workers)) q inside refl)
 
   pub whole_after : IsWhole model order z

@@ -15,7 +15,8 @@ use Rattle.rw_rounds.specs.Deeds.{Arrival, Undoing, Execution, Stepped, IsFair, 
 use Rattle.rw_rounds.specs.Turns.{Role, WorkerState, is_own, process_at, IsInPlace, IsFit}
 use Rattle.rw_rounds.specs.Working.{IsFitAndSound, Works, Moved, IsNext, size, sizes, dones}
 use Rattle.rw_rounds.proofs.ByPlace.{get_set-same, get_set-other, length_set, at_place, place_of, set_here, set_elsewhere, number_place}
-use Rattle.rw_rounds.proofs.Governing.{Laws, Governs, governs}
+use Rattle.rw_rounds.proofs.Governing.{Laws, Governs, StartsIn, governs}
+use Rattle.rw_rounds.proofs.Fits.{starts_in}
 use Rattle.rw_rounds.proofs.Keeping.{kept_of, arrival_keeps}
 use Rattle.rw_rounds.proofs.Going.{fair_letters}
 use Rattle.rw_rounds.proofs.Falling.{arrival_falls, execute_counts, undo_counts, sizes_set, dones_set}
@@ -60,14 +61,17 @@ module _ {M S B : Type 0} (r : Role) (h : r.number < r.plan.workers) (xs zs : Li
 module _ {M S B U : Type 0} {model : Ghosts M S B U} {order : B → B → Ordering} (laws : Laws model order) (m : M) (a b : WorkerState M S B) (up : IsFitAndSound model order m a)
     (same_role : b.role ≡ a.role) (inbox : b.inbox ≡ a.inbox) (kept : b.kept ≡ a.kept) (aside : b.aside ≡ a.aside) (port : b.port ≡ a.port) (seat : b.seat ≡ a.seat)
     (place : ℕ) (l z : LogicalProcess M S B) (there : slice_get a.processes place ≡ Some l) (set : b.processes ≡ slice_set a.processes place z) (same : (z.model ≡ l.model) × (z.number ≡ l.number)) where
-  stands : IsInPlace order m up.fit.starts a.role place l
+  stands : IsInPlace order m a.role place l
   stands = up.fit.in_place place l there
+
+  starts : StartsIn model m l.number l.process.start
+  starts = starts_in m l stands.model_is (up.starts place l there)
 
   sound_here : SoundAt (rules model order m) a.role.collected l.number l.process
   sound_here = up.sound place l there
 
-  rule_here : Governs (rules model order m) (λ p s. slice_get up.fit.starts p ≡ Some s) a.role.collected (model.process_count m)
-  rule_here = governs model order m up.fit.starts laws up.fit.ready a.role.collected
+  rule_here : Governs (rules model order m) (StartsIn model m) a.role.collected (model.process_count m)
+  rule_here = governs model order m laws a.role.collected
 
   as_many : length b.processes ≡ length a.processes
   as_many = ap length set ∙ length_set a.processes place z
@@ -94,7 +98,7 @@ module _ {M S B U : Type 0} {model : Ghosts M S B U} {order : B → B → Orderi
 
     pub arrival_fair : Every (IsFair (rules model order m) a.role.collected) given
     arrival_fair =
-        let kept_here = arrival_keeps (rules model order m) a.role.collected l.number rule_here (way_of a.role.plan.lazy) l.process z.process letter given stands.start sound_here (record { valid = fair.valid; here = sym number_is }) fair.from by_model in
+        let kept_here = arrival_keeps (rules model order m) a.role.collected l.number rule_here (way_of a.role.plan.lazy) l.process z.process letter given starts sound_here (record { valid = fair.valid; here = sym number_is }) fair.from by_model in
         fair_letters (rules model order m) a.role.collected (model.process_count m) rule_here given kept_here.letters
 
     pub arrival_sizes : sizes (rules model order m) b.processes + length given ≤ sizes (rules model order m) a.processes
@@ -139,10 +143,10 @@ module _ {M S B U : Type 0} {model : Ghosts M S B U} {order : B → B → Orderi
 
     pub moved_fair : (executed : Bool) → Moved (rules model order l.model) (way_of a.role.plan.lazy) l.number l.process z.process executed given → Every (IsFair (rules model order m) a.role.collected) given
     moved_fair true moved =
-        let k : Kept (rules model order m) a.role.collected l.number l.process z.process [] given = kept_of (rules model order m) a.role.collected l.number l.process z.process [] given (execute_next (rules model order m) l.number l.process) (executed_by moved) (rule_here.executes l.number l.process stands.start sound_here) in
+        let k : Kept (rules model order m) a.role.collected l.number l.process z.process [] given = kept_of (rules model order m) a.role.collected l.number l.process z.process [] given (execute_next (rules model order m) l.number l.process) (executed_by moved) (rule_here.executes l.number l.process starts sound_here) in
         fair_letters (rules model order m) a.role.collected (model.process_count m) rule_here given k.letters
     moved_fair false moved =
-        let k : Kept (rules model order m) a.role.collected l.number l.process z.process [] given = kept_of (rules model order m) a.role.collected l.number l.process z.process [] given (undo_by (way_of a.role.plan.lazy) (rules model order m) l.number l.process) (undone_by moved).0 (rule_here.undoes (way_of a.role.plan.lazy) l.number l.process stands.start sound_here) in
+        let k : Kept (rules model order m) a.role.collected l.number l.process z.process [] given = kept_of (rules model order m) a.role.collected l.number l.process z.process [] given (undo_by (way_of a.role.plan.lazy) (rules model order m) l.number l.process) (undone_by moved).0 (rule_here.undoes (way_of a.role.plan.lazy) l.number l.process starts sound_here) in
         fair_letters (rules model order m) a.role.collected (model.process_count m) rule_here given k.letters
 
     pub executed_dones : Moved (rules model order l.model) (way_of a.role.plan.lazy) l.number l.process z.process true given → dones b.processes ≡ dones a.processes + 1

@@ -6,7 +6,7 @@ use Rattle.rw_vt.specs.Words.{Count, Position, Process, Time, Worker}
 use Rattle.rw_vt.specs.declared.event.Letter.{Letter}
 use Rattle.rw_vt.specs.declared.model.Model.{Ghosts}
 use Rattle.rw_vt.specs.Order.{event_cmp, Each}
-use Rattle.rw_vt.specs.System.{System, IsReady}
+use Rattle.rw_vt.specs.System.{System}
 use Rattle.rw_lp.specs.Process.{ProcessState}
 use Rattle.rw_lp.specs.Calls.{LogicalProcess, rules}
 use Rattle.rw_lp.specs.Sound.{HasCollected}
@@ -82,25 +82,23 @@ if_fails y r h = only (λ l. not (is_accepted y r l)) h
 
 -- The conditions of a turn
 
--- the process runs the model m, has the number and the start that this position of the worker is
--- for, and has collected up to the worker's time
-pub record IsInPlace {M S B : Type 0} (order : B → B → Ordering) (m : M) (starts : List S)
-    (r : Role) (place : Position) (l : LogicalProcess M S B) : Type 0 where
+-- the process runs the model m, has the number that this position of the worker is for, and has
+-- collected up to the worker's time
+pub record IsInPlace {M S B : Type 0} (order : B → B → Ordering) (m : M) (r : Role)
+    (place : Position) (l : LogicalProcess M S B) : Type 0 where
   pub model_is : l.model ≡ m
   pub number : l.number ≡ r.number + place * r.plan.workers
-  pub start : slice_get starts l.number ≡ Some l.process.start
   pub collected : HasCollected (event_cmp order) r.collected l.process
 
 -- the worker can take a turn with the model m: its processes are those of its number, each in its
--- place; letters that are to arrive are fair and to them; and the port is its own
+-- place; letters that are to arrive are fair and to them; those that it keeps are to others; and
+-- the port is its own
 pub record IsFit {M S B U : Type 0} (model : Ghosts M S B U) (order : B → B → Ordering)
     (m : M) (w : WorkerState M S B) : Type 0 where
-  pub starts : List S
-  pub ready : IsReady model m starts []
   pub number : w.role.number < w.role.plan.workers
   pub window : w.role.plan.window ≤ END
   pub in_place : (place : Position) (l : LogicalProcess M S B)
-      → slice_get w.processes place ≡ Some l → IsInPlace order m starts w.role place l
+      → slice_get w.processes place ≡ Some l → IsInPlace order m w.role place l
   pub complete : (q : Process) → q < model.process_count m
       → q % w.role.plan.workers ≡ w.role.number
       → q / w.role.plan.workers < length w.processes

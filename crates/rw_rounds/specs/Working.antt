@@ -12,7 +12,7 @@ use Rattle.rw_vt.specs.System.{System, sends_of}
 use Rattle.rw_lp.specs.Process.{ProcessState, done, Turned, Stays, execute_next}
 use Rattle.rw_lp.specs.Arrival.{Way, undo_by}
 use Rattle.rw_lp.specs.Calls.{LogicalProcess, rules}
-use Rattle.rw_lp.specs.Sound.{SoundAt}
+use Rattle.rw_lp.specs.Sound.{SoundAt, StartsWell}
 use Rattle.rw_lp.specs.declared.step.StepFault.TheVariants.{Straggler}
 use Rattle.rw_exchange.specs.Ports.{SamePort, sent_to, received_from}
 use Rattle.rw_rounds.specs.declared.desk.Bench.{Bench}
@@ -38,11 +38,13 @@ desk_of d = record {
   seat = d.seat;
 }
 
--- the worker is fit for a turn, and each of its processes is sound, as every process is that has
--- collected so far
+-- the worker is fit for a turn, and each of its processes starts well and is sound, as every
+-- process is that has collected so far
 pub record IsFitAndSound {M S B U : Type 0} (model : Ghosts M S B U) (order : B → B → Ordering)
     (m : M) (w : WorkerState M S B) : Type 0 where
   pub fit : IsFit model order m w
+  pub starts : (place : Position) (l : LogicalProcess M S B)
+      → slice_get w.processes place ≡ Some l → StartsWell model l
   pub sound : (place : Position) (l : LogicalProcess M S B)
       → slice_get w.processes place ≡ Some l
       → SoundAt (rules model order m) w.role.collected l.number l.process

@@ -1,6 +1,6 @@
 ghost use Rattle.std.specs.Prelude.{◌≡◌, ℕ, [], IfOk, slice_get, Some};
 ghost use Rattle.rw_lp.specs.Calls.{LogicalProcess, rules};
-ghost use Rattle.rw_lp.specs.Sound.{IsSoundOnceCollected};
+ghost use Rattle.rw_lp.specs.Sound.{IsSoundOnceCollected, StartsWell};
 ghost use Rattle.rw_rounds.specs.Rounds.{Closes};
 ghost use Rattle.rw_rounds.specs.Turns.{IsFit, TookTurn};
 
@@ -50,8 +50,8 @@ impl<M: VtModel> Model for Worker<M> {
 
 impl<M: VtModel> Worker<M> {
     /// Worker `number` of a round, with its processes in order, the letters that are on their way to them, its port
-    /// and its seat. `collected` is the greatest time collected, in ticks: what is processed, pending, owed or on its
-    /// way is not before it. Takes no memory.
+    /// and its seat. `collected` is the greatest time collected, in ticks. Nothing is asked here: what has to hold of
+    /// them is said where the worker takes a [`turn`](Self::turn). Takes no memory.
     pub fn new(
         alloc: Global,
         number: u32,
@@ -98,9 +98,18 @@ impl<M: VtModel> Worker<M> {
     /// pushed into a ring, or kept where the ring has no room. The time of each letter that is pushed is noted on the
     /// board. It takes no lock and never waits.
     ///
-    /// The model is the one that the processes run; they are all of the worker's, in order, and each has collected up
-    /// to `collected`. The letters that are to arrive are valid, to them, and not before that time. The port has the
-    /// worker's number, and the seat belongs to the board. All this holds again after.
+    /// What is asked is of the worker alone, and holds again after:
+    ///
+    /// - its number is below the plan's `workers`, and the plan's `window` is at most the end of time;
+    /// - its processes are all those of the model whose number is its own modulo `workers`, in order; each runs `model`
+    ///   and has collected up to `collected`, so that its committed events are before that time, and what is processed,
+    ///   pending or owed is not;
+    /// - the letters that are to arrive are of valid events to these processes, and not before that time; those that it
+    ///   keeps, of which a new worker has none, are to other processes;
+    /// - the port has its number and joins as many workers as the plan has, and the seat belongs to the board.
+    ///
+    /// So whoever has the processes can have the worker: that each starts well formed is promised by the process itself
+    /// ([`Lp::soundness`]), and nothing is asked of the processes of others.
     ///
     /// # Errors
     ///
@@ -167,9 +176,11 @@ impl<M: VtModel> Worker<M> {
     }
 }
 
-/// Each process is sound wherever it has collected, as [`Lp::soundness`] says. Does nothing.
+/// Each process starts well, and is sound wherever it has collected, as [`Lp::soundness`] says. Does nothing.
 fn soundness<M: VtModel>(processes: &[Lp<M>])
-    ensures { (place : ℕ) (l : LogicalProcess M M.State M.Body)
+    ensures starts { (place : ℕ) (l : LogicalProcess M M.State M.Body)
+        → slice_get processes.now place ≡ Some l → StartsWell M.Model l }
+    ensures sound { (place : ℕ) (l : LogicalProcess M M.State M.Body)
         → slice_get processes.now place ≡ Some l → IsSoundOnceCollected M.Model M.Body.cmp l }
 {
     for process in processes {

@@ -15,7 +15,8 @@ turn-requires-clause-fit g c =
     let own = subst (IsFit g.M.Model g.M.Body.Ord.cmp c.args.model.now) (sym c.self.view_is) c.requires.fit in
     fit_and_sound g.M.Model g.M.Body.Ord.cmp c.args.model.now (desk_of x.desk)
     (fit_without_inbox laws c.args.model.now (record (desk_of x.desk) { inbox = x.at_hand.items }) own)
-    (λ place l there. c.soundness.ensures place l (ap (λ ls. slice_get ls place) c.deref.ensures.value ∙ there))
+    (λ place l there. c.soundness.ensures.starts place l (ap (λ ls. slice_get ls place) c.deref.ensures.value ∙ there))
+    (λ place l there. c.soundness.ensures.sound place l (ap (λ ls. slice_get ls place) c.deref.ensures.value ∙ there))
 
 pub returns-clause-fit : goal.returns-clause-fit
 returns-clause-fit g c =
