@@ -30,6 +30,8 @@ mod queue_text;
 #[cfg(test)]
 mod relay_rounds;
 #[cfg(test)]
+mod relay_worker;
+#[cfg(test)]
 mod relay_world;
 #[cfg(test)]
 mod reports;
