@@ -4,7 +4,6 @@ use Rattle.std.specs.declared.cmp.Ordering.{Ordering}
 use Rattle.rw_vt.specs.declared.event.Letter.{Letter}
 use Rattle.rw_vt.specs.declared.model.Model.{Ghosts}
 use Rattle.rw_vt.specs.System.{System}
-use Rattle.rw_lp.specs.Calls.{rules}
 use Rattle.rw_rounds.specs.Turns.{WorkerState, IsFit, TookTurn, TookTurns}
 use Rattle.rw_rounds.specs.Rounds.{Closes}
 
@@ -14,14 +13,14 @@ module _ {M S B : Type 0} (y : System S B) where
   turns_more zero a c b n same last = (b, n, subst (λ w. TookTurn y w b n) same last, refl)
   turns_more (suc turns) a c b n first last = (first.0, first.1, first.2, turns_more turns first.0 c b n first.3 last)
 
-  -- the letters that are still to arrive do not matter
-  pub closes_with_inbox : (a b : WorkerState M S B) (inbox : List (Letter B)) → Closes y a b → Closes y (record a { inbox = inbox }) (record b { inbox = inbox })
-  closes_with_inbox a b inbox k = record { least = k.least; pending = k.pending; debts = k.debts; closed = ap {A = WorkerState M S B} (λ w. record w { inbox = inbox }) k.closed }
+-- the letters that are still to arrive do not matter
+pub closes_with_inbox : {M S B : Type 0} (a b : WorkerState M S B) (inbox : List (Letter B)) → Closes a b → Closes (record a { inbox = inbox }) (record b { inbox = inbox })
+closes_with_inbox {M} {S} {B} a b inbox k = ap {A = WorkerState M S B} (λ w. record w { inbox = inbox }) k
 
 module _ {M S B U : Type 0} (model : Ghosts M S B U) (order : B → B → Ordering) (m : M) where
   -- a worker that closes stays fit
-  pub fit_closed : (a b : WorkerState M S B) → Closes (rules model order m) a b → IsFit model order m a → IsFit model order m b
-  fit_closed a b k f = subst (IsFit model order m) (sym k.closed) (record {
+  pub fit_closed : (a b : WorkerState M S B) → Closes a b → IsFit model order m a → IsFit model order m b
+  fit_closed a b k f = subst (IsFit model order m) (sym k) (record {
     number = f.number;
     window = f.window;
     in_place = f.in_place;

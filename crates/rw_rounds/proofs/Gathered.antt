@@ -1,5 +1,5 @@
 -- The workers of a round: as they are set up, and as they are taken apart.
-use Rattle.std.proofs.Common.{◌≡◌, ℕ, zero, suc, ◌+◌, ◌*◌, ◌<◌, ◌≤◌, cond, List, [], ◌∷◌, ◌++◌, length, map, get_or, refl, sym, ap, ◌∙◌, subst, arith, inl, inr, Option, Some, None, Result, Ok, IfOk, All}
+use Rattle.std.proofs.Common.{◌≡◌, ℕ, zero, suc, ◌+◌, ◌*◌, ◌<◌, ◌≤◌, cond, List, [], ◌∷◌, ◌++◌, length, map, get_or, append_assoc, append-nil, refl, sym, ap, ◌∙◌, subst, arith, inl, inr, Option, Some, None, Result, Ok, IfOk, All}
 use Rattle.std.specs.Prelude.{◌⊎◌, ◌/◌, ◌%◌, ◌==◌, filter, slice_get}
 use Rattle.std.specs.declared.cmp.Ordering.{Ordering}
 use Rattle.std.specs.Option.{option_map}
@@ -16,13 +16,13 @@ use Rattle.rw_world.specs.declared.parts.Parts.{Parts}
 use Rattle.rw_world.specs.Calls.{IsWhole}
 use Rattle.rw_exchange.specs.Ports.{PortState, SamePort, IsNew, IsWide, IsOpening, StayAnOpening, sent_to, received_from, sent_between, received_between}
 use Rattle.rw_board.specs.Least.{least}
-use Rattle.rw_board.specs.Seats.{SeatState, BoardState, new_seat}
+use Rattle.rw_board.specs.Seats.{SeatState, BoardState, new_seat, all_notes}
 use Rattle.rw_rounds.specs.declared.plan.Plan.{Plan}
 use Rattle.rw_rounds.specs.Plans.{IsInRanges}
 use Rattle.rw_rounds.specs.Bags.{weigh, Every, sum_below}
 use Rattle.rw_rounds.specs.Deeds.{Deed, Arrival, Undoing, Execution, Owned, Stepped, Did, Goes, way_of}
 use Rattle.rw_rounds.specs.Turns.{WorkerState, process_at, processes_of, TookTurns}
-use Rattle.rw_rounds.specs.Rounds.{role, Begins, Closes, TookRound}
+use Rattle.rw_rounds.specs.Rounds.{role, Begins, Closes, TookRound, noted_below}
 use Rattle.rw_rounds.specs.Seated.{IsSeated}
 use Rattle.rw_rounds.specs.Setting.{AreSetUp}
 use Rattle.rw_rounds.proofs.Governing.{Laws}
@@ -87,17 +87,21 @@ module _ {M S B : Type 0} (y : System S B) where
   turns_none zero a b same q none = ap (λ w. processes_of w q) same ∙ none
   turns_none (suc turns) a b h q none = turns_none turns h.0 b h.3 q (goes_none y a.role.collected (way_of a.role.plan.lazy) h.2.deeds (processes_of a) (processes_of h.0) h.2.given h.2.goes q none)
 
-  closing_stays : (a b : WorkerState M S B) → Closes y a b → Stays a b
-  closing_stays a b k = subst (Stays a) (sym k.closed) (record { role = refl; port = record { worker = refl; capacity = refl; out = refl; into = refl; sent = refl; received = refl }; board = refl })
+  closing_stays : (a b : WorkerState M S B) → Closes a b → Stays a b
+  closing_stays a b k = subst (Stays a) (sym k) (record { role = refl; port = record { worker = refl; capacity = refl; out = refl; into = refl; sent = refl; received = refl }; board = refl })
 
 module _ {M S B U : Type 0} {model : Ghosts M S B U} {order : B → B → Ordering} where
   pub round_stays : (m : M) (turns : ℕ) (a b : WorkerState M S B) → TookRound model order m turns a b → Stays a b
   round_stays m turns a b t = stays_then (rules model order m) a t.between b (turns_stay (rules model order m) turns a t.between t.turns_are) (closing_stays (rules model order m) t.between b t.closes)
 
--- no time is before the least
-pub every_from_least : (l : ℕ) (ts : List ℕ) → l ≤ least ts → Every (λ t. l ≤ t) ts
-every_from_least l [] h = tt
-every_from_least l (t ∷ ts) h = (omega arith, every_from_least l ts (omega arith))
+-- all notes, the first seat's first
+noted_first : (n : ℕ) (seats : ℕ → SeatState) → noted_below (suc n) seats ≡ (seats 0).noted ++ noted_below n (λ i. seats (suc i))
+noted_first zero seats = sym (append-nil (seats 0).noted)
+noted_first (suc n) seats = ap (λ ts. ts ++ (seats (suc n)).noted) (noted_first n seats) ∙ append_assoc (seats 0).noted (noted_below n (λ i. seats (suc i))) (seats (suc n)).noted
+
+all_noted : {W : Type 0} (f : W → SeatState) (ws : List W) (d : W) → all_notes (map f ws) ≡ noted_below (length ws) (λ i. f (get_or ws i d))
+all_noted f [] d = refl
+all_noted f (w ∷ ws) d = ap (λ ts. (f w).noted ++ ts) (all_noted f ws d) ∙ sym (noted_first (length ws) (λ i. f (get_or (w ∷ ws) i d)))
 
 total_first : (n : ℕ) (f : ℕ → ℕ) → sum_below (suc n) f ≡ f 0 + sum_below n (λ i. f (suc i))
 total_first zero f = omega arith
@@ -240,7 +244,7 @@ module _ {M S B U : Type 0} {model : Ghosts M S B U} {order : B → B → Orderi
           let w = took.went (q % plan.workers) d d (subst (λ n. q % plan.workers < n) (sym up.many) below) in
           let was : slice_get first.processes (q / plan.workers) ≡ None = begins.processes_are (q / plan.workers) ∙ ap (slice_get x.processes.items) number ∙ get_past x.processes.items q past in
           let before : processes_of first q ≡ None = subst (λ k. process_at k first.processes q ≡ None) (sym begins.role) (at_its_worker first.processes (q % plan.workers) q refl ∙ ap (option_map (λ l. l.process)) was) in
-          let after : processes_of last q ≡ None = ap (λ v. processes_of v q) w.closes.closed ∙ turns_none (rules model order x.model) plan.turns first w.between w.turns_are q before in
+          let after : processes_of last q ≡ None = ap (λ v. processes_of v q) w.closes ∙ turns_none (rules model order x.model) plan.turns first w.between w.turns_are q before in
           nowhere (slice_get last.processes (q / plan.workers)) (sym (at_its_worker last.processes (q % plan.workers) q refl) ∙ subst (λ k. process_at k last.processes q ≡ None) (role_after (q % plan.workers) d below) after)
         where
           at_its_worker : (ls : List (LogicalProcess M S B)) (i q : ℕ) → q % plan.workers ≡ i → process_at (role plan x.collected i) ls q ≡ option_map (λ l. l.process) (slice_get ls (q / plan.workers))
@@ -278,11 +282,8 @@ module _ {M S B U : Type 0} {model : Ghosts M S B U} {order : B → B → Orderi
           let s : sent_between ports' i k ≡ sent_to (get_or ws' i d).port k = ap (λ z. get_or (get_or (map (λ p. p.sent) z) i []) k []) is ∙ ap (λ z. get_or z k []) (two_maps (λ p. p.sent) (λ w. w.port) ws' i d [] (within i li)) in
           ap (λ z. z ++ left i k) (sym r) ∙ fifo i k li lk ∙ s
 
-      pub noted_after : (seats' : List SeatState) (l : ℕ) (d : WorkerState M S B) → seats' ≡ map (λ w. w.seat) ws' → All (λ s. l ≤ least s.noted) seats' → (i : ℕ) → i < plan.workers → Every (λ t. l ≤ t) (get_or ws' i d).seat.noted
-      noted_after seats' l d is all i below =
-          let within : i < length ws' = subst (λ n. i < n) (sym (took.long ∙ up.many)) below in
-          let e : get_or seats' i d.seat ≡ (get_or ws' i d).seat = ap (λ z. get_or z i d.seat) is ∙ get_or-map (λ w. w.seat) ws' i d d.seat within in
-          every_from_least l (get_or ws' i d).seat.noted (subst (λ s. l ≤ least s.noted) e (all i d.seat (subst (λ n. i < n) (sym (ap length is ∙ length-map ws' (λ w. w.seat))) within)))
+      pub floor_after : (l : ℕ) (d : WorkerState M S B) → l ≡ least (all_notes (map (λ w. w.seat) ws')) → l ≡ least (noted_below plan.workers (λ i. (get_or ws' i d).seat))
+      floor_after l d is = is ∙ ap least (all_noted (λ w. w.seat) ws' d ∙ ap (λ n. noted_below n (λ i. (get_or ws' i d).seat)) (took.long ∙ up.many))
 
       pub kept_after : (h : Letter B → ℕ) (kept aside : List (List (Letter B))) (d : WorkerState M S B) → kept ≡ map (λ w. w.kept) ws' → aside ≡ map (λ w. w.aside) ws'
           → weigh h (flatten kept) + weigh h (flatten aside) ≡ sum_below plan.workers (λ i. weigh h (get_or ws' i d).kept + weigh h (get_or ws' i d).aside)

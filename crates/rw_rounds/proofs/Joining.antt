@@ -114,7 +114,7 @@ module _ {M S B U : Type 0} {model : Ghosts M S B U} {order : B → B → Orderi
           given_are = wk.gone.given_are;
           come_here = wk.gone.come_here;
           balance = λ h.
-              let b1 : weigh h (round.last i).inbox ≡ 0 = ap (λ (u : WorkerState M S B). weigh h u.inbox) w.closes.closed ∙ ap (weigh h) (inbox_empties y plan.turns (round.first i) w.between ranges.turns.0 w.turns_are) in
+              let b1 : weigh h (round.last i).inbox ≡ 0 = ap (λ (u : WorkerState M S B). weigh h u.inbox) w.closes ∙ ap (weigh h) (inbox_empties y plan.turns (round.first i) w.between ranges.turns.0 w.turns_are) in
               let b2 : weigh h (round.first i).kept ≡ 0 = ap (weigh h) b.none_kept in
               let b3 : weigh h (round.first i).aside ≡ 0 = ap (weigh h) b.none_aside in
               let b4 : sum_below n (λ k. weigh h (sent_to (round.first i).port k)) ≡ 0 = total_zero n (λ k. weigh h (sent_to (round.first i).port k)) (λ k lt. ap (weigh h) (b.new.0 k)) in

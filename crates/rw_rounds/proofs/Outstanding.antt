@@ -1,5 +1,5 @@
 -- What is outstanding after a round is not before what the board gave.
-use Rattle.std.proofs.Common.{◌≡◌, ℕ, zero, suc, ◌+◌, ◌<◌, ◌≤◌, List, [], ◌∷◌, ◌++◌, map, refl, sym, ap, ◌∙◌, subst, arith, Option, Some, None}
+use Rattle.std.proofs.Common.{◌≡◌, ℕ, zero, suc, ◌+◌, ◌^◌, ◌<◌, ◌≤◌, List, [], ◌∷◌, ◌++◌, map, refl, sym, ap, ◌∙◌, subst, arith, Option, Some, None}
 use Rattle.std.specs.Prelude.{◌/◌, ◌%◌, slice_get}
 use Rattle.std.specs.List.{All}
 use Rattle.std.specs.declared.cmp.Ordering.{Ordering}
@@ -25,9 +25,10 @@ use Rattle.rw_rounds.specs.declared.plan.Plan.{Plan}
 use Rattle.rw_rounds.specs.Plans.{IsInRanges}
 use Rattle.rw_rounds.specs.Bags.{weigh, Every, sum_below}
 use Rattle.rw_rounds.specs.Turns.{WorkerState, process_at}
-use Rattle.rw_rounds.specs.Rounds.{role, Round}
+use Rattle.rw_rounds.specs.Rounds.{role, Round, closing_times, noted_below}
 use Rattle.rw_rounds.proofs.ByPlace.{place_of}
 use Rattle.rw_rounds.proofs.Governing.{Laws}
+use Rattle.rw_rounds.proofs.Least.{least_end, every_from_least, noted_each, none_before}
 use Rattle.rw_rounds.proofs.Sums.{total_zero, weigh_zero, every_zero, every_back}
 use Rattle.rw_rounds.proofs.Totals.{every_counted}
 use Rattle.rw_rounds.proofs.Working.{early, early_none, none_early}
@@ -51,12 +52,21 @@ module _ {S B : Type 0} (y : System S B) (o : IsExactOrder y.order) (t : ℕ) wh
       Each-append o (λ e. t ≤ e.time) (held_messages u.held) (held_in ps) (held_later u.pending u.held here.0 here.1) (all_held_later ps (λ q v at. late (suc q) v at))
 
 module _ {M S B U : Type 0} {model : Ghosts M S B U} {order : B → B → Ordering} (laws : Laws model order) (plan : Plan) (x z : Parts M S B U) (least : ℕ) (ranges : IsInRanges plan) (whole : IsWhole model order x) (round : Round model order plan x z least) where
-  -- the board gave no more than what a worker noted at its closing
-  closing_noted : (i : ℕ) (l : i < plan.workers) → Every (λ t. least ≤ t) ((round.works i l).between.seat.noted ++ (round.works i l).closes.least ∷ map (λ l. l.event.time) (round.works i l).between.kept)
-  closing_noted i l = subst (Every (λ t. least ≤ t)) (ap (λ (u : WorkerState M S B). u.seat.noted) (round.works i l).closes.closed) (round.least_noted i l)
+  -- what the board gave is the least of all notes
+  pub floor_end : least ≤ 2 ^ 40
+  floor_end = let is = round.floor_is in omega (arith, least_end (noted_below plan.workers (λ i. (round.last i).seat)))
 
-  last_noted : (i : ℕ) (l : i < plan.workers) → Every (λ t. least ≤ t) ((round.works i l).closes.least ∷ map (λ l. l.event.time) (round.works i l).between.kept)
-  last_noted i l = every_back (λ t. least ≤ t) (round.works i l).between.seat.noted ((round.works i l).closes.least ∷ map (λ l. l.event.time) (round.works i l).between.kept) (closing_noted i l)
+  least_noted : (i : ℕ) → i < plan.workers → Every (λ t. least ≤ t) (round.last i).seat.noted
+  least_noted i below =
+      let is = round.floor_is in
+      noted_each (λ t. least ≤ t) plan.workers (λ i. (round.last i).seat) (every_from_least least (noted_below plan.workers (λ i. (round.last i).seat)) (omega arith)) i below
+
+  -- among them those of each worker's closing
+  closing_noted : (i : ℕ) (l : i < plan.workers) → Every (λ t. least ≤ t) ((round.works i l).between.seat.noted ++ closing_times (round.works i l).between)
+  closing_noted i l = subst (Every (λ t. least ≤ t)) (ap (λ (u : WorkerState M S B). u.seat.noted) (round.works i l).closes) (least_noted i l)
+
+  last_noted : (i : ℕ) (l : i < plan.workers) → Every (λ t. least ≤ t) (closing_times (round.works i l).between)
+  last_noted i l = every_back (λ t. least ≤ t) (round.works i l).between.seat.noted (closing_times (round.works i l).between) (closing_noted i l)
 
   -- how many of these letters are before it
   abbrev early_in : List (Letter B) → ℕ
@@ -64,12 +74,12 @@ module _ {M S B U : Type 0} {model : Ghosts M S B U} {order : B → B → Orderi
 
   none_left_early : (i k : ℕ) → i < plan.workers → k < plan.workers → early_in (round.left i k) ≡ 0
   none_left_early i k li lk =
-      let sent = (closed laws plan x z least ranges whole round i li).0.noted least (round.least_noted i li) k lk in
+      let sent = (closed laws plan x z least ranges whole round i li).0.noted least (least_noted i li) k lk in
       let all = subst (Every (λ l. least ≤ l.event.time)) (sym (round.settled i k li lk)) sent in
       weigh_zero (λ l. early least l.event.time) (round.left i k) (λ l h. early_none least l.event.time h) (every_back (λ l. least ≤ l.event.time) (received_from (round.last k).port i) (round.left i k) all)
 
   none_kept_early : (i : ℕ) → i < plan.workers → early_in (round.last i).kept ≡ 0
-  none_kept_early i l = ap (λ (u : WorkerState M S B). early_in u.kept) (round.works i l).closes.closed ∙ mapped (round.works i l).between.kept (last_noted i l).1
+  none_kept_early i l = ap (λ (u : WorkerState M S B). early_in u.kept) (round.works i l).closes ∙ mapped (round.works i l).between.kept (last_noted i l).1
     where
       mapped : (ls : List (Letter B)) → Every (λ t. least ≤ t) (map (λ l. l.event.time) ls) → early_in ls ≡ 0
       mapped [] h = refl
@@ -96,10 +106,11 @@ module _ {M S B U : Type 0} {model : Ghosts M S B U} {order : B → B → Orderi
       let here : process_at (role plan x.collected (q % plan.workers)) (round.last (q % plan.workers)).processes q ≡ Some u = is_at laws plan x z least ranges whole round q ∙ at in
       let sound : SoundAt (rules model order x.model) x.collected q u = (closed laws plan x z least ranges whole round (q % plan.workers) inside).0.well.sound q u here in
       let f = place_of (role plan x.collected (q % plan.workers)) (round.last (q % plan.workers)).processes q u here in
-      let there : slice_get w.between.processes (q / plan.workers) ≡ Some f.0 = ap (λ (v : WorkerState M S B). slice_get v.processes (q / plan.workers)) (sym w.closes.closed) ∙ f.1 in
-      let low : least ≤ w.closes.least = (last_noted (q % plan.workers) inside).0 in (
-        subst (λ (v : ProcessState S B). Each (event_cmp order) (λ e. least ≤ e.time) v.pending) f.2 (λ e k. let a = w.closes.pending (q / plan.workers) f.0 there e k in omega arith),
-        subst (λ (v : ProcessState S B). Each (event_cmp order) (λ e. least ≤ e.time) v.debts) f.2 (λ e k. let a = w.closes.debts (q / plan.workers) f.0 there e k in omega arith),
+      let there : slice_get w.between.processes (q / plan.workers) ≡ Some f.0 = ap (λ (v : WorkerState M S B). slice_get v.processes (q / plan.workers)) (sym w.closes) ∙ f.1 in
+      let exact : IsExactOrder (event_cmp order) = events_exact (record { total = laws.total; same = laws.same }) in
+      let none = none_before exact least (2 ^ 40) w.between.processes (last_noted (q % plan.workers) inside).0 in (
+        subst (λ (v : ProcessState S B). Each (event_cmp order) (λ e. least ≤ e.time) v.pending) f.2 (none.0 (q / plan.workers) f.0 there),
+        subst (λ (v : ProcessState S B). Each (event_cmp order) (λ e. least ≤ e.time) v.debts) f.2 (none.1 (q / plan.workers) f.0 there),
         sound.held,
       )
 

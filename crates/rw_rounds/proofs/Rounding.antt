@@ -28,7 +28,7 @@ use Rattle.rw_rounds.specs.Rounds.{role, Round, SimState, Rounded}
 use Rattle.rw_rounds.proofs.Governing.{Laws}
 use Rattle.rw_rounds.proofs.Stepping.{number_of}
 use Rattle.rw_rounds.proofs.Joining.{owned, closed, workers_exchanged}
-use Rattle.rw_rounds.proofs.Outstanding.{quiet_after}
+use Rattle.rw_rounds.proofs.Outstanding.{floor_end, quiet_after}
 
 -- what is promised of every world of the model
 pub record WorldLaws {M S B U : Type 0} (model : Ghosts M S B U) (order : B → B → Ordering) : Type 0 where
@@ -76,7 +76,7 @@ module _ {M S B U : Type 0} {model : Ghosts M S B U} {order : B → B → Orderi
       record { ready = ready_after; numbered = numbered_after; sound = subst (λ y. Sound y (world_of z)) (sym same_system) sound }
 
   pub floor_after : least ≤ floor (world_of z)
-  floor_after = (worlds.every_floor (setting_of x whole.ready) (world_of z) least).1 (round.least_end, quiet_after laws plan x z least ranges whole round)
+  floor_after = (worlds.every_floor (setting_of x whole.ready) (world_of z) least).1 (floor_end laws plan x z least ranges whole round, quiet_after laws plan x z least ranges whole round)
 
   -- a round keeps the parts whole, and nothing outstanding is before what the board gave
   pub round_keeps : IsWhole model order z × (least ≤ floor (world_of z))

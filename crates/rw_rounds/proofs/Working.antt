@@ -8,7 +8,7 @@ use Rattle.rw_exchange.specs.Ports.{sent_to, received_from}
 use Rattle.rw_rounds.specs.Bags.{weigh, only, Every, sum_below}
 use Rattle.rw_rounds.specs.Deeds.{IsFair, Goes, arrivals, way_of}
 use Rattle.rw_rounds.specs.Turns.{Role, WorkerState, owner, is_own, is_accepted, process_at, TookTurn, TookTurns}
-use Rattle.rw_rounds.specs.Rounds.{Closes}
+use Rattle.rw_rounds.specs.Rounds.{Closes, closing_times}
 use Rattle.rw_rounds.proofs.Governing.{Governs}
 use Rattle.rw_rounds.proofs.Going.{Well, Gone, gone_none, gone_more, well_after, goes_gone}
 use Rattle.rw_rounds.proofs.Sums.{weigh-append, weigh_zero, every_zero, every_append, every_front, every_back}
@@ -149,12 +149,12 @@ module _ {S B : Type 0} (y : System S B) where
         (rest.0, worked_more r a c b first.1 rest.1)
 
     -- and the closing
-    pub closing_keeps : (r : Role) (a b c : WorkerState M S B) → IsConsistent Started r b × Worked n r a b → Closes y b c → IsConsistent Started r c × Worked n r a c
+    pub closing_keeps : (r : Role) (a b c : WorkerState M S B) → IsConsistent Started r b × Worked n r a b → Closes b c → IsConsistent Started r c × Worked n r a c
     closing_keeps r a b c k closes =
         let up = k.0 in
         let worked = k.1 in
-        let all : List ℕ = closes.least ∷ map (λ l. l.event.time) b.kept in
-        subst (λ u. IsConsistent Started r u × Worked n r a u) (sym closes.closed) (
+        let all : List ℕ = closing_times b in
+        subst (λ u. IsConsistent Started r u × Worked n r a u) (sym closes) (
           record {
             role = up.role;
             well = up.well;

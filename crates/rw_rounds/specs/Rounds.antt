@@ -1,21 +1,23 @@
 -- A round: each worker takes its turns and closes, and then all are joined.
-use Rattle.std.specs.Prelude.{◌≡◌, ℕ, ◌+◌, ◌*◌, ◌/◌, ◌%◌, ◌<◌, ◌≤◌, max, List, [], ◌∷◌, ◌++◌, length, map, filter, slice_get, Some}
+use Rattle.std.specs.Prelude.{◌≡◌, ℕ, zero, suc, ◌+◌, ◌*◌, ◌/◌, ◌%◌, ◌<◌, ◌≤◌, max, List, [], ◌∷◌, ◌++◌, length, map, filter, slice_get, Some}
 use Rattle.std.specs.declared.cmp.Ordering.{Ordering}
 use Rattle.rw_vt.specs.Words.{Count, Position, Process, Time, Worker}
 use Rattle.rw_vt.specs.declared.event.Event.{Event}
 use Rattle.rw_vt.specs.declared.event.Letter.{Letter}
 use Rattle.rw_vt.specs.declared.model.Model.{Ghosts}
 use Rattle.rw_vt.specs.Order.{Each}
-use Rattle.rw_vt.specs.System.{System, flatten}
+use Rattle.rw_vt.specs.System.{flatten}
 use Rattle.rw_lp.specs.Process.{ProcessState}
 use Rattle.rw_lp.specs.Calls.{LogicalProcess, rules}
 use Rattle.rw_world.specs.declared.parts.Parts.{Parts}
 use Rattle.rw_world.specs.Calls.{Simulation, system_of}
 use Rattle.rw_world.specs.Sound.{Sound}
-use Rattle.rw_world.specs.WorldState.{floor}
+use Rattle.rw_world.specs.WorldState.{floor, least_of_processes}
+use Rattle.rw_board.specs.Least.{least}
+use Rattle.rw_board.specs.Seats.{SeatState}
 use Rattle.rw_exchange.specs.Ports.{IsNew, IsWide, sent_to, received_from, sent_between, received_between}
 use Rattle.rw_rounds.specs.declared.plan.Plan.{Plan}
-use Rattle.rw_rounds.specs.Bags.{weigh, Every, sum_below}
+use Rattle.rw_rounds.specs.Bags.{weigh, sum_below}
 use Rattle.rw_rounds.specs.Turns.{Role, WorkerState, is_own, IsFit, TookTurns}
 use Rattle.rw_vt.specs.declared.event.TheConstants.{END}
 
@@ -44,24 +46,22 @@ abbrev pub NoneBefore : {M S B : Type 0} → (Event B → Event B → Ordering)
 NoneBefore {M} {S} {B} cmp events_of t xs = (place : Position) (l : LogicalProcess M S B)
     → slice_get xs place ≡ Some l → Each cmp (λ e. t ≤ e.time) (events_of l.process)
 
--- after its last turn a worker notes a time that none of its pending events and debts is before,
--- and that of each letter that it keeps
-pub record Closes {M S B : Type 0} (y : System S B) (a b : WorkerState M S B) : Type 0 where
-  pub least : Time
-  pub pending : NoneBefore y.order (λ x. x.pending) least a.processes
-  pub debts : NoneBefore y.order (λ x. x.debts) least a.processes
-  pub closed : b ≡ record a {
-    seat = record a.seat {
-      noted = a.seat.noted ++ least ∷ map (λ l. l.event.time) a.kept;
-    };
-  }
+-- the times that a worker notes after its last turn: the least of all that is pending, owed or held
+-- at its processes, and that of each letter that it keeps
+abbrev pub closing_times : {M S B : Type 0} → WorkerState M S B → List Time
+closing_times a =
+    least_of_processes END (map (λ l. l.process) a.processes) ∷ map (λ l. l.event.time) a.kept
+
+-- after its last turn a worker notes just these
+abbrev pub Closes : {M S B : Type 0} → WorkerState M S B → WorkerState M S B → Type 0
+Closes a b = b ≡ record a { seat = record a.seat { noted = a.seat.noted ++ closing_times a } }
 
 -- so many turns, and the closing, of a worker of the model m
 pub record TookRound {M S B U : Type 0} (model : Ghosts M S B U) (order : B → B → Ordering)
     (m : M) (turns : Count) (a b : WorkerState M S B) : Type 0 where
   pub between : WorkerState M S B
   pub turns_are : TookTurns (rules model order m) turns a between
-  pub closes : Closes (rules model order m) between b
+  pub closes : Closes between b
   pub fit : IsFit model order m b
 
 -- what the letters left in the rings between n workers weigh, by sender and receiver
@@ -83,9 +83,14 @@ pub record AreOnTheirWay {M S B : Type 0} (ws : List (WorkerState M S B))
       ≡ weigh_left (length ws) h left + weigh h (flatten (map (λ w. w.kept) ws))
       + weigh h (flatten (map (λ w. w.aside) ws))
 
--- the workers of the plan take the parts x to the parts z
+-- all that was noted at the seats of the first n workers
+abbrev pub noted_below : Count → (Worker → SeatState) → List Time
+noted_below zero seats = []
+noted_below (suc n) seats = noted_below n seats ++ (seats n).noted
+
+-- the workers of the plan take the parts x to the parts z, with this time as the floor
 pub record Round {M S B U : Type 0} (model : Ghosts M S B U) (order : B → B → Ordering)
-    (plan : Plan) (x z : Parts M S B U) (least : Time) : Type 0 where
+    (plan : Plan) (x z : Parts M S B U) (floor : Time) : Type 0 where
   -- by worker: as it began, and as it closed
   pub first : Worker → WorkerState M S B
   pub last : Worker → WorkerState M S B
@@ -97,10 +102,8 @@ pub record Round {M S B U : Type 0} (model : Ghosts M S B U) (order : B → B �
       → TookRound model order x.model plan.turns (first i) (last i)
   pub settled : (i k : Worker) → i < plan.workers → k < plan.workers
       → received_from (last k).port i ++ left i k ≡ sent_to (last i).port k
-  -- what the board gave
-  pub least_end : least ≤ END
-  pub least_noted : (i : Worker) → i < plan.workers
-      → Every (λ t. least ≤ t) (last i).seat.noted
+  -- what the board gave: exactly the least of all times noted
+  pub floor_is : floor ≡ least (noted_below plan.workers (λ i. (last i).seat))
   -- the parts in which they are joined
   pub model_is : z.model ≡ x.model
   pub starts_are : z.starts ≡ x.starts

@@ -110,9 +110,8 @@ AreFair model order bench d letters =
     Every (IsFair (rules model order bench.model.now) d.collected) letters
 
 -- the desk was a and is b after its closing
-abbrev pub ClosesDesk : {M S B U : Type 0} → Ghosts M S B U → (B → B → Ordering) → M
-    → Desk M S B U → Desk M S B U → Type 0
-ClosesDesk model order m a b = Closes (rules model order m) (desk_of a) (desk_of b)
+abbrev pub ClosesDesk : {M S B U : Type 0} → Desk M S B U → Desk M S B U → Type 0
+ClosesDesk a b = Closes (desk_of a) (desk_of b)
 
 -- Which process executes next
 

@@ -359,7 +359,7 @@ impl<M: VtModel> Desk<M> {
     /// Notes the least time of the processes, and the time of each kept letter. Takes no memory.
     pub(crate) fn close(&mut self, board: &Board)
         requires board { self.old.seat.board ≡ board.now.board }
-        ensures closes { (m : M) → ClosesDesk M.Model M.Body.cmp m self.old self.new }
+        ensures closes { ClosesDesk self.old self.new }
     {
         let least = least_of_processes(&self.processes);
         board.note(&mut self.seat, least);

@@ -141,7 +141,7 @@ impl<M: VtModel> Worker<M> {
     /// memory.
     pub(crate) fn close(self, board: &Board) -> Worker<M>
         requires board { self.seat.board ≡ board.now.board }
-        ensures closes { (m : M) → Closes (rules M.Model M.Body.cmp m) self result }
+        ensures closes { Closes self result }
     {
         let Worker { mut desk, at_hand } = self;
         desk.close(board);

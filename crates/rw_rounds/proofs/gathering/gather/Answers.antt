@@ -2,6 +2,7 @@ use Rattle.std.proofs.Common.{◌≡◌, ◌+◌, ◌++◌, ◌<◌, ◌≤◌, 
 use Rattle.std.proofs.lemmas.List.{length-map}
 use Rattle.rw_vt.specs.System.{flatten}
 use Rattle.rw_board.specs.Least.{least}
+use Rattle.rw_board.specs.Seats.{all_notes}
 use Rattle.rw_exchange.specs.Ports.{IsOpening, entry, sent_between, received_between}
 use Rattle.rw_rounds.specs.Bags.{weigh, sum_below}
 use Rattle.rw_rounds.proofs.Gathered.{same_shares}
@@ -43,6 +44,5 @@ returns g c =
             ∙ ap (λ z. rings (length ws) h + weigh h (flatten z) + weigh h (flatten (map (λ a. a.items) c.deref-2.result.now))) (ap (map (λ k. k.items)) c.deref.ensures.value ∙ c.in_ok-shares.ensures.kept)
             ∙ ap (λ z. rings (length ws) h + weigh h (flatten (map (λ w. w.kept) ws)) + weigh h (flatten z)) (ap (map (λ a. a.items)) c.deref-2.ensures.value ∙ c.in_ok-shares.ensures.aside);
       };
-      end = c.close-floor.ensures.end;
-      noted = subst (All (λ s. c.close-floor.result ≤ least s.noted)) c.in_ok-shares.ensures.seats c.close-floor.ensures.noted;
+      floor_is = c.close-floor.ensures.least ∙ ap (λ seats. least (all_notes seats)) c.in_ok-shares.ensures.seats;
     }

@@ -4,7 +4,7 @@ use Rattle.rw_vt.specs.System.{flatten}
 use Rattle.rw_rounds.specs.Bags.{weigh, sum_below}
 use Rattle.rw_rounds.specs.Rounds.{TookRound}
 use Rattle.rw_rounds.proofs.Governing.{Laws}
-use Rattle.rw_rounds.proofs.Gathered.{AllTook, set_up_from, some_of, pairs, all_seated, opening_after, seats_after, there_after, from_hands_after, begins_at, joined, settled, noted_after, kept_after}
+use Rattle.rw_rounds.proofs.Gathered.{AllTook, set_up_from, some_of, pairs, all_seated, opening_after, seats_after, there_after, from_hands_after, begins_at, joined, settled, floor_after, kept_after}
 use Rattle.rw_rounds.proofs.Sending.{worker_may_move}
 use Rattle.rw_rounds.proofs.round.go_round.Given as given
 use Rattle.rw_rounds.proofs.round.go_round.Goals as goal
@@ -92,8 +92,7 @@ returns-clause-round g c =
       begins = λ i below. begins_at (laws g) c.requires.plan c.requires.whole up i d below;
       works = λ i below. took.went i d d (subst (λ n. i < n) (sym up.many) below);
       settled = settled (laws g) c.requires.plan c.requires.whole up took (map (λ w. w.port) ws') left d refl (λ i k li lk. got.letters.settled i k (there i li) (there k lk));
-      least_end = got.end;
-      least_noted = noted_after (laws g) c.requires.plan c.requires.whole up took (map (λ w. w.seat) ws') c.in_ok-gathered.gathered.floor d refl got.noted;
+      floor_is = floor_after (laws g) c.requires.plan c.requires.whole up took c.in_ok-gathered.gathered.floor d got.floor_is;
       model_is = refl;
       starts_are = refl;
       initial_are = refl;

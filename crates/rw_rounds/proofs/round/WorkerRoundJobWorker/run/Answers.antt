@@ -22,7 +22,7 @@ returns g c =
     let y = rules g.M.Model g.M.Body.Ord.cmp c.args.self.now.model.now in
     let known = c.loop-turn.invariant in
     let all : c.loop-turn.turn ≡ c.args.self.now.turns = omega arith in
-    let closes = c.close.ensures.closes c.args.self.now.model.now in
+    let closes = c.close.ensures.closes in
     record {
       gives = record {
         between = c.loop-turn.worker;
