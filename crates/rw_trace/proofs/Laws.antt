@@ -9,12 +9,12 @@ use Rattle.std.proofs.lemmas.Grind.{common_steps}
 use Rattle.std.proofs.Math.Nat.{pow-succ'}
 use Rattle.csv.specs.Records.{field_at}
 use Rattle.rw_trace.proofs.Numbers.{is-number}
+use Rattle.rw_trace.specs.Limits.{greatest_size, latest_time}
 use Rattle.rw_trace.specs.Laws.{IsNumber, IsRow, IsTrace, Lacks, WriteRows, Writes, WritesRow, decimal}
 use Rattle.rw_trace.specs.Trace.{column_of, is_header, number_in, number_of, row_of, rows_of, trace_of, value_after}
 use Rattle.rw_trace.specs.declared.Row.{Row}
 use Rattle.rw_trace.specs.declared.TraceFault.{TraceFault}
 use Rattle.rw_trace.specs.declared.TraceFault.TheVariants as fault
-use Rattle.rw_trace.specs.declared.TheConstants.{MAX_TIME, MAX_SIZE}
 
 -- digits after a value shift it
 pub shifted : (n v : ℕ) (f : List ℕ) → value_after n f ≡ Some v → (v ≡ n * 10 ^ length f + decimal f) × (list_all is_ascii_digit f ≡ true)
@@ -100,10 +100,10 @@ row-complete edges n fields row h =
     let e = column-complete n 1 row.edge fields h.edge in
     let o = column-complete n 2 row.object fields h.object in
     let s = column-complete n 3 row.size fields h.size in
-    let early : nat_le row.time MAX_TIME ≡ true = grind (arith, common_steps, h.time_within) in
+    let early : nat_le row.time latest_time ≡ true = grind (arith, common_steps, h.time_within) in
     let known : nat_lt row.edge edges ≡ true = grind (arith, common_steps, h.edge_within) in
     let some : nat_le 1 row.size ≡ true = grind (arith, common_steps, h.size_above) in
-    let small : nat_le row.size MAX_SIZE ≡ true = grind (arith, common_steps, h.size_within) in
+    let small : nat_le row.size greatest_size ≡ true = grind (arith, common_steps, h.size_within) in
     rw (four, t, early, e, known, o, s, some, small) refl
 
 -- records that write rows are read as them

@@ -4,21 +4,21 @@ use Rattle.std.specs.Char.{is_ascii_digit}
 use Rattle.std.specs.List.{AllPass}
 use Rattle.csv.specs.Records.{field_at}
 use Rattle.rw_trace.specs.Words.{Text, Fields}
+use Rattle.rw_trace.specs.Limits.{greatest_size, latest_time, most_digits}
 use Rattle.rw_trace.specs.Trace.{is_header}
 use Rattle.rw_trace.specs.declared.Row.{Row}
 use Rattle.rw_trace.specs.declared.TraceFault.{TraceFault}
 use Rattle.rw_trace.specs.declared.TraceFault.TheVariants as fault
-use Rattle.rw_trace.specs.declared.TheConstants.{MAX_TIME, MAX_SIZE, MAX_DIGITS}
 
 -- the value of decimal digits, of which the last counts ones
 unfoldable pub decimal : Text → ℕ
 decimal [] = 0
 decimal (b ∷ bs) = (b - 48) * 10 ^ length bs + decimal bs
 
--- a field writes a number: 1 to 20 ASCII digits, of a value below 2 ^ 64
+-- a field writes a number: 1 to `most_digits` ASCII digits, of a value below 2 ^ 64
 pub record IsNumber (f : Text) (n : ℕ) : Type 0 where
   pub some : 1 ≤ length f
-  pub few : length f ≤ MAX_DIGITS
+  pub few : length f ≤ most_digits
   pub digits : AllPass is_ascii_digit f
   pub value : n ≡ decimal f
   pub fits : n < 2 ^ 64
@@ -34,18 +34,18 @@ pub record WritesRow (edges : ℕ) (fields : Fields) (row : Row) : Type 0 where
   pub edge : Writes fields 1 row.edge
   pub object : Writes fields 2 row.object
   pub size : Writes fields 3 row.size
-  pub time_within : row.time ≤ MAX_TIME
+  pub time_within : row.time ≤ latest_time
   pub edge_within : row.edge < edges
   pub size_above : 1 ≤ row.size
-  pub size_within : row.size ≤ MAX_SIZE
+  pub size_within : row.size ≤ greatest_size
 
--- a row whose numbers are in their ranges: a time of at most 2^39 ticks, one of the edges, 1 to 2^32 - 1 bytes
+-- a row whose numbers are in their ranges
 pub record IsRow (edges : ℕ) (row : Row) : Type 0 where
-  pub time : row.time ≤ MAX_TIME
+  pub time : row.time ≤ latest_time
   pub edge : row.edge < edges
   pub object : row.object < 2 ^ 64
   pub some : 1 ≤ row.size
-  pub few : row.size ≤ MAX_SIZE
+  pub few : row.size ≤ greatest_size
 
 -- a column writes no number
 abbrev pub Lacks : Fields → ℕ → Type 0
@@ -53,7 +53,7 @@ Lacks fields column = (n : ℕ) → ¬ (Writes fields column n)
 
 -- a column writes a number in its range, with another column to its right
 abbrev pub IsGood : ℕ → Fields → ℕ → Type 0
-IsGood edges fields zero = (n : ℕ) × Writes fields 0 n × (n ≤ MAX_TIME)
+IsGood edges fields zero = (n : ℕ) × Writes fields 0 n × (n ≤ latest_time)
 IsGood edges fields (suc zero) = (n : ℕ) × Writes fields 1 n × (n < edges)
 IsGood edges fields (suc (suc c)) = (n : ℕ) × Writes fields (c + 2) n
 
@@ -69,13 +69,13 @@ IsWrong edges n fields (fault.Number k c) =
     (k ≡ n) × (length fields ≡ 4) × (c < 4) × GoodBefore edges fields c × Lacks fields c
 IsWrong edges n fields (fault.TimeRange k) =
     (k ≡ n) × (length fields ≡ 4)
-    × ((m : ℕ) × Writes fields 0 m × (MAX_TIME < m))
+    × ((m : ℕ) × Writes fields 0 m × (latest_time < m))
 IsWrong edges n fields (fault.EdgeRange k) =
     (k ≡ n) × (length fields ≡ 4) × GoodBefore edges fields 1
     × ((m : ℕ) × Writes fields 1 m × (edges ≤ m))
 IsWrong edges n fields (fault.SizeRange k) =
     (k ≡ n) × (length fields ≡ 4) × GoodBefore edges fields 3
-    × ((m : ℕ) × Writes fields 3 m × ((m ≡ 0) ⊎ (MAX_SIZE < m)))
+    × ((m : ℕ) × Writes fields 3 m × ((m ≡ 0) ⊎ (greatest_size < m)))
 IsWrong edges n fields fault.Header = ⊥
 IsWrong edges n fields fault.TooManyRows = ⊥
 IsWrong edges n fields fault.Memory = ⊥

@@ -11,6 +11,7 @@ ghost use Rattle.std.specs.Prelude.{All, ◌≡◌, ◌≢◌, ◌≤◌, ◌∷
 ghost use Rattle.csv.specs.Reading.{error_kind, stops_reader};
 ghost use Rattle.csv.specs.Records.{fields_of};
 ghost use Rattle.rw_trace.specs.Laws.{IsFaultOf, IsFirstFault, IsNoTrace, IsNumber, IsRow, IsTrace, IsWrong, Lacks, WriteRows, Writes, WritesRow};
+ghost use Rattle.rw_trace.specs.Limits.{greatest_size, latest_time, most_digits, most_rows};
 ghost use Rattle.rw_trace.specs.Trace.{column_of, is_header, is_text_at, number_of, row_of, rows_of, trace_of};
 ghost use Rattle.rw_trace.specs.Unread.{Steady, records_of, unread};
 ghost use Rattle.rw_trace.specs.declared.TraceFault.TheVariants.{Memory, Number};
@@ -71,6 +72,15 @@ pub const MAX_ROWS: u64 = 1 << 24;
 
 /// The most digits of a number.
 pub const MAX_DIGITS: usize = 20;
+
+/// Each of these constants is the limit that stands in `specs/Limits.antt`, which the definitions cite. The call itself
+/// does nothing.
+pub fn every_limit()
+    ensures rows { MAX_ROWS ≡ most_rows }
+    ensures time { MAX_TIME ≡ latest_time }
+    ensures size { MAX_SIZE ≡ greatest_size }
+    ensures digits { MAX_DIGITS ≡ most_digits }
+{}
 
 /// The number that a field writes in 1 to [`MAX_DIGITS`] ASCII digits, below 2^64. `None` exactly where it writes none.
 /// Takes no memory.
@@ -247,7 +257,7 @@ pub fn read_up_to(
     edges: u32,
     most: u64,
 ) -> Result<Vec<Row>, TraceFault>
-    requires { most ≤ MAX_ROWS }
+    requires { most ≤ most_rows }
     ensures rows { IfOk result (λ v. trace_of edges most (records_of bytes.now) ≡ Ok v.items) }
     ensures law { IfOk result (λ v. IsTrace edges most (records_of bytes.now) v.items) }
     ensures ranges { IfOk result (λ v. All (IsRow edges) v.items) }
@@ -273,15 +283,15 @@ pub fn read_up_to(
 ///
 /// The first fault of the trace, or `Memory`, as [`read_up_to`] answers them.
 pub fn read(alloc: Global, bytes: &[u8], edges: u32) -> Result<Vec<Row>, TraceFault>
-    ensures rows { IfOk result (λ v. trace_of edges MAX_ROWS (records_of bytes.now) ≡ Ok v.items) }
+    ensures rows { IfOk result (λ v. trace_of edges most_rows (records_of bytes.now) ≡ Ok v.items) }
     ensures fault { IfErr result (λ e.
-        e ≢ Memory → trace_of edges MAX_ROWS (records_of bytes.now) ≡ Err e) }
-    ensures law { IfOk result (λ v. IsTrace edges MAX_ROWS (records_of bytes.now) v.items) }
+        e ≢ Memory → trace_of edges most_rows (records_of bytes.now) ≡ Err e) }
+    ensures law { IfOk result (λ v. IsTrace edges most_rows (records_of bytes.now) v.items) }
     ensures ranges { IfOk result (λ v. All (IsRow edges) v.items) }
     ensures refused { IfErr result (λ e.
-        e ≢ Memory → IsNoTrace edges MAX_ROWS (records_of bytes.now)) }
+        e ≢ Memory → IsNoTrace edges most_rows (records_of bytes.now)) }
     ensures first { IfErr result (λ e.
-        e ≢ Memory → IsFaultOf edges MAX_ROWS (records_of bytes.now) e) }
+        e ≢ Memory → IsFaultOf edges most_rows (records_of bytes.now) e) }
 {
     read_up_to(alloc, bytes, edges, MAX_ROWS)
 }
