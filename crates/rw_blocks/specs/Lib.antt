@@ -1,5 +1,6 @@
 -- what public contracts say
 pub mod Words
+pub mod Limits
 pub mod State
 pub mod Sums
 pub mod Loose

@@ -5,10 +5,10 @@ use Rattle.std.specs.Map.{lookup, remove_entry}
 use Rattle.std.specs.BTreeMap.{insert_entry, is_at}
 use Rattle.rw_vt.specs.Words.{Count, Position}
 use Rattle.rw_blocks.specs.Words.{Object, Section, Serial, Size}
+use Rattle.rw_blocks.specs.Limits.{largest_block, most_blocks, most_sections}
 use Rattle.rw_blocks.specs.declared.Kind.{Kind}
 use Rattle.rw_blocks.specs.declared.Kind.TheVariants.{Device, Virtual}
 use Rattle.rw_blocks.specs.declared.Place.{Place}
-use Rattle.rw_blocks.specs.declared.shape.TheConstants.Shape.{MAX_SECTIONS, MAX_BLOCK, MAX_BLOCKS}
 
 -- a shape: how many sections there may be, the bytes of a block, and how many device blocks may be sealed
 pub record ShapeState : Type 0 where
@@ -22,9 +22,9 @@ shape_state sections block blocks = record { sections = sections; block = block;
 -- the ranges of a shape
 abbrev pub IsShape : Count → Size → Count → Type 0
 IsShape sections block blocks =
-    (1 ≤ sections) × (sections ≤ MAX_SECTIONS)
-    × (1 ≤ block) × (block ≤ MAX_BLOCK)
-    × (1 ≤ blocks) × (blocks ≤ MAX_BLOCKS)
+    (1 ≤ sections) × (sections ≤ most_sections)
+    × (1 ≤ block) × (block ≤ largest_block)
+    × (1 ≤ blocks) × (blocks ≤ most_blocks)
 
 -- a section: the serials of its active blocks, and its sealed blocks from front to back, each a serial with its kind
 pub record SectionState : Type 0 where

@@ -20,7 +20,7 @@ mod undo;
 
 pub use queue::Queue;
 pub use rw_vt::NoMemory;
-pub use shape::Shape;
+pub use shape::{Shape, every_limit};
 
 /// Whether a block takes flash, or only records a raised priority.
 #[derive(Clone, Copy, Debug, PartialEq, Eq)]

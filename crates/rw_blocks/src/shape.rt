@@ -1,5 +1,6 @@
 // The shape of a queue.
 ghost use Rattle.std.specs.Prelude.{◌≡◌, ◌↔◌, IsSome, IfSome};
+ghost use Rattle.rw_blocks.specs.Limits.{largest_block, most_blocks, most_sections};
 ghost use Rattle.rw_blocks.specs.State.{IsShape, shape_state};
 
 use std::marker::Model;
@@ -63,3 +64,11 @@ impl Shape {
         (self.sections, self.block, self.blocks)
     }
 }
+
+/// Each of the constants of [`Shape`] is the limit that stands in `specs/Limits.antt`, which the definitions cite. The
+/// call itself does nothing.
+pub fn every_limit()
+    ensures sections { Shape.MAX_SECTIONS ≡ most_sections }
+    ensures block { Shape.MAX_BLOCK ≡ largest_block }
+    ensures blocks { Shape.MAX_BLOCKS ≡ most_blocks }
+{}
