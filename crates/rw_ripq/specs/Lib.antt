@@ -1,5 +1,6 @@
 -- words
 pub mod Words
+pub mod Limits
 pub mod Work
 -- the operations
 pub mod Sealed

@@ -11,7 +11,7 @@ use Rattle.rw_ripq.specs.Work.{Work, work_of}
 use Rattle.rw_ripq.specs.Evict.{displaced_rows}
 use Rattle.rw_ripq.specs.Trail.{Leads}
 use Rattle.rw_ripq.specs.Weight.{Spends}
-use Rattle.rw_ripq.specs.declared.TheConstants.{EXHAUSTED}
+use Rattle.rw_ripq.specs.Limits.{exhaustion}
 
 -- whatever the first trail leads back to, the second does too; and the marks between them are paid
 pub record Recorded (ms : List Mark) (w : Work) (ns : List Mark) (v : Work) : Type 0 where
@@ -25,8 +25,8 @@ Extends q c q' c' = Recorded c.trail (work_of q c.counts) c'.trail (work_of q' c
 -- the counts and serials of an eviction stay within 64 bits
 pub record HasHeadroom (w : Work) : Type 0 where
   pub serials : w.queue.next + displaced_rows w.queue + 2 ≤ 2 ^ 63
-  pub evicted : w.tally.evicted + total w.queue ≤ EXHAUSTED
-  pub reinserted : w.tally.reinserted + displaced_rows w.queue ≤ EXHAUSTED
+  pub evicted : w.tally.evicted + total w.queue ≤ exhaustion
+  pub reinserted : w.tally.reinserted + displaced_rows w.queue ≤ exhaustion
   pub writes : w.tally.writes ≤ 1 + w.tally.reinserted + w.tally.merges
   pub merges : w.tally.merges ≤ 1
 

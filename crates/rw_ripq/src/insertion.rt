@@ -3,6 +3,7 @@ ghost use Rattle.std.specs.Prelude.{◌≡◌, ◌≤◌, ◌<◌, ◌+◌, ◌^
 ghost use Rattle.rw_blocks.specs.State.{row_at, QueueState};
 ghost use Rattle.rw_blocks.specs.Loose.{IsWellFormedQueue};
 ghost use Rattle.rw_vt.specs.declared.refusal.Refusal.{Refusal};
+ghost use Rattle.rw_ripq.specs.Limits.{exhaustion};
 ghost use Rattle.rw_ripq.specs.Work.{work_of, work_before, no_tally};
 ghost use Rattle.rw_ripq.specs.Insert.{insert, insert_at};
 ghost use Rattle.rw_ripq.specs.Trail.{Leads};
@@ -48,7 +49,7 @@ pub fn insert(
     requires small { size ≤ queue.old.shape.block }
     requires from_one { 1 ≤ level }
     requires to_three { level ≤ 3 }
-    ensures exhausted { (result ≡ Err Refusal.Exhausted) ↔ (EXHAUSTED ≤ queue.old.next) }
+    ensures exhausted { (result ≡ Err Refusal.Exhausted) ↔ (exhaustion ≤ queue.old.next) }
     ensures effect { OnOk result (queue.new ≡ (insert policy queue.old object size level).queue) }
     ensures tally { IfOk result (λ done.
         done.1 ≡ (insert policy queue.old object size level).tally) }
@@ -83,7 +84,7 @@ fn insert_at(
 ) -> Result<(), NoMemory>
     requires insertable { IsInsertable queue.old object size }
     requires there { section < length queue.old.sections }
-    requires fresh { queue.old.next < EXHAUSTED }
+    requires fresh { queue.old.next < exhaustion }
     requires none { change.old.counts ≡ no_tally }
     ensures effect { OnOk result (work_of queue.new change.new.counts
         ≡ insert_at queue.old object size section) }

@@ -5,6 +5,9 @@
 //!
 //! Worked examples: `rw_tests/src/insertions.rt`.
 
+ghost use Rattle.std.specs.Prelude.{◌≡◌};
+ghost use Rattle.rw_ripq.specs.Limits.{exhaustion};
+
 mod adjusting;
 mod change;
 mod eviction;
@@ -25,6 +28,12 @@ pub use trail::{Trail, rewind};
 
 /// A queue whose next serial is this or a greater one takes no further insertion or promotion: 2^62.
 pub const EXHAUSTED: u64 = 1 << 62;
+
+/// This constant is the limit that stands in `specs/Limits.antt`, which the definitions cite. The call itself does
+/// nothing.
+pub fn every_limit()
+    ensures { EXHAUSTED ≡ exhaustion }
+{}
 
 /// Which section a miss and a hit go to.
 #[derive(Clone, Copy, Debug, PartialEq, Eq)]

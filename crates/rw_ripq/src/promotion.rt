@@ -3,6 +3,7 @@ ghost use Rattle.std.specs.Prelude.{◌≡◌, ◌≤◌, ◌<◌, ◌+◌, ◌^
 ghost use Rattle.rw_blocks.specs.State.{row_at, row_or, QueueState};
 ghost use Rattle.rw_blocks.specs.Loose.{IsLoose, IsWellFormedQueue};
 ghost use Rattle.rw_vt.specs.declared.refusal.Refusal.{Refusal};
+ghost use Rattle.rw_ripq.specs.Limits.{exhaustion};
 ghost use Rattle.rw_ripq.specs.Levels.{hit_target};
 ghost use Rattle.rw_ripq.specs.Promote.{is_active_in, promote_to, promote};
 ghost use Rattle.rw_ripq.specs.Laws.{KeepsHome, KeepsOthers, LeavesWithBlock};
@@ -54,7 +55,7 @@ pub fn promote(
     requires well_formed { IsWellFormedQueue queue.old }
     requires resident { IsSome (row_at queue.old object) }
     requires stores { policy ≢ Policy.Off }
-    ensures exhausted { (result ≡ Err Refusal.Exhausted) ↔ (EXHAUSTED ≤ queue.old.next) }
+    ensures exhausted { (result ≡ Err Refusal.Exhausted) ↔ (exhaustion ≤ queue.old.next) }
     ensures effect { OnOk result (queue.new ≡ promote policy queue.old object) }
     ensures changed { IfOk result (λ done.
         done.1 ≡ not (nat_eq (row_or queue.new object).place (row_or queue.old object).place)) }
@@ -86,7 +87,7 @@ pub fn promote_row(
     requires well_formed { IsWellFormedQueue queue.old }
     requires row { row_at queue.old object ≡ Some row }
     requires stores { policy ≢ Policy.Off }
-    ensures exhausted { (result ≡ Err Refusal.Exhausted) ↔ (EXHAUSTED ≤ queue.old.next) }
+    ensures exhausted { (result ≡ Err Refusal.Exhausted) ↔ (exhaustion ≤ queue.old.next) }
     ensures effect { OnOk result (queue.new ≡ promote policy queue.old object) }
     ensures changed { IfOk result (λ done.
         done.1 ≡ not (nat_eq (row_or queue.new object).place (row_or queue.old object).place)) }
