@@ -8,11 +8,11 @@ use Rattle.rw_vt.specs.Words.{Count, Process}
 use Rattle.rw_blocks.specs.Words.{Object}
 use Rattle.rw_blocks.specs.State.{QueueState, ShapeState, row_at, start_of}
 use Rattle.rw_blocks.specs.Loose.{IsWellFormedQueue}
+use Rattle.rw_ripq.specs.Limits.{exhaustion}
 use Rattle.rw_ripq.specs.declared.Policy.TheVariants.{Off}
 use Rattle.rw_photo.specs.declared.config.Config.{Config}
 use Rattle.rw_photo.specs.declared.counters.Counters.{Counters}
 use Rattle.rw_photo.specs.Counts.{AreCounts, no_counts}
-use Rattle.rw_ripq.specs.declared.TheConstants.{EXHAUSTED}
 
 -- a cache: its queue on flash; for each object on its way how many requests wait for it, by rising object; how many
 -- events it has sent; what it has counted
@@ -53,7 +53,7 @@ with_waiting awaited o None = remove_entry (is_at (nat_cmp o)) awaited
 
 -- a cache that can take no further event: it has sent, or its queue has numbered, too much
 abbrev pub is_exhausted : Cache → Bool
-is_exhausted s = nat_le (EXHAUSTED) s.sends || nat_le (EXHAUSTED) s.queue.next
+is_exhausted s = nat_le exhaustion s.sends || nat_le exhaustion s.queue.next
 
 -- the queue is well formed, in the shape of its kind, and empty where nothing is stored; awaited objects ascend, and
 -- all counts fit their types: nothing else is asked

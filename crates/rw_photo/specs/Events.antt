@@ -4,6 +4,7 @@ use Rattle.rw_vt.specs.Words.{Count, Process, Time}
 use Rattle.rw_blocks.specs.Words.{Object, Size}
 use Rattle.rw_vt.specs.declared.event.Event.{Event}
 use Rattle.rw_blocks.specs.State.{QueueState}
+use Rattle.rw_trace.specs.Limits.{greatest_size, latest_time}
 use Rattle.rw_trace.specs.declared.Row.{Row}
 use Rattle.rw_photo.specs.declared.body.Body.{Body}
 use Rattle.rw_photo.specs.declared.body.Body.TheVariants.{Request, Miss, Fill}
@@ -12,7 +13,6 @@ use Rattle.rw_photo.specs.declared.counters.Counters.{Counters}
 use Rattle.rw_photo.specs.Counts.{plus, sum_of, no_counts, one_miss, one_coalesced, with_late}
 use Rattle.rw_photo.specs.Cache.{Cache, is_edge, is_stored, waiting_for, with_waiting}
 use Rattle.rw_photo.specs.Storing.{QueueAndCounts, hit, store, same_queue}
-use Rattle.rw_trace.specs.declared.TheConstants.{MAX_TIME}
 
 -- Valid events
 
@@ -22,15 +22,15 @@ is_origin c p = nat_le c.edges p && nat_lt p (c.edges + c.origins)
 
 -- an object's number, and its size in bytes
 abbrev pub is_object : Object → Size → Bool
-is_object o z = nat_lt o (2 ^ 64) && nat_le 1 z && nat_lt z (2 ^ 32)
+is_object o z = nat_lt o (2 ^ 64) && nat_le 1 z && nat_le z greatest_size
 
--- what may happen at process p at time t: requests up to time 2 ^ 39, and what may follow from them
+-- what may happen at process p at time t: requests up to the latest time of a trace, and what may follow from them
 abbrev pub may_happen : Config → Time → Process → Body → Bool
-may_happen c t p (Request o z) = is_edge c p && nat_le t (MAX_TIME) && is_object o z
+may_happen c t p (Request o z) = is_edge c p && nat_le t latest_time && is_object o z
 may_happen c t p (Miss o z g) =
-    is_origin c p && is_edge c g && nat_le t (MAX_TIME + c.up) && is_object o z
+    is_origin c p && is_edge c g && nat_le t (latest_time + c.up) && is_object o z
 may_happen c t p (Fill o z) =
-    is_edge c p && nat_le t (MAX_TIME + c.up + c.down + c.back) && is_object o z
+    is_edge c p && nat_le t (latest_time + c.up + c.down + c.back) && is_object o z
 
 -- an event in the ranges of its numbers, that may happen
 abbrev pub is_valid : Config → Event Body → Bool

@@ -1,4 +1,5 @@
 -- caches, and what happens to them
+pub mod Limits
 pub mod Ranges
 pub mod Counts
 pub mod Cache

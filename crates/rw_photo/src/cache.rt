@@ -1,6 +1,7 @@
 ghost use Rattle.std.specs.Prelude.{◌≡◌, ◌≢◌, ◌+◌, ◌<◌, ◌≤◌, ◌^◌, false, None, Some, OnOk, IfOk};
 ghost use Rattle.rw_blocks.specs.State.{row_at};
 ghost use Rattle.rw_blocks.specs.Loose.{IsWellFormedQueue};
+ghost use Rattle.rw_ripq.specs.Limits.{exhaustion};
 ghost use Rattle.rw_ripq.specs.Trail.{IsRewindable, Leads, rewind_of};
 ghost use Rattle.rw_ripq.specs.Weight.{IsShort};
 ghost use Rattle.rw_photo.specs.Cache.{is_stored, start_in, waiting_for, with_waiting};
@@ -11,7 +12,7 @@ ghost use Rattle.rw_photo.specs.Storing.{hit, store};
 
 use crate::body::Body;
 use crate::counters::Counters;
-use rw_ripq::{Change, EXHAUSTED, Place, Policy, Queue, Shape, Trail};
+use rw_ripq::{Change, Place, Policy, Queue, Shape, Trail};
 use rw_vt::{Event, NoMemory, Refusal};
 use std::alloc::Global;
 use std::collections::BTreeMap;
@@ -124,7 +125,7 @@ impl CacheState {
         requires well_formed { IsWellFormedQueue self.old.queue }
         requires stores { policy ≢ Policy.Off }
         requires row { row_at self.old.queue object ≡ Some row }
-        requires fresh { self.old.queue.next < EXHAUSTED }
+        requires fresh { self.old.queue.next < exhaustion }
         ensures queue { OnOk result (self.new
             ≡ record self.old { queue = (hit policy self.old.queue object).queue }) }
         ensures counts { IfOk result (λ change.
@@ -155,7 +156,7 @@ impl CacheState {
         requires well_formed { IsWellFormedQueue self.old.queue }
         requires new { is_stored self.old object ≡ false }
         requires some { 1 ≤ size }
-        requires fresh { self.old.queue.next < EXHAUSTED }
+        requires fresh { self.old.queue.next < exhaustion }
         ensures queue { OnOk result (self.new
             ≡ record self.old { queue = (store policy self.old.queue object size).queue }) }
         ensures counts { IfOk result (λ change.

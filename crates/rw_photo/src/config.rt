@@ -1,4 +1,5 @@
 ghost use Rattle.std.specs.Prelude.{◌≡◌, ◌+◌, ◌≤◌, ◌<◌, ◌%◌, IsSome, IsTrue, IfSome, ◌↔◌};
+ghost use Rattle.rw_photo.specs.Limits.{longest_delay, most_edges, most_origins};
 ghost use Rattle.rw_photo.specs.Ranges.{IsConfig, IsDelay};
 
 use rw_ripq::{Policy, Shape};
@@ -96,3 +97,11 @@ fn is_delay(ticks: u64) -> bool
 {
     (1..=Config::MAX_DELAY).contains(&ticks)
 }
+
+/// Each of the constants of [`Config`] is the limit that stands in `specs/Limits.antt`, which the definitions cite. The
+/// call itself does nothing.
+pub fn every_limit()
+    ensures edges { Config.MAX_EDGES ≡ most_edges }
+    ensures origins { Config.MAX_ORIGINS ≡ most_origins }
+    ensures delay { Config.MAX_DELAY ≡ longest_delay }
+{}

@@ -21,7 +21,7 @@ mod undo;
 
 pub use body::Body;
 pub use cache::CacheState;
-pub use config::Config;
+pub use config::{Config, every_limit};
 pub use counters::Counters;
 pub use photo::Photo;
 pub use rows::requests;

@@ -1,4 +1,6 @@
-ghost use Rattle.std.specs.Prelude.{◌≡◌, ◌≤◌, IfOk, true, ◌<◌, ◌+◌, ◌^◌, ◌&&◌, nat_le, nat_lt};
+ghost use Rattle.std.specs.Prelude.{◌≡◌, ◌≤◌, IfOk, true, ◌<◌, ◌+◌, ◌^◌, ◌&&◌, nat_le};
+ghost use Rattle.rw_trace.specs.Limits.{greatest_size};
+ghost use Rattle.rw_ripq.specs.Limits.{exhaustion};
 ghost use Rattle.rw_photo.specs.Cache.{IsWellFormed, is_edge, shape_at, start};
 ghost use Rattle.rw_photo.specs.Deeds.{HasDone};
 ghost use Rattle.rw_photo.specs.Events.{miss_happening, fill_happening, happening, is_origin, is_valid, object_of, origin_of, request_happening};
@@ -88,7 +90,7 @@ impl Photo {
         event: &Event<Body>,
     ) -> Result<Deed, NoMemory>
         requires well_formed { IsWellFormed self.now.config process state.old }
-        requires fresh { state.old.queue.next < EXHAUSTED }
+        requires fresh { state.old.queue.next < exhaustion }
         requires valid { is_valid self.now.config event.now ≡ true }
         requires here { event.now.to ≡ process }
         ensures { IfOk result (λ deed. HasDone
@@ -118,7 +120,7 @@ impl Photo {
         size: u64,
     ) -> Result<Deed, NoMemory>
         requires well_formed { IsWellFormed self.now.config process state.old }
-        requires fresh { state.old.queue.next < EXHAUSTED }
+        requires fresh { state.old.queue.next < exhaustion }
         requires early { time < 2 ^ 40 }
         requires process { process < self.now.config.edges }
         ensures { IfOk result (λ deed. HasDone
@@ -164,7 +166,7 @@ impl Photo {
         edge: u32,
     ) -> Result<Deed, NoMemory>
         requires well_formed { IsWellFormed self.now.config process state.old }
-        requires fresh { state.old.queue.next < EXHAUSTED }
+        requires fresh { state.old.queue.next < exhaustion }
         requires early { time < 2 ^ 40 }
         requires process { process < self.now.config.edges + self.now.config.origins }
         requires some { 1 ≤ size }
@@ -206,7 +208,7 @@ impl Photo {
         size: u64,
     ) -> Result<Deed, NoMemory>
         requires well_formed { IsWellFormed self.now.config process state.old }
-        requires fresh { state.old.queue.next < EXHAUSTED }
+        requires fresh { state.old.queue.next < exhaustion }
         requires some { 1 ≤ size }
         ensures { IfOk result (λ deed. HasDone
             (fill_happening self.now.config state.old object size)
@@ -231,7 +233,7 @@ impl Photo {
 
 /// Whether a size is in its range.
 fn is_size(size: u64) -> bool
-    ensures { result ≡ (nat_le 1 size && nat_lt size (2 ^ 32)) }
+    ensures { result ≡ (nat_le 1 size && nat_le size greatest_size) }
 {
     1 <= size && size <= MAX_SIZE
 }
