@@ -1,7 +1,14 @@
 ghost use Rattle.std.specs.Prelude.{◌≡◌, ℕ};
+ghost use Rattle.rw_vt.specs.Limits.{end_of_time};
 
 /// The end of virtual time, in ticks: 2^40. Every event is earlier.
 pub const END: u64 = 1 << 40;
+
+/// This constant is the limit that stands in `specs/Limits.antt`, which the definitions cite. The call itself does
+/// nothing.
+pub fn every_limit()
+    ensures { END ≡ end_of_time }
+{}
 
 /// Something that happens at one process at one virtual time (Jefferson 1985).
 ///

@@ -11,6 +11,6 @@ mod event;
 mod model;
 mod refusal;
 
-pub use event::{END, Event, Letter};
+pub use event::{END, Event, Letter, every_limit};
 pub use model::{Model, Outcome, execute_and_reverse, in_order};
 pub use refusal::{NoMemory, Refusal};
