@@ -11,12 +11,12 @@ mod ledger;
 mod pending;
 
 ghost use Rattle.std.specs.Prelude.{◌≡◌, ◌<◌, ◌++◌, true, [], ◌∷◌, List, IfOk, IfErr, OnOk, length, map, replicate, slice_get, slice_index_or, slice_set};
+ghost use Rattle.rw_vt.specs.Limits.{end_of_time};
 ghost use Rattle.rw_vt.specs.System.{system, IsOutcome, IsReady, Meets};
 ghost use Rattle.rw_vt.specs.declared.event.Event.{Event};
 
 use ledger::{Ledger, NoJournals};
 use pending::Pending;
-use rw_vt::END;
 pub use rw_vt::{Event, Model, Outcome, Refusal};
 use std::alloc::{AllocError, Global};
 
@@ -24,7 +24,7 @@ use std::alloc::{AllocError, Global};
 /// and the state that it is in.
 ///
 /// There is one start for each process, and `initial` may be in any order; an event that stands there twice is executed
-/// twice. Every event is earlier than [`END`], and what an event sends is later than the event, so a run ends.
+/// twice. Every event is earlier than [`rw_vt::END`], and what an event sends is later than the event, so a run ends.
 ///
 /// It costs the executions, one sort of the initial events (linear in their number where they are sorted already), and
 /// for each event a number of comparisons logarithmic in how many sent events are pending at the time. The undo records
@@ -42,10 +42,10 @@ pub fn run<M: Model>(
 ) -> Result<Outcome<M>, Refusal>
     requires ready { IsReady M.Model model.now starts.items initial.items }
     ensures outcome { IfOk result (λ o.
-        IsOutcome (system M.Model M.Body.cmp model.now starts.items initial.items) END
+        IsOutcome (system M.Model M.Body.cmp model.now starts.items initial.items) end_of_time
         (map (λ j. j.items) o.journals.items) o.states.items) }
     ensures exhausted { IfErr result (λ r. r ≡ Refusal.Exhausted
-        → Meets (system M.Model M.Body.cmp model.now starts.items initial.items) END
+        → Meets (system M.Model M.Body.cmp model.now starts.items initial.items) end_of_time
         (M.is_exhausted model.now)) }
 {
     let mut journals = empty_journals::<M>(alloc, starts.len())?;
@@ -66,10 +66,10 @@ pub fn last_states<M: Model>(
 ) -> Result<Vec<M::State>, Refusal>
     requires ready { IsReady M.Model model.now starts.items initial.items }
     ensures outcome { IfOk result (λ states. (journals : List (List (Event M.Body)))
-        × IsOutcome (system M.Model M.Body.cmp model.now starts.items initial.items) END
+        × IsOutcome (system M.Model M.Body.cmp model.now starts.items initial.items) end_of_time
         journals states.items) }
     ensures exhausted { IfErr result (λ r. r ≡ Refusal.Exhausted
-        → Meets (system M.Model M.Body.cmp model.now starts.items initial.items) END
+        → Meets (system M.Model M.Body.cmp model.now starts.items initial.items) end_of_time
         (M.is_exhausted model.now)) }
 {
     let mut states = starts;
@@ -91,11 +91,11 @@ fn execute_all<M: Model, L: Ledger<M::Body>>(
     requires none { L.StandsFor ledger.old (replicate (length states.old.items) []) }
     ensures outcome { OnOk result ((journals : List (List (Event M.Body)))
         × L.StandsFor ledger.new journals
-        × IsOutcome (system M.Model M.Body.cmp model.now states.old.items initial.items) END
+        × IsOutcome (system M.Model M.Body.cmp model.now states.old.items initial.items) end_of_time
         journals states.new.items) }
     ensures exhausted { IfErr result (λ r.
         r ≡ Refusal.Exhausted
-        → Meets (system M.Model M.Body.cmp model.now states.old.items initial.items) END
+        → Meets (system M.Model M.Body.cmp model.now states.old.items initial.items) end_of_time
         (M.is_exhausted model.now)) }
 {
     let mut pending = Pending::new(alloc, initial)?;
