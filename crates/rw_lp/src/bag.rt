@@ -1,4 +1,5 @@
 ghost use Rattle.std.specs.Prelude.{◌≡◌, List, [], IfOk, OnOk, OnErr, MatchOption, false};
+ghost use Rattle.rw_vt.specs.Limits.{end_of_time};
 ghost use Rattle.rw_vt.specs.Order.{event_cmp, in_order, insert_in_order, copies, has, without, IsAscending, IsFirst, IsLeastOf};
 ghost use Rattle.rw_vt.specs.declared.event.Event.{Event};
 ghost use Rattle.rw_lp.specs.Calls.{IsNextOf, least_time};
@@ -121,7 +122,7 @@ impl<M: VtModel> Bag<M> {
 
     /// The least time, or the end of time where the bag is empty. Takes no memory.
     pub fn least(&self) -> u64
-        ensures { result ≡ least_time END self.now }
+        ensures { result ≡ least_time end_of_time self.now }
     {
         match self.first() {
             Some(event) => event.time.min(END),

@@ -1,4 +1,5 @@
 ghost use Rattle.std.specs.Prelude.{◌≡◌, ◌<◌, ◌≤◌, ◌++◌, ◌∷◌, ◌↔◌, ◌^◌, true, false, List, [], IfOk, IfErr, OnOk, MatchOption, All};
+ghost use Rattle.rw_vt.specs.Limits.{end_of_time};
 ghost use Rattle.rw_vt.specs.Order.{copies, event_cmp, has, AtMost, Each, Has, IsAscending, IsFirst, IsLeastOf};
 ghost use Rattle.rw_vt.specs.System.{state_after};
 ghost use Rattle.rw_vt.specs.declared.event.Event.{Event};
@@ -12,7 +13,6 @@ ghost use Rattle.rw_lp.specs.Own.{AreFor};
 ghost use Rattle.rw_lp.specs.HeldBack.{antis_unless, held_unless};
 ghost use Rattle.rw_lp.specs.Sound.{Balance, IsSoundOnceCollected, KeepsBalance, StartsWell};
 ghost use Rattle.rw_lp.specs.Arrival.{Arrived, ArrivedLazily, is_barred};
-ghost use Rattle.rw_vt.specs.declared.event.TheConstants.{END};
 
 use crate::bag::Bag;
 use crate::bags::ends_after;
@@ -357,7 +357,7 @@ impl<M: VtModel> Lp<M> {
     /// The least time of pending events, debts and held messages, in ticks, or [`END`](rw_vt::END) if there is none. Takes no
     /// memory.
     pub fn least(&self) -> u64
-        ensures is { result ≡ least_outstanding END self.now.process }
+        ensures is { result ≡ least_outstanding end_of_time self.now.process }
         ensures pending { Each (event_cmp M.Body.cmp) (λ e.
             result ≤ e.time) self.now.process.pending }
         ensures debts { Each (event_cmp M.Body.cmp) (λ e. result ≤ e.time) self.now.process.debts }
