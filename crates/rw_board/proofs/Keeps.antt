@@ -6,22 +6,22 @@ use native.Mathlib.Decide.{ℕ_discrete}
 use lib.ListN.{get_elem?}
 use Rattle.atomic_table.specs.Table.{State, Me, step, keeps, opening, Allows, Splits, Joins, Final, Seen}
 use Rattle.atomic_table.proofs.Lists.{at_set, at_snoc, set_else}
+use Rattle.rw_vt.specs.Limits.{end_of_time}
 use Rattle.rw_board.specs.declared.rule.View.{View}
-use Rattle.rw_vt.specs.declared.event.TheConstants.{END}
 use Rattle.rw_board.specs.Least.{least}
 use Rattle.rw_board.specs.Seats.{SeatState, all_notes}
 use Rattle.rw_board.specs.Rule.{view, least_of_all, weights, KeepsRule, Notes, Reads, with_one_less, new_view, joined_view, spent_view}
 
-pub least-END : (xs : List ℕ) → least xs ≤ END
-least-END [] = le_refl END
+pub least-END : (xs : List ℕ) → least xs ≤ end_of_time
+least-END [] = le_refl end_of_time
 least-END (x ∷ xs) = omega (arith, least-END xs)
 
 pub least-append : (xs ys : List ℕ) → least (xs ++ ys) ≡ min (least xs) (least ys)
 least-append [] ys = omega (arith, least-END ys)
 least-append (x ∷ xs) ys = omega (arith, least-append xs ys)
 
-all-END : (vs : List View) → least_of_all vs ≤ END
-all-END [] = le_refl END
+all-END : (vs : List View) → least_of_all vs ≤ end_of_time
+all-END [] = le_refl end_of_time
 all-END (v ∷ vs) = omega (arith, all-END vs)
 
 at_most : (vs : List View) (k : ℕ) (v : View) → get_elem? vs k ≡ some v → least_of_all vs ≤ least v.noted
@@ -29,7 +29,7 @@ at_most [] k v e = absurd (some-ne-none v (sym e))
 at_most (x ∷ xs) zero v e = subst (λ (z : View). min (least x.noted) (least_of_all xs) ≤ least z.noted) (some-injective x v e) (omega arith)
 at_most (x ∷ xs) (suc k) v e = omega (arith, at_most xs k v e)
 
-at_least : (m : ℕ) (vs : List View) → m ≤ END → ((k : ℕ) (v : View) → get_elem? vs k ≡ some v → m ≤ least v.noted) → m ≤ least_of_all vs
+at_least : (m : ℕ) (vs : List View) → m ≤ end_of_time → ((k : ℕ) (v : View) → get_elem? vs k ≡ some v → m ≤ least v.noted) → m ≤ least_of_all vs
 at_least m [] h f = h
 at_least m (x ∷ xs) h f = let a : m ≤ least x.noted = f zero x refl in let b : m ≤ least_of_all xs = at_least m xs h (λ k v e. f (suc k) v e) in omega arith
 
@@ -38,7 +38,7 @@ all_set [] k t v w e h = absurd (some-ne-none v (sym e))
 all_set (x ∷ xs) zero t v w e h = let s : least x.noted ≡ least v.noted = ap (λ (z : View). least z.noted) (some-injective x v e) in omega arith
 all_set (x ∷ xs) (suc k) t v w e h = omega (arith, all_set xs k t v w e h)
 
-all_snoc : (vs : List View) (w : View) → least w.noted ≡ END → least_of_all (vs ++ w ∷ []) ≡ least_of_all vs
+all_snoc : (vs : List View) (w : View) → least w.noted ≡ end_of_time → least_of_all (vs ++ w ∷ []) ≡ least_of_all vs
 all_snoc [] w h = omega arith
 all_snoc (x ∷ xs) w h = omega (arith, all_snoc xs w h)
 
@@ -85,11 +85,11 @@ each_one P w p zero v e = subst P (some-injective w v e) p
 each_one P w p (suc j) v e = absurd (some-ne-none v (sym e))
 
 -- at the start
-pub begins : (n : ℕ) → KeepsRule {S = Unit {0}} n (opening (END ∷ []) [] (view [] END n))
+pub begins : (n : ℕ) → KeepsRule {S = Unit {0}} n (opening (end_of_time ∷ []) [] (view [] end_of_time n))
 begins n = record {
   word = refl;
-  bound = λ k v e _. each_one (λ (u : View). END ≤ u.read) (view [] END n) (le_refl END) k v e;
-  spent = λ k v e _. each_one (λ (u : View). u.noted ≡ []) (view [] END n) refl k v e;
+  bound = λ k v e _. each_one (λ (u : View). end_of_time ≤ u.read) (view [] end_of_time n) (le_refl end_of_time) k v e;
+  spent = λ k v e _. each_one (λ (u : View). u.noted ≡ []) (view [] end_of_time n) refl k v e;
   whole = omega arith;
 }
 
@@ -123,9 +123,9 @@ module _ {S : Type 0} where
       let w : View = view m.0.noted found m.0.weight in
       let is : found ≡ least_of_all s.views = found_is n s kept in
       let own : least_of_all s.views ≤ least m.0.noted = at_most s.views id m.0 at in
-      let high : least_of_all s.views ≤ END = all-END s.views in
-      let new : least w.noted ≡ min (least m.0.noted) END = omega (arith, least-END m.0.noted) in
-      let all : least_of_all (set s.views id w) ≡ least_of_all s.views = omega (arith, all_set s.views id END m.0 w at new) in
+      let high : least_of_all s.views ≤ end_of_time = all-END s.views in
+      let new : least w.noted ≡ min (least m.0.noted) end_of_time = omega (arith, least-END m.0.noted) in
+      let all : least_of_all (set s.views id w) ≡ least_of_all s.views = omega (arith, all_set s.views id end_of_time m.0 w at new) in
       let old : least_of_all s.views ≤ m.0.read = kept.bound id m.0 at heavy in (
         w,
         keeps,
@@ -143,11 +143,11 @@ module _ {S : Type 0} where
   pub splits : (n id : ℕ) (v : View) → 1 < v.weight → Splits {S = S} (KeepsRule n) id v (with_one_less v) (new_view v)
   splits n id v heavy s kept at =
       let l : View = with_one_less v in let r : View = new_view v in
-      let new : least l.noted ≡ min (least v.noted) END = omega (arith, least-END v.noted) in
-      let one : least_of_all (set s.views id l) ≡ least_of_all s.views = omega (arith, all_set s.views id END v l at new, all-END s.views) in
+      let new : least l.noted ≡ min (least v.noted) end_of_time = omega (arith, least-END v.noted) in
+      let one : least_of_all (set s.views id l) ≡ least_of_all s.views = omega (arith, all_set s.views id end_of_time v l at new, all-END s.views) in
       let all : least_of_all (set s.views id l ++ r ∷ []) ≡ least_of_all s.views = all_snoc (set s.views id l) r refl ∙ one in
       let old : least_of_all s.views ≤ v.read = kept.bound id v at (omega arith) in
-      let high : least_of_all s.views ≤ END = all-END s.views in record {
+      let high : least_of_all s.views ≤ end_of_time = all-END s.views in record {
         word = kept.word ∙ ap (λ (x : ℕ). x ∷ []) (sym all);
         bound = each_snoc (λ (u : View). 0 < u.weight → least_of_all (set s.views id l ++ r ∷ []) ≤ u.read) (set s.views id l) r (λ _. omega arith)
             (each_set (λ (u : View). 0 < u.weight → least_of_all (set s.views id l ++ r ∷ []) ≤ u.read) s.views id l (λ _. omega arith)

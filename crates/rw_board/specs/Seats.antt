@@ -2,7 +2,7 @@
 use Rattle.std.specs.Prelude.{List, [], ◌∷◌, ◌++◌}
 use Rattle.atomic_table.specs.Seated.{TableId}
 use Rattle.rw_vt.specs.Words.{Count, Time}
-use Rattle.rw_vt.specs.declared.event.TheConstants.{END}
+use Rattle.rw_vt.specs.Limits.{end_of_time}
 
 -- a board: which one it is, and how many seats it was opened with
 pub record BoardState : Type 0 where
@@ -17,7 +17,7 @@ pub record SeatState : Type 0 where
 
 -- a seat that has noted nothing and read nothing
 abbrev pub new_seat : TableId → SeatState
-new_seat board = record { board = board; noted = []; read = END }
+new_seat board = record { board = board; noted = []; read = end_of_time }
 
 -- the seat, once it has noted the time
 abbrev pub after_note : SeatState → Time → SeatState

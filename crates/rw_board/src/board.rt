@@ -1,5 +1,6 @@
 //! The board and its seats.
 ghost use Rattle.std.specs.Prelude.{◌≡◌, ◌≤◌, ◌<◌, length, All, IfOk, vec_len};
+ghost use Rattle.rw_vt.specs.Limits.{end_of_time};
 ghost use Rattle.rw_board.specs.Least.{least};
 ghost use Rattle.rw_board.specs.Seats.{new_seat, after_note, after_reading, all_notes};
 
@@ -71,7 +72,7 @@ impl Board {
     /// takes no memory and never waits.
     pub fn floor(&self, seat: &mut Seat) -> u64
         requires board { seat.old.board ≡ self.now.board }
-        ensures end { result ≤ END }
+        ensures end { result ≤ end_of_time }
         ensures noted { result ≤ least seat.old.noted }
         ensures read { result ≤ seat.old.read }
         ensures seat { seat.new ≡ after_reading seat.old result }
@@ -111,7 +112,7 @@ pub fn close(board: Board, seats: Vec<Seat>) -> u64
     requires all { vec_len seats ≡ board.seats }
     requires board { All (λ s. s.board ≡ board.board) seats.items }
     ensures least { result ≡ least (all_notes seats.items) }
-    ensures end { result ≤ END }
+    ensures end { result ≤ end_of_time }
     ensures noted { All (λ s. result ≤ least s.noted) seats.items }
     ensures read { All (λ s. result ≤ s.read) seats.items }
 {

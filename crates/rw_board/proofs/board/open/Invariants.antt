@@ -1,5 +1,5 @@
 use Rattle.std.proofs.Common.{◌≡◌, ◌+◌, [], All, vec_len, vec_capacity}
-use Rattle.rw_vt.specs.declared.event.TheConstants.{END}
+use Rattle.rw_vt.specs.Limits.{end_of_time}
 use Rattle.rw_board.specs.Seats.{new_seat}
 use Rattle.rw_board.proofs.board.open.Given as goal
 
@@ -9,7 +9,7 @@ invariant-loop l = record {
   same : l.first.table_id ≡ l.table.shared.table_id;
   empty : l.first.me.1 ≡ [];
   noted : l.first.me.0.noted ≡ [];
-  read : l.first.me.0.read ≡ END;
+  read : l.first.me.0.read ≡ end_of_time;
   weight : l.first.me.0.weight + l.counter ≡ l.seats + 1;
   count : vec_len l.all + 1 ≡ l.counter;
   room : vec_capacity l.all ≡ l.seats;
