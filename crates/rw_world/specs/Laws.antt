@@ -2,6 +2,7 @@
 use Rattle.std.specs.Prelude.{◌≤◌, ◌^◌, ◌↔◌, ◌++◌, List}
 use Rattle.std.specs.declared.cmp.Ordering.{Ordering}
 use Rattle.rw_vt.specs.Words.{Process, Time}
+use Rattle.rw_vt.specs.Limits.{end_of_time}
 use Rattle.rw_vt.specs.declared.event.Letter.{Letter}
 use Rattle.rw_vt.specs.declared.model.Model.{Ghosts}
 use Rattle.rw_vt.specs.System.{Setting, System, system_in}
@@ -12,7 +13,6 @@ use Rattle.rw_world.specs.WorldState.{WorldState, opening_world, floor}
 use Rattle.rw_world.specs.Steps.{run}
 use Rattle.rw_world.specs.Sound.{Sound, IsInOrder, IsQuiet, StepKept}
 use Rattle.rw_world.specs.Rounds.{Exchanged}
-use Rattle.rw_vt.specs.declared.event.TheConstants.{END}
 
 -- each step keeps a sound world sound, a refused one leaves it as it was, and no committed event is lost
 abbrev pub StepsKeepSound : {M S B U : Type 0} → Ghosts M S B U → (B → B → Ordering) → Type 0
@@ -33,7 +33,7 @@ SchedulesLeadInOrder model order =
 -- the floor is the greatest time, up to the end, before which nothing is outstanding
 abbrev pub FloorIsGreatest : {M S B U : Type 0} → Ghosts M S B U → (B → B → Ordering) → Type 0
 FloorIsGreatest {M} {S} {B} model order =
-    (k : Setting model) (w : WorldState S B) (t : Time) → (t ≤ floor w) ↔ ((t ≤ END) × IsQuiet (system_in order k) t w)
+    (k : Setting model) (w : WorldState S B) (t : Time) → (t ≤ floor w) ↔ ((t ≤ end_of_time) × IsQuiet (system_in order k) t w)
 
 -- whatever all processes of a sound world do at once, each keeping its balance of letters, the world is sound afterwards
 abbrev pub ExchangesKeepSound : {M S B U : Type 0} → Ghosts M S B U → (B → B → Ordering) → Type 0

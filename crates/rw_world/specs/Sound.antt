@@ -1,6 +1,7 @@
 -- What holds of each world that steps lead to.
 use Rattle.std.specs.Prelude.{◌≡◌, ◌+◌, ◌^◌, ◌<◌, ◌≤◌, true, List, [], ◌∷◌, ◌++◌, map, nat_lt, filter, slice_get, Option, Some, None}
 use Rattle.rw_vt.specs.Words.{Process, Time}
+use Rattle.rw_vt.specs.Limits.{end_of_time}
 use Rattle.rw_vt.specs.declared.event.Event.{Event}
 use Rattle.rw_vt.specs.declared.event.Letter.{Letter}
 use Rattle.rw_vt.specs.Order.{copies, Each}
@@ -14,7 +15,6 @@ use Rattle.rw_lp.specs.declared.step.Answer.TheVariants.{Refused}
 use Rattle.rw_world.specs.declared.step.Step.{Step}
 use Rattle.rw_world.specs.WorldState.{WorldState, floor, is_finished}
 use Rattle.rw_world.specs.Steps.{apply}
-use Rattle.rw_vt.specs.declared.event.TheConstants.{END}
 
 -- Lists of one process, empty where there is none, or of all
 
@@ -67,7 +67,7 @@ pub record IsInOrder {S B : Type 0} (y : System S B) (w : WorldState S B) : Type
   pub left : (q : Process) (x : ProcessState S B) (s : S) → slice_get w.processes q ≡ Some x → slice_get y.starts q ≡ Some s → x.processed ≡ []
       → x.state ≡ state_after (y.step q) s (journal_below y w.collected q)
   pub before_floor : (t : Time) (q : Process) → t ≤ floor w → filter (λ e. nat_lt e.time t) (done_of w.processes q) ≡ journal_below y t q
-  pub finished : is_finished w ≡ true → IsOutcome y END (map done w.processes) (map (λ x. x.state) w.processes)
+  pub finished : is_finished w ≡ true → IsOutcome y end_of_time (map done w.processes) (map (λ x. x.state) w.processes)
 
 -- a step leads to a sound world, a refused one leaves the world as it was, and committed lists only grow
 pub record StepKept {S B : Type 0} (y : System S B) (w : WorldState S B) (step : Step) : Type 0 where

@@ -1,11 +1,11 @@
 -- A world of processes: what it is, where it starts, and what is outstanding in it.
 use Rattle.std.specs.Prelude.{◌^◌, min, Bool, true, false, List, [], ◌∷◌, filter, ◌==◌, ◌&&◌}
 use Rattle.rw_vt.specs.Words.{Process, Time}
+use Rattle.rw_vt.specs.Limits.{end_of_time}
 use Rattle.rw_vt.specs.declared.event.Letter.{Letter}
 use Rattle.rw_vt.specs.System.{System, map_from}
 use Rattle.rw_lp.specs.Process.{ProcessState}
 use Rattle.rw_lp.specs.Calls.{new_process, least_outstanding}
-use Rattle.rw_vt.specs.declared.event.TheConstants.{END}
 
 -- the processes, the letters on their way, and the greatest time collected
 pub record WorldState (S B : Type 0) : Type 0 where
@@ -37,7 +37,7 @@ least_of_letters m (l ∷ ls) = min l.event.time (least_of_letters m ls)
 
 -- the least time of what is outstanding, the end of time if there is nothing: global virtual time
 abbrev pub floor : {S B : Type 0} → WorldState S B → Time
-floor w = least_of_letters (least_of_processes END w.processes) w.letters
+floor w = least_of_letters (least_of_processes end_of_time w.processes) w.letters
 
 abbrev pub is_empty : {A : Type 0} → List A → Bool
 is_empty [] = true

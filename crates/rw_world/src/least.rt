@@ -1,4 +1,5 @@
 ghost use Rattle.std.specs.Prelude.{◌≡◌, ◌^◌, map};
+ghost use Rattle.rw_vt.specs.Limits.{end_of_time};
 ghost use Rattle.rw_world.specs.WorldState.{least_of_letters, least_of_processes};
 
 use rw_lp::Lp;
@@ -7,7 +8,7 @@ use rw_vt::{END, Letter, Model as VtModel};
 /// The least time of the pending events, debts and held messages of `processes`, in ticks, or the end of time. Takes no
 /// memory.
 pub fn least_of_processes<M: VtModel>(processes: &[Lp<M>]) -> u64
-    ensures { result ≡ least_of_processes END (map (λ l. l.process) processes.now) }
+    ensures { result ≡ least_of_processes end_of_time (map (λ l. l.process) processes.now) }
 {
     let mut least = END;
     for process in processes {

@@ -1,4 +1,5 @@
 ghost use Rattle.std.specs.Prelude.{◌≡◌, ◌↔◌, ◌<◌, ◌≤◌, ◌^◌, ℕ, true, IfOk, IfErr, map, filter, nat_lt, slice_get, Some};
+ghost use Rattle.rw_vt.specs.Limits.{end_of_time};
 ghost use Rattle.rw_vt.specs.Order.{event_cmp};
 ghost use Rattle.rw_vt.specs.System.{state_after, journal_below, system, IsOutcome, IsReady};
 ghost use Rattle.rw_vt.specs.declared.refusal.Refusal.TheVariants.{Memory};
@@ -147,7 +148,7 @@ impl<M: VtModel + Drop> World<M> {
     pub fn finished(&self) -> bool
         ensures is { result ≡ is_finished self.now.world }
         ensures outcome { result ≡ true
-            → IsOutcome (system_of M.Model M.Body.cmp self.now) END
+            → IsOutcome (system_of M.Model M.Body.cmp self.now) end_of_time
             (map done self.now.world.processes) (map (λ x. x.state) self.now.world.processes) }
     {
         self.parts.floor() == END
