@@ -11,6 +11,7 @@ use Rattle.std.proofs.lemmas.Bool.Decides.{nat_tests}
 use Rattle.std.proofs.lemmas.Cmp.{ranked, by_ranked}
 use Rattle.std.proofs.lemmas.List.Elements.{All-cons, All-nil}
 use Rattle.rw_vt.specs.Words.{Process, Time}
+use Rattle.rw_vt.specs.Limits.{end_of_time}
 use Rattle.rw_vt.specs.declared.event.Event.{Event}
 use Rattle.rw_vt.proofs.Entries.{found-value, sorted-insert_entry, sorted-remove_entry, values-insert_entry, values-remove_entry}
 use Rattle.rw_blocks.specs.Words.{Object, Size}
@@ -29,7 +30,6 @@ use Rattle.rw_photo.specs.Counts.{AreCounts, sum_of, counters_by, no_counts, one
 use Rattle.rw_photo.specs.Cache.{Cache, IsWellFormed, is_stored, shape_at, waiting_for, with_waiting}
 use Rattle.rw_photo.specs.Storing.{QueueAndCounts, hit, insertion, store, same_queue}
 use Rattle.rw_photo.specs.Events.{Happening, backend_store, happening, is_valid, may_happen, edge_miss, origin_of, event_from, serving}
-use Rattle.rw_vt.specs.declared.event.TheConstants.{END}
 
 -- ---- the definitions with the test that each makes as an argument, for proofs by cases
 abbrev pub placed : Policy → QueueState → Object → Size → QueueAndCounts
@@ -58,7 +58,7 @@ both false b h = cc
 
 -- ---- valid events are in their ranges
 pub early : (c : Config) (t p : ℕ) (b : Body) → may_happen c t p b ≡ true
-    → (t < END) × (p < c.edges + c.origins)
+    → (t < end_of_time) × (p < c.edges + c.origins)
 early c t p (Request o z) v =
     let r = c.in_range in (grind (arith, nat_tests), grind (arith, nat_tests))
 early c t p (Miss o z g) v =

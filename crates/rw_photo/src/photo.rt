@@ -1,4 +1,5 @@
-ghost use Rattle.std.specs.Prelude.{◌≡◌, ◌≤◌, IfOk, true, ◌<◌, ◌+◌, ◌^◌, ◌&&◌, nat_le};
+ghost use Rattle.std.specs.Prelude.{◌≡◌, ◌≤◌, IfOk, true, ◌<◌, ◌+◌, ◌&&◌, nat_le};
+ghost use Rattle.rw_vt.specs.Limits.{end_of_time};
 ghost use Rattle.rw_trace.specs.Limits.{greatest_size};
 ghost use Rattle.rw_ripq.specs.Limits.{exhaustion};
 ghost use Rattle.rw_photo.specs.Cache.{IsWellFormed, is_edge, shape_at, start};
@@ -121,7 +122,7 @@ impl Photo {
     ) -> Result<Deed, NoMemory>
         requires well_formed { IsWellFormed self.now.config process state.old }
         requires fresh { state.old.queue.next < exhaustion }
-        requires early { time < 2 ^ 40 }
+        requires early { time < end_of_time }
         requires process { process < self.now.config.edges }
         ensures { IfOk result (λ deed. HasDone
             (request_happening self.now.config process state.old time object size)
@@ -167,7 +168,7 @@ impl Photo {
     ) -> Result<Deed, NoMemory>
         requires well_formed { IsWellFormed self.now.config process state.old }
         requires fresh { state.old.queue.next < exhaustion }
-        requires early { time < 2 ^ 40 }
+        requires early { time < end_of_time }
         requires process { process < self.now.config.edges + self.now.config.origins }
         requires some { 1 ≤ size }
         ensures { IfOk result (λ deed. HasDone
