@@ -5,9 +5,9 @@ use Rattle.std.specs.Ordering.{nat_cmp}
 use Rattle.std.proofs.Common.{arith, ap}
 use Rattle.std.proofs.lemmas.Bool.Decides.{nat_tests}
 use Rattle.std.proofs.lemmas.List.Elements.{All-cons, All-nil}
+use Rattle.rw_vt.specs.Limits.{end_of_time}
 use Rattle.rw_vt.specs.declared.event.Event.{Event}
 use Rattle.rw_vt.specs.Valid.{IsInRange, IsSentBy}
-use Rattle.rw_vt.specs.declared.event.TheConstants.{END}
 use Rattle.rw_relay.specs.Parcels.{nat_cmp_same}
 use Rattle.rw_relay.specs.declared.stop.Stop.{Stop}
 use Rattle.rw_relay.specs.declared.stop.Seen.{Seen}
@@ -15,7 +15,7 @@ use Rattle.rw_relay.specs.declared.stop.Note.{Note}
 
 -- an event that may be handed to its process
 abbrev pub is_sound_note : Event Note → Bool
-is_sound_note e = nat_lt e.time END && nat_le e.source 2 && nat_lt e.number (2 ^ 64) && nat_lt e.to 2 && nat_lt e.body.people (2 ^ 64)
+is_sound_note e = nat_lt e.time end_of_time && nat_le e.source 2 && nat_lt e.number (2 ^ 64) && nat_lt e.to 2 && nat_lt e.body.people (2 ^ 64)
 
 -- what is kept is in the range of its type
 pub record IsSeen (s : Seen) : Type 0 where
@@ -44,7 +44,7 @@ pub stop_keeps : (m : Stop) (p : ℕ) (s : Seen) (e : Event Note) → IsSeen s �
 stop_keeps m p s e w h t = record { events = omega arith }
 
 -- what is said of a note that a passenger causes
-sent_well : (m : Stop) (p : ℕ) (e : Event Note) (number people : ℕ) → m.due < 2 ^ 40 → number < 2 ^ 64 → people < 2 ^ 64 → is_in_time m p e ≡ true → IsSentBy p e (note_of m p number people) × (is_sound_note (note_of m p number people) ≡ true)
+sent_well : (m : Stop) (p : ℕ) (e : Event Note) (number people : ℕ) → m.due < end_of_time → number < 2 ^ 64 → people < 2 ^ 64 → is_in_time m p e ≡ true → IsSentBy p e (note_of m p number people) × (is_sound_note (note_of m p number people) ≡ true)
 sent_well m p e number people due n k g = (record { source = refl; later = grind (arith, nat_tests) }, grind (arith, nat_tests))
 
 pub stop_future : (m : Stop) (p : ℕ) (s : Seen) (e : Event Note) → IsSeen s → is_sound_note e ≡ true → e.to ≡ p → All (λ f. IsSentBy p e f × (is_sound_note f ≡ true)) (stop_step m p s e).1

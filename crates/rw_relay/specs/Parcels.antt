@@ -6,17 +6,17 @@ use Rattle.std.proofs.Common.{arith, ap}
 use Rattle.std.proofs.lemmas.Bool.Decides.{nat_tests}
 use Rattle.std.proofs.lemmas.List.Elements.{All-cons, All-nil}
 use Rattle.std.proofs.lemmas.Cmp.{ranked, by_ranked}
+use Rattle.rw_vt.specs.Limits.{end_of_time}
 use Rattle.rw_vt.specs.declared.event.Event.{Event}
 use Rattle.rw_vt.specs.Valid.{IsInRange, IsSentBy}
 use Rattle.rw_relay.specs.declared.Relay.{Relay}
 use Rattle.rw_relay.specs.declared.Station.{Station}
 use Rattle.rw_relay.specs.declared.Parcel.{Parcel}
 use Rattle.rw_relay.specs.declared.Track.{Track}
-use Rattle.rw_vt.specs.declared.event.TheConstants.{END}
 
 -- an event that may be handed to its process
 abbrev pub is_sound_event : Event Parcel → Bool
-is_sound_event e = nat_lt e.time END && nat_le e.source 2 && nat_lt e.number (2 ^ 64) && nat_lt e.to 2 && nat_lt e.body.hops (2 ^ 32)
+is_sound_event e = nat_lt e.time end_of_time && nat_le e.source 2 && nat_lt e.number (2 ^ 64) && nat_lt e.to 2 && nat_lt e.body.hops (2 ^ 32)
 
 -- a station's numbers are in the ranges of their types
 pub record IsStation (s : Station) : Type 0 where
@@ -26,7 +26,7 @@ pub record IsStation (s : Station) : Type 0 where
 
 -- whether a parcel goes on, before the end
 abbrev pub goes_on : Relay → Event Parcel → Bool
-goes_on m e = nat_lt 0 e.body.hops && nat_lt (e.time + m.delay) END
+goes_on m e = nat_lt 0 e.body.hops && nat_lt (e.time + m.delay) end_of_time
 
 -- the parcel that goes on, with a hop less
 abbrev pub passed_on : Relay → ℕ → Station → Event Parcel → Event Parcel
