@@ -1,6 +1,7 @@
 -- A round: each worker takes its turns and closes, and then all are joined.
 use Rattle.std.specs.Prelude.{◌≡◌, ℕ, zero, suc, ◌+◌, ◌*◌, ◌/◌, ◌%◌, ◌<◌, ◌≤◌, max, List, [], ◌∷◌, ◌++◌, length, map, filter, slice_get, Some}
 use Rattle.std.specs.declared.cmp.Ordering.{Ordering}
+use Rattle.rw_vt.specs.Limits.{end_of_time}
 use Rattle.rw_vt.specs.Words.{Count, Position, Process, Time, Worker}
 use Rattle.rw_vt.specs.declared.event.Event.{Event}
 use Rattle.rw_vt.specs.declared.event.Letter.{Letter}
@@ -19,7 +20,6 @@ use Rattle.rw_exchange.specs.Ports.{IsNew, IsWide, sent_to, received_from, sent_
 use Rattle.rw_rounds.specs.declared.plan.Plan.{Plan}
 use Rattle.rw_rounds.specs.Bags.{weigh, sum_below}
 use Rattle.rw_rounds.specs.Turns.{Role, WorkerState, is_own, IsFit, TookTurns}
-use Rattle.rw_vt.specs.declared.event.TheConstants.{END}
 
 -- what worker i is, where g is the greatest time collected
 abbrev pub role : Plan → Time → Worker → Role
@@ -50,7 +50,7 @@ NoneBefore {M} {S} {B} cmp events_of t xs = (place : Position) (l : LogicalProce
 -- at its processes, and that of each letter that it keeps
 abbrev pub closing_times : {M S B : Type 0} → WorkerState M S B → List Time
 closing_times a =
-    least_of_processes END (map (λ l. l.process) a.processes) ∷ map (λ l. l.event.time) a.kept
+    least_of_processes end_of_time (map (λ l. l.process) a.processes) ∷ map (λ l. l.event.time) a.kept
 
 -- after its last turn a worker notes just these
 abbrev pub Closes : {M S B : Type 0} → WorkerState M S B → WorkerState M S B → Type 0

@@ -3,6 +3,7 @@ use Rattle.std.specs.Prelude.{◌≡◌, ℕ, zero, suc, ◌+◌, ◌*◌, ◌/�
 use Rattle.std.specs.Option.{option_map}
 use Rattle.std.specs.declared.cmp.Ordering.{Ordering}
 use Rattle.rw_vt.specs.Words.{Count, Position, Process, Time, Worker}
+use Rattle.rw_vt.specs.Limits.{end_of_time}
 use Rattle.rw_vt.specs.declared.event.Letter.{Letter}
 use Rattle.rw_vt.specs.declared.model.Model.{Ghosts}
 use Rattle.rw_vt.specs.Order.{event_cmp, Each}
@@ -15,7 +16,6 @@ use Rattle.rw_board.specs.Seats.{SeatState}
 use Rattle.rw_rounds.specs.declared.plan.Plan.{Plan}
 use Rattle.rw_rounds.specs.Bags.{weigh, only, Every, sum_below}
 use Rattle.rw_rounds.specs.Deeds.{Deed, Owned, Goes, IsFair, arrivals, executions, way_of}
-use Rattle.rw_vt.specs.declared.event.TheConstants.{END}
 
 -- who the worker is, how it is to work, and the greatest time collected
 pub record Role : Type 0 where
@@ -96,7 +96,7 @@ pub record IsInPlace {M S B : Type 0} (order : B → B → Ordering) (m : M) (r 
 pub record IsFit {M S B U : Type 0} (model : Ghosts M S B U) (order : B → B → Ordering)
     (m : M) (w : WorkerState M S B) : Type 0 where
   pub number : w.role.number < w.role.plan.workers
-  pub window : w.role.plan.window ≤ END
+  pub window : w.role.plan.window ≤ end_of_time
   pub in_place : (place : Position) (l : LogicalProcess M S B)
       → slice_get w.processes place ≡ Some l → IsInPlace order m w.role place l
   pub complete : (q : Process) → q < model.process_count m

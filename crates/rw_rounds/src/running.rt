@@ -1,4 +1,5 @@
 ghost use Rattle.std.specs.Prelude.{◌≡◌, ◌≤◌, ◌↔◌, ◌^◌, IfOk, map};
+ghost use Rattle.rw_vt.specs.Limits.{end_of_time};
 ghost use Rattle.rw_vt.specs.System.{IsOutcome};
 ghost use Rattle.rw_world.specs.Calls.{system_of};
 ghost use Rattle.rw_world.specs.WorldState.{floor};
@@ -45,7 +46,7 @@ where
     M::Undo: Send,
     G: Gate + Sync,
     R: Threads + Wait + Sync,
-    ensures outcome { IfOk result (λ r. IsOutcome (system_of M.Model M.Body.cmp world) END
+    ensures outcome { IfOk result (λ r. IsOutcome (system_of M.Model M.Body.cmp world) end_of_time
         (map (λ j. j.items) r.0.journals.items) r.0.states.items) }
     ensures plan { (result ≡ Err Stop.BadPlan) ↔ (IsInRanges plan → ⊥) }
 {
@@ -70,9 +71,9 @@ where
 
 /// The committed events and the state of each process, where nothing is outstanding and all is collected.
 fn outcome<M: VtModel + Drop>(alloc: Global, world: World<M>) -> Result<Outcome<M>, NoMemory>
-    requires floor { END ≤ floor world.world }
-    requires collected { END ≤ world.world.collected }
-    ensures outcome { IfOk result (λ o. IsOutcome (system_of M.Model M.Body.cmp world) END
+    requires floor { end_of_time ≤ floor world.world }
+    requires collected { end_of_time ≤ world.world.collected }
+    ensures outcome { IfOk result (λ o. IsOutcome (system_of M.Model M.Body.cmp world) end_of_time
         (map (λ j. j.items) o.journals.items) o.states.items) }
 {
     // What the world promises of every world of the model.
