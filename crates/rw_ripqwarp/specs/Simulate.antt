@@ -22,8 +22,8 @@ use Rattle.rw_ripqwarp.specs.declared.sim_fault.SimFault.{SimFault}
 use Rattle.rw_ripqwarp.specs.declared.sim_fault.SimFault.TheVariants as sim
 use Rattle.rw_ripqwarp.specs.declared.mode.Mode.{Mode}
 use Rattle.rw_ripqwarp.specs.declared.mode.Mode.TheVariants.{Serial, Warp, Journal}
-use Rattle.rw_vt.specs.declared.event.TheConstants.{END}
-use Rattle.rw_trace.specs.declared.TheConstants.{MAX_ROWS}
+use Rattle.rw_vt.specs.Limits.{end_of_time}
+use Rattle.rw_trace.specs.Limits.{most_rows}
 
 -- the text is the report of the trace in these bytes: the trace is accepted with these rows; executing their requests, and all
 -- that follows from them, in order of time leaves the caches in these states; and the text tells what they have counted
@@ -31,15 +31,15 @@ pub record IsReportOf (c : Config) (bytes text : List ℕ) : Type 0 where
   pub rows : List Row
   pub journals : List (List (Event Body))
   pub states : List Cache
-  pub accepted : trace_of c.edges (MAX_ROWS) (records_of bytes) ≡ Ok rows
-  pub outcome : IsOutcome (simulation c rows) END journals states
+  pub accepted : trace_of c.edges most_rows (records_of bytes) ≡ Ok rows
+  pub outcome : IsOutcome (simulation c rows) end_of_time journals states
   pub told : text ≡ report_text c (map (λ s. s.counters) states)
 
 -- the text is the journal of the trace in these bytes under these steps: the trace is accepted with these rows; the text tells
 -- what the steps answer, refused ones included, and to which world they lead from the one in which nothing is done
 pub record IsJournalOf (steps : List Step) (c : Config) (bytes text : List ℕ) : Type 0 where
   pub rows : List Row
-  pub accepted : trace_of c.edges (MAX_ROWS) (records_of bytes) ≡ Ok rows
+  pub accepted : trace_of c.edges most_rows (records_of bytes) ≡ Ok rows
   pub told : text ≡ journal_text (answers (simulation c rows) (opening_world (simulation c rows)) steps) (run (simulation c rows) (opening_world (simulation c rows)) steps)
 
 -- the text is what this mode makes of the trace in these bytes; rounds of workers make the very report of the one thread
@@ -51,19 +51,19 @@ IsTextOf (Journal steps) c bytes text = IsJournalOf steps.items c bytes text
 -- the trace in these bytes is accepted, and executing it in order of time comes to a cache that can take no further event
 pub record IsExhaustingInOrder (c : Config) (bytes : List ℕ) : Type 0 where
   pub rows : List Row
-  pub accepted : trace_of c.edges (MAX_ROWS) (records_of bytes) ≡ Ok rows
-  pub met : Meets (simulation c rows) END is_exhausted
+  pub accepted : trace_of c.edges most_rows (records_of bytes) ≡ Ok rows
+  pub met : Meets (simulation c rows) end_of_time is_exhausted
 
 -- the trace in these bytes is accepted, and one of these steps, when its turn comes, is to execute an event at such a cache
 pub record IsExhaustingBySteps (steps : List Step) (c : Config) (bytes : List ℕ) : Type 0 where
   pub rows : List Row
-  pub accepted : trace_of c.edges (MAX_ROWS) (records_of bytes) ≡ Ok rows
+  pub accepted : trace_of c.edges most_rows (records_of bytes) ≡ Ok rows
   pub met : MeetsAt (simulation c rows) (opening_world (simulation c rows)) is_exhausted steps
 
 -- the trace in these bytes is accepted
 pub record IsAccepted (c : Config) (bytes : List ℕ) : Type 0 where
   pub rows : List Row
-  pub accepted : trace_of c.edges (MAX_ROWS) (records_of bytes) ≡ Ok rows
+  pub accepted : trace_of c.edges most_rows (records_of bytes) ≡ Ok rows
 
 -- the trace in these bytes is accepted, and in this mode comes to a cache that can take no further event; of rounds only the first
 -- is said, since a worker may come to such a cache in a past that is then undone
@@ -88,14 +88,14 @@ HasGoodPlan mode = HasBadPlan mode → ⊥
 
 -- why a run of the trace in these bytes cannot begin
 abbrev pub IsBeginningFault : Config → List ℕ → SimFault → Type 0
-IsBeginningFault c bytes (sim.Trace f) = trace_of c.edges (MAX_ROWS) (records_of bytes) ≡ Err f
+IsBeginningFault c bytes (sim.Trace f) = trace_of c.edges most_rows (records_of bytes) ≡ Err f
 IsBeginningFault c bytes sim.Memory = Unit {0}
 IsBeginningFault c bytes _ = ⊥
 
 -- why a run of the trace in these bytes has no report or journal, or could not write it. The trace is tested before the plan, and
 -- want of memory may come anywhere
 abbrev pub IsRunFault : Mode → Config → List ℕ → SimFault → Type 0
-IsRunFault mode c bytes (sim.Trace f) = trace_of c.edges (MAX_ROWS) (records_of bytes) ≡ Err f
+IsRunFault mode c bytes (sim.Trace f) = trace_of c.edges most_rows (records_of bytes) ≡ Err f
 IsRunFault mode c bytes sim.Plan = IsWarp mode × IsAccepted c bytes × HasBadPlan mode
 IsRunFault mode c bytes sim.Exhausted = IsExhausting mode c bytes × HasGoodPlan mode
 IsRunFault mode c bytes sim.Rounds = IsWarp mode × IsAccepted c bytes × HasGoodPlan mode
@@ -111,7 +111,7 @@ no_traffic = record { rounds = 0; executed = 0; undone = 0; ring = 0; kept = 0 }
 -- those of its simulation, and a model of the configuration may run them
 pub record IsBeginningOf (c : Config) (bytes : List ℕ) (starts : List Cache) (initial : List (Event Body)) : Type 0 where
   pub rows : List Row
-  pub accepted : trace_of c.edges (MAX_ROWS) (records_of bytes) ≡ Ok rows
+  pub accepted : trace_of c.edges most_rows (records_of bytes) ≡ Ok rows
   pub starts_are : starts ≡ (simulation c rows).starts
   pub initial_are : initial ≡ (simulation c rows).initial
   pub ready : IsReady model.ghosts (record { config = c }) starts initial
