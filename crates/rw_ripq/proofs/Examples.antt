@@ -1,14 +1,17 @@
 -- The worked examples, computed by the definitions.
-use Rattle.std.proofs.Common.{◌≡◌, ℕ, List, [], ◌∷◌, refl}
-use Rattle.std.specs.Prelude.{Some, None}
+use Rattle.std.proofs.Common.{◌≡◌, ℕ, List, [], ◌∷◌, refl, arith}
+use Rattle.std.specs.Prelude.{Option, Some, None, map}
+use Rattle.std.specs.List.{range_with_len}
 use Rattle.rw_blocks.specs.declared.Kind.{Kind}
 use Rattle.rw_blocks.specs.declared.Kind.TheVariants.{Device, Virtual}
 use Rattle.rw_blocks.specs.declared.Place.{Place}
 use Rattle.rw_blocks.specs.State.{QueueState, SectionState, ShapeState, start_of}
 use Rattle.rw_blocks.specs.Sums.{section_bytes, total}
 use Rattle.rw_blocks.specs.Primitives.{after_add, after_replace, after_seal}
-use Rattle.rw_ripq.specs.declared.Policy.TheVariants.{Lru, Slru3}
+use Rattle.rw_ripq.specs.declared.Policy.TheVariants.{Lru, Slru}
 use Rattle.rw_ripq.specs.declared.Tally.{Tally}
+use Rattle.rw_ripq.specs.declared.segments.Levels.{Levels}
+use Rattle.rw_ripq.specs.Words.{IsSegmentCount}
 use Rattle.rw_ripq.specs.Work.{Work}
 use Rattle.rw_ripq.specs.Levels.{level_of, target}
 use Rattle.rw_ripq.specs.Promote.{promote}
@@ -110,18 +113,51 @@ merges_and_splits = refl
 bytes_after : section_bytes merged 0 ∷ section_bytes merged 1 ∷ section_bytes merged 2 ∷ [] ≡ 24 ∷ 6 ∷ 0 ∷ []
 bytes_after = refl
 
--- ---- levels and targets of three segments
+-- ---- levels and targets of some segments
 bytes_before : section_bytes third 0 ∷ section_bytes third 1 ∷ section_bytes third 2 ∷ total third ∷ [] ≡ 12 ∷ 6 ∷ 6 ∷ 24 ∷ []
 bytes_before = refl
 
-levels : level_of third 100 ∷ level_of third 101 ∷ level_of third 102 ∷ level_of third 103 ∷ level_of third 104 ∷ [] ≡ Some 1 ∷ Some 1 ∷ Some 2 ∷ Some 2 ∷ None ∷ []
-levels = refl
+abbrev of : (n : ℕ) → IsSegmentCount n → Levels
+of n ok = record { segments = n; in_range = ok }
 
-targets : target Slru3 third 1 ∷ target Slru3 third 2 ∷ target Slru3 third 3 ∷ [] ≡ 1 ∷ 0 ∷ 0 ∷ []
-targets = refl
+abbrev of_three : Levels
+of_three = of 3 (omega arith, omega arith)
 
-put_second : insert Slru3 third 104 6 1 ≡ work (queue many (section 6 1 ((3, Device) ∷ []) ∷ section 7 8 ((2, Device) ∷ []) ∷ section 4 5 ((0, Device) ∷ []) ∷ []) ((100, row 6 0 0) ∷ (101, row 6 2 2) ∷ (102, row 6 3 3) ∷ (103, row 6 6 6) ∷ (104, row 6 7 7) ∷ []) 9) (tally 0 0 0 0 0)
+-- of the four objects stored, and of one that is not
+abbrev levels : Levels → List (Option ℕ)
+levels ls = map (level_of ls third) (100 ∷ 101 ∷ 102 ∷ 103 ∷ 104 ∷ [])
+
+-- of each level, the lowest one first
+abbrev targets : Levels → List ℕ
+targets ls = map (target (Slru ls) third) (range_with_len 1 ls.segments)
+
+module _ (ok2 : IsSegmentCount 2) (ok4 : IsSegmentCount 4) (ok8 : IsSegmentCount 8) where
+  levels_of_two : levels (of 2 ok2) ≡ Some 1 ∷ Some 1 ∷ Some 2 ∷ Some 2 ∷ None ∷ []
+  levels_of_two = refl
+
+  targets_of_two : targets (of 2 ok2) ≡ 1 ∷ 0 ∷ []
+  targets_of_two = refl
+
+  levels_of_four : levels (of 4 ok4) ≡ Some 1 ∷ Some 2 ∷ Some 3 ∷ Some 3 ∷ None ∷ []
+  levels_of_four = refl
+
+  targets_of_four : targets (of 4 ok4) ≡ 2 ∷ 1 ∷ 0 ∷ 0 ∷ []
+  targets_of_four = refl
+
+  levels_of_eight : levels (of 8 ok8) ≡ Some 1 ∷ Some 3 ∷ Some 5 ∷ Some 5 ∷ None ∷ []
+  levels_of_eight = refl
+
+  targets_of_eight : targets (of 8 ok8) ≡ 2 ∷ 2 ∷ 1 ∷ 1 ∷ 0 ∷ 0 ∷ 0 ∷ 0 ∷ []
+  targets_of_eight = refl
+
+levels_of_three : levels of_three ≡ Some 1 ∷ Some 1 ∷ Some 2 ∷ Some 2 ∷ None ∷ []
+levels_of_three = refl
+
+targets_of_three : targets of_three ≡ 1 ∷ 0 ∷ 0 ∷ []
+targets_of_three = refl
+
+put_second : insert (Slru of_three) third 104 6 1 ≡ work (queue many (section 6 1 ((3, Device) ∷ []) ∷ section 7 8 ((2, Device) ∷ []) ∷ section 4 5 ((0, Device) ∷ []) ∷ []) ((100, row 6 0 0) ∷ (101, row 6 2 2) ∷ (102, row 6 3 3) ∷ (103, row 6 6 6) ∷ (104, row 6 7 7) ∷ []) 9) (tally 0 0 0 0 0)
 put_second = refl
 
-first_is_raised : promote Slru3 third 100 ≡ queue many (section 6 1 ((3, Device) ∷ []) ∷ section 7 8 ((2, Device) ∷ []) ∷ section 4 5 ((0, Device) ∷ []) ∷ []) ((100, row 6 0 1) ∷ (101, row 6 2 2) ∷ (102, row 6 3 3) ∷ (103, row 6 6 6) ∷ []) 9
+first_is_raised : promote (Slru of_three) third 100 ≡ queue many (section 6 1 ((3, Device) ∷ []) ∷ section 7 8 ((2, Device) ∷ []) ∷ section 4 5 ((0, Device) ∷ []) ∷ []) ((100, row 6 0 1) ∷ (101, row 6 2 2) ∷ (102, row 6 3 3) ∷ (103, row 6 6 6) ∷ []) 9
 first_is_raised = refl

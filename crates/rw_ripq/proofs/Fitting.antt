@@ -8,6 +8,7 @@ use Rattle.rw_blocks.proofs.Cited.{bytes_in-le-total}
 use Rattle.std.proofs.lemmas.Nat.{mul-le}
 use Rattle.std.proofs.Common.{get_or, length-drop}
 use Rattle.std.proofs.lemmas.List.Sums.{sum_by-le}
+use Rattle.rw_ripq.specs.declared.segments.Levels.{Levels}
 
 pub bytes-fit : (q : QueueState) (i : ℕ) → IsLoose q → section_bytes q i ≤ 2 ^ 48
 bytes-fit q i loose = omega (arith, bytes_in-le-total q (section_at q i), loose.within)
@@ -20,3 +21,7 @@ below-fit q i loose there =
 
 pub times-fit : (a b : ℕ) → a ≤ 2 ^ 49 → b ≤ 16 → a * b < 2 ^ 64
 times-fit a b small few = omega (arith, mul-le a b (2 ^ 49) 16 small few)
+
+-- all bytes, some of them counted twice, as often as there may be segments
+pub segments-fit : (levels : Levels) (n : ℕ) → n ≤ 2 ^ 53 → levels.segments * n < 2 ^ 64
+segments-fit levels n small = omega (arith, mul-le levels.segments n 8 (2 ^ 53) levels.in_range.1 small)

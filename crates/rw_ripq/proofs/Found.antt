@@ -10,7 +10,7 @@ use Rattle.rw_ripq.proofs.Basics.{by_bool, none_some, some_is}
 use Rattle.rw_ripq.specs.Adjust.{heavy_section, is_heavy, is_light, light_pair}
 use Rattle.rw_ripq.specs.Levels.{from_tail, reaches, target}
 use Rattle.rw_ripq.specs.declared.Policy.{Policy}
-use Rattle.rw_ripq.specs.declared.Policy.TheVariants.{Lru, Off, Slru3}
+use Rattle.rw_ripq.specs.declared.Policy.TheVariants.{Lru, Off, Slru}
 
 -- what is found is in the list
 found : (p : ℕ → Bool) (xs : List ℕ) (x : ℕ) → find p xs ≡ Some x → (i : ℕ) × (i < length xs) × (get_or xs i 0 ≡ x)
@@ -47,7 +47,7 @@ or_head (Some x) n some bytes_below = bytes_below x refl
 pub target-there : (p : Policy) (q : QueueState) (l : ℕ) → 1 ≤ length q.sections → target p q l < length q.sections
 target-there Off q l some = some
 target-there Lru q l some = some
-target-there Slru3 q l some =
-    by_bool (nat_le 3 l)
+target-there (Slru levels) q l some =
+    by_bool (nat_le levels.segments l)
     (λ h. rw h some)
-    (λ h. rw h (or_head (find (reaches q l) (from_tail q)) (length q.sections) some (found-from_tail (reaches q l) (length q.sections))))
+    (λ h. rw h (or_head (find (reaches levels q l) (from_tail q)) (length q.sections) some (found-from_tail (reaches levels q l) (length q.sections))))

@@ -6,6 +6,7 @@ use Rattle.std.proofs.lemmas.Bool.{cases_eq, leb-true}
 use Rattle.std.proofs.lemmas.List.{reverse-append}
 use Rattle.rw_blocks.specs.State.{QueueState}
 use Rattle.rw_ripq.specs.Levels.{reaches, slru_target}
+use Rattle.rw_ripq.specs.declared.segments.Levels.{Levels}
 use Rattle.rw_ripq.proofs.Basics.{by_bool, true_not_false}
 
 range-more : (a n : ℕ) → range_with_len a (suc n) ≡ range_with_len a n ++ (a + n) ∷ []
@@ -33,7 +34,8 @@ walk p (suc n) i within behind at =
       | inr ne ↦ walk p n i (omega arith) (λ k lt lt'. behind k lt (omega arith)) at
     ])))
 
-pub slru-found : (q : QueueState) (l i : ℕ) → l < 3 → i < length q.sections → ((k : ℕ) → i < k → k < length q.sections → reaches q l k ≡ false) → (i ≡ 0) ⊎ (reaches q l i ≡ true) → i ≡ slru_target q l
-slru-found q l i low within behind at =
-    let test : nat_le 3 l ≡ false = by_bool (nat_le 3 l) (λ t. absurd (omega (arith, leb-true 3 l t))) (λ f. f) in
-    rw test (sym (walk (reaches q l) (length q.sections) i within behind at))
+pub slru-found : (levels : Levels) (q : QueueState) (l i : ℕ) → l < levels.segments → i < length q.sections → ((k : ℕ) → i < k → k < length q.sections → reaches levels q l k ≡ false) → (i ≡ 0) ⊎ (reaches levels q l i ≡ true)
+    → i ≡ slru_target levels q l
+slru-found levels q l i low within behind at =
+    let test : nat_le levels.segments l ≡ false = by_bool (nat_le levels.segments l) (λ t. absurd (omega (arith, leb-true levels.segments l t))) (λ f. f) in
+    rw test (sym (walk (reaches levels q l) (length q.sections) i within behind at))

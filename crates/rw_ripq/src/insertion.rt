@@ -6,6 +6,7 @@ ghost use Rattle.rw_vt.specs.declared.refusal.Refusal.{Refusal};
 ghost use Rattle.rw_ripq.specs.Limits.{exhaustion};
 ghost use Rattle.rw_ripq.specs.Work.{work_of, work_before, no_tally};
 ghost use Rattle.rw_ripq.specs.Insert.{insert, insert_at};
+ghost use Rattle.rw_ripq.specs.Levels.{highest_level};
 ghost use Rattle.rw_ripq.specs.Trail.{Leads};
 ghost use Rattle.rw_ripq.specs.Record.{IsInsertable};
 ghost use Rattle.rw_ripq.specs.Laws.{KeepsSizes, AddsOnly, LeavesWithBlock};
@@ -28,7 +29,8 @@ use std::alloc::Global;
 /// Hands back the trail that takes it back, and the counts. Where r rows left or have another home now, and m sealed
 /// blocks are gone, the trail has at most 8 + 4r + m marks.
 ///
-/// The policy is not `Off`, the object is not stored, the size is 1 to the block size, and the level 1 to 3.
+/// The policy is not `Off`, the object is not stored, the size is 1 to the block size, and the level 1 to the number of
+/// segments, under `Lru` 1 to 3.
 ///
 /// # Errors
 ///
@@ -48,7 +50,7 @@ pub fn insert(
     requires some { 1 ≤ size }
     requires small { size ≤ queue.old.shape.block }
     requires from_one { 1 ≤ level }
-    requires to_three { level ≤ 3 }
+    requires to_highest { level ≤ highest_level policy }
     ensures exhausted { (result ≡ Err Refusal.Exhausted) ↔ (exhaustion ≤ queue.old.next) }
     ensures effect { OnOk result (queue.new ≡ (insert policy queue.old object size level).queue) }
     ensures tally { IfOk result (λ done.

@@ -16,6 +16,7 @@ mod levels;
 mod promotion;
 mod putting;
 mod sealed;
+mod segments;
 mod trail;
 
 pub use change::Change;
@@ -24,6 +25,7 @@ pub use levels::{level_of, resident, target};
 pub use promotion::{promote, promote_row};
 pub use rw_blocks::{Kind, Mark, Place, Queue, Shape};
 pub use rw_vt::{NoMemory, Refusal};
+pub use segments::Levels;
 pub use trail::{Trail, rewind};
 
 /// A queue whose next serial is this or a greater one takes no further insertion or promotion: 2^62.
@@ -42,8 +44,8 @@ pub enum Policy {
     Off,
     /// Least recently used: always the head section.
     Lru,
-    /// Segmented LRU with three segments: a miss goes to the lowest, a hit one up.
-    Slru3,
+    /// Segmented LRU: a miss goes to the lowest segment, a hit one up.
+    Slru(Levels),
 }
 
 /// What an insertion did, in counts.

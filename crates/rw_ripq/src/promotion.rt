@@ -28,9 +28,9 @@ fn hit_target(queue: &Queue, policy: Policy, object: u64, row: Place) -> usize
 {
     match policy {
         Policy::Off | Policy::Lru => 0,
-        Policy::Slru3 => {
-            let level = level_of_row(queue, object, row);
-            slru_target(queue, (level + 1).min(3))
+        Policy::Slru(levels) => {
+            let level = level_of_row(queue, levels, object, row);
+            slru_target(queue, levels, (level + 1).min(levels.segments))
         }
     }
 }

@@ -6,7 +6,7 @@ abbrev pub invariant-loop-section : goal.invariant-loop-section
 invariant-loop-section l =
     record {
       there : l.section < length l.queue.sections;
-      behind : (k : ℕ) → l.section < k → k < length l.queue.sections → reaches l.queue l.level k ≡ false;
+      behind : (k : ℕ) → l.section < k → k < length l.queue.sections → reaches l.levels l.queue l.level k ≡ false;
     }
 
 abbrev pub decreases-loop-section : goal.decreases-loop-section
