@@ -101,7 +101,7 @@ devices-clear : (t : Bool) (q : QueueState) (b : ℕ) → (t ≡ true → is_sea
 devices-clear true q b there = devices-without_block q b (sealed-virtual-there q b (there refl))
 devices-clear false q b there = omega arith
 
-devices-cleared : (q : QueueState) (b : ℕ) → sealed_devices (without_if_emptied q b) ≤ sealed_devices q
+pub devices-cleared : (q : QueueState) (b : ℕ) → sealed_devices (without_if_emptied q b) ≤ sealed_devices q
 devices-cleared q b = devices-clear (is_emptied q b) q b (λ e. (and_parts (is_sealed_virtual q b) _ e).0)
 
 devices-unless : (t : Bool) (q : QueueState) (o i : ℕ) → i < length q.sections → sealed_devices (moved_unless t q o i) ≤ sealed_devices q

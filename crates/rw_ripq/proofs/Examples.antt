@@ -1,12 +1,12 @@
 -- The worked examples, computed by the definitions.
 use Rattle.std.proofs.Common.{◌≡◌, ℕ, List, [], ◌∷◌, refl, arith}
-use Rattle.std.specs.Prelude.{Option, Some, None, map}
+use Rattle.std.specs.Prelude.{Option, Some, None, map, fold}
 use Rattle.std.specs.List.{range_with_len}
 use Rattle.rw_blocks.specs.declared.Kind.{Kind}
 use Rattle.rw_blocks.specs.declared.Kind.TheVariants.{Device, Virtual}
 use Rattle.rw_blocks.specs.declared.Place.{Place}
 use Rattle.rw_blocks.specs.State.{QueueState, SectionState, ShapeState, start_of}
-use Rattle.rw_blocks.specs.Sums.{section_bytes, total}
+use Rattle.rw_blocks.specs.Sums.{fill, section_bytes, total}
 use Rattle.rw_blocks.specs.Primitives.{after_add, after_replace, after_seal}
 use Rattle.rw_ripq.specs.declared.Policy.TheVariants.{Lru, Slru}
 use Rattle.rw_ripq.specs.declared.Tally.{Tally}
@@ -15,6 +15,7 @@ use Rattle.rw_ripq.specs.Words.{IsSegmentCount}
 use Rattle.rw_ripq.specs.Work.{Work}
 use Rattle.rw_ripq.specs.Levels.{level_of, target}
 use Rattle.rw_ripq.specs.Promote.{promote}
+use Rattle.rw_ripq.specs.Purge.{purge}
 use Rattle.rw_ripq.specs.Insert.{insert}
 
 abbrev limits : ℕ → ℕ → ℕ → ShapeState
@@ -80,6 +81,16 @@ seals_virtual = refl
 
 takes_out : promote Lru twice 100 ≡ queue four (section 3 5 ((4, Virtual) ∷ (2, Device) ∷ (0, Device) ∷ []) ∷ []) ((100, row 6 0 5) ∷ (101, row 6 2 4) ∷ (102, row 6 3 3) ∷ []) 6
 takes_out = refl
+
+-- ---- a purge that empties a sealed virtual block, and one of an object in the active device block
+empties : purge twice 100 ≡ queue four (section 3 4 ((2, Device) ∷ (0, Device) ∷ []) ∷ []) ((101, row 6 2 4) ∷ (102, row 6 3 3) ∷ []) 5
+empties = refl
+
+leaves_blocks : purge twice 102 ≡ queue four (section 3 4 ((1, Virtual) ∷ (2, Device) ∷ (0, Device) ∷ []) ∷ []) ((100, row 6 0 1) ∷ (101, row 6 2 4) ∷ []) 5
+leaves_blocks = refl
+
+holds_nothing : fill (purge twice 102) 3 ≡ 0
+holds_nothing = refl
 
 -- ---- splits and a merge
 abbrev many : ShapeState
@@ -155,6 +166,10 @@ levels_of_three = refl
 
 targets_of_three : targets of_three ≡ 1 ∷ 0 ∷ 0 ∷ []
 targets_of_three = refl
+
+-- with several sections and nothing stored, the tail section is the target of all levels but the highest
+targets_of_none : map (target (Slru of_three) (fold purge third (100 ∷ 101 ∷ 102 ∷ 103 ∷ []))) (1 ∷ 2 ∷ 3 ∷ []) ≡ 2 ∷ 2 ∷ 0 ∷ []
+targets_of_none = refl
 
 put_second : insert (Slru of_three) third 104 6 1 ≡ work (queue many (section 6 1 ((3, Device) ∷ []) ∷ section 7 8 ((2, Device) ∷ []) ∷ section 4 5 ((0, Device) ∷ []) ∷ []) ((100, row 6 0 0) ∷ (101, row 6 2 2) ∷ (102, row 6 3 3) ∷ (103, row 6 6 6) ∷ (104, row 6 7 7) ∷ []) 9) (tally 0 0 0 0 0)
 put_second = refl

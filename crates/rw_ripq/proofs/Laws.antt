@@ -1,4 +1,4 @@
--- The laws of an insertion and of a promotion into a well-formed queue.
+-- The laws of an insertion into a well-formed queue, and of a promotion and a purge in one.
 use Rattle.std.proofs.Common.{◌≡◌, ℕ, ◌+◌, ◌≤◌, ◌<◌, arith, length, nat_eq}
 use Rattle.std.specs.Prelude.{Some, None, IsSome}
 use Rattle.rw_ripq.proofs.Basics.{of_some}
@@ -9,16 +9,18 @@ use Rattle.rw_ripq.specs.Record.{IsInsertable}
 use Rattle.rw_ripq.proofs.Found.{target-there}
 use Rattle.rw_ripq.proofs.Leaving.{insert-leaves}
 use Rattle.rw_ripq.proofs.Promotes.{promote-home, promote-order, promote-others, promote-place, promote-stays}
+use Rattle.rw_ripq.proofs.Purges.{purge-gone, purge-order, purge-others, purge-shape}
 use Rattle.rw_ripq.proofs.Serials.{total-room}
 use Rattle.rw_ripq.proofs.Shapes.{insert-shape, promote-shape}
 use Rattle.rw_ripq.proofs.Sizes.{insert-adds, insert-rows, insert-sizes}
 use Rattle.rw_ripq.proofs.Tails.{insert-order, insert-tail}
-use Rattle.rw_ripq.proofs.WellFormed.{insert-well_formed, promote-well_formed}
+use Rattle.rw_ripq.proofs.WellFormed.{insert-well_formed, promote-well_formed, purge-well_formed}
 use Rattle.rw_ripq.specs.Insert.{insert, insert_at}
 use Rattle.rw_ripq.specs.Laws.{AddsOnly, KeepsHome, KeepsOthers, KeepsSizes, LeavesWithBlock}
 use Rattle.rw_ripq.specs.Levels.{hit_level, hit_target, target}
 use Rattle.rw_ripq.specs.Order.{KeepsOrder, LeavesFromTail}
 use Rattle.rw_ripq.specs.Promote.{is_active_in, promote, promote_to}
+use Rattle.rw_ripq.specs.Purge.{purge}
 use Rattle.rw_ripq.specs.Work.{Work}
 use Rattle.rw_ripq.specs.declared.Policy.{Policy}
 
@@ -88,6 +90,24 @@ pub promote-laws : (p : Policy) (q : QueueState) (o : ℕ) (r : Place) → IsWel
 promote-laws p q o r well is =
     promote_to-laws q o (hit_target p q o) r well is (target-there p q (hit_level p q o) well.loose.some_section)
 
+-- ---- purge
+pub record PurgeLaws (old : QueueState) (o : ℕ) (now : QueueState) : Type 0 where
+  pub well_formed : IsWellFormedQueue now
+  pub shape : now.shape ≡ old.shape
+  pub gone : row_at now o ≡ None
+  pub others : KeepsOthers old o now
+  pub order : KeepsOrder old now
+
+pub purge-laws : (q : QueueState) (o : ℕ) (r : Place) → IsWellFormedQueue q → row_at q o ≡ Some r → PurgeLaws q o (purge q o)
+purge-laws q o r well is =
+    record {
+      well_formed = purge-well_formed q o r well is;
+      shape = purge-shape q o;
+      gone = purge-gone q o well.loose;
+      others = purge-others q o;
+      order = purge-order q o well.loose;
+    }
+
 -- ---- what the code makes
 pub insertion : (p : Policy) (q : QueueState) (o z l i : ℕ) (w : Work) → IsWellFormedQueue q → row_at q o ≡ None → 1 ≤ z → z ≤ q.shape.block → w ≡ insert_at q o z i → i ≡ target p q l → InsertLaws q o z w
 insertion p q o z l i w well new some small made at =
@@ -102,3 +122,8 @@ pub promotion-changed : (q v : QueueState) (o i : ℕ) → IsLoose q → i < len
 promotion-changed q v o i loose within resident made =
     let row = of_some (row_at q o) resident in
     rw made (promote-place q o i row.0 loose within row.1)
+
+pub purged : (q v : QueueState) (o : ℕ) → IsWellFormedQueue q → IsSome (row_at q o) → v ≡ purge q o → PurgeLaws q o v
+purged q v o well resident made =
+    let row = of_some (row_at q o) resident in
+    rw made (purge-laws q o row.0 well row.1)

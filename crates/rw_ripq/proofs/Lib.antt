@@ -44,8 +44,9 @@ pub mod Behinds
 pub mod Joins
 pub mod Orders
 pub mod Tails
--- what a promotion keeps
+-- what a promotion and a purge keep
 pub mod Promotes
+pub mod Purges
 -- why a trail leads back, and why it is short
 pub mod Trails
 pub mod Records

@@ -24,7 +24,7 @@ use Rattle.rw_ripq.specs.Order.{Behind, KeepsOrder}
 use Rattle.rw_ripq.specs.Promote.{is_active_in, promote_to}
 use Rattle.rw_ripq.specs.Put.{is_room, with_room}
 
-kept-order : (old now : QueueState) → ((x c : ℕ) → Behind x c old.sections → Kept x c now) → KeepsOrder old now
+pub kept-order : (old now : QueueState) → ((x c : ℕ) → Behind x c old.sections → Kept x c now) → KeepsOrder old now
 kept-order old now kept x y was b now-x now-y =
     elim (kept x y b) [
       | inl g ↦ absurd (omega (arith, g.0, sealed-counts now x now-x))

@@ -14,7 +14,7 @@ use Rattle.rw_ripq.specs.Put.{put_again, with_room}
 use Rattle.rw_ripq.specs.Sealed.{is_emptied, section_with}
 use Rattle.rw_ripq.specs.Work.{Work}
 
-shape-clear : (t : Bool) (q : QueueState) (b : ℕ) → (without_block_if t q b).shape ≡ q.shape
+pub shape-clear : (t : Bool) (q : QueueState) (b : ℕ) → (without_block_if t q b).shape ≡ q.shape
 shape-clear true q b = refl
 shape-clear false q b = refl
 

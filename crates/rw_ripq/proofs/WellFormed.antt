@@ -1,27 +1,28 @@
--- An insertion and a promotion leave a well-formed queue.
+-- An insertion, a promotion and a purge leave a well-formed queue.
 use Rattle.std.proofs.Common.{◌≡◌, ℕ, ◌+◌, ◌/◌, ◌≤◌, ◌<◌, refl, sym, ap, subst, ◌∙◌, arith, Bool, true, false, length, inl, inr}
 use Rattle.std.specs.Prelude.{Some, unwrap_or}
-use Rattle.rw_blocks.proofs.Cited.{of_row}
+use Rattle.rw_blocks.proofs.Cited.{IsLoose-after_remove, of_row}
 use Rattle.rw_blocks.specs.Loose.{IsLoose, IsPlaced, IsSized, IsWellFormedQueue, count, is_sealed_virtual}
-use Rattle.rw_blocks.specs.Primitives.{after_replace}
+use Rattle.rw_blocks.specs.Primitives.{after_remove, after_replace}
 use Rattle.rw_blocks.specs.State.{ShapeState, QueueState, no_place, row_at, row_or, section_at}
 use Rattle.rw_blocks.specs.Sums.{rows_placed}
 use Rattle.rw_blocks.specs.declared.Kind.TheVariants.{Device, Virtual}
 use Rattle.rw_blocks.specs.declared.Place.{Place}
 use Rattle.rw_ripq.proofs.Cases.{moved_unless, reinserted_from}
-use Rattle.rw_ripq.specs.Sealed.{section_with}
+use Rattle.rw_ripq.specs.Sealed.{is_emptied, section_with}
 use Rattle.rw_ripq.proofs.Adjusts.{KeepsAll, insert-good, put_row}
 use Rattle.rw_ripq.specs.Record.{IsInsertable}
-use Rattle.rw_ripq.proofs.Devices.{insert-devices, promote-devices}
+use Rattle.rw_ripq.proofs.Devices.{devices-cleared, insert-devices, promote-devices}
 use Rattle.rw_ripq.proofs.Folds.{reinsert-row}
 use Rattle.rw_ripq.proofs.Promotes.{IsLoose-moved, IsLoose-moved_unless}
-use Rattle.rw_ripq.proofs.Reputs.{IsLoose-put_again, IsLoose-with_room, row-with_room, section-there}
-use Rattle.rw_ripq.proofs.Shapes.{shape-moved}
+use Rattle.rw_ripq.proofs.Reputs.{IsLoose-cleared, IsLoose-put_again, IsLoose-with_room, row-with_room, section-there}
+use Rattle.rw_ripq.proofs.Shapes.{shape-clear, shape-moved}
 use Rattle.rw_ripq.proofs.Turns.{sealed_count-there}
 use Rattle.rw_ripq.proofs.Used.{Or, UsedBut, placed-length, used-added, used-after_merge, used-after_remove, used-after_split, used-cleared, used-device_room, used-virtual_room, used-without_block, used-written, virtual-some, virtual-there}
 use Rattle.rw_ripq.proofs.Walks.{KeepsBy}
 use Rattle.rw_ripq.specs.Insert.{insert_at}
 use Rattle.rw_ripq.specs.Promote.{is_active_in, promote_to}
+use Rattle.rw_ripq.specs.Purge.{purge}
 use Rattle.rw_ripq.specs.Put.{put_again, put_new, with_room}
 use Rattle.rw_ripq.specs.Work.{Work}
 
@@ -120,4 +121,18 @@ promote-well_formed q o i r well within is =
       loose = IsLoose-moved_unless t q o i r well.loose within is;
       used = used-to (promote_to q o i) (used-moved t q o i r well.loose within is (used-from q well.used));
       few_devices = omega (arith, well.few_devices, promote-devices q o i within, ap (λ (s : ShapeState). s.blocks) (shape-moved t q o i));
+    }
+
+-- ---- a purge
+pub purge-well_formed : (q : QueueState) (o : ℕ) (r : Place) → IsWellFormedQueue q → row_at q o ≡ Some r → IsWellFormedQueue (purge q o)
+purge-well_formed q o r well is =
+    let p : ℕ = (row_or q o).place in
+    let q1 : QueueState = after_remove q o in
+    let at : r.place ≡ p = rw is refl in
+    let loose : IsLoose q1 = IsLoose-after_remove q o well.loose in
+    let used : UsedBut (Or None_of p) q1 = used-after_remove None_of q o p r is at (weaken None_of q p (used-from q well.used)) in
+    record {
+      loose = IsLoose-cleared q1 p loose;
+      used = used-to (purge q o) (used-cleared None_of q1 p loose used);
+      few_devices = omega (arith, well.few_devices, devices-cleared q1 p, ap (λ (s : ShapeState). s.blocks) (shape-clear (is_emptied q1 p) q1 p));
     }

@@ -10,6 +10,7 @@ pub mod Promote
 pub mod Evict
 pub mod Adjust
 pub mod Insert
+pub mod Purge
 -- what they promise
 pub mod Trail
 pub mod Weight

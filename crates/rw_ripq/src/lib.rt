@@ -1,7 +1,7 @@
 #![tactic(auto)]
 //! The operations of RIPQ (Tang, Huang, Lloyd, Kumar and Li, FAST 2015) over the queue of blocks: an insertion, which
-//! may evict, merge and split, and the promotion of a hit. Each hands back a [`Trail`], by which [`rewind`] takes the
-//! whole of it back (reverse computation: Carothers, Perumalla and Fujimoto, 1999).
+//! may evict, merge and split, the promotion of a hit, and the purge of an object. Each hands back a [`Trail`], by which
+//! [`rewind`] takes the whole of it back (reverse computation: Carothers, Perumalla and Fujimoto, 1999).
 //!
 //! Worked examples: `rw_tests/src/insertions.rt`.
 
@@ -14,6 +14,7 @@ mod eviction;
 mod insertion;
 mod levels;
 mod promotion;
+mod purging;
 mod putting;
 mod sealed;
 mod segments;
@@ -23,6 +24,7 @@ pub use change::Change;
 pub use insertion::insert;
 pub use levels::{level_of, resident, target};
 pub use promotion::{promote, promote_row};
+pub use purging::purge;
 pub use rw_blocks::{Kind, Mark, Place, Queue, Shape};
 pub use rw_vt::{NoMemory, Refusal};
 pub use segments::Levels;

@@ -1,0 +1,41 @@
+// Purge: an object leaves, whatever its priority.
+ghost use Rattle.std.specs.Prelude.{◌≡◌, ◌≤◌, length, None, OnOk, IfOk, IsSome};
+ghost use Rattle.rw_blocks.specs.State.{row_at};
+ghost use Rattle.rw_blocks.specs.Loose.{IsWellFormedQueue};
+ghost use Rattle.rw_ripq.specs.Purge.{purge};
+ghost use Rattle.rw_ripq.specs.Trail.{Leads};
+ghost use Rattle.rw_ripq.specs.Laws.{KeepsOthers};
+ghost use Rattle.rw_ripq.specs.Order.{KeepsOrder};
+
+use crate::Trail;
+use crate::sealed::clear;
+use rw_blocks::Queue;
+use rw_vt::NoMemory;
+use std::alloc::Global;
+
+/// Lets an object go: its row leaves, and its place is taken out where that is a sealed virtual block without rows then.
+/// Nothing else changes: no block is written or evicted, and no section is merged or split, whatever its bytes are then.
+///
+/// Hands back the trail that takes it back, of at most two marks. The object is stored.
+///
+/// # Errors
+///
+/// `NoMemory` only where memory was refused. Nothing is said of the queue then: it is only dropped.
+pub fn purge(alloc: Global, queue: &mut Queue, object: u64) -> Result<Trail, NoMemory>
+    requires well_formed { IsWellFormedQueue queue.old }
+    requires resident { IsSome (row_at queue.old object) }
+    ensures effect { OnOk result (queue.new ≡ purge queue.old object) }
+    ensures leads { IfOk result (λ trail. Leads trail queue.old queue.new) }
+    ensures short { IfOk result (λ trail. length trail ≤ 2) }
+    ensures kept { OnOk result (IsWellFormedQueue queue.new) }
+    ensures gone { OnOk result (row_at queue.new object ≡ None) }
+    ensures others { OnOk result (KeepsOthers queue.old object queue.new) }
+    ensures order { OnOk result (KeepsOrder queue.old queue.new) }
+{
+    let row = queue.row(object).unwrap();
+    let mut trail = Trail::new(alloc);
+    let mark = queue.remove(object)?;
+    trail.push(mark)?;
+    clear(queue, &mut trail, row.place)?;
+    Ok(trail)
+}
