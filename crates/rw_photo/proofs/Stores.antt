@@ -4,7 +4,7 @@ use Rattle.std.specs.Prelude.{nat_lt, ◌≢◌}
 use Rattle.std.proofs.lemmas.Bool.Decides.{nat_tests}
 use Rattle.rw_blocks.specs.State.{QueueState}
 use Rattle.rw_ripq.specs.declared.Policy.{Policy}
-use Rattle.rw_ripq.specs.declared.Policy.TheVariants.{Off, Lru, Slru3}
+use Rattle.rw_ripq.specs.declared.Policy.TheVariants.{Off, Lru, Slru}
 use Rattle.rw_ripq.specs.Insert.{insert}
 use Rattle.rw_photo.specs.Counts.{one_bypassed}
 use Rattle.rw_photo.specs.Storing.{insertion, store}
@@ -13,7 +13,7 @@ use Rattle.rw_photo.specs.Lawful.{placed}
 stored-placed : (k : Policy) (q : QueueState) (o z : ℕ) → k ≢ Off → store k q o z ≡ placed k q o z
 stored-placed Off q o z stores = absurd (stores refl)
 stored-placed Lru q o z stores = refl
-stored-placed Slru3 q o z stores = refl
+stored-placed (Slru levels) q o z stores = refl
 
 pub stored-small : (k : Policy) (q : QueueState) (o z : ℕ) → k ≢ Off → z ≤ q.shape.block → store k q o z ≡ insertion (insert k q o z 1)
 stored-small k q o z stores small =

@@ -19,7 +19,7 @@ use Rattle.rw_blocks.specs.State.{QueueState, row_at}
 use Rattle.rw_blocks.specs.Loose.{IsWellFormedQueue}
 use Rattle.rw_blocks.specs.declared.Place.{Place}
 use Rattle.rw_ripq.specs.declared.Policy.{Policy}
-use Rattle.rw_ripq.specs.declared.Policy.TheVariants.{Off, Lru, Slru3}
+use Rattle.rw_ripq.specs.declared.Policy.TheVariants.{Off, Lru, Slru}
 use Rattle.rw_ripq.specs.Insert.{insert}
 use Rattle.rw_ripq.proofs.Laws.{insert-laws, promote-laws}
 use Rattle.rw_photo.specs.declared.body.Body.{Body}
@@ -120,8 +120,8 @@ stored-at : (c : Config) (p : ℕ) (k : Policy) (q : QueueState) (o z : ℕ) →
 stored-at c p Off q o z is at new some = at
 stored-at c p Lru q o z is at new some =
     placed-at c p Lru q o z (λ off. let h : Lru ≡ Off = sym is ∙ off in cc) at new some
-stored-at c p Slru3 q o z is at new some =
-    placed-at c p Slru3 q o z (λ off. let h : Slru3 ≡ Off = sym is ∙ off in cc) at new some
+stored-at c p (Slru levels) q o z is at new some =
+    placed-at c p (Slru levels) q o z (λ off. let h : Slru levels ≡ Off = sym is ∙ off in cc) at new some
 
 -- the number of requests that wait fits its type
 abbrev pub WaitFew : Option ℕ → Type 0

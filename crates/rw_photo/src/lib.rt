@@ -25,7 +25,7 @@ pub use config::{Config, every_limit};
 pub use counters::Counters;
 pub use photo::Photo;
 pub use rows::requests;
-pub use rw_ripq::{Change, Policy, Shape, Trail};
+pub use rw_ripq::{Change, Levels, Policy, Shape, Trail};
 pub use rw_trace::Row;
 pub use rw_vt::{Event, NoMemory, Refusal};
 pub use undo::Undo;
