@@ -18,7 +18,7 @@ mod text;
 pub use headline::{any_schedule, every_reverse, one_report, run_schedule};
 pub use mode::Mode;
 pub use output::Out;
-pub use rw_photo::{Body, CacheState, Config, Photo, Policy, Shape};
+pub use rw_photo::{Body, CacheState, Config, Levels, Photo, Policy, Shape};
 pub use rw_rounds::{Plan, Traffic};
 pub use rw_trace::TraceFault;
 pub use rw_vt::{Event, NoMemory, Outcome, Refusal};
