@@ -265,14 +265,19 @@ fn lazy<'a>(alloc: Global) -> Arg<'a> {
         .help("Hold what an undone event had sent until it is sent again or cancelled")
 }
 
+/// The names of the policies: under segmented LRU one for each number of segments.
+const POLICIES: [&str; 9] = [
+    "off", "lru", "slru2", "slru3", "slru4", "slru5", "slru6", "slru7", "slru8",
+];
+
 /// How caches choose what they keep.
 fn policy<'a>(alloc: Global) -> Arg<'a> {
     Arg::new(alloc, "policy")
         .long("policy")
         .value_name("POLICY")
-        .value_parser(["off", "lru", "slru3"].as_slice())
+        .value_parser(POLICIES.as_slice())
         .default_value("slru3")
-        .help("How caches choose what they keep; off keeps nothing")
+        .help("How caches choose what they keep: off nothing, slru2 to slru8 by that many segments")
 }
 
 /// An option that takes a number from 1 to the greatest.

@@ -1,6 +1,6 @@
 // What a command's options say.
 use clap::ArgMatches;
-use rw_photo::{Config, Policy, Shape};
+use rw_photo::{Config, Levels, Policy, Shape};
 use rw_ripqwarp::Plan;
 
 /// The caches that a command's options say; None where one is missing or out of its range, which the command line rules
@@ -27,8 +27,10 @@ fn policy(name: &str) -> Option<Policy> {
     match name {
         "off" => Some(Policy::Off),
         "lru" => Some(Policy::Lru),
-        "slru3" => Some(Policy::Slru3),
-        _ => None,
+        _ => {
+            let segments = name.strip_prefix("slru")?.parse().ok()?;
+            Some(Policy::Slru(Levels::new(segments)?))
+        }
     }
 }
 
