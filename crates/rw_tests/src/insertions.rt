@@ -1,4 +1,5 @@
-// Insertions and promotions, as calls whose states, answers and marks are compared, and whose trails are rewound.
+// Insertions, promotions and purges, as calls whose states, answers and marks are compared, and whose trails are
+// rewound.
 ghost use Rattle.std.specs.Prelude.{◌≡◌, ◌≢◌, OnOk, IfOk, IfSome};
 ghost use Rattle.rw_blocks.specs.Loose.{IsWellFormedQueue};
 ghost use Rattle.rw_blocks.specs.State.{start_of};
@@ -7,26 +8,28 @@ ghost use Rattle.rw_ripq.specs.declared.Policy.TheVariants.{Off};
 
 use crate::queue_text::must_read;
 use rw_ripq::{
-    Kind, NoMemory, Policy, Queue, Refusal, Shape, Tally, Trail, insert, level_of, promote,
-    resident, rewind, target,
+    Kind, Levels, NoMemory, Policy, Queue, Refusal, Shape, Tally, Trail, insert, level_of, promote,
+    purge, resident, rewind, target,
 };
 use std::alloc::Global;
 use std::process::Abort;
 use std::test::Fail;
 
-/// A call: an insertion of an object of that size at level 1, or a promotion.
+/// A call: an insertion of an object of that size at level 1, a promotion, or a purge.
 #[derive(Clone, Copy)]
 enum Call {
     Insert(u64, u64),
     Promote(u64),
+    Purge(u64),
 }
 
 /// What a call answers beside its trail: rows that left, rows written again, block writes, splits and merges, or
-/// whether the place changed.
+/// whether the place changed; a purge nothing.
 #[derive(Clone, Copy, Debug, PartialEq, Eq)]
 enum Answer {
     Counts([u64; 5]),
     Changed(bool),
+    Nothing,
 }
 
 /// A call, the state that it leads to, its answer and the length of its trail.
@@ -67,6 +70,10 @@ fn make(
         Call::Promote(object) if resident(queue, object) => {
             let (trail, changed) = promote(alloc, queue, policy, object)?;
             Ok(Some((trail, Answer::Changed(changed))))
+        }
+        Call::Purge(object) if resident(queue, object) => {
+            let trail = purge(alloc, queue, object)?;
+            Ok(Some((trail, Answer::Nothing)))
         }
         _ => Ok(None),
     }
@@ -251,6 +258,22 @@ const PROMOTES: [Example; 7] = [
     },
 ];
 
+/// From the queue before the last of them: a purge that empties the sealed virtual block.
+const PURGES_PLACE: [Example; 1] = [Example {
+    call: Call::Purge(1),
+    after: "S0 {3, 4, [2d, 0d]}, 2 (6, 2, 4), 3 (6, 3, 3), next 5",
+    answer: Answer::Nothing,
+    marks: 2,
+}];
+
+/// And one of the object in the active device block, which holds nothing then, and stays.
+const PURGES_ROW: [Example; 1] = [Example {
+    call: Call::Purge(3),
+    after: "S0 {3, 4, [1v, 2d, 0d]}, 1 (6, 0, 1), 2 (6, 2, 4), next 5",
+    answer: Answer::Nothing,
+    marks: 1,
+}];
+
 /// Four insertions, two of which split the head.
 const SPLITS: [Example; 4] = [
     Example {
@@ -317,8 +340,39 @@ const SEGMENTS_HIT: [Example; 1] = [Example {
     marks: 1,
 }];
 
+/// Purges of all that the three sections hold: the sections stay.
+const EMPTIES: [Example; 4] = [
+    Example {
+        call: Call::Purge(1),
+        after: "S0 {6, 1, [3d]}, S1 {7, 8, [2d]}, S2 {4, 5, [0d]}, 2 (6, 2, 2), 3 (6, 3, 3), 4 (6, 6, 6), next 9",
+        answer: Answer::Nothing,
+        marks: 1,
+    },
+    Example {
+        call: Call::Purge(2),
+        after: "S0 {6, 1, [3d]}, S1 {7, 8, [2d]}, S2 {4, 5, [0d]}, 3 (6, 3, 3), 4 (6, 6, 6), next 9",
+        answer: Answer::Nothing,
+        marks: 1,
+    },
+    Example {
+        call: Call::Purge(3),
+        after: "S0 {6, 1, [3d]}, S1 {7, 8, [2d]}, S2 {4, 5, [0d]}, 4 (6, 6, 6), next 9",
+        answer: Answer::Nothing,
+        marks: 1,
+    },
+    Example {
+        call: Call::Purge(4),
+        after: "S0 {6, 1, [3d]}, S1 {7, 8, [2d]}, S2 {4, 5, [0d]}, next 9",
+        answer: Answer::Nothing,
+        marks: 1,
+    },
+];
+
 /// A queue that holds nothing.
 const NOTHING: &str = "S0 {0, 1, []}, next 2";
+
+/// The queue of one section to which the promotions but the last lead.
+const PROMOTED: &str = "S0 {3, 4, [1v, 2d, 0d]}, 1 (6, 0, 1), 2 (6, 2, 4), 3 (6, 3, 3), next 5";
 
 /// The queue of three sections to which the splits lead.
 const SPLIT: &str =
@@ -341,6 +395,22 @@ fn split<R: Abort>(rt: &R, alloc: Global) -> Result<Queue, Fail>
     let mut queue = opened(alloc, 4, 8)?;
     forward(rt, alloc, &mut queue, Policy::Lru, &SPLITS)?;
     Ok(queue)
+}
+
+/// The queue after the promotions but the last.
+fn promoted<R: Abort>(rt: &R, alloc: Global) -> Result<Queue, Fail>
+    ensures { IfOk result (λ q. IsWellFormedQueue q) }
+{
+    let mut queue = opened(alloc, 1, 4)?;
+    forward(rt, alloc, &mut queue, Policy::Lru, &PROMOTES[..6])?;
+    Ok(queue)
+}
+
+/// Segmented LRU.
+fn slru(segments: u8) -> Result<Policy, Fail>
+    ensures { IfOk result (λ p. p ≢ Off) }
+{
+    Ok(Policy::Slru(Levels::new(segments).ok_or("levels")?))
 }
 
 /// Makes a sealed virtual block behind a sealed device block, by primitives.
@@ -416,6 +486,24 @@ fn promotions_move_places(rt: HostRuntime) -> Result<(), Fail> {
 }
 
 #[test]
+fn a_purge_takes_an_emptied_block_out(rt: HostRuntime) -> Result<(), Fail> {
+    let queue = promoted(&rt, rt.alloc())?;
+    to_and_fro(&rt, rt.alloc(), Policy::Lru, PROMOTED, &PURGES_PLACE, queue)
+}
+
+#[test]
+fn a_purge_leaves_an_active_block(rt: HostRuntime) -> Result<(), Fail> {
+    let queue = promoted(&rt, rt.alloc())?;
+    to_and_fro(&rt, rt.alloc(), Policy::Lru, PROMOTED, &PURGES_ROW, queue)
+}
+
+#[test]
+fn purges_leave_sections(rt: HostRuntime) -> Result<(), Fail> {
+    let queue = split(&rt, rt.alloc())?;
+    to_and_fro(&rt, rt.alloc(), Policy::Lru, SPLIT, &EMPTIES, queue)
+}
+
+#[test]
 fn insertions_split(rt: HostRuntime) -> Result<(), Fail> {
     let queue = opened(rt.alloc(), 4, 8)?;
     to_and_fro(&rt, rt.alloc(), Policy::Lru, NOTHING, &SPLITS, queue)
@@ -430,44 +518,81 @@ fn an_insertion_merges_and_splits(rt: HostRuntime) -> Result<(), Fail> {
 #[test]
 fn segments_take_a_miss(rt: HostRuntime) -> Result<(), Fail> {
     let queue = split(&rt, rt.alloc())?;
-    to_and_fro(&rt, rt.alloc(), Policy::Slru3, SPLIT, &SEGMENTS_MISS, queue)
+    to_and_fro(&rt, rt.alloc(), slru(3)?, SPLIT, &SEGMENTS_MISS, queue)
 }
 
 #[test]
 fn segments_take_a_hit(rt: HostRuntime) -> Result<(), Fail> {
     let queue = split(&rt, rt.alloc())?;
-    to_and_fro(&rt, rt.alloc(), Policy::Slru3, SPLIT, &SEGMENTS_HIT, queue)
+    to_and_fro(&rt, rt.alloc(), slru(3)?, SPLIT, &SEGMENTS_HIT, queue)
 }
 
 /// The levels of objects 1 to 5.
-fn levels(queue: &Queue) -> [Option<u8>; 5]
+fn levels_of(queue: &Queue, levels: Levels) -> [Option<u8>; 5]
     requires { IsWellFormedQueue queue.now }
 {
     [
-        level_of(queue, 1),
-        level_of(queue, 2),
-        level_of(queue, 3),
-        level_of(queue, 4),
-        level_of(queue, 5),
+        level_of(queue, levels, 1),
+        level_of(queue, levels, 2),
+        level_of(queue, levels, 3),
+        level_of(queue, levels, 4),
+        level_of(queue, levels, 5),
     ]
 }
 
-/// Where each level of segments goes, and where least recently used does.
-fn targets(queue: &Queue) -> [u32; 4]
+/// Where each level of segments goes, the lowest first.
+fn targets(alloc: Global, queue: &Queue, levels: Levels) -> Result<Vec<u32>, NoMemory>
     requires { IsWellFormedQueue queue.now }
 {
-    [
-        target(queue, Policy::Slru3, 1),
-        target(queue, Policy::Slru3, 2),
-        target(queue, Policy::Slru3, 3),
-        target(queue, Policy::Lru, 1),
-    ]
+    let mut targets = Vec::new(alloc);
+    for lower in 0..levels.segments {
+        targets.push(target(queue, Policy::Slru(levels), lower + 1))?;
+    }
+    Ok(targets)
 }
 
 #[test]
 fn an_object_has_a_level_and_a_level_its_target(rt: HostRuntime) -> Result<(), Fail> {
     let queue = split(&rt, rt.alloc())?;
-    assert!(rt; levels(&queue) == [Some(1), Some(1), Some(2), Some(2), None]);
-    assert!(rt; targets(&queue) == [1, 0, 0, 0]);
+    for (segments, of_objects, of_levels) in [
+        (2, [1, 1, 2, 2], [1, 0].as_slice()),
+        (3, [1, 1, 2, 2], [1, 0, 0].as_slice()),
+        (4, [1, 2, 3, 3], [2, 1, 0, 0].as_slice()),
+        (8, [1, 3, 5, 5], [2, 2, 1, 1, 0, 0, 0, 0].as_slice()),
+    ] {
+        let levels = Levels::new(segments).ok_or("levels")?;
+        let [a, b, c, d] = of_objects;
+        assert!(rt; levels_of(&queue, levels) == [Some(a), Some(b), Some(c), Some(d), None]);
+        assert!(rt; targets(rt.alloc(), &queue, levels)?.as_slice() == of_levels);
+    }
+    assert_eq!(rt; target(&queue, Policy::Lru, 3), 0);
+    Ok(())
+}
+
+#[test]
+fn segments_are_two_to_eight(rt: HostRuntime) {
+    for (segments, there_are) in [
+        (0, false),
+        (1, false),
+        (2, true),
+        (8, true),
+        (9, false),
+        (255, false),
+    ] {
+        assert_eq!(rt;
+            Levels::new(segments).is_some(),
+            there_are,
+            "for {segments}"
+        );
+    }
+}
+
+// Where nothing is stored, as after purges, each level but the highest goes to the tail.
+#[test]
+fn a_level_of_nothing_goes_to_the_tail(rt: HostRuntime) -> Result<(), Fail> {
+    let mut queue = split(&rt, rt.alloc())?;
+    forward(&rt, rt.alloc(), &mut queue, Policy::Lru, &EMPTIES)?;
+    let levels = Levels::new(3).ok_or("levels")?;
+    assert!(rt; targets(rt.alloc(), &queue, levels)?.as_slice() == [2, 2, 0].as_slice());
     Ok(())
 }
