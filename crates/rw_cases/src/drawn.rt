@@ -104,7 +104,13 @@ impl Dice {
 /// Caches so small that they evict, split, merge and put objects in again.
 fn caches(alloc: Global, dice: &mut Dice, edges: u64) -> Result<String, AllocError> {
     let origins = dice.draw(1, 3);
-    let policy = if dice.draw(0, 3) == 0 { "lru" } else { "slru3" };
+    let policy = match dice.draw(0, 6) {
+        0 => "lru",
+        1 => "slru2",
+        2 => "slru4",
+        3 => "slru8",
+        _ => "slru3",
+    };
     let (sections, block) = (dice.draw(1, 6), dice.draw(8, 12));
     let (edge_blocks, origin_blocks) = (dice.draw(1, 5), dice.draw(2, 8));
     let (up, down, back) = (dice.draw(1, 6), dice.draw(1, 6), dice.draw(1, 20));
