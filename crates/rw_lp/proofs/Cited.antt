@@ -1,4 +1,5 @@
 -- The laws of the definitions that crates above cite, from the files that prove them.
+pub use Rattle.rw_lp.proofs.Arriving.{open_accepts}
 pub use Rattle.rw_lp.proofs.Committing.{collect_keeps, done_stays}
 pub use Rattle.rw_lp.proofs.GivenOut.{letters_join, no_letters}
 pub use Rattle.rw_lp.proofs.Holding.{held_from}

@@ -19,7 +19,7 @@ use Rattle.rw_board.specs.Least.{least}
 use Rattle.rw_board.specs.Seats.{SeatState, BoardState, new_seat, all_notes}
 use Rattle.rw_rounds.specs.declared.plan.Plan.{Plan}
 use Rattle.rw_rounds.specs.Plans.{IsInRanges}
-use Rattle.rw_rounds.specs.Bags.{weigh, Every, sum_below}
+use Rattle.rw_rounds.specs.Bags.{weigh, sum_below}
 use Rattle.rw_rounds.specs.Deeds.{Deed, Arrival, Undoing, Execution, Owned, Stepped, Did, Goes, way_of}
 use Rattle.rw_rounds.specs.Turns.{WorkerState, process_at, processes_of, TookTurns}
 use Rattle.rw_rounds.specs.Rounds.{role, Begins, Closes, TookRound, noted_below}

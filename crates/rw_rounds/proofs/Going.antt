@@ -153,7 +153,7 @@ module _ {S B : Type 0} (y : System S B) {Started : ℕ → S → Type 0} (g n :
       go q z (Some w) None h k t = absurd t
       go q z None (Some v) h k t = absurd t
 
-  did_gone : (way : Way) (d : Deed B) (a b : ℕ → Option (ProcessState S B)) (out : List (Letter B)) → Well y Started g a → Did y g way d a b out → Gone y g n a b (arrivals (d ∷ [])) out
+  pub did_gone : (way : Way) (d : Deed B) (a b : ℕ → Option (ProcessState S B)) (out : List (Letter B)) → Well y Started g a → Did y g way d a b out → Gone y g n a b (arrivals (d ∷ [])) out
   did_gone way (Arrival l) a b out well d =
       let p : ℕ = l.event.to in
       let x = d.0 in let z = d.1 in let s = d.2 in
@@ -167,7 +167,7 @@ module _ {S B : Type 0} (y : System S B) {Started : ℕ → S → Type 0} (g n :
       let x = d.0 in let z = d.1 in let s = d.2 in
       gone_one a b p _ x z [] out well s (kept_of y g p x z [] out (execute_next y p x) s.by (rule.executes p x (well.started p x s.was) (well.sound p x s.was))) tt
 
-  arrivals_more : (d : Deed B) (ds : List (Deed B)) → arrivals (d ∷ []) ++ arrivals ds ≡ arrivals (d ∷ ds)
+  pub arrivals_more : (d : Deed B) (ds : List (Deed B)) → arrivals (d ∷ []) ++ arrivals ds ≡ arrivals (d ∷ ds)
   arrivals_more (Arrival l) ds = refl
   arrivals_more (Undoing p) ds = refl
   arrivals_more (Execution p) ds = refl

@@ -37,7 +37,7 @@ module _ {S B : Type 0} (y : System S B) (g p : ℕ) where
     and_keeps way x started (Stays fault) k = tt
     and_keeps way x started (Turned z out) k = then_keeps x z out k (undo_by way y p z) (rule.undoes way p z (subst (Started p) (sym k.change.start) started) k.sound)
 
-    undoings_keep : (way : Way) (k : ℕ) (x : ProcessState S B) → Started p x.start → SoundAt y g p x → Keeps y g p x [] (undo_times (undo_by way y p) k x)
+    pub undoings_keep : (way : Way) (k : ℕ) (x : ProcessState S B) → Started p x.start → SoundAt y g p x → Keeps y g p x [] (undo_times (undo_by way y p) k x)
     undoings_keep way zero x started sound = kept_none x sound
     undoings_keep way (suc k) x started sound = and_keeps way x started (undo_times (undo_by way y p) k x) (undoings_keep way k x started sound)
 

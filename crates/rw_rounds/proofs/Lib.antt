@@ -3,6 +3,7 @@ pub mod Sums
 pub mod OneProcess
 pub mod Governing
 pub mod Keeping
+pub mod Later
 pub mod Falling
 pub mod Going
 pub mod Adding
@@ -21,6 +22,7 @@ pub mod Working
 pub mod Beginning
 pub mod Joining
 pub mod Outstanding
+pub mod Onward
 pub mod Rounding
 pub mod Gathered
 pub mod Sending

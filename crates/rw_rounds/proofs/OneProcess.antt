@@ -4,9 +4,9 @@ use Rattle.std.proofs.lemmas.List.Elements.{All-weaker}
 use Rattle.rw_vt.specs.declared.event.Event.{Event}
 use Rattle.rw_vt.specs.declared.event.Letter.{Letter}
 use Rattle.rw_vt.specs.System.{System}
-use Rattle.rw_lp.specs.Process.{ProcessState, Turn, Turned, Stays, execute_least, execute_next, split_last, undo_last, undo_one, undo_last_lazily, undo_lazily}
+use Rattle.rw_lp.specs.Process.{ProcessState, Turn, Turned, Stays, execute_least, execute_next, split_last, undo_last, undo_last_lazily}
 use Rattle.rw_lp.specs.Arrival.{Way, Cancelling, Holding, undo_by}
-use Rattle.rw_lp.specs.Sound.{IsHeldFor, SoundAt, SoundLetters, Kept, Keeps}
+use Rattle.rw_lp.specs.Sound.{IsHeldFor, SoundAt, Kept, Keeps}
 
 -- the system without starts in which each process steps as process p does
 abbrev pub alone : {S B : Type 0} → System S B → ℕ → System S B

@@ -45,7 +45,7 @@ module _ {S B : Type 0} (y : System S B) (o : IsExactOrder y.order) (t : ℕ) wh
       let later : h.undone.time < h.message.time = here.later in
       Each-cons o (λ e. t ≤ e.time) h.message (held_messages hs) (omega arith) (held_later pending hs late (All-tail (λ h. IsHeldFor y pending h) h hs all))
 
-  all_held_later : (ps : List (ProcessState S B)) → ((q : ℕ) (u : ProcessState S B) → slice_get ps q ≡ Some u → Each y.order (λ e. t ≤ e.time) u.pending × All (λ h. IsHeldFor y u.pending h) u.held) → Each y.order (λ e. t ≤ e.time) (held_in ps)
+  pub all_held_later : (ps : List (ProcessState S B)) → ((q : ℕ) (u : ProcessState S B) → slice_get ps q ≡ Some u → Each y.order (λ e. t ≤ e.time) u.pending × All (λ h. IsHeldFor y u.pending h) u.held) → Each y.order (λ e. t ≤ e.time) (held_in ps)
   all_held_later [] late = λ e k. absurd (omega arith)
   all_held_later (u ∷ ps) late =
       let here = late zero u refl in

@@ -7,7 +7,7 @@ use Rattle.std.proofs.lemmas.Bool.{le-leb}
 use Rattle.std.proofs.lemmas.Option.{slice_get-map}
 use Rattle.rw_vt.specs.declared.event.Event.{Event}
 use Rattle.rw_vt.specs.declared.model.Model.{Ghosts}
-use Rattle.rw_vt.specs.System.{Setting, system, journal_below, IsReady}
+use Rattle.rw_vt.specs.System.{system, journal_below, IsReady}
 use Rattle.rw_lp.specs.declared.step.Answer.TheVariants.{Done}
 use Rattle.rw_lp.specs.HeldMessages.{held_messages}
 use Rattle.rw_lp.specs.Process as process
@@ -29,6 +29,7 @@ use Rattle.rw_rounds.proofs.Governing.{Laws}
 use Rattle.rw_rounds.proofs.Stepping.{number_of}
 use Rattle.rw_rounds.proofs.Joining.{owned, closed, workers_exchanged}
 use Rattle.rw_rounds.proofs.Outstanding.{floor_end, quiet_after}
+use Rattle.rw_rounds.proofs.Onward.{setting_of, floor_rises}
 
 -- what is promised of every world of the model
 pub record WorldLaws {M S B U : Type 0} (model : Ghosts M S B U) (order : B → B → Ordering) : Type 0 where
@@ -36,10 +37,6 @@ pub record WorldLaws {M S B U : Type 0} (model : Ghosts M S B U) (order : B → 
   pub every_floor : FloorIsGreatest model order
   pub every_sound_world : SoundIsInOrder model order
   pub every_step : StepsKeepSound model order
-
--- what the parts are set up with
-abbrev pub setting_of : {M S B U : Type 0} {model : Ghosts M S B U} (x : Parts M S B U) → IsReady model x.model x.starts.value.items x.initial.value.items → Setting model
-setting_of x ready = record { its_model = x.model; starts = x.starts.value.items; initial = x.initial.value.items; ready = ready }
 
 -- what is outstanding is not collected
 least_collected : {S B : Type 0} (t end : ℕ) (ps : List (ProcessState S B)) → least_of_processes end (map (process.collect t) ps) ≡ least_of_processes end ps
@@ -127,6 +124,7 @@ module _ {M S B U : Type 0} {model : Ghosts M S B U} {order : B → B → Orderi
     plan_is = plan_after ∙ sym plan_before;
     sound = subst (λ (s : Simulation M S B). Sound (system_of model order s) s.world) (sym after) step_kept.sound;
     below_floor = (let same : floor v.simulation.world ≡ floor (world_of z) = ap (λ (s : Simulation M S B). floor s.world) after ∙ floor_stays in omega (arith, floor_after));
+    no_earlier = (let same : floor u.simulation.world ≡ floor (world_of x) = ap (λ (s : Simulation M S B). floor s.world) before in let rises : floor (world_of x) ≤ least = floor_rises laws worlds.every_floor plan x z least ranges whole round in omega arith);
     collected =
         ap (λ (s : Simulation M S B). s.world.collected) after
         ∙ ap (λ a. a.0.collected) collects

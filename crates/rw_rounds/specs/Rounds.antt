@@ -132,8 +132,10 @@ pub record Rounded {M S B U : Type 0} (model : Ghosts M S B U) (order : B → B 
   pub initial_are : z.simulation.initial ≡ x.simulation.initial
   pub plan_is : z.plan ≡ x.plan
   pub sound : Sound (system_of model order z.simulation) z.simulation.world
-  -- its floor is a lower bound of what is outstanding, and all before it is committed
+  -- its floor is a lower bound of what is outstanding, and all before it is committed; it is no
+  -- earlier than what was outstanding before the round, so it never goes back
   pub below_floor : z.floor ≤ floor z.simulation.world
+  pub no_earlier : floor x.simulation.world ≤ z.floor
   pub collected : z.simulation.world.collected ≡ max x.simulation.world.collected z.floor
   -- no committed event is lost
   pub longer : (q : Process) (a b : ProcessState S B)

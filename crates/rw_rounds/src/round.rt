@@ -36,6 +36,10 @@ impl Gate for Open {
 /// Makes one round: each worker takes its turns in a thread of its own, the last one in the calling thread, and when all
 /// are done, what is final is committed.
 ///
+/// What is final is before the round's floor, the least of all times that the workers noted. Nothing outstanding after the
+/// round is before it, and it is not before the least of what was outstanding when the round began: the floor never goes
+/// back (global virtual time: Jefferson 1985).
+///
 /// # Errors
 ///
 /// `Memory` where memory was refused, `Exhausted` where a process was to execute an event in a state that can take no

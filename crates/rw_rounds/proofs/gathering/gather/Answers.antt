@@ -1,4 +1,4 @@
-use Rattle.std.proofs.Common.{◌≡◌, ◌+◌, ◌++◌, ◌<◌, ◌≤◌, ℕ, length, map, sym, ap, ◌∙◌, subst, All, vec_len}
+use Rattle.std.proofs.Common.{◌≡◌, ◌+◌, ◌++◌, ◌<◌, ℕ, length, map, sym, ap, ◌∙◌, subst, All, vec_len}
 use Rattle.std.proofs.lemmas.List.{length-map}
 use Rattle.rw_vt.specs.System.{flatten}
 use Rattle.rw_board.specs.Least.{least}

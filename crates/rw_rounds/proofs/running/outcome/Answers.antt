@@ -6,7 +6,7 @@ use Rattle.rw_world.specs.WorldState.{floor}
 use Rattle.rw_world.specs.Calls.{system_of, simulation_of}
 use Rattle.rw_rounds.proofs.Governing.{Laws}
 use Rattle.rw_rounds.proofs.Ending.{ending}
-use Rattle.rw_rounds.proofs.Rounding.{setting_of}
+use Rattle.rw_rounds.proofs.Onward.{setting_of}
 use Rattle.rw_rounds.proofs.running.outcome.Goals as goal
 
 pub returns : goal.returns
