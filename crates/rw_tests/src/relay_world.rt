@@ -6,8 +6,8 @@ use rw_relay::{Parcel, Relay};
 use rw_vt::{END, Event};
 use rw_world::Answer::{Done, Refused};
 use rw_world::{
-    Answer, Step, StepFault, World, draw, every_exchange, every_floor, every_sound_world,
-    every_step, every_way,
+    Answer, Step, StepFault, World, draw, every_exchange, every_floor, every_schedule,
+    every_sound_world, every_step, every_way,
 };
 use std::alloc::Global;
 use std::process::Abort;
@@ -178,6 +178,7 @@ fn draws_the_steps(rt: HostRuntime) -> Result<(), Fail> {
 fn the_laws_are_stated_of_the_relay(_rt: HostRuntime) {
     every_step::<Relay>();
     every_sound_world::<Relay>();
+    every_schedule::<Relay>();
     every_floor::<Relay>();
     every_exchange::<Relay>();
     every_way::<Relay>();

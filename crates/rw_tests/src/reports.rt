@@ -1,7 +1,9 @@
 // Reports and journals to writers that fail, and a plan that is refused.
 use crate::pipe::{Hiccup, Pipe};
 use rw_photo::{Config, Policy, Shape};
-use rw_ripqwarp::{Mode, Out, Plan, SimFault, Traffic, schedule, simulate};
+use rw_ripqwarp::{
+    Mode, Out, Plan, SimFault, Traffic, any_schedule, every_reverse, one_report, schedule, simulate,
+};
 use rw_trace::TraceFault;
 use std::alloc::Global;
 use std::sync::Wait;
@@ -188,4 +190,20 @@ fn a_plan_out_of_range_is_refused_after_the_trace(rt: HostRuntime) {
             Some((0, SimFault::Trace(TraceFault::Header)))
         )
     );
+}
+
+#[test]
+fn what_is_proved_of_the_whole_is_stated(_rt: HostRuntime) {
+    every_reverse();
+    any_schedule();
+    one_report();
+}
+
+#[test]
+fn the_limits_are_stated(_rt: HostRuntime) {
+    rw_vt::every_limit();
+    rw_trace::every_limit();
+    rw_blocks::every_limit();
+    rw_ripq::every_limit();
+    rw_photo::every_limit();
 }
