@@ -1,3 +1,4 @@
 pub mod Reversing
 pub mod ValidRows
 pub mod Stores
+pub mod Clears

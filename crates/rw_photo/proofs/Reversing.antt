@@ -1,6 +1,5 @@
 -- An event and then its undoing give back the cache.
-use Rattle.std.proofs.Common.{◌≡◌, ℕ, ◌^◌, ◌%◌, ◌<◌, Bool, true, false, List, Option, Some, None, refl, sym, ◌∙◌, ap, subst, arith, length}
-use Rattle.std.specs.Prelude.{is_some}
+use Rattle.std.proofs.Common.{◌≡◌, ℕ, ◌^◌, ◌%◌, ◌<◌, List, Option, Some, None, refl, sym, ◌∙◌, ap, subst, arith, length}
 use Rattle.std.specs.List.Sorted.{IsStrictlySortedBy}
 use Rattle.std.specs.Map.{keys_of, lookup, remove_entry}
 use Rattle.std.specs.BTreeMap.{is_at}
@@ -10,10 +9,10 @@ use Rattle.rw_vt.proofs.Entries.{insert_entry-insert_entry, insert_entry-remove_
 use Rattle.rw_ripq.specs.Trail.{Leads, rewind_of}
 use Rattle.rw_ripq.specs.Weight.{IsShort}
 use Rattle.rw_photo.specs.declared.body.Body.{Body}
+use Rattle.rw_photo.specs.declared.config.Config.{Config}
 use Rattle.rw_photo.specs.declared.counters.Counters.{Counters}
 use Rattle.rw_photo.specs.declared.photo.Deed.{Deed}
 use Rattle.rw_photo.specs.declared.undo.Undo.{Undo}
-use Rattle.rw_ripq.specs.Work.{one_if}
 use Rattle.rw_photo.specs.Counts.{AreCounts, sum_of, counters_by, minus, plus, difference_of}
 use Rattle.rw_photo.specs.Cache.{Cache, waiting_for, with_waiting}
 use Rattle.rw_photo.specs.Events.{Happening, cache_after, object_of}
@@ -43,19 +42,15 @@ waiting-back m o (Some n) None up is = insert_entry-remove_entry m o n up is
 waiting-back m o None (Some k) up is = remove_entry-insert_entry m o k is
 waiting-back m o None None up is = ap (remove_entry (is_at (nat_cmp o))) (remove_entry-none m o is) ∙ remove_entry-none m o is
 
-one-sent : {A : Type 0} (o : Option A) → length (list_of o) ≡ one_if (is_some o)
-one-sent (Some x) = refl
-one-sent None = refl
-
 waiting-same : (m : List (ℕ × ℕ)) (o : ℕ) (w : Option ℕ) → IsStrictlySortedBy nat_cmp (keys_of m) → lookup (is_at (nat_cmp o)) m ≡ w → with_waiting m o w ≡ m
 waiting-same m o (Some n) up is = insert_entry-same m o n up is
 waiting-same m o None up is = remove_entry-none m o is
 
 -- a deed that leaves alone who waits
-pub queue_deed : (h : Happening) (s now : Cache) (o : ℕ) (d : Deed) → IsStrictlySortedBy nat_cmp (keys_of s.awaited) → h.waiting ≡ waiting_for s o
-    → now ≡ record s { queue = h.queue } → d.change.counts ≡ h.counts → list_of d.send ≡ h.sent → Leads d.change.trail s.queue now.queue → IsShort d.change.trail s.queue now.queue
-    → HasDone h s o d now
-queue_deed h s now o d up wait is counted sent leads short =
+pub queue_deed : (c : Config) (p : ℕ) (h : Happening) (s now : Cache) (o : ℕ) (d : Deed) → IsStrictlySortedBy nat_cmp (keys_of s.awaited) → h.waiting ≡ waiting_for s o
+    → now ≡ record s { queue = h.queue } → d.change.counts ≡ h.counts → list_of c p s.sends d.sends ≡ h.sent → Leads d.change.trail s.queue now.queue → IsShort d.change.trail s.queue now.queue
+    → HasDone c p h s o d now
+queue_deed c p h s now o d up wait is counted sent leads short =
     record {
       changed = is ∙ ap (λ m. record s { queue = h.queue; awaited = m }) (sym (ap (with_waiting s.awaited o) wait ∙ waiting-same s.awaited o (waiting_for s o) up refl));
       counted = counted;
@@ -79,6 +74,9 @@ pub record AreSmall (k : Counters) : Type 0 where
   pub writes : k.writes < 2 ^ 64
   pub splits : k.splits < 2 ^ 64
   pub merges : k.merges < 2 ^ 64
+  pub hit_bytes : k.hit_bytes < 2 ^ 64
+  pub purges : k.purges < 2 ^ 64
+  pub purged : k.purged < 2 ^ 64
 
 wrapped-small : (n : ℕ) → n < 2 ^ 64 → n % 2 ^ 64 ≡ n
 wrapped-small n small = omega arith
@@ -99,18 +97,21 @@ small-counts k small i =
       writes = wrapped-small k.writes small.writes i;
       splits = wrapped-small k.splits small.splits i;
       merges = wrapped-small k.merges small.merges i;
+      hit_bytes = wrapped-small k.hit_bytes small.hit_bytes i;
+      purges = wrapped-small k.purges small.purges i;
+      purged = wrapped-small k.purged small.purged i;
     }
 
 made : (s t : Cache) → s.queue ≡ t.queue → s.awaited ≡ t.awaited → s.sends ≡ t.sends → s.counters ≡ t.counters → s ≡ t
 made s t q a b c i = record { queue = q i; awaited = a i; sends = b i; counters = c i }
 
 -- a deed, once it is counted, is taken back by its record
-pub takes_back : (h : Happening) (s mid now : Cache) (e : Event Body) (d : Deed) (u : Undo)
+pub takes_back : (c : Config) (p : ℕ) (h : Happening) (s mid now : Cache) (e : Event Body) (d : Deed) (u : Undo)
     → IsStrictlySortedBy nat_cmp (keys_of s.awaited) → s.sends < 2 ^ 64 → AreCounts s.counters → AreCounts d.change.counts
-    → HasDone h s (object_of e.body) d mid → now ≡ cache_after s (object_of e.body) h
-    → u.change.trail ≡ d.change.trail → u.change.counts ≡ d.change.counts → u.sent ≡ is_some d.send → u.waiting ≡ waiting_for s (object_of e.body)
+    → HasDone c p h s (object_of e.body) d mid → now ≡ cache_after s (object_of e.body) h
+    → u.change.trail ≡ d.change.trail → u.change.counts ≡ d.change.counts → u.sent ≡ length (list_of c p s.sends d.sends) → u.sent < 2 ^ 64 → u.waiting ≡ waiting_for s (object_of e.body)
     → TakesBack s e u now
-takes_back h s mid now e d u up sends counters counts done is trail counted sent wait =
+takes_back c p h s mid now e d u up sends counters counts done is trail counted sent few wait =
     record {
       back = made (cache_before o u now) s queue awaited sent_back counters_back;
       leads = subst (λ ms. Leads ms s.queue now.queue) (sym trail) (subst (Leads d.change.trail s.queue) queue_is done.leads);
@@ -131,20 +132,13 @@ takes_back h s mid now e d u up sends counters counts done is trail counted sent
         ap (λ (w : Cache). with_waiting w.awaited o u.waiting) is
         ∙ (ap (with_waiting (with_waiting s.awaited o h.waiting) o) wait ∙ waiting-back s.awaited o (waiting_for s o) h.waiting up refl)
 
-    one : one_if u.sent ≡ length h.sent
-    one = ap one_if sent ∙ (sym (one-sent d.send) ∙ ap length done.sent)
+    all : u.sent ≡ length h.sent
+    all = sent ∙ ap length done.sent
 
-    few : one_if u.sent < 2 ^ 64
-    few = go u.sent
-      where
-        go : (b : Bool) → one_if b < 2 ^ 64
-        go true = omega arith
-        go false = omega arith
-
-    sent_back : minus now.sends (one_if u.sent) ≡ s.sends
+    sent_back : minus now.sends u.sent ≡ s.sends
     sent_back =
-        ap (λ (w : Cache). minus w.sends (one_if u.sent)) is
-        ∙ (ap (λ n. minus (plus s.sends n) (one_if u.sent)) (sym one) ∙ minus-plus s.sends (one_if u.sent) sends few)
+        ap (λ (w : Cache). minus w.sends u.sent) is
+        ∙ (ap (λ n. minus (plus s.sends n) u.sent) (sym all) ∙ minus-plus s.sends u.sent sends few)
 
     counters_back : difference_of now.counters u.change.counts ≡ s.counters
     counters_back =

@@ -1,6 +1,7 @@
 -- What caches count, modulo 2 ^ 64.
 use Rattle.std.specs.Prelude.{◌≡◌, ◌+◌, ◌-◌, ◌%◌, ◌^◌, Bool}
 use Rattle.rw_vt.specs.Words.{Count}
+use Rattle.rw_blocks.specs.Words.{Size}
 use Rattle.rw_ripq.specs.Work.{one_if}
 use Rattle.rw_ripq.specs.declared.Tally.{Tally}
 use Rattle.rw_photo.specs.declared.counters.Counters.{Counters}
@@ -30,6 +31,9 @@ counters_by count =
       writes = count (λ k. k.writes);
       splits = count (λ k. k.splits);
       merges = count (λ k. k.merges);
+      hit_bytes = count (λ k. k.hit_bytes);
+      purges = count (λ k. k.purges);
+      purged = count (λ k. k.purged);
     }
 
 -- all counts are 0
@@ -50,9 +54,14 @@ AreCounts counters = counters_by (λ which. which counters % 2 ^ 64) ≡ counter
 
 -- What one event counts
 
--- a hit, which moved its object or not
-abbrev pub one_hit : Bool → Counters
-one_hit moved = record no_counts { requests = 1; hits = 1; promoted = one_if moved }
+-- a hit by a request for so many bytes, which moved its object or not
+abbrev pub one_hit : Bool → Size → Counters
+one_hit moved z =
+    record no_counts { requests = 1; hits = 1; promoted = one_if moved; hit_bytes = z }
+
+-- a purge, of an object that was stored or not
+abbrev pub one_purge : Bool → Counters
+one_purge stored = record no_counts { purges = 1; purged = one_if stored }
 
 -- a miss, added to what storing its object counts
 abbrev pub one_miss : Counters → Counters

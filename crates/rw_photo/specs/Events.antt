@@ -1,18 +1,20 @@
 -- The events of caches: which are valid, and what each does.
-use Rattle.std.specs.Prelude.{◌+◌, ◌%◌, ◌^◌, Bool, if◌then◌else◌, nat_lt, nat_le, ◌&&◌, List, [], ◌∷◌, length, Option, Some, None, unwrap_or}
+use Rattle.std.specs.Prelude.{◌+◌, ◌%◌, ◌^◌, Bool, if◌then◌else◌, nat_lt, nat_le, ◌&&◌, not, nat_eq, List, [], ◌∷◌, filter, length, Option, Some, None, unwrap_or}
+use Rattle.std.specs.List.{range_with_len}
 use Rattle.rw_vt.specs.Words.{Count, Process, Time}
+use Rattle.rw_vt.specs.System.{map_from}
 use Rattle.rw_blocks.specs.Words.{Object, Size}
 use Rattle.rw_vt.specs.declared.event.Event.{Event}
 use Rattle.rw_blocks.specs.State.{QueueState}
 use Rattle.rw_trace.specs.Limits.{greatest_size, latest_time}
 use Rattle.rw_trace.specs.declared.Row.{Row}
 use Rattle.rw_photo.specs.declared.body.Body.{Body}
-use Rattle.rw_photo.specs.declared.body.Body.TheVariants.{Request, Miss, Fill}
+use Rattle.rw_photo.specs.declared.body.Body.TheVariants.{Request, Miss, Fill, Purge, Drop, Clear}
 use Rattle.rw_photo.specs.declared.config.Config.{Config}
 use Rattle.rw_photo.specs.declared.counters.Counters.{Counters}
 use Rattle.rw_photo.specs.Counts.{plus, sum_of, no_counts, one_miss, one_coalesced, with_late}
 use Rattle.rw_photo.specs.Cache.{Cache, is_edge, is_stored, waiting_for, with_waiting}
-use Rattle.rw_photo.specs.Storing.{QueueAndCounts, hit, store, same_queue}
+use Rattle.rw_photo.specs.Storing.{QueueAndCounts, hit, store, same_queue, purge_if_stored}
 
 -- Valid events
 
@@ -24,13 +26,19 @@ is_origin c p = nat_le c.edges p && nat_lt p (c.edges + c.origins)
 abbrev pub is_object : Object → Size → Bool
 is_object o z = nat_lt o (2 ^ 64) && nat_le 1 z && nat_le z greatest_size
 
--- what may happen at process p at time t: requests up to the latest time of a trace, and what may follow from them
+-- what may happen at process p at time t: requests and purges up to the latest time of a trace, and what may follow from
+-- them
 abbrev pub may_happen : Config → Time → Process → Body → Bool
 may_happen c t p (Request o z) = is_edge c p && nat_le t latest_time && is_object o z
 may_happen c t p (Miss o z g) =
     is_origin c p && is_edge c g && nat_le t (latest_time + c.up) && is_object o z
 may_happen c t p (Fill o z) =
     is_edge c p && nat_le t (latest_time + c.up + c.down + c.back) && is_object o z
+may_happen c t p (Purge o) = is_edge c p && nat_le t latest_time && nat_lt o (2 ^ 64)
+may_happen c t p (Drop o g) =
+    is_origin c p && is_edge c g && nat_le t (latest_time + c.up) && nat_lt o (2 ^ 64)
+may_happen c t p (Clear o) =
+    is_edge c p && nat_le t (latest_time + c.up + c.down) && nat_lt o (2 ^ 64)
 
 -- an event in the ranges of its numbers, that may happen
 abbrev pub is_valid : Config → Event Body → Bool
@@ -44,6 +52,9 @@ abbrev pub object_of : Body → Object
 object_of (Request o z) = o
 object_of (Miss o z g) = o
 object_of (Fill o z) = o
+object_of (Purge o) = o
+object_of (Drop o g) = o
+object_of (Clear o) = o
 
 -- what an event does at a cache: the queue after it, how many requests then wait for its object, what it counts, and
 -- what it sends
@@ -83,7 +94,7 @@ serving s o made sent =
 abbrev pub request_happening : Config → Process → Cache → Time → Object → Size → Happening
 request_happening c p s t o z =
     if is_stored s o
-    then serving s o (hit c.policy s.queue o) []
+    then serving s o (hit c.policy s.queue o z) []
     else edge_miss c p s t o z (waiting_for s o)
 
 -- what a miss at an origin stores of what the backend gave
@@ -96,7 +107,7 @@ backend_store c s o z =
 abbrev pub miss_happening : Config → Process → Cache → Time → Object → Size → Process → Happening
 miss_happening c p s t o z g =
     if is_stored s o
-    then serving s o (hit c.policy s.queue o) (event_from p s (t + c.down) g (Fill o z) ∷ [])
+    then serving s o (hit c.policy s.queue o z) (event_from p s (t + c.down) g (Fill o z) ∷ [])
     else serving s o (backend_store c s o z) (event_from p s (t + c.down + c.back) g (Fill o z) ∷ [])
 
 -- a fill at an edge, which answers the requests that wait for it, if any, and stores what the edge lacks
@@ -107,11 +118,30 @@ fill_happening c s o z =
     let made = if there then same_queue s.queue no_counts else store c.policy s.queue o z in
     record { queue = made.queue; waiting = None; counts = with_late late made.counts; sent = [] }
 
+-- the edges but g, in rising number
+abbrev pub edges_but : Config → Process → List Process
+edges_but c g = filter (λ edge. not (nat_eq edge g)) (range_with_len 0 c.edges)
+
+-- process p, which has sent n events before, tells each edge but g to let go of an object
+abbrev pub clears_of : Config → Process → Count → Time → Object → Process → List (Event Body)
+clears_of c p n time o g =
+    map_from 0
+    (λ i edge. record { time = time; source = p + 1; number = plus n i; to = edge; body = Clear o })
+    (edges_but c g)
+
+-- an object is to leave a cache, where it is stored; who waits for it goes on waiting
+abbrev pub purge_happening : Cache → Object → List (Event Body) → Happening
+purge_happening s o sent = serving s o (purge_if_stored s.queue o) sent
+
 -- what happens at process p at time t
 abbrev pub happening : Config → Process → Cache → Time → Body → Happening
 happening c p s t (Request o z) = request_happening c p s t o z
 happening c p s t (Miss o z g) = miss_happening c p s t o z g
 happening c p s t (Fill o z) = fill_happening c s o z
+happening c p s t (Purge o) =
+    purge_happening s o (event_from p s (t + c.up) (origin_of c o) (Drop o p) ∷ [])
+happening c p s t (Drop o g) = purge_happening s o (clears_of c p s.sends (t + c.down) o g)
+happening c p s t (Clear o) = purge_happening s o []
 
 -- the cache after what happens to object o
 abbrev pub cache_after : Cache → Object → Happening → Cache

@@ -2,20 +2,20 @@
 -- formed, sends are valid and later, and bodies that compare as equal are the same. They stand in specs/ with their
 -- proofs since the implementation hands them to the trait as ghost members, which see no proofs/.
 use Rattle.std.specs.Prelude.{◌≡◌, ℕ, ◌+◌, ◌^◌, true, ◌&&◌, nat_lt, All}
-use Rattle.std.specs.declared.cmp.Ordering.TheVariants.{Less, Equal, Greater}
+use Rattle.std.specs.declared.cmp.Ordering.TheVariants.{Equal}
 use Rattle.std.specs.Ordering.{nat_cmp, ordering_then}
-use Rattle.std.proofs.Common.{arith}
+use Rattle.std.proofs.Common.{ap, arith, sym, true≢false}
 use Rattle.std.proofs.lemmas.Bool.Decides.{nat_tests}
 use Rattle.std.proofs.lemmas.List.Elements.{All-weaker}
 use Rattle.rw_vt.specs.declared.event.Event.{Event}
 use Rattle.rw_vt.specs.Valid.{IsInRange, IsSentBy}
 use Rattle.rw_photo.specs.declared.body.Body.{Body}
-use Rattle.rw_photo.specs.declared.body.Body.TheVariants.{Request, Miss, Fill}
+use Rattle.rw_photo.specs.declared.body.Body.TheVariants.{Request, Miss, Fill, Purge, Drop, Clear}
 use Rattle.rw_photo.specs.contracts.body.BodyOrd.TheImpl as order
 use Rattle.rw_photo.specs.declared.config.Config.{Config}
 use Rattle.rw_photo.specs.Cache.{Cache, IsWellFormed}
 use Rattle.rw_photo.specs.Events.{Happening, happening, is_valid, may_happen, object_of, step}
-use Rattle.rw_photo.specs.Lawful.{Follows, IsFine, added-counts, ascending-with, both, both_equal, early, event-fine, few-with, same_number}
+use Rattle.rw_photo.specs.Lawful.{Follows, IsFine, added-counts, ascending-with, both, both_equal, early, event-fine, few-with, is_equal, same_number}
 
 pub valid_ranges : (c : Config) (e : Event Body) → is_valid c e ≡ true
     → IsInRange (c.edges + c.origins) e
@@ -75,9 +75,12 @@ bodies_same (Fill a b) (Fill c d) h =
     let object : a ≡ c = same_number a c p.0 in
     let size : b ≡ d = same_number b d p.1 in
     cc
-bodies_same (Request a b) (Miss c d f) h = let k : Less ≡ Equal = h in cc
-bodies_same (Request a b) (Fill c d) h = let k : Less ≡ Equal = h in cc
-bodies_same (Miss a b e) (Request c d) h = let k : Greater ≡ Equal = h in cc
-bodies_same (Miss a b e) (Fill c d) h = let k : Less ≡ Equal = h in cc
-bodies_same (Fill a b) (Request c d) h = let k : Greater ≡ Equal = h in cc
-bodies_same (Fill a b) (Miss c d f) h = let k : Greater ≡ Equal = h in cc
+bodies_same (Purge a) (Purge b) h = let object : a ≡ b = same_number a b h in cc
+bodies_same (Drop a b) (Drop c d) h =
+    let k : ordering_then (nat_cmp a c) (nat_cmp b d) ≡ Equal = h in
+    let p = both_equal (nat_cmp a c) (nat_cmp b d) k in
+    let object : a ≡ c = same_number a c p.0 in
+    let edge : b ≡ d = same_number b d p.1 in
+    cc
+bodies_same (Clear a) (Clear b) h = let object : a ≡ b = same_number a b h in cc
+bodies_same a b h = absurd (true≢false (sym (ap is_equal h)))

@@ -1,14 +1,15 @@
--- What a hit and a store do to a queue, and what they count.
-use Rattle.std.specs.Prelude.{Bool, not, nat_eq, nat_lt, if◌then◌else◌}
+-- What a hit, a store and a purge do to a queue, and what they count.
+use Rattle.std.specs.Prelude.{Bool, not, is_some, nat_eq, nat_lt, if◌then◌else◌}
 use Rattle.rw_blocks.specs.Words.{Object, Size}
-use Rattle.rw_blocks.specs.State.{QueueState, row_or}
+use Rattle.rw_blocks.specs.State.{QueueState, row_at, row_or}
 use Rattle.rw_ripq.specs.declared.Policy.{Policy}
 use Rattle.rw_ripq.specs.declared.Policy.TheVariants.{Off}
 use Rattle.rw_ripq.specs.Work.{Work}
 use Rattle.rw_ripq.specs.Insert.{insert}
 use Rattle.rw_ripq.specs.Promote.{promote}
+use Rattle.rw_ripq.specs.Purge.{purge}
 use Rattle.rw_photo.specs.declared.counters.Counters.{Counters}
-use Rattle.rw_photo.specs.Counts.{no_counts, one_hit, one_bypassed, one_inserted}
+use Rattle.rw_photo.specs.Counts.{no_counts, one_hit, one_bypassed, one_inserted, one_purge}
 
 -- what becomes of a queue, and what that counts
 pub record QueueAndCounts : Type 0 where
@@ -23,11 +24,11 @@ same_queue q counts = record { queue = q; counts = counts }
 abbrev pub is_moved : QueueState → QueueState → Object → Bool
 is_moved before after o = not (nat_eq (row_or after o).place (row_or before o).place)
 
--- a hit of an object that is stored promotes it
-abbrev pub hit : Policy → QueueState → Object → QueueAndCounts
-hit policy q o =
+-- a hit of an object that is stored promotes it; it counts the bytes that are asked for, not those that are stored
+abbrev pub hit : Policy → QueueState → Object → Size → QueueAndCounts
+hit policy q o z =
     let after = promote policy q o in
-    record { queue = after; counts = one_hit (is_moved q after o) }
+    record { queue = after; counts = one_hit (is_moved q after o) z }
 
 -- what an insertion makes of a queue
 abbrev pub insertion : Work → QueueAndCounts
@@ -41,3 +42,9 @@ store policy q o z =
     if nat_lt q.shape.block z
     then same_queue q one_bypassed
     else insertion (insert policy q o z 1)
+
+-- an object leaves, where it is stored
+abbrev pub purge_if_stored : QueueState → Object → QueueAndCounts
+purge_if_stored q o =
+    let stored = is_some (row_at q o) in
+    record { queue = if stored then purge q o else q; counts = one_purge stored }

@@ -6,7 +6,6 @@ use Rattle.rw_ripq.specs.Trail.{Leads, rewind_of}
 use Rattle.rw_ripq.specs.Weight.{IsShort}
 use Rattle.rw_photo.specs.declared.body.Body.{Body}
 use Rattle.rw_photo.specs.declared.undo.Undo.{Undo}
-use Rattle.rw_ripq.specs.Work.{one_if}
 use Rattle.rw_photo.specs.Counts.{minus, difference_of}
 use Rattle.rw_photo.specs.Cache.{Cache, with_waiting}
 use Rattle.rw_photo.specs.Events.{object_of}
@@ -17,7 +16,7 @@ cache_before o u s =
     record {
       queue = rewind_of u.change.trail s.queue;
       awaited = with_waiting s.awaited o u.waiting;
-      sends = minus s.sends (one_if u.sent);
+      sends = minus s.sends u.sent;
       counters = difference_of s.counters u.change.counts;
     }
 

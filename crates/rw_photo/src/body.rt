@@ -10,6 +10,12 @@ pub enum Body {
     Miss { object: u64, size: u64, edge: u32 },
     /// An origin sends an edge the object that it asked for.
     Fill { object: u64, size: u64 },
+    /// A user has an edge let go of an object, and tell its origin.
+    Purge { object: u64 },
+    /// An edge has an origin let go of an object, and tell the other edges.
+    Drop { object: u64, edge: u32 },
+    /// An origin has an edge let go of an object.
+    Clear { object: u64 },
 }
 
 impl Body {
@@ -18,8 +24,12 @@ impl Body {
         ensures { result ≡ object_of self.now }
     {
         match *self {
-            Body::Request { object, .. } | Body::Miss { object, .. } | Body::Fill { object, .. } =>
-                object,
+            Body::Request { object, .. }
+            | Body::Miss { object, .. }
+            | Body::Fill { object, .. }
+            | Body::Purge { object }
+            | Body::Drop { object, .. }
+            | Body::Clear { object } => object,
         }
     }
 }

@@ -5,10 +5,9 @@ ghost use Rattle.rw_ripq.specs.Limits.{exhaustion};
 ghost use Rattle.rw_ripq.specs.Trail.{IsRewindable, Leads, rewind_of};
 ghost use Rattle.rw_ripq.specs.Weight.{IsShort};
 ghost use Rattle.rw_photo.specs.Cache.{is_stored, start_in, waiting_for, with_waiting};
-ghost use Rattle.rw_ripq.specs.Work.{one_if};
 ghost use Rattle.rw_photo.specs.Counts.{sum_of, minus, plus, difference_of};
 ghost use Rattle.rw_photo.specs.Events.{event_from};
-ghost use Rattle.rw_photo.specs.Storing.{hit, store};
+ghost use Rattle.rw_photo.specs.Storing.{hit, purge_if_stored, store};
 
 use crate::body::Body;
 use crate::counters::Counters;
@@ -114,12 +113,14 @@ impl CacheState {
         Ok(())
     }
 
-    /// A hit of an object that is stored, and whose row is `row`: it is promoted. Hands back what that did and counts.
+    /// A hit, by a request for `size` bytes, of an object that is stored and whose row is `row`: it is promoted. Hands
+    /// back what that did and counts.
     pub(crate) fn hit(
         &mut self,
         alloc: Global,
         policy: Policy,
         object: u64,
+        size: u64,
         row: Place,
     ) -> Result<Change<Counters>, NoMemory>
         requires well_formed { IsWellFormedQueue self.old.queue }
@@ -127,9 +128,9 @@ impl CacheState {
         requires row { row_at self.old.queue object ≡ Some row }
         requires fresh { self.old.queue.next < exhaustion }
         ensures queue { OnOk result (self.new
-            ≡ record self.old { queue = (hit policy self.old.queue object).queue }) }
+            ≡ record self.old { queue = (hit policy self.old.queue object size).queue }) }
         ensures counts { IfOk result (λ change.
-            change.counts ≡ (hit policy self.old.queue object).counts) }
+            change.counts ≡ (hit policy self.old.queue object size).counts) }
         ensures leads { IfOk result (λ change. Leads change.trail self.old.queue self.new.queue) }
         ensures short { IfOk result (λ change. IsShort change.trail self.old.queue self.new.queue) }
     {
@@ -139,7 +140,7 @@ impl CacheState {
             Err(Refusal::Memory) => return Err(NoMemory),
             Err(Refusal::Exhausted) => unreachable!(),
         };
-        let counts = Counters::of_hit(moved);
+        let counts = Counters::of_hit(moved, size);
         Ok(Change { trail, counts })
     }
 
@@ -181,6 +182,24 @@ impl CacheState {
         Ok(Change { trail, counts })
     }
 
+    /// Lets an object go, where it is stored. Hands back what that did and counts.
+    pub(crate) fn purge(&mut self, alloc: Global, object: u64) -> Result<Change<Counters>, NoMemory>
+        requires well_formed { IsWellFormedQueue self.old.queue }
+        ensures queue { OnOk result (self.new
+            ≡ record self.old { queue = (purge_if_stored self.old.queue object).queue }) }
+        ensures counts { IfOk result (λ change.
+            change.counts ≡ (purge_if_stored self.old.queue object).counts) }
+        ensures leads { IfOk result (λ change. Leads change.trail self.old.queue self.new.queue) }
+        ensures short { IfOk result (λ change. IsShort change.trail self.old.queue self.new.queue) }
+    {
+        if !self.is_stored(object) {
+            return Ok(Change::new(alloc, Counters::of_purge(false)));
+        }
+        let trail = rw_ripq::purge(alloc, &mut self.queue, object)?;
+        let counts = Counters::of_purge(true);
+        Ok(Change { trail, counts })
+    }
+
     /// Takes back what happened to the queue, by its trail.
     pub(crate) fn rewind(&mut self, trail: Trail) -> Result<(), NoMemory>
         requires { IsRewindable trail self.old.queue }
@@ -219,17 +238,17 @@ impl CacheState {
         }
     }
 
-    /// Counts one event more as sent, where `sent`.
-    pub(crate) fn count_send(&mut self, sent: bool)
-        ensures { self.new ≡ record self.old { sends = plus self.old.sends (one_if sent) } }
+    /// Counts `sent` events more as sent.
+    pub(crate) fn count_sends(&mut self, sent: u64)
+        ensures { self.new ≡ record self.old { sends = plus self.old.sends sent } }
     {
-        self.sends = self.sends.wrapping_add(u64::from(sent));
+        self.sends = self.sends.wrapping_add(sent);
     }
 
-    /// Undoes [`CacheState::count_send`].
-    pub(crate) fn take_send_back(&mut self, sent: bool)
-        ensures { self.new ≡ record self.old { sends = minus self.old.sends (one_if sent) } }
+    /// Undoes [`CacheState::count_sends`].
+    pub(crate) fn take_sends_back(&mut self, sent: u64)
+        ensures { self.new ≡ record self.old { sends = minus self.old.sends sent } }
     {
-        self.sends = self.sends.wrapping_sub(u64::from(sent));
+        self.sends = self.sends.wrapping_sub(sent);
     }
 }

@@ -1,5 +1,5 @@
 ghost use Rattle.std.specs.Prelude.{◌≡◌};
-ghost use Rattle.rw_photo.specs.Counts.{sum_of, with_late, difference_of, one_bypassed, one_coalesced, one_hit, one_inserted, one_miss};
+ghost use Rattle.rw_photo.specs.Counts.{sum_of, with_late, difference_of, one_bypassed, one_coalesced, one_hit, one_inserted, one_miss, one_purge};
 
 use rw_ripq::Tally;
 
@@ -32,6 +32,12 @@ pub struct Counters {
     pub splits: u64,
     /// Sections merged.
     pub merges: u64,
+    /// Bytes that were asked for by requests that hit.
+    pub hit_bytes: u64,
+    /// Purges, of an object that was stored and of one that was not.
+    pub purges: u64,
+    /// Objects that left by a purge.
+    pub purged: u64,
 }
 
 /// The counters of which each count is made, by a method of `u64`, of that count on the left and on the right.
@@ -51,19 +57,34 @@ macro_rules! each_count {
             writes: $left.writes.$method($right.writes),
             splits: $left.splits.$method($right.splits),
             merges: $left.merges.$method($right.merges),
+            hit_bytes: $left.hit_bytes.$method($right.hit_bytes),
+            purges: $left.purges.$method($right.purges),
+            purged: $left.purged.$method($right.purged),
         }
     };
 }
 
 impl Counters {
-    /// A hit, which moved its object to another place or not.
-    pub(crate) fn of_hit(moved: bool) -> Counters
-        ensures { result ≡ one_hit moved }
+    /// A hit by a request for `size` bytes, which moved its object to another place or not.
+    pub(crate) fn of_hit(moved: bool, size: u64) -> Counters
+        ensures { result ≡ one_hit moved size }
     {
         Counters {
             requests: 1,
             hits: 1,
             promoted: u64::from(moved),
+            hit_bytes: size,
+            ..Counters::default()
+        }
+    }
+
+    /// A purge, of an object that was stored or not.
+    pub(crate) fn of_purge(stored: bool) -> Counters
+        ensures { result ≡ one_purge stored }
+    {
+        Counters {
+            purges: 1,
+            purged: u64::from(stored),
             ..Counters::default()
         }
     }

@@ -4,7 +4,7 @@
 //! A user's request comes to an edge. What the edge lacks it asks of an origin, once however many requests wait for
 //! it; what the origin lacks it fetches from the backend. What comes is stored on flash, in a RIPQ queue (Tang,
 //! Huang, Lloyd, Kumar and Li, FAST 2015) under the policy of the configuration, and requests for an object that is
-//! on its way coalesce.
+//! on its way coalesce. A user's purge at an edge has the object leave that edge, its origin and then the other edges.
 //!
 //! [`Photo`] is a model of `rw_vt`: each event can be taken back, by the marks of what it did to the queue, by what it
 //! counted and by the few numbers that it destroyed.

@@ -1,10 +1,10 @@
-ghost use Rattle.std.specs.Prelude.{◌≡◌, ◌≤◌, IfOk, true, ◌<◌, ◌+◌, ◌&&◌, nat_le};
+ghost use Rattle.std.specs.Prelude.{◌≡◌, ◌≤◌, IfOk, OnOk, [], ◌++◌, length, true, ◌<◌, ◌+◌, ◌^◌, ◌&&◌, nat_le};
 ghost use Rattle.rw_vt.specs.Limits.{end_of_time};
 ghost use Rattle.rw_trace.specs.Limits.{greatest_size};
 ghost use Rattle.rw_ripq.specs.Limits.{exhaustion};
 ghost use Rattle.rw_photo.specs.Cache.{IsWellFormed, is_edge, shape_at, start};
-ghost use Rattle.rw_photo.specs.Deeds.{HasDone};
-ghost use Rattle.rw_photo.specs.Events.{miss_happening, fill_happening, happening, is_origin, is_valid, object_of, origin_of, request_happening};
+ghost use Rattle.rw_photo.specs.Deeds.{HasDone, list_of};
+ghost use Rattle.rw_photo.specs.Events.{clears_of, miss_happening, fill_happening, happening, purge_happening, is_origin, is_valid, object_of, origin_of, request_happening};
 
 use crate::body::Body;
 use crate::cache::CacheState;
@@ -28,7 +28,17 @@ struct Deed {
     /// What it did to the queue, and what it counts.
     change: Change<Counters>,
     /// What it sends.
-    send: Option<Event<Body>>,
+    sends: Sends,
+}
+
+/// What an event sends. It is no list, since most events send one event or none.
+enum Sends {
+    /// Nothing.
+    Nothing,
+    /// One event.
+    One(Event<Body>),
+    /// To each edge but one, at a time, that it let go of an object.
+    Clears { time: u64, object: u64, edge: u32 },
 }
 
 impl Photo {
@@ -94,7 +104,7 @@ impl Photo {
         requires fresh { state.old.queue.next < exhaustion }
         requires valid { is_valid self.now.config event.now ≡ true }
         requires here { event.now.to ≡ process }
-        ensures { IfOk result (λ deed. HasDone
+        ensures { IfOk result (λ deed. HasDone self.now.config process
             (happening self.now.config process state.old event.now.time event.now.body)
             state.old (object_of event.now.body) deed state.new) }
     {
@@ -107,6 +117,11 @@ impl Photo {
                 self.miss(alloc, process, state, time, object, size, edge)
             }
             Body::Fill { object, size } => self.fill(alloc, process, state, object, size),
+            Body::Purge { object } => self.purge(alloc, process, state, time, object),
+            Body::Drop { object, edge } => {
+                self.drop_object(alloc, process, state, time, object, edge)
+            }
+            Body::Clear { object } => self.clear(alloc, process, state, object),
         }
     }
 
@@ -124,21 +139,21 @@ impl Photo {
         requires fresh { state.old.queue.next < exhaustion }
         requires early { time < end_of_time }
         requires process { process < self.now.config.edges }
-        ensures { IfOk result (λ deed. HasDone
+        ensures { IfOk result (λ deed. HasDone self.now.config process
             (request_happening self.now.config process state.old time object size)
             state.old object deed state.new) }
     {
         if let Some(row) = state.row(object) {
             return Ok(Deed {
-                change: state.hit(alloc, self.config.policy, object, row)?,
-                send: None,
+                change: state.hit(alloc, self.config.policy, object, size, row)?,
+                sends: Sends::Nothing,
             });
         }
         if let Some(others) = state.waiting(object) {
             state.set_waiting(object, Some(others.wrapping_add(1)))?;
             return Ok(Deed {
                 change: Change::new(alloc, Counters::of_coalesced()),
-                send: None,
+                sends: Sends::Nothing,
             });
         }
         state.set_waiting(object, Some(1))?;
@@ -150,7 +165,7 @@ impl Photo {
         let origin = self.origin_of(object);
         Ok(Deed {
             change: Change::new(alloc, Counters::default().with_miss()),
-            send: Some(state.sending(process, time + self.config.up, origin, question)),
+            sends: Sends::One(state.sending(process, time + self.config.up, origin, question)),
         })
     }
 
@@ -171,7 +186,7 @@ impl Photo {
         requires early { time < end_of_time }
         requires process { process < self.now.config.edges + self.now.config.origins }
         requires some { 1 ≤ size }
-        ensures { IfOk result (λ deed. HasDone
+        ensures { IfOk result (λ deed. HasDone self.now.config process
             (miss_happening self.now.config process state.old time object size edge)
             state.old object deed state.new) }
     {
@@ -183,10 +198,10 @@ impl Photo {
         } = self.config;
         let answer = Body::Fill { object, size };
         if let Some(row) = state.row(object) {
-            let change = state.hit(alloc, policy, object, row)?;
+            let change = state.hit(alloc, policy, object, size, row)?;
             return Ok(Deed {
                 change,
-                send: Some(state.sending(process, time + down, edge, answer)),
+                sends: Sends::One(state.sending(process, time + down, edge, answer)),
             });
         }
         let Change { trail, counts } = state.store(alloc, policy, object, size)?;
@@ -195,7 +210,7 @@ impl Photo {
                 trail,
                 counts: counts.with_miss(),
             },
-            send: Some(state.sending(process, time + down + back, edge, answer)),
+            sends: Sends::One(state.sending(process, time + down + back, edge, answer)),
         })
     }
 
@@ -211,7 +226,7 @@ impl Photo {
         requires well_formed { IsWellFormed self.now.config process state.old }
         requires fresh { state.old.queue.next < exhaustion }
         requires some { 1 ≤ size }
-        ensures { IfOk result (λ deed. HasDone
+        ensures { IfOk result (λ deed. HasDone self.now.config process
             (fill_happening self.now.config state.old object size)
             state.old object deed state.new) }
     {
@@ -227,8 +242,146 @@ impl Photo {
                 trail,
                 counts: counts.with_late(answered),
             },
-            send: None,
+            sends: Sends::Nothing,
         })
+    }
+}
+
+/// What a purge does, on its way from an edge over its origin to the other edges: the object leaves where it is stored.
+/// Requests that wait for it go on waiting, and a fill on its way is stored when it comes.
+impl Photo {
+    /// A purge at an edge, which tells the origin.
+    fn purge(
+        &self,
+        alloc: Global,
+        process: u32,
+        state: &mut CacheState,
+        time: u64,
+        object: u64,
+    ) -> Result<Deed, NoMemory>
+        requires well_formed { IsWellFormed self.now.config process state.old }
+        requires early { time < end_of_time }
+        requires process { process < self.now.config.edges }
+        ensures { IfOk result (λ deed. HasDone self.now.config process
+            (happening self.now.config process state.old time (Body.Purge object))
+            state.old object deed state.new) }
+    {
+        let change = state.purge(alloc, object)?;
+        let order = Body::Drop {
+            object,
+            edge: process,
+        };
+        let origin = self.origin_of(object);
+        Ok(Deed {
+            change,
+            sends: Sends::One(state.sending(process, time + self.config.up, origin, order)),
+        })
+    }
+
+    /// A drop at an origin, which tells every edge but the one that told it.
+    fn drop_object(
+        &self,
+        alloc: Global,
+        process: u32,
+        state: &mut CacheState,
+        time: u64,
+        object: u64,
+        edge: u32,
+    ) -> Result<Deed, NoMemory>
+        requires well_formed { IsWellFormed self.now.config process state.old }
+        requires early { time < end_of_time }
+        ensures { IfOk result (λ deed. HasDone self.now.config process
+            (happening self.now.config process state.old time (Body.Drop object edge))
+            state.old object deed state.new) }
+    {
+        Ok(Deed {
+            change: state.purge(alloc, object)?,
+            sends: Sends::Clears {
+                time: time + self.config.down,
+                object,
+                edge,
+            },
+        })
+    }
+
+    /// A clear at an edge, which tells nobody.
+    fn clear(
+        &self,
+        alloc: Global,
+        process: u32,
+        state: &mut CacheState,
+        object: u64,
+    ) -> Result<Deed, NoMemory>
+        requires well_formed { IsWellFormed self.now.config process state.old }
+        ensures { IfOk result (λ deed. HasDone self.now.config process
+            (purge_happening state.old object [])
+            state.old object deed state.new) }
+    {
+        Ok(Deed {
+            change: state.purge(alloc, object)?,
+            sends: Sends::Nothing,
+        })
+    }
+}
+
+/// Sending, by a process that has sent `first` events before.
+impl Photo {
+    /// Appends to `out` what an event sends, in order. Hands back how many events that are.
+    fn send(
+        &self,
+        process: u32,
+        first: u64,
+        sends: Sends,
+        out: &mut Vec<Event<Body>>,
+    ) -> Result<u64, NoMemory>
+        requires process { process + 1 < 2 ^ 32 }
+        ensures sent { OnOk result (out.new.items
+            ≡ out.old.items ++ list_of self.now.config process first sends) }
+        ensures count { IfOk result (λ count.
+            count ≡ length (list_of self.now.config process first sends)) }
+    {
+        match sends {
+            Sends::Nothing => Ok(0),
+            Sends::One(event) => {
+                out.push(event)?;
+                Ok(1)
+            }
+            Sends::Clears { time, object, edge } => {
+                self.send_clears(process, first, time, object, edge, out)
+            }
+        }
+    }
+
+    /// Tells every edge but one to let go of an object, in rising number. Hands back how many it told.
+    fn send_clears(
+        &self,
+        process: u32,
+        first: u64,
+        time: u64,
+        object: u64,
+        edge: u32,
+        out: &mut Vec<Event<Body>>,
+    ) -> Result<u64, NoMemory>
+        requires process { process + 1 < 2 ^ 32 }
+        ensures sent { OnOk result (out.new.items
+            ≡ out.old.items ++ clears_of self.now.config process first time object edge) }
+        ensures count { IfOk result (λ count.
+            count ≡ length (clears_of self.now.config process first time object edge)) }
+    {
+        let mut count = 0;
+        for to in 0..self.config.edges {
+            if to != edge {
+                out.push(Event {
+                    time,
+                    source: process + 1,
+                    number: first.wrapping_add(count),
+                    to,
+                    body: Body::Clear { object },
+                })?;
+                count += 1;
+            }
+        }
+        Ok(count)
     }
 }
 
@@ -277,15 +430,23 @@ impl VtModel for Photo {
     fn valid(&self, event: &Event<Body>) -> bool {
         let Event { time, to, body, .. } = *event;
         let Config { up, down, back, .. } = self.config;
-        let (size, stands, latest) = match body {
-            Body::Request { size, .. } => (size, self.is_edge(to), MAX_TIME),
+        let (stands, latest) = match body {
+            Body::Request { size, .. } => (self.is_edge(to) && is_size(size), MAX_TIME),
             Body::Miss { size, edge, .. } => {
                 let stands = self.is_origin(to) && self.is_edge(edge);
-                (size, stands, MAX_TIME + up)
+                (stands && is_size(size), MAX_TIME + up)
             }
-            Body::Fill { size, .. } => (size, self.is_edge(to), MAX_TIME + up + down + back),
+            Body::Fill { size, .. } => {
+                (
+                    self.is_edge(to) && is_size(size),
+                    MAX_TIME + up + down + back,
+                )
+            }
+            Body::Purge { .. } => (self.is_edge(to), MAX_TIME),
+            Body::Drop { edge, .. } => (self.is_origin(to) && self.is_edge(edge), MAX_TIME + up),
+            Body::Clear { .. } => (self.is_edge(to), MAX_TIME + up + down),
         };
-        stands && time <= latest && is_size(size)
+        stands && time <= latest
     }
 
     fn exhausted(&self, state: &CacheState) -> bool {
@@ -304,13 +465,11 @@ impl VtModel for Photo {
             return Err(Refusal::Exhausted);
         }
         let waiting = state.waiting(event.body.object());
-        let Deed { change, send } = self.happen(alloc, process, state, event)?;
-        let sent = send.is_some();
+        let first = state.sends();
+        let Deed { change, sends } = self.happen(alloc, process, state, event)?;
         state.count(&change.counts);
-        state.count_send(sent);
-        if let Some(event) = send {
-            out.push(event)?;
-        }
+        let sent = self.send(process, first, sends, out)?;
+        state.count_sends(sent);
         Ok(Undo {
             change,
             sent,
@@ -333,7 +492,7 @@ impl VtModel for Photo {
         } = undo;
         state.rewind(trail)?;
         state.take_off(&counts);
-        state.take_send_back(sent);
+        state.take_sends_back(sent);
         state.set_waiting(event.body.object(), waiting)
     }
 

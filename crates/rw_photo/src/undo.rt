@@ -7,8 +7,8 @@ use rw_ripq::Change;
 pub struct Undo {
     /// What the event did to the queue, and what it counted.
     pub change: Change<Counters>,
-    /// Whether it sent an event.
-    pub sent: bool,
+    /// How many events it sent.
+    pub sent: u64,
     /// How many requests waited for its object before the event, where it was awaited.
     pub waiting: Option<u64>,
 }

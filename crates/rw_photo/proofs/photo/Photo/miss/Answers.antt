@@ -10,7 +10,7 @@ returns-in-Some c =
     let s = c.args.state.now in
     let there : is_stored s c.args.object ≡ true = ap is_some (sym c.in-Some.ensures) in
     rw there
-    (queue_deed (asked_if c.args.self.now.config c.args.process s c.args.time c.args.object c.args.size c.args.edge true) s c.hit.new.self c.args.object _ c.requires.well_formed.ascending refl
+    (queue_deed c.args.self.now.config c.args.process (asked_if c.args.self.now.config c.args.process s c.args.time c.args.object c.args.size c.args.edge true) s c.hit.new.self c.args.object _ c.requires.well_formed.ascending refl
     (search rules) (search rules) (search rules) (search rules) (search rules))
 
 pub returns : goal.returns
@@ -18,5 +18,5 @@ returns c =
     let s = c.args.state.now in
     let new : is_stored s c.args.object ≡ false = search rules in
     rw new
-    (queue_deed (asked_if c.args.self.now.config c.args.process s c.args.time c.args.object c.args.size c.args.edge false) s c.store.new.self c.args.object _ c.requires.well_formed.ascending refl
+    (queue_deed c.args.self.now.config c.args.process (asked_if c.args.self.now.config c.args.process s c.args.time c.args.object c.args.size c.args.edge false) s c.store.new.self c.args.object _ c.requires.well_formed.ascending refl
     (search rules) (search rules) (search rules) (search rules) (search rules))

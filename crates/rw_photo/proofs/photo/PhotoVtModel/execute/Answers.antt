@@ -13,8 +13,8 @@ returns-clause-links c =
     let d : Deed = c.in_ok-change.field-0 in
     let small : AreSmall d.change.counts = search rules in
     let counts : AreCounts d.change.counts = small-counts d.change.counts small in
-    takes_back (happening c.args.self.now.config c.args.process s e.time e.body) s c.happen.new.state c.count_send.new.self e d _
+    takes_back c.args.self.now.config c.args.process (happening c.args.self.now.config c.args.process s e.time e.body) s c.happen.new.state c.count_sends.new.self e d _
     c.requires.well_formed.ascending c.requires.well_formed.sends c.requires.well_formed.counters counts
     (search rules) (search rules)
-    refl refl (search rules)
+    refl refl (search rules) (search rules)
     (c.waiting-waiting.ensures ∙ ap (waiting_for s) c.object.ensures)
