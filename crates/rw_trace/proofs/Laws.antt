@@ -1,20 +1,27 @@
 -- What is read is what the format says.
-use Rattle.std.proofs.Common.{◌≡◌, ◌≤◌, ◌+◌, ◌-◌, ◌*◌, ◌^◌, ℕ, List, [], ◌∷◌, ◌++◌, length, Bool, true, false, Option, Some, None, nat_lt, nat_le, Ok, Err, Result, refl, arith, sym, ◌∙◌, ap}
+use Rattle.std.proofs.Common.{◌≡◌, ◌≤◌, ◌+◌, ◌-◌, ◌*◌, ◌^◌, ℕ, List, [], ◌∷◌, ◌++◌, length, Bool, true, false, Option, Some, None, nat_lt, nat_le, Ok, Err, Result, Decides, refl, arith, sym, ◌∙◌, ap, subst}
 use Rattle.std.specs.Prelude.{◌==◌, ◌||◌, ◌<◌, All, IsSomeAnd, IfErr}
 use Rattle.std.proofs.lemmas.List.Elements.{All-cons, All-nil}
 use Rattle.std.specs.Char.{is_ascii_digit}
 use Rattle.std.specs.List.{list_all}
 use Rattle.std.proofs.lemmas.List.Sums.{AllPass-from_list_all, list_all-from_AllPass}
+use Rattle.std.proofs.lemmas.Bool.{eq-eqb}
+use Rattle.std.proofs.lemmas.Bool.Decides.{Decides-eqb}
+use Rattle.std.proofs.lemmas.Slice.Eq.{slice_eq-Decides}
 use Rattle.std.proofs.lemmas.Grind.{common_steps}
 use Rattle.std.proofs.Math.Nat.{pow-succ'}
 use Rattle.csv.specs.Records.{field_at}
 use Rattle.rw_trace.proofs.Numbers.{is-number}
 use Rattle.rw_trace.specs.Limits.{greatest_size, latest_time}
-use Rattle.rw_trace.specs.Laws.{IsNumber, IsRow, IsTrace, Lacks, WriteRows, Writes, WritesRow, decimal}
-use Rattle.rw_trace.specs.Trace.{column_of, is_header, number_in, number_of, row_of, rows_of, trace_of, value_after}
+use Rattle.rw_trace.specs.Laws.{IsNumber, IsRow, IsTrace, Lacks, LacksKind, WriteRows, Writes, WritesKind, WritesRow, decimal}
+use Rattle.rw_trace.specs.Trace.{column_of, is_text, is_text_at, kind_at, word_of, number_in, number_of, row_of, rows_of, trace_of, value_after, version_of, width_of}
+use Rattle.rw_trace.specs.declared.Kind.{Kind}
+use Rattle.rw_trace.specs.declared.Kind.TheVariants.{Get, Purge}
 use Rattle.rw_trace.specs.declared.Row.{Row}
 use Rattle.rw_trace.specs.declared.TraceFault.{TraceFault}
 use Rattle.rw_trace.specs.declared.TraceFault.TheVariants as fault
+use Rattle.rw_trace.specs.declared.Version.{Version}
+use Rattle.rw_trace.specs.declared.Version.TheVariants.{First, Second}
 
 -- digits after a value shift it
 pub shifted : (n v : ℕ) (f : List ℕ) → value_after n f ≡ Some v → (v ≡ n * 10 ^ length f + decimal f) × (list_all is_ascii_digit f ≡ true)
@@ -49,18 +56,18 @@ number-law f n h = by ((length f == 0) || nat_lt 20 (length f)) (value_after 0 f
         fit false i = let no = rw (e, g, i) at h in cc
 
 -- no record, and no row
-pub none-written : (edges : ℕ) → WriteRows edges [] []
+pub none-written : (version : Version) (edges : ℕ) → WriteRows version edges [] []
 unfolding WriteRows
-none-written edges = tt
+none-written version edges = tt
 
 -- one more record, and its row
-pub write-more : (edges : ℕ) (rs : List (List (List ℕ))) (ws : List Row) (r : List (List ℕ)) (w : Row) → WriteRows edges rs ws → WritesRow edges r w
-    → WriteRows edges (rs ++ r ∷ []) (ws ++ w ∷ [])
+pub write-more : (version : Version) (edges : ℕ) (rs : List (List (List ℕ))) (ws : List Row) (r : List (List ℕ)) (w : Row) → WriteRows version edges rs ws → WritesRow version edges r w
+    → WriteRows version edges (rs ++ r ∷ []) (ws ++ w ∷ [])
 unfolding WriteRows
-write-more edges [] [] r w h k = (k, tt)
-write-more edges [] (x ∷ ws) r w h k = absurd h
-write-more edges (q ∷ rs) [] r w h k = absurd h
-write-more edges (q ∷ rs) (x ∷ ws) r w h k = (h.0, write-more edges rs ws r w h.1 k)
+write-more version edges [] [] r w h k = (k, tt)
+write-more version edges [] (x ∷ ws) r w h k = absurd h
+write-more version edges (q ∷ rs) [] r w h k = absurd h
+write-more version edges (q ∷ rs) (x ∷ ws) r w h k = (h.0, write-more version edges rs ws r w h.1 k)
 
 -- digits that all are digits have a value
 pub valued : (n : ℕ) (f : List ℕ) → list_all is_ascii_digit f ≡ true → value_after n f ≡ Some (n * 10 ^ length f + decimal f)
@@ -91,11 +98,48 @@ column-complete row column n fields h = by (field_at fields column) refl h
     by None e k = absurd k
     by (Some f) e k = rw (e, number-complete f n k) refl
 
+-- whether the field at a column is this text
+text-told : (fields : List (List ℕ)) (column : ℕ) (text : List ℕ) → Decides (is_text_at column text fields) (field_at fields column ≡ Some text)
+unfolding is_text_at
+text-told fields column text = by (field_at fields column) refl
+  where
+    by : (o : Option (List ℕ)) → field_at fields column ≡ o → Decides (is_text text o) (o ≡ Some text)
+    by None e = (λ h. cc, λ h. cc)
+    by (Some f) e =
+        let told = slice_eq-Decides Decides-eqb f text (is_text text (Some f)) refl in
+        (λ h. ap (λ (x : List ℕ). Some x) (told.0 h), λ h. told.1 (cc))
+
+-- a record that writes a kind has it
+pub kind-complete : (version : Version) (fields : List (List ℕ)) (k : Kind) → WritesKind version fields k → kind_at version fields ≡ Some k
+unfolding kind_at
+kind-complete First fields k h = rw h refl
+kind-complete Second fields Get h = rw ((text-told fields 4 (word_of Get)).1 h) refl
+kind-complete Second fields Purge h = by (is_text_at 4 (word_of Get) fields) refl
+  where
+    by : (b : Bool) → is_text_at 4 (word_of Get) fields ≡ b → kind_at Second fields ≡ Some Purge
+    by true e = let no : Some (word_of Purge) ≡ Some (word_of Get) = sym h ∙ (text-told fields 4 (word_of Get)).0 e in cc
+    by false e = rw (e, (text-told fields 4 (word_of Purge)).1 h) refl
+
+-- the kind that a record has is the one that it writes
+pub kind-law : (version : Version) (fields : List (List ℕ)) (k : Kind) → kind_at version fields ≡ Some k → WritesKind version fields k
+unfolding kind_at
+kind-law First fields k h = cc
+kind-law Second fields k h = by (is_text_at 4 (word_of Get) fields) (is_text_at 4 (word_of Purge) fields) refl refl
+  where
+    by : (a b : Bool) → is_text_at 4 (word_of Get) fields ≡ a → is_text_at 4 (word_of Purge) fields ≡ b → WritesKind Second fields k
+    by true b e f = let same : Get ≡ k = (let g = rw e at h in cc) in subst (λ x. field_at fields 4 ≡ Some (word_of x)) same ((text-told fields 4 (word_of Get)).0 e)
+    by false true e f = let same : Purge ≡ k = (let g = rw (e, f) at h in cc) in subst (λ x. field_at fields 4 ≡ Some (word_of x)) same ((text-told fields 4 (word_of Purge)).0 f)
+    by false false e f = let no = rw (e, f) at h in cc
+
+-- a record that has no kind writes none
+pub kind-lacks : (version : Version) (fields : List (List ℕ)) → kind_at version fields ≡ None → LacksKind version fields
+kind-lacks version fields h k w = let both = sym (kind-complete version fields k w) ∙ h in cc
+
 -- a record that writes a row is read as it
-pub row-complete : (edges n : ℕ) (fields : List (List ℕ)) (row : Row) → WritesRow edges fields row → row_of edges n fields ≡ Ok row
+pub row-complete : (version : Version) (edges n : ℕ) (fields : List (List ℕ)) (row : Row) → WritesRow version edges fields row → row_of version edges n fields ≡ Ok row
 unfolding row_of
-row-complete edges n fields row h =
-    let four : (length fields == 4) ≡ true = grind (arith, common_steps, h.four) in
+row-complete version edges n fields row h =
+    let width : (length fields == width_of version) ≡ true = eq-eqb (length fields) (width_of version) h.width in
     let t = column-complete n 0 row.time fields h.time in
     let e = column-complete n 1 row.edge fields h.edge in
     let o = column-complete n 2 row.object fields h.object in
@@ -104,32 +148,33 @@ row-complete edges n fields row h =
     let known : nat_lt row.edge edges ≡ true = grind (arith, common_steps, h.edge_within) in
     let some : nat_le 1 row.size ≡ true = grind (arith, common_steps, h.size_above) in
     let small : nat_le row.size greatest_size ≡ true = grind (arith, common_steps, h.size_within) in
-    rw (four, t, early, e, known, o, s, some, small) refl
+    let k = kind-complete version fields row.kind h.kind in
+    rw (width, t, early, e, known, o, s, some, small, k) refl
 
 -- records that write rows are read as them
-pub rows-complete : (edges most n : ℕ) (rs : List (List (List ℕ))) (ws : List Row) → WriteRows edges rs ws → n + length ws ≤ most → rows_of edges most n rs ≡ Ok ws
+pub rows-complete : (version : Version) (edges most n : ℕ) (rs : List (List (List ℕ))) (ws : List Row) → WriteRows version edges rs ws → n + length ws ≤ most → rows_of version edges most n rs ≡ Ok ws
 unfolding WriteRows rows_of
-rows-complete edges most n [] [] h k = refl
-rows-complete edges most n [] (w ∷ ws) h k = absurd h
-rows-complete edges most n (r ∷ rs) [] h k = absurd h
-rows-complete edges most n (r ∷ rs) (w ∷ ws) h k =
+rows-complete version edges most n [] [] h k = refl
+rows-complete version edges most n [] (w ∷ ws) h k = absurd h
+rows-complete version edges most n (r ∷ rs) [] h k = absurd h
+rows-complete version edges most n (r ∷ rs) (w ∷ ws) h k =
     let other : (n == most) ≡ false = grind (arith, common_steps) in
-    rw (other, row-complete edges n r w h.0, rows-complete edges most (n + 1) rs ws h.1 (omega arith)) refl
+    rw (other, row-complete version edges n r w h.0, rows-complete version edges most (n + 1) rs ws h.1 (omega arith)) refl
 
 -- a trace is read as its rows
 pub trace-complete : (edges most : ℕ) (recs : List (List (List ℕ))) (rows : List Row) → IsTrace edges most recs rows → trace_of edges most recs ≡ Ok rows
 unfolding trace_of
-trace-complete edges most recs rows h = rw (h.parts, h.headed) (rows-complete edges most 0 h.body rows h.written (omega (arith, h.few)))
+trace-complete edges most recs rows h = rw (h.parts, h.headed) (rows-complete h.version edges most 0 h.body rows h.written (omega (arith, h.few)))
 
 -- what is refused is no trace
 pub no_trace : (edges most : ℕ) (recs : List (List (List ℕ))) (e : TraceFault) → trace_of edges most recs ≡ Err e → (rows : List Row) → ¬ (IsTrace edges most recs rows)
 no_trace edges most recs e h rows t = let both = sym (trace-complete edges most recs rows t) ∙ h in cc
 
 -- a fault behind the header is that of the trace
-pub behind : (edges most : ℕ) (recs rs : List (List (List ℕ))) (h : List (List ℕ)) (e : TraceFault) → recs ≡ h ∷ rs → is_header h ≡ true → rows_of edges most 0 rs ≡ Err e
+pub behind : (version : Version) (edges most : ℕ) (recs rs : List (List (List ℕ))) (h : List (List ℕ)) (e : TraceFault) → recs ≡ h ∷ rs → version_of h ≡ Some version → rows_of version edges most 0 rs ≡ Err e
     → trace_of edges most recs ≡ Err e
 unfolding trace_of
-behind edges most recs rs h e parts headed k = rw (parts, headed) k
+behind version edges most recs rs h e parts headed k = rw (parts, headed) k
 
 -- the fault of a column that is refused
 named : (row column : ℕ) (fields : List (List ℕ)) (e : TraceFault) → column_of row column fields ≡ Err e → e ≡ fault.Number row column
@@ -153,12 +198,12 @@ fits-written None n h = absurd h
 fits-written (Some f) n h = h.fits
 
 -- rows that are written are in their ranges
-pub rows-in_range : (edges : ℕ) (recs : List (List (List ℕ))) (rows : List Row) → WriteRows edges recs rows → All (IsRow edges) rows
+pub rows-in_range : (version : Version) (edges : ℕ) (recs : List (List (List ℕ))) (rows : List Row) → WriteRows version edges recs rows → All (IsRow edges) rows
 unfolding WriteRows
-rows-in_range edges [] [] h = All-nil (IsRow edges)
-rows-in_range edges [] (w ∷ ws) h = absurd h
-rows-in_range edges (r ∷ rs) [] h = absurd h
-rows-in_range edges (r ∷ rs) (w ∷ ws) h =
+rows-in_range version edges [] [] h = All-nil (IsRow edges)
+rows-in_range version edges [] (w ∷ ws) h = absurd h
+rows-in_range version edges (r ∷ rs) [] h = absurd h
+rows-in_range version edges (r ∷ rs) (w ∷ ws) h =
     All-cons (IsRow edges) w ws
     (record { time = h.0.time_within; edge = h.0.edge_within; object = fits-written (field_at r 2) w.object h.0.object; some = h.0.size_above; few = h.0.size_within })
-    (rows-in_range edges rs ws h.1)
+    (rows-in_range version edges rs ws h.1)

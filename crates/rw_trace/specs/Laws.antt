@@ -1,14 +1,18 @@
 -- What an accepted trace is, in the words of its format.
-use Rattle.std.specs.Prelude.{◌≡◌, ◌≢◌, ◌⊎◌, zero, suc, ◌<◌, ◌≤◌, ◌+◌, ◌-◌, ◌*◌, ◌^◌, ℕ, List, [], ◌∷◌, ◌++◌, MatchBool, length, IsSomeAnd, ⊤, true}
+use Rattle.std.specs.Prelude.{◌≡◌, ◌≢◌, ◌⊎◌, zero, suc, ◌<◌, ◌≤◌, ◌+◌, ◌-◌, ◌*◌, ◌^◌, ℕ, List, [], ◌∷◌, ◌++◌, MatchOption, length, IsSomeAnd, Some, ⊤}
 use Rattle.std.specs.Char.{is_ascii_digit}
 use Rattle.std.specs.List.{AllPass}
 use Rattle.csv.specs.Records.{field_at}
 use Rattle.rw_trace.specs.Words.{Text, Fields}
 use Rattle.rw_trace.specs.Limits.{greatest_size, latest_time, most_digits}
-use Rattle.rw_trace.specs.Trace.{is_header}
+use Rattle.rw_trace.specs.Trace.{word_of, version_of, width_of}
+use Rattle.rw_trace.specs.declared.Kind.{Kind}
+use Rattle.rw_trace.specs.declared.Kind.TheVariants.{Get}
 use Rattle.rw_trace.specs.declared.Row.{Row}
 use Rattle.rw_trace.specs.declared.TraceFault.{TraceFault}
 use Rattle.rw_trace.specs.declared.TraceFault.TheVariants as fault
+use Rattle.rw_trace.specs.declared.Version.{Version}
+use Rattle.rw_trace.specs.declared.Version.TheVariants.{First, Second}
 
 -- the value of decimal digits, of which the last counts ones
 unfoldable pub decimal : Text → ℕ
@@ -27,13 +31,19 @@ pub record IsNumber (f : Text) (n : ℕ) : Type 0 where
 abbrev pub Writes : Fields → ℕ → ℕ → Type 0
 Writes fields column n = IsSomeAnd (field_at fields column) (λ f. IsNumber f n)
 
+-- a record writes a kind: each of the first version a get, one of the second the kind whose word its last field is
+abbrev pub WritesKind : Version → Fields → Kind → Type 0
+WritesKind First fields k = k ≡ Get
+WritesKind Second fields k = field_at fields 4 ≡ Some (word_of k)
+
 -- a record writes a row
-pub record WritesRow (edges : ℕ) (fields : Fields) (row : Row) : Type 0 where
-  pub four : length fields ≡ 4
+pub record WritesRow (version : Version) (edges : ℕ) (fields : Fields) (row : Row) : Type 0 where
+  pub width : length fields ≡ width_of version
   pub time : Writes fields 0 row.time
   pub edge : Writes fields 1 row.edge
   pub object : Writes fields 2 row.object
   pub size : Writes fields 3 row.size
+  pub kind : WritesKind version fields row.kind
   pub time_within : row.time ≤ latest_time
   pub edge_within : row.edge < edges
   pub size_above : 1 ≤ row.size
@@ -51,68 +61,84 @@ pub record IsRow (edges : ℕ) (row : Row) : Type 0 where
 abbrev pub Lacks : Fields → ℕ → Type 0
 Lacks fields column = (n : ℕ) → ¬ (Writes fields column n)
 
--- a column writes a number in its range, with another column to its right
+-- a record writes no kind
+abbrev pub LacksKind : Version → Fields → Type 0
+LacksKind version fields = (k : Kind) → ¬ (WritesKind version fields k)
+
+-- a column writes a number in its range
 abbrev pub IsGood : ℕ → Fields → ℕ → Type 0
 IsGood edges fields zero = (n : ℕ) × Writes fields 0 n × (n ≤ latest_time)
 IsGood edges fields (suc zero) = (n : ℕ) × Writes fields 1 n × (n < edges)
-IsGood edges fields (suc (suc c)) = (n : ℕ) × Writes fields (c + 2) n
+IsGood edges fields (suc (suc zero)) = (n : ℕ) × Writes fields 2 n
+IsGood edges fields (suc (suc (suc c))) =
+    (n : ℕ) × Writes fields (c + 3) n × (1 ≤ n) × (n ≤ greatest_size)
 
 -- the columns to the left of one are good
 abbrev pub GoodBefore : ℕ → Fields → ℕ → Type 0
 GoodBefore edges fields zero = ⊤
 GoodBefore edges fields (suc c) = GoodBefore edges fields c × IsGood edges fields c
 
--- what is first wrong in row n: its length, then its columns from the left, in each the number before the range
-abbrev pub IsWrong : ℕ → ℕ → Fields → TraceFault → Type 0
-IsWrong edges n fields (fault.RowLength k) = (k ≡ n) × (length fields ≢ 4)
-IsWrong edges n fields (fault.Number k c) =
-    (k ≡ n) × (length fields ≡ 4) × (c < 4) × GoodBefore edges fields c × Lacks fields c
-IsWrong edges n fields (fault.TimeRange k) =
-    (k ≡ n) × (length fields ≡ 4)
+-- what is first wrong in row n: its length, then its columns from the left, in each the number before the range, and
+-- last its kind
+abbrev pub IsWrong : Version → ℕ → ℕ → Fields → TraceFault → Type 0
+IsWrong version edges n fields (fault.RowLength k) =
+    (k ≡ n) × (length fields ≢ width_of version)
+IsWrong version edges n fields (fault.Number k c) =
+    (k ≡ n) × (length fields ≡ width_of version) × (c < 4) × GoodBefore edges fields c
+    × Lacks fields c
+IsWrong version edges n fields (fault.TimeRange k) =
+    (k ≡ n) × (length fields ≡ width_of version)
     × ((m : ℕ) × Writes fields 0 m × (latest_time < m))
-IsWrong edges n fields (fault.EdgeRange k) =
-    (k ≡ n) × (length fields ≡ 4) × GoodBefore edges fields 1
+IsWrong version edges n fields (fault.EdgeRange k) =
+    (k ≡ n) × (length fields ≡ width_of version) × GoodBefore edges fields 1
     × ((m : ℕ) × Writes fields 1 m × (edges ≤ m))
-IsWrong edges n fields (fault.SizeRange k) =
-    (k ≡ n) × (length fields ≡ 4) × GoodBefore edges fields 3
+IsWrong version edges n fields (fault.SizeRange k) =
+    (k ≡ n) × (length fields ≡ width_of version) × GoodBefore edges fields 3
     × ((m : ℕ) × Writes fields 3 m × ((m ≡ 0) ⊎ (greatest_size < m)))
-IsWrong edges n fields fault.Header = ⊥
-IsWrong edges n fields fault.TooManyRows = ⊥
-IsWrong edges n fields fault.Memory = ⊥
+IsWrong version edges n fields (fault.Kind k) =
+    (k ≡ n) × (length fields ≡ width_of version) × GoodBefore edges fields 4
+    × LacksKind version fields
+IsWrong version edges n fields fault.Header = ⊥
+IsWrong version edges n fields fault.TooManyRows = ⊥
+IsWrong version edges n fields fault.Memory = ⊥
 
 -- each record writes a row, in turn
-unfoldable pub WriteRows : ℕ → List Fields → List Row → Type 0
-WriteRows edges [] [] = ⊤
-WriteRows edges [] (w ∷ ws) = ⊥
-WriteRows edges (r ∷ rs) [] = ⊥
-WriteRows edges (r ∷ rs) (w ∷ ws) = WritesRow edges r w × WriteRows edges rs ws
+unfoldable pub WriteRows : Version → ℕ → List Fields → List Row → Type 0
+WriteRows version edges [] [] = ⊤
+WriteRows version edges [] (w ∷ ws) = ⊥
+WriteRows version edges (r ∷ rs) [] = ⊥
+WriteRows version edges (r ∷ rs) (w ∷ ws) =
+    WritesRow version edges r w × WriteRows version edges rs ws
 
--- the header, and then a record for each of at most `most` rows
+-- the header of a version, and then a record of it for each of at most `most` rows
 pub record IsTrace (edges most : ℕ) (recs : List Fields) (rows : List Row) : Type 0 where
   pub head : Fields
   pub body : List Fields
   pub parts : recs ≡ head ∷ body
-  pub headed : is_header head ≡ true
-  pub written : WriteRows edges body rows
+  pub version : Version
+  pub headed : version_of head ≡ Some version
+  pub written : WriteRows version edges body rows
   pub few : length rows ≤ most
 
 -- the first fault among records behind the header: behind good rows a record that is wrong, or one too many
-pub record IsFirstFault (edges most : ℕ) (recs : List Fields) (e : TraceFault) : Type 0 where
+pub record IsFirstFault (version : Version) (edges most : ℕ) (recs : List Fields) (e : TraceFault)
+    : Type 0 where
   pub good : List Fields
   pub bad : Fields
   pub rest : List Fields
   pub parts : recs ≡ good ++ (bad ∷ rest)
   pub rows : List Row
-  pub written : WriteRows edges good rows
+  pub written : WriteRows version edges good rows
   pub told :
-      ((length rows < most) × IsWrong edges (length rows) bad e)
+      ((length rows < most) × IsWrong version edges (length rows) bad e)
       ⊎ ((length rows ≡ most) × (e ≡ fault.TooManyRows))
 
 -- why a trace is refused: its header, or else the first fault among the records behind it
 abbrev pub IsFaultOf : ℕ → ℕ → List Fields → TraceFault → Type 0
 IsFaultOf edges most [] e = e ≡ fault.Header
 IsFaultOf edges most (h ∷ body) e =
-    MatchBool (is_header h) (IsFirstFault edges most body e) (e ≡ fault.Header)
+    MatchOption (version_of h) (e ≡ fault.Header)
+    (λ version. IsFirstFault version edges most body e)
 
 -- the records are no trace
 abbrev pub IsNoTrace : ℕ → ℕ → List Fields → Type 0

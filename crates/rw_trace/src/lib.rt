@@ -2,43 +2,65 @@
 //! The rows of a trace, read from the bytes of a CSV text.
 //!
 //! The records are those that the `csv` crate gives: comma and double quote, nothing trimmed, a byte order mark at the
-//! start taken off. The first one is the header `time,edge,object,size`; each further one is a row. What a trace means
-//! is `trace_of` of `specs/Trace.antt`; `specs/Laws.antt` says the same in the words of the format.
+//! start taken off. The first one is the header `time,edge,object,size` or `time,edge,object,size,kind`; each further
+//! one is a row of as many fields. What a trace means is `trace_of` of `specs/Trace.antt`; `specs/Laws.antt` says the
+//! same in the words of the format.
 //!
 //! Worked examples: `rw_tests/src/traces.rt`.
 
-ghost use Rattle.std.specs.Prelude.{All, ◌≡◌, ◌≢◌, ◌≤◌, ◌∷◌, [], Ok, Err, Some, IfOk, IfSome, length, IfErr, MatchBool, MatchResult, true};
+ghost use Rattle.std.specs.Prelude.{All, ◌≡◌, ◌≢◌, ◌≤◌, ◌∷◌, [], Ok, Err, Some, IfOk, IfNone, IfSome, length, IfErr, MatchBool, MatchResult, true};
 ghost use Rattle.csv.specs.Reading.{error_kind, stops_reader};
 ghost use Rattle.csv.specs.Records.{fields_of};
-ghost use Rattle.rw_trace.specs.Laws.{IsFaultOf, IsFirstFault, IsNoTrace, IsNumber, IsRow, IsTrace, IsWrong, Lacks, WriteRows, Writes, WritesRow};
+ghost use Rattle.rw_trace.specs.Laws.{IsFaultOf, IsFirstFault, IsNoTrace, IsNumber, IsRow, IsTrace, IsWrong, Lacks, LacksKind, WriteRows, Writes, WritesKind, WritesRow};
 ghost use Rattle.rw_trace.specs.Limits.{greatest_size, latest_time, most_digits, most_rows};
-ghost use Rattle.rw_trace.specs.Trace.{column_of, is_header, is_text_at, number_of, row_of, rows_of, trace_of};
+ghost use Rattle.rw_trace.specs.Trace.{column_of, is_header, is_text_at, kind_at, names_numbers, number_of, row_of, rows_of, trace_of, version_of, width_of};
 ghost use Rattle.rw_trace.specs.Unread.{Steady, records_of, unread};
 ghost use Rattle.rw_trace.specs.declared.TraceFault.TheVariants.{Memory, Number};
+ghost use Rattle.rw_trace.specs.declared.Version.TheVariants.{First, Second};
 
 use csv::{ByteRecord, Error, ErrorKind, Reader, ReaderBuilder};
 use std::alloc::Global;
 
-/// One request of a trace.
+/// What a row of a trace says of its object.
+#[derive(Clone, Copy, PartialEq, Eq, Debug)]
+pub enum Kind {
+    /// A request for the object.
+    Get,
+    /// The object is purged everywhere. The row's size is tested as any other's and otherwise not used.
+    Purge,
+}
+
+/// One row of a trace: a request, or a purge.
 #[derive(Clone, Copy, PartialEq, Eq, Debug)]
 pub struct Row {
     /// When, in ticks: at most [`MAX_TIME`].
     pub time: u64,
     /// At which edge cache, from 0.
     pub edge: u32,
-    /// For which object.
+    /// Of which object.
     pub object: u64,
     /// The object's size in bytes: 1 to [`MAX_SIZE`].
     pub size: u64,
+    /// Whether the object is asked for or purged: a get, where the header has no kind.
+    pub kind: Kind,
+}
+
+/// Which of the two headers a trace has.
+#[derive(Clone, Copy)]
+enum Version {
+    /// `time,edge,object,size`: each row is a get.
+    First,
+    /// `time,edge,object,size,kind`: each row names its kind.
+    Second,
 }
 
 /// Why a trace is refused, each shown as one line. Rows and columns are numbered from 0.
 #[derive(Debug, Drop, thiserror::Error)]
 pub enum TraceFault {
-    /// There is no record, or the first one is not the header.
+    /// There is no record, or the first one is no header.
     #[error("trace: header")]
     Header,
-    /// The row has not four fields.
+    /// The row has not as many fields as the header.
     #[error("trace: row {0}: length")]
     RowLength(u64),
     /// The field at this row and column is not 1 to [`MAX_DIGITS`] ASCII digits of a value below 2^64.
@@ -59,6 +81,9 @@ pub enum TraceFault {
     /// A request for memory was refused.
     #[error("memory")]
     Memory,
+    /// The row's kind is neither `get` nor `purge`.
+    #[error("trace: row {0}: kind")]
+    Kind(u64),
 }
 
 /// The greatest time of a row, in ticks: 2^39.
@@ -117,14 +142,50 @@ fn number_at(fields: &ByteRecord, row: u64, column: u8) -> Result<u64, TraceFaul
     }
 }
 
+/// Whether the field at a column is `text`.
+#[tactic(auto, unfolding(crate::specs::Trace::is_text_at))]
+fn is_field(fields: &ByteRecord, column: usize, text: &[u8]) -> bool
+    ensures { result ≡ is_text_at column text.now (fields_of fields.now) }
+{
+    match fields.get(column) {
+        Some(field) => field == text,
+        None => false,
+    }
+}
+
+/// How many fields each record of a version has, its header too.
+fn width(version: Version) -> usize
+    ensures { result ≡ width_of version }
+{
+    match version {
+        Version::First => 4,
+        Version::Second => 5,
+    }
+}
+
+/// The kind of a record, or `None` where its last field names none.
+#[tactic(auto, unfolding(crate::specs::Trace::kind_at))]
+fn kind_of_record(fields: &ByteRecord, version: Version) -> Option<Kind>
+    ensures value { result ≡ kind_at version (fields_of fields.now) }
+    ensures law { IfSome result (λ k. WritesKind version (fields_of fields.now) k) }
+    ensures wrong { IfNone result (LacksKind version (fields_of fields.now)) }
+{
+    match version {
+        Version::First => Some(Kind::Get),
+        Version::Second if is_field(fields, 4, b"get") => Some(Kind::Get),
+        Version::Second if is_field(fields, 4, b"purge") => Some(Kind::Purge),
+        Version::Second => None,
+    }
+}
+
 /// The row that a record writes, or what is first wrong in it.
 #[tactic(auto, unfolding(crate::specs::Trace::row_of))]
-fn row_at(fields: &ByteRecord, edges: u32, row: u64) -> Result<Row, TraceFault>
-    ensures value { result ≡ row_of edges row (fields_of fields.now) }
-    ensures law { IfOk result (λ r. WritesRow edges (fields_of fields.now) r) }
-    ensures wrong { IfErr result (λ e. IsWrong edges row (fields_of fields.now) e) }
+fn row_at(fields: &ByteRecord, version: Version, edges: u32, row: u64) -> Result<Row, TraceFault>
+    ensures value { result ≡ row_of version edges row (fields_of fields.now) }
+    ensures law { IfOk result (λ r. WritesRow version edges (fields_of fields.now) r) }
+    ensures wrong { IfErr result (λ e. IsWrong version edges row (fields_of fields.now) e) }
 {
-    if fields.len() != 4 {
+    if fields.len() != width(version) {
         return Err(TraceFault::RowLength(row));
     }
     let time = number_at(fields, row, 0)?;
@@ -140,35 +201,54 @@ fn row_at(fields: &ByteRecord, edges: u32, row: u64) -> Result<Row, TraceFault>
     if size == 0 || size > MAX_SIZE {
         return Err(TraceFault::SizeRange(row));
     }
+    let kind = kind_of_record(fields, version).ok_or(TraceFault::Kind(row))?;
     Ok(Row {
         time,
         edge: edge as u32,
         object,
         size,
+        kind,
     })
 }
 
-/// Whether the field at a column is `text`.
-#[tactic(auto, unfolding(crate::specs::Trace::is_text_at))]
-fn is_field(fields: &ByteRecord, column: usize, text: &[u8]) -> bool
-    ensures { result ≡ is_text_at column text.now (fields_of fields.now) }
+/// Whether a record begins with the names of a row's numbers.
+fn has_number_names(fields: &ByteRecord) -> bool
+    ensures { result ≡ names_numbers (fields_of fields.now) }
 {
-    match fields.get(column) {
-        Some(field) => field == text,
-        None => false,
-    }
-}
-
-/// Whether a record is the header of a trace.
-#[tactic(auto, unfolding(crate::specs::Trace::is_header))]
-fn is_header_record(fields: &ByteRecord) -> bool
-    ensures { result ≡ is_header (fields_of fields.now) }
-{
-    fields.len() == 4
-        && is_field(fields, 0, b"time")
+    is_field(fields, 0, b"time")
         && is_field(fields, 1, b"edge")
         && is_field(fields, 2, b"object")
         && is_field(fields, 3, b"size")
+}
+
+/// Whether a record is the header of the first version.
+#[tactic(auto, unfolding(crate::specs::Trace::is_header))]
+fn is_first_header(fields: &ByteRecord) -> bool
+    ensures { result ≡ is_header First (fields_of fields.now) }
+{
+    fields.len() == 4 && has_number_names(fields)
+}
+
+/// Whether a record is the header of the second version.
+#[tactic(auto, unfolding(crate::specs::Trace::is_header))]
+fn is_second_header(fields: &ByteRecord) -> bool
+    ensures { result ≡ is_header Second (fields_of fields.now) }
+{
+    fields.len() == 5 && has_number_names(fields) && is_field(fields, 4, b"kind")
+}
+
+/// The version whose header a record is, if it is one.
+#[tactic(auto, unfolding(crate::specs::Trace::version_of))]
+fn version_of_header(fields: &ByteRecord) -> Option<Version>
+    ensures { result ≡ version_of (fields_of fields.now) }
+{
+    if is_first_header(fields) {
+        Some(Version::First)
+    } else if is_second_header(fields) {
+        Some(Version::Second)
+    } else {
+        None
+    }
 }
 
 /// The fault of a read that memory, or the reader underneath, refused.
@@ -215,24 +295,27 @@ fn rows_left(
     alloc: Global,
     reader: &mut Reader<&[u8]>,
     fields: &mut ByteRecord,
+    version: Version,
     edges: u32,
     most: u64,
 ) -> Result<Vec<Row>, TraceFault>
     requires { Steady reader.old }
-    ensures rows { IfOk result (λ v. rows_of edges most 0 (unread reader.old) ≡ Ok v.items) }
+    ensures rows { IfOk result (λ v.
+        rows_of version edges most 0 (unread reader.old) ≡ Ok v.items) }
     ensures law { IfOk result (λ v.
-        WriteRows edges (unread reader.old) v.items × (length v.items ≤ most)) }
+        WriteRows version edges (unread reader.old) v.items × (length v.items ≤ most)) }
     ensures ranges { IfOk result (λ v. All (IsRow edges) v.items) }
     ensures fault { IfErr result (λ e.
-        e ≢ Memory → rows_of edges most 0 (unread reader.old) ≡ Err e) }
-    ensures first { IfErr result (λ e. e ≢ Memory → IsFirstFault edges most (unread reader.old) e) }
+        e ≢ Memory → rows_of version edges most 0 (unread reader.old) ≡ Err e) }
+    ensures first { IfErr result (λ e.
+        e ≢ Memory → IsFirstFault version edges most (unread reader.old) e) }
 {
     let mut rows = Vec::new(alloc);
     for at in 0..most {
         if !next(reader, fields)? {
             return Ok(rows);
         }
-        let one = row_at(fields, edges, at)?;
+        let one = row_at(fields, version, edges, at)?;
         if rows.push(one).is_err() {
             return Err(TraceFault::Memory);
         }
@@ -248,8 +331,8 @@ fn rows_left(
 /// # Errors
 ///
 /// The first fault of the trace: that of the first faulty row, within it first its length, then its columns from the
-/// left, in each the number before its range. `Memory` where a request for memory was refused; nothing is said of the
-/// trace then.
+/// left, in each the number before its range, and last its kind. `Memory` where a request for memory was refused;
+/// nothing is said of the trace then.
 #[tactic(auto, unfolding(crate::specs::Trace::trace_of))]
 pub fn read_up_to(
     alloc: Global,
@@ -271,10 +354,8 @@ pub fn read_up_to(
     if !next(&mut reader, &mut fields)? {
         return Err(TraceFault::Header);
     }
-    if !is_header_record(&fields) {
-        return Err(TraceFault::Header);
-    }
-    rows_left(alloc, &mut reader, &mut fields, edges, most)
+    let version = version_of_header(&fields).ok_or(TraceFault::Header)?;
+    rows_left(alloc, &mut reader, &mut fields, version, edges, most)
 }
 
 /// The rows of a trace of at most [`MAX_ROWS`] rows.

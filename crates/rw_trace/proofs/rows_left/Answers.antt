@@ -14,7 +14,7 @@ loop-at-init c = rw c.new-rows.ensures.items (record {
   steady = c.requires;
   meaning = all_before-none _;
   count = refl;
-  written = ([], refl, none-written c.args.edges);
+  written = ([], refl, none-written c.args.version c.args.edges);
 })
 
 pub loop-at-preserved : goal.loop-at-preserved
@@ -28,9 +28,9 @@ loop-at-preserved c =
     let (body, left, written) = inv.written in
     record {
       steady = c.in_ok-next.ensures.steady found;
-      meaning = rw items (inv.meaning ∙ rw gave (rows-more c.args.edges c.args.most c.loop-at.at f (unread c.next.new.reader) c.in_ok-one.one c.loop-at.rows.items c.loop-at-test.true (sym c.in_ok-one.ensures.value)));
+      meaning = rw items (inv.meaning ∙ rw gave (rows-more c.args.version c.args.edges c.args.most c.loop-at.at f (unread c.next.new.reader) c.in_ok-one.one c.loop-at.rows.items c.loop-at-test.true (sym c.in_ok-one.ensures.value)));
       count = rw items (grind (arith, common_steps));
-      written = (body ++ (f ∷ []), left ∙ rw (gave, append_assoc) refl, rw items (write-more c.args.edges body c.loop-at.rows.items f c.in_ok-one.one written c.in_ok-one.ensures.law));
+      written = (body ++ (f ∷ []), left ∙ rw (gave, append_assoc) refl, rw items (write-more c.args.version c.args.edges body c.loop-at.rows.items f c.in_ok-one.one written c.in_ok-one.ensures.law));
     }
 
 pub returns-in_err-one-clause-fault : goal.returns-in_err-one-clause-fault
@@ -72,7 +72,7 @@ returns-then-branch-clause-first c =
     }
 
 pub returns-then-not-branch-clause-ranges : goal.returns-then-not-branch-clause-ranges
-returns-then-not-branch-clause-ranges c = let (body, left, written) = c.loop-at.invariant.written in rows-in_range c.args.edges body c.loop-at.rows.items written
+returns-then-not-branch-clause-ranges c = let (body, left, written) = c.loop-at.invariant.written in rows-in_range c.args.version c.args.edges body c.loop-at.rows.items written
 
 pub returns-clause-ranges : goal.returns-clause-ranges
-returns-clause-ranges c = let (body, left, written) = c.loop-at.invariant.written in rows-in_range c.args.edges body c.loop-at.rows.items written
+returns-clause-ranges c = let (body, left, written) = c.loop-at.invariant.written in rows-in_range c.args.version c.args.edges body c.loop-at.rows.items written
