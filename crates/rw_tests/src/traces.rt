@@ -1,5 +1,5 @@
 // Traces: what is read from their bytes, and the fault of each that is refused.
-use rw_trace::{MAX_ROWS, Row, TraceFault, read, read_up_to};
+use rw_trace::{Kind, MAX_ROWS, Row, TraceFault, read, read_up_to};
 use std::alloc::Global;
 use std::test::Fail;
 
@@ -11,7 +11,7 @@ fn reading(alloc: Global, body: &[u8], most: u64) -> Result<String, Fail> {
     told(alloc, &answer)
 }
 
-/// The text of an answer: what each row holds, or the fault's line.
+/// The text of an answer: what each row holds, a purge's with its kind, or the fault's line.
 fn told(alloc: Global, answer: &Result<Vec<Row>, TraceFault>) -> Result<String, Fail> {
     let mut text = String::new(alloc);
     match answer {
@@ -22,8 +22,13 @@ fn told(alloc: Global, answer: &Result<Vec<Row>, TraceFault>) -> Result<String, 
                     edge,
                     object,
                     size,
+                    kind,
                 } = *row;
-                write!(text, "{time} {edge} {object} {size};")?;
+                write!(text, "{time} {edge} {object} {size}")?;
+                match kind {
+                    Kind::Get => write!(text, ";")?,
+                    Kind::Purge => write!(text, " purge;")?,
+                }
             }
         }
         Err(fault) => write!(text, "{fault}")?,
@@ -84,18 +89,80 @@ fn a_body_gives_its_rows_or_its_first_fault(rt: HostRuntime) -> Result<(), Fail>
 }
 
 /// Whole traces, whose headers are looked at.
-const HEADERS: [(&[u8], &str); 6] = [
+const HEADERS: [(&[u8], &str); 10] = [
     (b"", "trace: header"),
     (b"Time,edge,object,size\n", "trace: header"),
     (b"time,edge,object\n", "trace: header"),
-    (b"time,edge,object,size,kind\n", "trace: header"),
+    (b"time,edge,object,size,kind\n", ""),
+    (b"time,edge,object,size,Kind\n", "trace: header"),
+    (b"time,edge,object,kind,size\n", "trace: header"),
+    (b"time,edge,object,size,\n", "trace: header"),
+    (b"time,edge,object,size,kind,kind\n", "trace: header"),
     (b"\xef\xbb\xbftime,edge,object,size", ""),
     (b"\n\n\"time\",edge,object,size\n1,0,2,3", "1 0 2 3;"),
 ];
 
 #[test]
-fn a_header_is_its_four_words(rt: HostRuntime) -> Result<(), Fail> {
+fn a_header_is_its_four_words_or_five(rt: HostRuntime) -> Result<(), Fail> {
     for (row, (bytes, want)) in HEADERS.iter().enumerate() {
+        let text = told(rt.alloc(), &read(rt.alloc(), bytes, 1))?;
+        assert_eq!(rt; text.as_str(), *want, "row {row}");
+    }
+    Ok(())
+}
+
+/// Whole traces of both versions, with gets and purges.
+const KINDS: [(&[u8], &str); 12] = [
+    (
+        b"time,edge,object,size,kind\n5,0,7,4,get\n40,0,7,9,purge\n6,0,8,1,\"purge\"\n",
+        "5 0 7 4;40 0 7 9 purge;6 0 8 1 purge;",
+    ),
+    (b"time,edge,object,size\n5,0,7,4\n", "5 0 7 4;"),
+    (
+        b"time,edge,object,size,kind\n5,0,7,4\n",
+        "trace: row 0: length",
+    ),
+    (
+        b"time,edge,object,size,kind\n5,0,7,4,put\n",
+        "trace: row 0: kind",
+    ),
+    (
+        b"time,edge,object,size,kind\n5,0,7,0,put\n",
+        "trace: row 0: size",
+    ),
+    (
+        b"time,edge,object,size\n5,0,7,4,get\n",
+        "trace: row 0: length",
+    ),
+    (
+        b"time,edge,object,size,kind\n5,0,7,4,get,get\n",
+        "trace: row 0: length",
+    ),
+    (
+        b"time,edge,object,size,kind\n5,0,7,4,get\n5,0,7,4,Get\n",
+        "trace: row 1: kind",
+    ),
+    (
+        b"time,edge,object,size,kind\n5,0,7,4, purge\n",
+        "trace: row 0: kind",
+    ),
+    (
+        b"time,edge,object,size,kind\n5,0,7,4,\n",
+        "trace: row 0: kind",
+    ),
+    (
+        b"time,edge,object,size,kind\n5,0,7,4294967296,purge\n",
+        "trace: row 0: size",
+    ),
+    (
+        b"time,edge,object,size,kind\n5,0,7,x,put\n",
+        "trace: row 0 column 3: number",
+    ),
+];
+
+#[test]
+fn a_row_is_a_get_or_a_purge(rt: HostRuntime) -> Result<(), Fail> {
+    for (row, (bytes, want)) in KINDS.iter().enumerate() {
         let text = told(rt.alloc(), &read(rt.alloc(), bytes, 1))?;
         assert_eq!(rt; text.as_str(), *want, "row {row}");
     }
