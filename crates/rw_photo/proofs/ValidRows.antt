@@ -4,19 +4,25 @@ use Rattle.std.specs.Prelude.{All}
 use Rattle.std.proofs.lemmas.Bool.Decides.{nat_tests}
 use Rattle.std.proofs.lemmas.List.Elements.{All-cons, All-nil, All-head, All-tail}
 use Rattle.rw_vt.specs.System.{map_from}
+use Rattle.rw_trace.specs.declared.Kind.{Kind}
+use Rattle.rw_trace.specs.declared.Kind.TheVariants.{Get, Purge}
 use Rattle.rw_trace.specs.declared.Row.{Row}
 use Rattle.rw_trace.specs.Laws.{IsRow}
 use Rattle.rw_photo.specs.declared.config.Config.{Config}
-use Rattle.rw_photo.specs.Events.{is_valid, request_of}
+use Rattle.rw_photo.specs.Events.{is_valid, event_of}
 
--- a row in its ranges is a valid request
-valid-row : (c : Config) (n : ℕ) (r : Row) → n < 2 ^ 64 → IsRow c.edges r → is_valid c (request_of n r) ≡ true
-valid-row c n r l i = grind (arith, nat_tests)
+-- a row in its ranges is a valid event, whatever its kind
+valid-row : (c : Config) (n : ℕ) (r : Row) → n < 2 ^ 64 → IsRow c.edges r → is_valid c (event_of n r) ≡ true
+valid-row c n r l i = go r.kind refl
+  where
+    go : (k : Kind) → r.kind ≡ k → is_valid c (event_of n r) ≡ true
+    go Get is = rw is (grind (arith, nat_tests))
+    go Purge is = rw is (grind (arith, nat_tests))
 
-pub valid-rows : (c : Config) (n : ℕ) (rs : List Row) → n + length rs ≤ 2 ^ 64 → All (IsRow c.edges) rs → All (λ e. is_valid c e ≡ true) (map_from n request_of rs)
+pub valid-rows : (c : Config) (n : ℕ) (rs : List Row) → n + length rs ≤ 2 ^ 64 → All (IsRow c.edges) rs → All (λ e. is_valid c e ≡ true) (map_from n event_of rs)
 valid-rows c n [] l all = All-nil (λ e. is_valid c e ≡ true)
 valid-rows c n (r ∷ rs) l all =
-    All-cons (λ e. is_valid c e ≡ true) (request_of n r) (map_from (n + 1) request_of rs)
+    All-cons (λ e. is_valid c e ≡ true) (event_of n r) (map_from (n + 1) event_of rs)
     (valid-row c n r (omega arith) (All-head (IsRow c.edges) r rs all))
     (valid-rows c (n + 1) rs (omega arith) (All-tail (IsRow c.edges) r rs all))
 

@@ -7,6 +7,8 @@ use Rattle.rw_blocks.specs.Words.{Object, Size}
 use Rattle.rw_vt.specs.declared.event.Event.{Event}
 use Rattle.rw_blocks.specs.State.{QueueState}
 use Rattle.rw_trace.specs.Limits.{greatest_size, latest_time}
+use Rattle.rw_trace.specs.declared.Kind.{Kind}
+use Rattle.rw_trace.specs.declared.Kind.TheVariants as kind
 use Rattle.rw_trace.specs.declared.Row.{Row}
 use Rattle.rw_photo.specs.declared.body.Body.{Body}
 use Rattle.rw_photo.specs.declared.body.Body.TheVariants.{Request, Miss, Fill, Purge, Drop, Clear}
@@ -161,7 +163,18 @@ step c p s e =
 
 -- From a trace
 
+-- what a row of this kind has happen to an object; the size is that of a get
+abbrev pub body_of : Kind → Object → Size → Body
+body_of kind.Get o z = Request o z
+body_of kind.Purge o z = Purge o
+
 -- row n of a trace, as an event
-abbrev pub request_of : Count → Row → Event Body
-request_of n r =
-    record { time = r.time; source = 0; number = n; to = r.edge; body = Request r.object r.size }
+abbrev pub event_of : Count → Row → Event Body
+event_of n r =
+    record {
+      time = r.time;
+      source = 0;
+      number = n;
+      to = r.edge;
+      body = body_of r.kind r.object r.size;
+    }

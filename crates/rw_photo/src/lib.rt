@@ -26,6 +26,6 @@ pub use counters::Counters;
 pub use photo::Photo;
 pub use rows::requests;
 pub use rw_ripq::{Change, Levels, Policy, Shape, Trail};
-pub use rw_trace::Row;
+pub use rw_trace::{Kind, Row};
 pub use rw_vt::{Event, NoMemory, Refusal};
 pub use undo::Undo;

@@ -1,15 +1,15 @@
 ghost use Rattle.std.specs.Prelude.{◌≡◌, ℕ, true, All, IfOk};
 ghost use Rattle.rw_vt.specs.System.{map_from};
 ghost use Rattle.rw_trace.specs.Laws.{IsRow};
-ghost use Rattle.rw_photo.specs.Events.{is_valid, request_of};
+ghost use Rattle.rw_photo.specs.Events.{body_of, event_of, is_valid};
 
 use crate::body::Body;
 use crate::config::Config;
-use rw_trace::Row;
+use rw_trace::{Kind, Row};
 use rw_vt::{Event, NoMemory};
 use std::alloc::Global;
 
-/// The requests of a trace, in its order: row n is event number n from outside.
+/// The requests of a trace, and its purges, in its order: row n is event number n from outside.
 ///
 /// Rows in the ranges of a trace of the configuration's edges give valid events.
 ///
@@ -17,7 +17,7 @@ use std::alloc::Global;
 ///
 /// `NoMemory` only where memory was refused.
 pub fn requests(alloc: Global, rows: &[Row]) -> Result<Vec<Event<Body>>, NoMemory>
-    ensures events { IfOk result (λ es. es.items ≡ map_from 0 request_of rows.now) }
+    ensures events { IfOk result (λ es. es.items ≡ map_from 0 event_of rows.now) }
     ensures valid { IfOk result (λ es. (c : Config)
         → All (IsRow c.edges) rows.now → All (λ e. is_valid c e ≡ true) es.items) }
 {
@@ -28,14 +28,25 @@ pub fn requests(alloc: Global, rows: &[Row]) -> Result<Vec<Event<Body>>, NoMemor
             edge,
             object,
             size,
+            kind,
         } = *row;
         events.push(Event {
             time,
             source: 0,
             number: number as u64,
             to: edge,
-            body: Body::Request { object, size },
+            body: body_of(kind, object, size),
         })?;
     }
     Ok(events)
+}
+
+/// What a row of a kind has happen to an object.
+fn body_of(kind: Kind, object: u64, size: u64) -> Body
+    ensures { result ≡ body_of kind object size }
+{
+    match kind {
+        Kind::Get => Body::Request { object, size },
+        Kind::Purge => Body::Purge { object },
+    }
 }
