@@ -7,7 +7,7 @@ use Rattle.rw_lp.specs.declared.step.Answer.TheVariants.{Done, Refused}
 use Rattle.rw_lp.specs.declared.step.StepFault.{StepFault}
 use Rattle.rw_lp.specs.declared.step.StepFault.TheVariants.{NoSuchProcess, NoSuchLetter, NothingPending, Straggler, NothingToUndo, StillDone, AboveFloor}
 use Rattle.rw_photo.specs.declared.body.Body.{Body}
-use Rattle.rw_photo.specs.declared.body.Body.TheVariants.{Request, Miss, Fill}
+use Rattle.rw_photo.specs.declared.body.Body.TheVariants.{Request, Miss, Fill, Purge, Drop, Clear}
 use Rattle.rw_photo.specs.Cache.{Cache}
 use Rattle.rw_world.specs.WorldState.{WorldState, floor, is_finished}
 
@@ -26,11 +26,14 @@ abbrev pub answer_line : ℕ → Answer → List ℕ
 answer_line step Done = []
 answer_line step (Refused fault) = codes "step " ++ decimal step ++ codes " refused " ++ fault_words fault ++ codes "\n"
 
--- what happens, to which object, of which size, and for a miss at which edge
+-- what happens, to which object, of which size if one is said, and for a miss and a drop from which edge
 abbrev pub body_words : Body → List ℕ
 body_words (Request object size) = codes "request " ++ decimal object ++ codes " " ++ decimal size
 body_words (Miss object size edge) = codes "miss " ++ decimal object ++ codes " " ++ decimal size ++ codes " " ++ decimal edge
 body_words (Fill object size) = codes "fill " ++ decimal object ++ codes " " ++ decimal size
+body_words (Purge object) = codes "purge " ++ decimal object
+body_words (Drop object edge) = codes "drop " ++ decimal object ++ codes " " ++ decimal edge
+body_words (Clear object) = codes "clear " ++ decimal object
 
 -- an event of a process, as one line
 abbrev pub event_line : ℕ → Event Body → List ℕ

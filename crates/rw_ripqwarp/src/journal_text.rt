@@ -119,7 +119,7 @@ fn write_event(text: &mut Vec<u8>, process: u32, event: &Event<Body>) -> Result<
     Ok(())
 }
 
-/// What happens, to which object, of which size, and for a miss at which edge.
+/// What happens, to which object, of which size if one is said, and for a miss and a drop from which edge.
 fn write_body(text: &mut Vec<u8>, body: Body) -> Result<(), NoMemory>
     ensures { OnOk result (text.new.items ≡ text.old.items ++ body_words body) }
 {
@@ -130,6 +130,12 @@ fn write_body(text: &mut Vec<u8>, body: Body) -> Result<(), NoMemory>
             write_count(text, b" ", u64::from(edge))
         }
         Body::Fill { object, size } => write_object(text, b"fill ", object, size),
+        Body::Purge { object } => write_count(text, b"purge ", object),
+        Body::Drop { object, edge } => {
+            write_count(text, b"drop ", object)?;
+            write_count(text, b" ", u64::from(edge))
+        }
+        Body::Clear { object } => write_count(text, b"clear ", object),
     }
 }
 

@@ -7,7 +7,7 @@ use Rattle.rw_trace.specs.Trace.{trace_of}
 use Rattle.rw_trace.specs.Unread.{records_of}
 use Rattle.rw_photo.specs.declared.config.Config.{Config}
 use Rattle.rw_photo.specs.Cache.{Cache, IsWellFormed}
-use Rattle.rw_photo.specs.Events.{request_of}
+use Rattle.rw_photo.specs.Events.{event_of}
 use Rattle.rw_photo.specs.Simulation.{starts_of}
 use Rattle.rw_ripqwarp.proofs.Runs.{ready}
 use Rattle.rw_ripqwarp.proofs.simulation.beginning.Goals as goal
@@ -26,6 +26,6 @@ returns-clause-beginning c =
       rows = rows;
       accepted = subst (λ n. trace_of n (2 ^ 24) (records_of c.args.bytes.now) ≡ Ok rows) c.edges.ensures c.in_ok-rows.ensures.rows;
       starts_are = are;
-      initial_are = c.in_ok-initial.ensures.events ∙ ap (map_from 0 request_of) c.as_slice.ensures.value;
+      initial_are = c.in_ok-initial.ensures.events ∙ ap (map_from 0 event_of) c.as_slice.ensures.value;
       ready = ready config starts c.in_ok-initial.initial.items are well (c.in_ok-initial.ensures.valid config read);
     }
