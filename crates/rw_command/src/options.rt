@@ -245,7 +245,9 @@ fn trace<'a>(alloc: Global) -> Arg<'a> {
     Arg::new(alloc, "trace")
         .value_name("TRACE")
         .required(true)
-        .help("The trace, a CSV file under the header time,edge,object,size; - is standard input")
+        .help(
+            "The trace: CSV under time,edge,object,size and, for purges, kind; - is standard input",
+        )
 }
 
 /// The steps by which a trace is run.
