@@ -26,6 +26,8 @@ mod pipe;
 #[cfg(test)]
 mod primitives;
 #[cfg(test)]
+mod purges;
+#[cfg(test)]
 mod queue_text;
 #[cfg(test)]
 mod relay_rounds;
