@@ -75,6 +75,7 @@ pub record AreSmall (k : Counters) : Type 0 where
   pub splits : k.splits < 2 ^ 64
   pub merges : k.merges < 2 ^ 64
   pub hit_bytes : k.hit_bytes < 2 ^ 64
+  pub request_bytes : k.request_bytes < 2 ^ 64
   pub purges : k.purges < 2 ^ 64
   pub purged : k.purged < 2 ^ 64
 
@@ -98,6 +99,7 @@ small-counts k small i =
       splits = wrapped-small k.splits small.splits i;
       merges = wrapped-small k.merges small.merges i;
       hit_bytes = wrapped-small k.hit_bytes small.hit_bytes i;
+      request_bytes = wrapped-small k.request_bytes small.request_bytes i;
       purges = wrapped-small k.purges small.purges i;
       purged = wrapped-small k.purged small.purged i;
     }

@@ -32,6 +32,7 @@ counters_by count =
       splits = count (λ k. k.splits);
       merges = count (λ k. k.merges);
       hit_bytes = count (λ k. k.hit_bytes);
+      request_bytes = count (λ k. k.request_bytes);
       purges = count (λ k. k.purges);
       purged = count (λ k. k.purged);
     }
@@ -57,19 +58,25 @@ AreCounts counters = counters_by (λ which. which counters % 2 ^ 64) ≡ counter
 -- a hit by a request for so many bytes, which moved its object or not
 abbrev pub one_hit : Bool → Size → Counters
 one_hit moved z =
-    record no_counts { requests = 1; hits = 1; promoted = one_if moved; hit_bytes = z }
+    record no_counts {
+      requests = 1;
+      hits = 1;
+      promoted = one_if moved;
+      hit_bytes = z;
+      request_bytes = z;
+    }
 
 -- a purge, of an object that was stored or not
 abbrev pub one_purge : Bool → Counters
 one_purge stored = record no_counts { purges = 1; purged = one_if stored }
 
--- a miss, added to what storing its object counts
-abbrev pub one_miss : Counters → Counters
-one_miss counts = record counts { requests = 1; misses = 1 }
+-- a miss by a request for so many bytes, added to what storing its object counts
+abbrev pub one_miss : Size → Counters → Counters
+one_miss z counts = record counts { requests = 1; misses = 1; request_bytes = z }
 
--- a miss whose object is on its way already
-abbrev pub one_coalesced : Counters
-one_coalesced = record (one_miss no_counts) { coalesced = 1 }
+-- a miss by a request for so many bytes, whose object is on its way already
+abbrev pub one_coalesced : Size → Counters
+one_coalesced z = record (one_miss z no_counts) { coalesced = 1 }
 
 -- a fill that answers n requests, added to what storing its object counts
 abbrev pub with_late : Count → Counters → Counters

@@ -78,12 +78,12 @@ origin_of c o = c.edges + o % c.origins
 -- a request that misses waits for its object, with those that wait for it already; the first asks the origin
 abbrev pub edge_miss : Config → Process → Cache → Time → Object → Size → Option Count → Happening
 edge_miss c p s t o z (Some n) =
-    record { queue = s.queue; waiting = Some (plus n 1); counts = one_coalesced; sent = [] }
+    record { queue = s.queue; waiting = Some (plus n 1); counts = one_coalesced z; sent = [] }
 edge_miss c p s t o z None =
     record {
       queue = s.queue;
       waiting = Some 1;
-      counts = one_miss no_counts;
+      counts = one_miss z no_counts;
       sent = event_from p s (t + c.up) (origin_of c o) (Miss o z p) ∷ [];
     }
 
@@ -103,7 +103,7 @@ request_happening c p s t o z =
 abbrev pub backend_store : Config → Cache → Object → Size → QueueAndCounts
 backend_store c s o z =
     let made = store c.policy s.queue o z in
-    record made { counts = one_miss made.counts }
+    record made { counts = one_miss z made.counts }
 
 -- a miss at an origin, which fetches what it lacks from the backend and stores it; edge g is sent a fill
 abbrev pub miss_happening : Config → Process → Cache → Time → Object → Size → Process → Happening

@@ -34,6 +34,8 @@ pub struct Counters {
     pub merges: u64,
     /// Bytes that were asked for by requests that hit.
     pub hit_bytes: u64,
+    /// Bytes that were asked for by requests, hits and misses together.
+    pub request_bytes: u64,
     /// Purges, of an object that was stored and of one that was not.
     pub purges: u64,
     /// Objects that left by a purge.
@@ -58,6 +60,7 @@ macro_rules! each_count {
             splits: $left.splits.$method($right.splits),
             merges: $left.merges.$method($right.merges),
             hit_bytes: $left.hit_bytes.$method($right.hit_bytes),
+            request_bytes: $left.request_bytes.$method($right.request_bytes),
             purges: $left.purges.$method($right.purges),
             purged: $left.purged.$method($right.purged),
         }
@@ -74,6 +77,7 @@ impl Counters {
             hits: 1,
             promoted: u64::from(moved),
             hit_bytes: size,
+            request_bytes: size,
             ..Counters::default()
         }
     }
@@ -89,23 +93,24 @@ impl Counters {
         }
     }
 
-    /// A miss whose object is on its way already.
-    pub(crate) fn of_coalesced() -> Counters
-        ensures { result ≡ one_coalesced }
+    /// A miss by a request for `size` bytes, whose object is on its way already.
+    pub(crate) fn of_coalesced(size: u64) -> Counters
+        ensures { result ≡ one_coalesced size }
     {
         Counters {
             coalesced: 1,
-            ..Counters::default().with_miss()
+            ..Counters::default().with_miss(size)
         }
     }
 
-    /// These counts, and a miss: one request and one miss.
-    pub(crate) fn with_miss(self) -> Counters
-        ensures { result ≡ one_miss self }
+    /// These counts, and a miss: one request, for `size` bytes, and one miss.
+    pub(crate) fn with_miss(self, size: u64) -> Counters
+        ensures { result ≡ one_miss size self }
     {
         Counters {
             requests: 1,
             misses: 1,
+            request_bytes: size,
             ..self
         }
     }

@@ -152,7 +152,7 @@ impl Photo {
         if let Some(others) = state.waiting(object) {
             state.set_waiting(object, Some(others.wrapping_add(1)))?;
             return Ok(Deed {
-                change: Change::new(alloc, Counters::of_coalesced()),
+                change: Change::new(alloc, Counters::of_coalesced(size)),
                 sends: Sends::Nothing,
             });
         }
@@ -164,7 +164,7 @@ impl Photo {
         };
         let origin = self.origin_of(object);
         Ok(Deed {
-            change: Change::new(alloc, Counters::default().with_miss()),
+            change: Change::new(alloc, Counters::default().with_miss(size)),
             sends: Sends::One(state.sending(process, time + self.config.up, origin, question)),
         })
     }
@@ -208,7 +208,7 @@ impl Photo {
         Ok(Deed {
             change: Change {
                 trail,
-                counts: counts.with_miss(),
+                counts: counts.with_miss(size),
             },
             sends: Sends::One(state.sending(process, time + down + back, edge, answer)),
         })

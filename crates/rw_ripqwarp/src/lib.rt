@@ -25,5 +25,5 @@ pub use rw_vt::{Event, NoMemory, Outcome, Refusal};
 pub use rw_world::{Answer, Step, World};
 pub use schedule_text::{ScheduleFault, schedule};
 pub use sim_fault::SimFault;
-pub use simulation::{beginning, simulate};
+pub use simulation::{beginning, beginning_of_rows, simulate};
 pub use text::report;

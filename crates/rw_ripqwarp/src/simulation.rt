@@ -1,7 +1,10 @@
-ghost use Rattle.std.specs.Prelude.{◌≡◌, ◌≢◌, ◌^◌, ◌↔◌, ℕ, List, Err, Some, IfOk, IfErr, OnOk, slice_get};
+ghost use Rattle.std.specs.Prelude.{◌≡◌, ◌≢◌, ◌^◌, ◌↔◌, ℕ, List, Err, Some, All, IfOk, IfErr, OnOk, slice_get};
 ghost use Rattle.std.specs.Io.KnownBytes.{Appends};
 ghost use Rattle.rw_photo.specs.Cache.{Cache, IsWellFormed};
-ghost use Rattle.rw_photo.specs.Simulation.{starts_of};
+ghost use Rattle.rw_photo.specs.Simulation.{simulation, starts_of};
+ghost use Rattle.rw_photo.specs.contracts.photo.PhotoVtModel.TheImpl as model;
+ghost use Rattle.rw_trace.specs.Laws.{IsRow};
+ghost use Rattle.rw_vt.specs.System.{IsReady};
 ghost use Rattle.rw_ripqwarp.specs.Sink.{AppendsBeginning};
 ghost use Rattle.rw_ripqwarp.specs.Simulate.{IsBeginningOf, IsTextOf, IsWarp, no_traffic, HasGoodPlan, IsRunFault, IsBeginningFault};
 ghost use Rattle.rw_ripqwarp.specs.Headline.{HasWritten, HasWrittenBeginning};
@@ -15,7 +18,7 @@ use crate::text::{report, report_of_states};
 use rw_photo::{Body, CacheState, Config, Photo, requests};
 use rw_rounds::{Open, Traffic};
 use rw_serial::last_states;
-use rw_trace::read;
+use rw_trace::{Row, read};
 use rw_vt::{Event, Model as VtModel, NoMemory};
 use rw_world::World;
 use std::alloc::Global;
@@ -104,7 +107,23 @@ pub fn beginning(
     ensures fault { IfErr result (IsBeginningFault config.now bytes.now) }
 {
     let rows = read(alloc, bytes, config.edges())?;
-    let initial = requests(alloc, rows.as_slice())?;
+    Ok(beginning_of_rows(alloc, rows.as_slice(), config)?)
+}
+
+/// What a run of these rows begins with: each cache as it starts, and the requests. The rows are in the ranges of a trace of
+/// the configuration's edges, as those are that [`rw_trace::read`] gives; many configurations may run the same rows.
+pub fn beginning_of_rows(
+    alloc: Global,
+    rows: &[Row],
+    config: &Config,
+) -> Result<(Vec<CacheState>, Vec<Event<Body>>), NoMemory>
+    requires { All (IsRow config.now.edges) rows.now }
+    ensures starts { IfOk result (λ r. r.0.items ≡ (simulation config.now rows.now).starts) }
+    ensures initial { IfOk result (λ r. r.1.items ≡ (simulation config.now rows.now).initial) }
+    ensures ready { IfOk result (λ r.
+        IsReady model.ghosts (record { config = config.now }) r.0.items r.1.items) }
+{
+    let initial = requests(alloc, rows)?;
     let starts = starts(alloc, &Photo::new(*config))?;
     Ok((starts, initial))
 }

@@ -121,14 +121,15 @@ fn ends(
     }
 }
 
-/// The counters of an edge that has had `requests` requests, each a miss, of which `coalesced` were coalesced and
-/// `late` are late.
+/// The counters of an edge that has had `requests` requests of 4 bytes, each a miss, of which `coalesced` were coalesced
+/// and `late` are late.
 fn missed(requests: u64, coalesced: u64, late: u64) -> Counters {
     Counters {
         requests,
         misses: requests,
         coalesced,
         late,
+        request_bytes: requests.wrapping_mul(4),
         ..Counters::default()
     }
 }

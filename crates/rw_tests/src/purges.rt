@@ -40,6 +40,7 @@ fn an_object_is_purged_everywhere(rt: HostRuntime) -> Result<(), Fail> {
         misses: 2,
         late: 2,
         inserted: 2,
+        request_bytes: 8,
         purges: 1,
         purged: 1,
         ..Counters::default()
@@ -50,6 +51,7 @@ fn an_object_is_purged_everywhere(rt: HostRuntime) -> Result<(), Fail> {
         misses: 2,
         inserted: 2,
         hit_bytes: 8,
+        request_bytes: 16,
         purges: 1,
         purged: 1,
         ..Counters::default()
