@@ -1,0 +1,3 @@
+-- what public contracts say
+pub mod Escape
+pub mod Sweep

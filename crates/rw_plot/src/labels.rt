@@ -1,0 +1,156 @@
+//! Numbers as they are written in the picture.
+
+use crate::measure::Unit;
+use crate::scale::Hundredths;
+use std::fmt;
+
+/// A length in pixels, with two decimals.
+#[derive(Clone, Copy)]
+pub(crate) struct Pixels(pub(crate) Hundredths);
+
+impl fmt::Display for Pixels {
+    fn fmt<W: fmt::Write>(&self, f: &mut fmt::Formatter<W>) -> fmt::Result {
+        let whole = self.0 / 100;
+        let rest = self.0 % 100;
+        write!(f, "{whole}.{rest:02}")
+    }
+}
+
+/// The units of a number of bytes, each 1024 of the one before.
+const BYTE_UNITS: [&str; 8] = ["B", "KiB", "MiB", "GiB", "TiB", "PiB", "EiB", "ZiB"];
+
+/// A number of bytes in the greatest unit of which it is a whole number, as `64 KiB`.
+#[derive(Clone, Copy)]
+pub(crate) struct Size(pub(crate) u128);
+
+impl fmt::Display for Size {
+    fn fmt<W: fmt::Write>(&self, f: &mut fmt::Formatter<W>) -> fmt::Result {
+        let mut count = self.0;
+        let mut unit = "B";
+        for next in BYTE_UNITS {
+            unit = next;
+            if count == 0 || count % 1024 != 0 {
+                break;
+            }
+            count /= 1024;
+        }
+        write!(f, "{count} {unit}")
+    }
+}
+
+/// A number with decimals, of which those behind the last that is not 0 are left out.
+#[derive(Clone, Copy)]
+struct Decimals {
+    /// The part before the point.
+    whole: u128,
+    /// The decimals as a number, below a million.
+    millionths: u128,
+}
+
+impl fmt::Display for Decimals {
+    fn fmt<W: fmt::Write>(&self, f: &mut fmt::Formatter<W>) -> fmt::Result {
+        let whole = self.whole;
+        let millionths = self.millionths;
+        if millionths == 0 {
+            return write!(f, "{whole}");
+        }
+        let mut rest = millionths;
+        let mut digits: usize = 6;
+        for _ in 0..6 {
+            if rest % 10 != 0 {
+                break;
+            }
+            rest /= 10;
+            digits = digits.saturating_sub(1);
+        }
+        write!(f, "{whole}.{rest:0digits$}")
+    }
+}
+
+/// The units of a count, each a thousand of the one before.
+const COUNT_UNITS: [&str; 7] = ["", " k", " M", " G", " T", " P", " E"];
+
+/// A count in the greatest unit that is not over it, as `1.5 M`, with at most six decimals.
+#[derive(Clone, Copy)]
+struct Count(u128);
+
+impl fmt::Display for Count {
+    fn fmt<W: fmt::Write>(&self, f: &mut fmt::Formatter<W>) -> fmt::Result {
+        let count = self.0;
+        let mut size: u128 = 1;
+        let mut name = "";
+        for next in COUNT_UNITS {
+            name = next;
+            if count / 1000 < size {
+                break;
+            }
+            size = size.saturating_mul(1000);
+        }
+        let size = size.max(1);
+        let millionths = (count % size).saturating_mul(1_000_000) / size;
+        let decimals = Decimals {
+            whole: count / size,
+            millionths,
+        };
+        write!(f, "{decimals}{name}")
+    }
+}
+
+/// The value of a tick, in as few characters as tell it.
+#[derive(Clone, Copy)]
+pub(crate) struct TickValue {
+    /// In what it is counted.
+    pub(crate) unit: Unit,
+    /// The value.
+    pub(crate) value: u128,
+}
+
+impl fmt::Display for TickValue {
+    fn fmt<W: fmt::Write>(&self, f: &mut fmt::Formatter<W>) -> fmt::Result {
+        let value = self.value;
+        if value == 0 {
+            return write!(f, "0");
+        }
+        match self.unit {
+            Unit::Ratio => {
+                let ratio = Decimals {
+                    whole: value / 1_000_000,
+                    millionths: value % 1_000_000,
+                };
+                write!(f, "{ratio}")
+            }
+            Unit::Bytes => {
+                let size = Size(value);
+                write!(f, "{size}")
+            }
+            Unit::Count => {
+                let count = Count(value);
+                write!(f, "{count}")
+            }
+        }
+    }
+}
+
+/// The value of a point, to its last digit.
+#[derive(Clone, Copy)]
+pub(crate) struct PointValue {
+    /// In what it is counted.
+    pub(crate) unit: Unit,
+    /// The value.
+    pub(crate) value: u64,
+}
+
+impl fmt::Display for PointValue {
+    fn fmt<W: fmt::Write>(&self, f: &mut fmt::Formatter<W>) -> fmt::Result {
+        let value = self.value;
+        match self.unit {
+            Unit::Ratio => {
+                let whole = value / 1_000_000;
+                let millionths = value % 1_000_000;
+                write!(f, "{whole}.{millionths:06}")
+            }
+            Unit::Bytes => write!(f, "{value} bytes"),
+            Unit::Count => write!(f, "{value}"),
+        }
+    }
+}

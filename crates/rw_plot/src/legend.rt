@@ -1,0 +1,131 @@
+//! The names of the polylines, to the right of them.
+
+use crate::escaping::{escape, readable};
+use crate::labels::{Pixels, Size};
+use crate::scale::Hundredths;
+use crate::series::{Name, Varying};
+use std::alloc::{AllocError, Global};
+use std::io::{self, Write};
+
+/// The most lines of a legend.
+pub(crate) const MOST_ENTRIES: usize = 60;
+
+/// The left end of the legend.
+const LEGEND_LEFT: Hundredths = 680_00;
+
+/// How far from the top the first line of the legend stands.
+const LEGEND_TOP: Hundredths = 72_00;
+
+/// How far apart the lines of the legend stand.
+const LEGEND_STEP: Hundredths = 20_00;
+
+/// How many colours there are.
+const COLOURS: usize = 7;
+
+/// How many kinds of dashes there are.
+const DASHES: usize = 4;
+
+/// About how wide a policy may be in the legend, in tenths of a pixel.
+const POLICY_ROOM: u32 = 1_100;
+
+/// About how wide a line of the legend may be, in tenths of a pixel.
+const LABEL_ROOM: u32 = 2_250;
+
+/// Bytes of a text as they may stand in the picture, cut where they would be wider than `room`.
+fn shown(alloc: Global, text: &[u8], room: u32) -> Result<Vec<u8>, AllocError> {
+    let readable = readable(alloc, text, room)?;
+    escape(alloc, readable.as_bytes())
+}
+
+/// The whole name of a polyline, as it may stand in the picture: its policy, and of the rest what varies.
+pub(crate) fn full_name(alloc: Global, name: &Name, varying: Varying) -> io::Result<Vec<u8>> {
+    let text = label_text(alloc, name, varying, u32::MAX)?;
+    Ok(shown(alloc, text.as_slice(), u32::MAX)?)
+}
+
+/// The name of a polyline as it stands in the legend.
+fn short_name(alloc: Global, name: &Name, varying: Varying) -> io::Result<Vec<u8>> {
+    let room = if varying.sections || varying.blocks {
+        POLICY_ROOM
+    } else {
+        LABEL_ROOM
+    };
+    let text = label_text(alloc, name, varying, room)?;
+    Ok(shown(alloc, text.as_slice(), LABEL_ROOM)?)
+}
+
+/// The text of a name, not escaped yet, its policy cut where it would be wider than `room`.
+fn label_text(alloc: Global, name: &Name, varying: Varying, room: u32) -> io::Result<Vec<u8>> {
+    let policy = readable(alloc, name.policy.as_slice(), room)?;
+    let mut text = Vec::from_slice(alloc, policy.as_bytes())?;
+    if varying.sections {
+        let sections = name.sections;
+        write!(text, ", {sections} sections")?;
+    }
+    if varying.blocks {
+        let block = Size(u128::from(name.block));
+        write!(text, ", {block} blocks")?;
+    }
+    Ok(text)
+}
+
+/// Writes the beginning of the group of a polyline or of its line in the legend: its colour and dashes.
+pub(crate) fn open_group(out: &mut Vec<u8>, place: usize) -> io::Result<()> {
+    let colour = place % COLOURS;
+    let dashes = place / COLOURS % DASHES;
+    write!(out, "<g class=\"colour{colour} dashes{dashes}\">")
+}
+
+/// How far from the top a line of the legend stands.
+fn height_of(place: usize) -> Hundredths {
+    let place = u32::try_from(place.min(MOST_ENTRIES)).unwrap_or(0);
+    LEGEND_TOP.saturating_add(LEGEND_STEP.saturating_mul(place))
+}
+
+/// How far down a legend of so many polylines reaches.
+pub(crate) fn bottom_of(many: usize) -> Hundredths {
+    height_of(many).saturating_add(LEGEND_STEP)
+}
+
+/// Writes a line of the legend.
+pub(crate) fn write_entry(
+    alloc: Global,
+    out: &mut Vec<u8>,
+    place: usize,
+    name: &Name,
+    varying: Varying,
+) -> io::Result<()> {
+    let height = height_of(place);
+    let y = Pixels(height);
+    let base = Pixels(height.saturating_add(4_00));
+    let from = Pixels(LEGEND_LEFT);
+    let middle = Pixels(LEGEND_LEFT.saturating_add(14_00));
+    let to = Pixels(LEGEND_LEFT.saturating_add(28_00));
+    let text_x = Pixels(LEGEND_LEFT.saturating_add(36_00));
+    open_group(out, place)?;
+    out.extend_from_slice(b"<title>")?;
+    out.extend_from_slice(full_name(alloc, name, varying)?.as_slice())?;
+    out.extend_from_slice(b"</title>")?;
+    write!(
+        out,
+        "<polyline class=\"line\" points=\"{from},{y} {to},{y}\"/>"
+    )?;
+    write!(
+        out,
+        "<circle class=\"dot\" cx=\"{middle}\" cy=\"{y}\" r=\"3.5\"/>"
+    )?;
+    write!(out, "<text x=\"{text_x}\" y=\"{base}\">")?;
+    out.extend_from_slice(short_name(alloc, name, varying)?.as_slice())?;
+    out.extend_from_slice(b"</text></g>\n")?;
+    Ok(())
+}
+
+/// Writes how many polylines the legend leaves out.
+pub(crate) fn write_rest(out: &mut Vec<u8>, left_out: usize) -> io::Result<()> {
+    let base = Pixels(height_of(MOST_ENTRIES).saturating_add(4_00));
+    let text_x = Pixels(LEGEND_LEFT.saturating_add(36_00));
+    write!(
+        out,
+        "<text x=\"{text_x}\" y=\"{base}\">and {left_out} more</text>\n"
+    )
+}
