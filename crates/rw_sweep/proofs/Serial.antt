@@ -1,0 +1,59 @@
+-- The serial run of a configuration.
+use Rattle.std.proofs.Common.{◌≡◌, ℕ, ◌+◌, List, [], ◌∷◌, suc, refl, sym, ◌∙◌, ap, subst, length}
+use Rattle.std.proofs.Common.{Result, Ok, Err}
+use Rattle.std.specs.Result.{IfErr, IsErrAnd}
+use Rattle.std.specs.Global.{Vec}
+use Rattle.rw_vt.specs.declared.refusal.Refusal.{Refusal}
+use Rattle.rw_vt.specs.declared.refusal.Refusal.TheVariants.{Exhausted}
+use Rattle.rw_sweep.specs.declared.point.Point.{Point}
+use Rattle.rw_sweep.specs.Working.{IsExhaustedAt, IsResultOf}
+use Rattle.std.proofs.lemmas.List.FromFn.{length-map-range_with_len}
+use Rattle.rw_vt.specs.declared.event.Event.{Event}
+use Rattle.rw_vt.specs.Limits.{end_of_time}
+use Rattle.rw_vt.specs.System.{IsOutcome, IsReady, state_after, journal_below, map_from, system}
+use Rattle.rw_trace.specs.declared.Row.{Row}
+use Rattle.rw_photo.specs.declared.body.Body.{Body}
+use Rattle.rw_photo.specs.declared.config.Config.{Config}
+use Rattle.rw_photo.specs.declared.photo.Photo.{Photo}
+use Rattle.rw_photo.specs.contracts.photo.PhotoVtModel.TheImpl as model
+use Rattle.rw_photo.specs.contracts.body.BodyOrd.TheImpl as order
+use Rattle.rw_photo.specs.Cache.{Cache, start}
+use Rattle.rw_photo.specs.Simulation.{simulation}
+
+-- any model of the configuration may run what is ready for one
+pub ready-at : (c : Config) (m : Photo) (starts : List Cache) (initial : List (Event Body)) → m.config ≡ c → IsReady model.ghosts (record { config = c }) starts initial
+    → IsReady model.ghosts m starts initial
+ready-at c m starts initial is r = subst (λ (k : Config). IsReady model.ghosts (record { config = k }) starts initial) (sym is) r
+
+-- the run is the simulation of the configuration
+pub simulates : (c : Config) (m : Photo) (rows : List Row) (starts : List Cache) (initial : List (Event Body)) → m.config ≡ c
+    → starts ≡ (simulation c rows).starts → initial ≡ (simulation c rows).initial → system model.ghosts order.ghosts.cmp m starts initial ≡ simulation c rows
+simulates c m rows starts initial config first events i =
+    record {
+      order = (simulation c rows).order;
+      step = (simulation (config i) rows).step;
+      valid = (simulation (config i) rows).valid;
+      starts = first i;
+      initial = events i;
+    }
+
+length-map_from : {A C : Type 0} (k : ℕ) (f : ℕ → A → C) (xs : List A) → length (map_from k f xs) ≡ length xs
+length-map_from k f [] = refl
+length-map_from k f (x ∷ xs) = ap suc (length-map_from (k + 1) f xs)
+
+-- a state for each cache
+pub length-states : (c : Config) (rows : List Row) (journals : List (List (Event Body))) (states : List Cache) → IsOutcome (simulation c rows) end_of_time journals states
+    → length states ≡ c.edges + c.origins
+length-states c rows journals states o =
+    let y = simulation c rows in
+    ap length o.states_are ∙ (length-map_from 0 (λ q s. state_after (y.step q) s (journal_below y end_of_time q)) y.starts ∙ length-map-range_with_len (start c) 0 (c.edges + c.origins))
+
+-- a refusal of the run is what became of the configuration
+pub refused : (rows : List Row) (p : Point) (r : Result (Vec ℕ) Refusal) (e : Refusal) → IsErrAnd r (λ f. f ≡ e) → (e ≡ Exhausted → IsExhaustedAt rows p) → IsResultOf rows p r
+refused rows p (Ok v) e is h = absurd is
+refused rows p (Err f) e is h = λ same. h (sym is ∙ same)
+
+-- a refusal that is passed on
+pub passed-on : {T : Type 0} (P : Type 0) (r : Result T Refusal) (e : Refusal) → IsErrAnd r (λ f. f ≡ e) → (e ≡ Exhausted → P) → IfErr r (λ f. f ≡ Exhausted → P)
+passed-on P (Ok v) e is h = tt
+passed-on P (Err f) e is h = λ same. h (sym is ∙ same)

@@ -1,0 +1,7 @@
+pub mod Limits
+pub mod Grids
+pub mod Table
+pub mod Sweep
+pub mod Points
+pub mod Widening
+pub mod Working

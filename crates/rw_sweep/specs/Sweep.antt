@@ -1,0 +1,72 @@
+-- From the bytes of a trace and a grid to the bytes of the table.
+use Rattle.std.specs.Prelude.{◌≡◌, ℕ, List, ◌++◌, map, Ok, Err, Option}
+use Rattle.std.specs.List.{AllZip, Contains, flat_map}
+use Rattle.std.specs.Io.KnownBytes.{Appends}
+use Rattle.rw_vt.specs.declared.event.Event.{Event}
+use Rattle.rw_vt.specs.System.{IsOutcome, Meets}
+use Rattle.rw_vt.specs.Limits.{end_of_time}
+use Rattle.rw_trace.specs.declared.Row.{Row}
+use Rattle.rw_trace.specs.Limits.{most_rows}
+use Rattle.rw_trace.specs.Trace.{trace_of}
+use Rattle.rw_trace.specs.Unread.{records_of}
+use Rattle.rw_photo.specs.declared.body.Body.{Body}
+use Rattle.rw_photo.specs.declared.config.Config.{Config}
+use Rattle.rw_photo.specs.Cache.{Cache, is_exhausted}
+use Rattle.rw_photo.specs.Simulation.{simulation}
+use Rattle.rw_ripqwarp.specs.Sink.{AppendsBeginning}
+use Rattle.rw_ripqwarp.specs.declared.sim_fault.SimFault.{SimFault}
+use Rattle.rw_ripqwarp.specs.declared.sim_fault.SimFault.TheVariants as sim
+use Rattle.rw_sweep.specs.declared.choice.Choice.{Choice}
+use Rattle.rw_sweep.specs.declared.axes.Axes.{Axes}
+use Rattle.rw_sweep.specs.Grids.{IsConfigOf, combinations}
+use Rattle.rw_sweep.specs.Table.{header_line, sweep_lines}
+
+-- the part tells of a configuration at work on these rows: executing their requests, and all that follows from them, in order of
+-- time leaves the caches in these states; and its three lines tell what they have counted
+pub record IsPartOf (c : Config) (x : Choice) (rows : List Row) (part : List ℕ) : Type 0 where
+  pub journals : List (List (Event Body))
+  pub states : List Cache
+  pub outcome : IsOutcome (simulation c rows) end_of_time journals states
+  pub told : part ≡ sweep_lines c x (map (λ s. s.counters) states)
+
+-- the same, of the configuration of a choice
+pub record IsPartOfChoice (a : Axes) (rows : List Row) (x : Choice) (part : List ℕ) : Type 0 where
+  pub config : Config
+  pub config_is : IsConfigOf a x config
+  pub tells : IsPartOf config x rows part
+
+-- the text is the table of the trace in these bytes over a grid: the trace is accepted with these rows, and behind the header stands
+-- a part for each combination, in their order
+pub record IsSweepOf (a : Axes) (bytes text : List ℕ) : Type 0 where
+  pub rows : List Row
+  pub parts : List (List ℕ)
+  pub accepted : trace_of a.edges most_rows (records_of bytes) ≡ Ok rows
+  pub each : AllZip (IsPartOfChoice a rows) (combinations a) parts
+  pub told : text ≡ header_line ++ flat_map (λ part. part) parts
+
+-- a finished sweep has written, between what the writer held before and what it holds after, its table
+abbrev pub HasSwept : Axes → List ℕ → Option (List ℕ) → Option (List ℕ) → Type 0
+HasSwept a bytes before after = (text : List ℕ) × IsSweepOf a bytes text × Appends before after text
+
+-- what went out of a sweep that the writer cut off is a beginning of its table
+abbrev pub HasSweptBeginning : Axes → List ℕ → Option (List ℕ) → Option (List ℕ) → Type 0
+HasSweptBeginning a bytes before after = (text : List ℕ) × IsSweepOf a bytes text × AppendsBeginning before after text
+
+-- the trace in these bytes is accepted, and executing it in order of time under one of the combinations comes to a cache that can
+-- take no further event
+pub record IsExhaustingSweep (a : Axes) (bytes : List ℕ) : Type 0 where
+  pub rows : List Row
+  pub choice : Choice
+  pub config : Config
+  pub accepted : trace_of a.edges most_rows (records_of bytes) ≡ Ok rows
+  pub among : Contains (combinations a) choice
+  pub config_is : IsConfigOf a choice config
+  pub met : Meets (simulation config rows) end_of_time is_exhausted
+
+-- why a sweep has no table, or could not write it; want of memory may come anywhere
+abbrev pub IsSweepFault : Axes → List ℕ → SimFault → Type 0
+IsSweepFault a bytes (sim.Trace f) = trace_of a.edges most_rows (records_of bytes) ≡ Err f
+IsSweepFault a bytes sim.Exhausted = IsExhaustingSweep a bytes
+IsSweepFault a bytes sim.Output = Unit {0}
+IsSweepFault a bytes sim.Memory = Unit {0}
+IsSweepFault a bytes _ = ⊥

@@ -1,0 +1,10 @@
+/// Of which caches a line tells.
+#[derive(Clone, Copy, Debug, PartialEq, Eq)]
+pub enum Caches {
+    /// The edges.
+    Edges,
+    /// The origins.
+    Origins,
+    /// All caches of the configuration.
+    All,
+}

@@ -1,0 +1,264 @@
+ghost use Rattle.std.specs.Prelude.{◌≡◌, ◌*◌, ◌^◌, ◌-◌, ◌++◌, ◌<◌, ◌≤◌, ◌↔◌, min, map, length, All, [], Err, IsTrue, IsSome, IfOk, IfSome, OnOk};
+ghost use Rattle.std.specs.List.{Any};
+ghost use Rattle.rw_sweep.specs.Grids.{IsConfigOf, IsInGridRanges, combinations};
+ghost use Rattle.rw_sweep.specs.Points.{ArePoints, IsPoint};
+ghost use Rattle.rw_sweep.specs.Limits.{most_configurations};
+ghost use Rattle.rw_sweep.specs.Widening.{first_choice, widened, with_number};
+
+use crate::axes::{Axes, Axis};
+use crate::choice::Choice;
+use crate::point::Point;
+use rw_photo::{Config, NoMemory, Policy, Shape};
+use std::alloc::Global;
+use std::marker::Model;
+
+/// Why there is no grid of these axes.
+#[derive(Clone, Copy, Debug, PartialEq, Eq, thiserror::Error)]
+pub enum GridFault {
+    /// There are more than [`MAX_CONFIGURATIONS`] configurations.
+    #[error("grid: too many configurations")]
+    TooMany,
+    /// A number of one of the configurations is out of its range.
+    #[error("grid: range")]
+    OutOfRange,
+    /// A request for memory was refused.
+    #[error("memory")]
+    Memory,
+}
+
+impl From<NoMemory> for GridFault {
+    ghost from_gives = { λ _ fault. fault ≡ Memory };
+
+    ghost use Rattle.rw_sweep.specs.declared.grid.GridFault.TheVariants.{Memory};
+
+    fn from(_refusal: NoMemory) -> GridFault {
+        GridFault::Memory
+    }
+}
+
+/// The most configurations of a grid: 2^16.
+pub const MAX_CONFIGURATIONS: u64 = 1 << 16;
+
+impl Choice {
+    /// The choice with another number at an axis.
+    fn with(self, axis: Axis, number: u64) -> Choice
+        ensures { result ≡ with_number axis self number }
+    {
+        match axis {
+            Axis::Sections => Choice {
+                sections: number,
+                ..self
+            },
+            Axis::Block => Choice {
+                block: number,
+                ..self
+            },
+            Axis::EdgeBlocks => Choice {
+                edge_blocks: number,
+                ..self
+            },
+            Axis::OriginBlocks => Choice {
+                origin_blocks: number,
+                ..self
+            },
+        }
+    }
+}
+
+/// Whether the axes have more combinations than a grid may have.
+fn has_too_many(axes: &Axes) -> bool
+    ensures { IsTrue result ↔ (most_configurations < length (combinations axes.now)) }
+{
+    let count = (axes.policies.len() as u64)
+        .saturating_mul(axes.sections.len() as u64)
+        .saturating_mul(axes.blocks.len() as u64)
+        .saturating_mul(axes.edge_blocks.len() as u64)
+        .saturating_mul(axes.origin_blocks.len() as u64);
+    count > MAX_CONFIGURATIONS
+}
+
+/// A choice of each policy, with nothing else chosen yet.
+fn first_choices(alloc: Global, policies: &[Policy]) -> Result<Vec<Choice>, NoMemory>
+    ensures { IfOk result (λ choices. choices.items ≡ map first_choice policies.now) }
+{
+    let mut choices = Vec::with_capacity(alloc, policies.len())?;
+    for policy in policies {
+        choices.push(Choice {
+            policy: *policy,
+            sections: 0,
+            block: 0,
+            edge_blocks: 0,
+            origin_blocks: 0,
+        })?;
+    }
+    Ok(choices)
+}
+
+/// Puts the choice with each of the numbers at an axis behind the others.
+fn push_each(
+    all: &mut Vec<Choice>,
+    choice: Choice,
+    axis: Axis,
+    numbers: &[u64],
+) -> Result<(), NoMemory>
+    ensures { OnOk result
+        (all.new.items ≡ all.old.items ++ map (with_number axis choice) numbers.now) }
+{
+    for number in numbers {
+        all.push(choice.with(axis, *number))?;
+    }
+    Ok(())
+}
+
+/// Each choice with each of the numbers at an axis.
+fn widened(
+    alloc: Global,
+    choices: Vec<Choice>,
+    axis: Axis,
+    numbers: &[u64],
+) -> Result<Vec<Choice>, NoMemory>
+    ensures { IfOk result (λ all. all.items ≡ widened axis numbers.now choices.items) }
+{
+    let mut all = Vec::new(alloc);
+    for choice in choices.as_slice() {
+        push_each(&mut all, *choice, axis, numbers)?;
+    }
+    Ok(all)
+}
+
+/// Every combination, in order.
+fn combinations(alloc: Global, axes: &Axes) -> Result<Vec<Choice>, NoMemory>
+    ensures { IfOk result (λ all. all.items ≡ combinations axes.now) }
+{
+    let all = first_choices(alloc, axes.policies.as_slice())?;
+    let all = widened(alloc, all, Axis::Sections, axes.sections.as_slice())?;
+    let all = widened(alloc, all, Axis::Block, axes.blocks.as_slice())?;
+    let all = widened(alloc, all, Axis::EdgeBlocks, axes.edge_blocks.as_slice())?;
+    widened(
+        alloc,
+        all,
+        Axis::OriginBlocks,
+        axes.origin_blocks.as_slice(),
+    )
+}
+
+/// The configuration of a choice, if its numbers are in their ranges.
+fn config_of(axes: &Axes, choice: Choice) -> Option<Config>
+    ensures found { IsSome result ↔ IsInGridRanges axes.now choice }
+    ensures config { IfSome result (λ c. IsConfigOf axes.now choice c) }
+{
+    let edge_shape = Shape::new(choice.sections, choice.block, choice.edge_blocks)?;
+    let origin_shape = Shape::new(choice.sections, choice.block, choice.origin_blocks)?;
+    Config::new(
+        axes.edges,
+        axes.origins,
+        choice.policy,
+        edge_shape,
+        origin_shape,
+        axes.up,
+        axes.down,
+        axes.back,
+    )
+}
+
+/// Each choice with its configuration.
+fn points(alloc: Global, axes: &Axes, choices: &[Choice]) -> Result<Vec<Point>, GridFault>
+    ensures choices { IfOk result (λ points. map (λ p. p.choice) points.items ≡ choices.now) }
+    ensures each { IfOk result (λ points. All (IsPoint axes.now) points.items) }
+    ensures in_range { OnOk result (All (IsInGridRanges axes.now) choices.now) }
+    ensures out_of_range { result ≡ Err GridFault.OutOfRange
+        → Any (λ x. IsInGridRanges axes.now x → ⊥) choices.now }
+    ensures others { result ≡ Err GridFault.TooMany → ⊥ }
+{
+    let Ok(mut points) = Vec::with_capacity(alloc, choices.len()) else {
+        return Err(GridFault::Memory);
+    };
+    for choice in choices {
+        let Some(config) = config_of(axes, *choice) else {
+            return Err(GridFault::OutOfRange);
+        };
+        let point = Point {
+            choice: *choice,
+            config,
+        };
+        if points.push(point).is_err() {
+            return Err(GridFault::Memory);
+        }
+    }
+    Ok(points)
+}
+
+/// Every combination of the values of some axes, each a configuration whose numbers are in their ranges.
+///
+/// Contracts see it as its axes.
+#[derive(Drop)]
+pub struct Grid {
+    axes: Axes,
+    points: Vec<Point>,
+}
+
+impl Model for Grid {
+    ghost use Rattle.rw_sweep.specs.Points.{ArePoints};
+    ghost use Rattle.rw_sweep.specs.declared.axes.Axes.{Axes};
+
+    ghost Value = { Axes };
+
+    ghost view = { λ g. g.axes };
+
+    ghost invariant = { λ g. ArePoints g.axes g.points.items };
+}
+
+impl Grid {
+    /// The grid of these axes: one configuration for each combination, the policies outermost, then the sections, the block, the
+    /// blocks of an edge, and the blocks of an origin innermost.
+    ///
+    /// # Errors
+    ///
+    /// [`GridFault::TooMany`] exactly where there are more than [`MAX_CONFIGURATIONS`] combinations, [`GridFault::OutOfRange`]
+    /// only where there are not and a number of one of them is out of its range, and [`GridFault::Memory`] only where memory was
+    /// refused.
+    pub fn new(alloc: Global, axes: Axes) -> Result<Grid, GridFault>
+        ensures axes { IfOk result (λ grid. grid ≡ axes) }
+        ensures few { OnOk result (length (combinations axes) ≤ most_configurations) }
+        ensures in_range { OnOk result (All (IsInGridRanges axes) (combinations axes)) }
+        ensures too_many { result ≡ Err GridFault.TooMany
+            → most_configurations < length (combinations axes) }
+        ensures out_of_range { result ≡ Err GridFault.OutOfRange
+            → Any (λ x. IsInGridRanges axes x → ⊥) (combinations axes) }
+    {
+        if has_too_many(&axes) {
+            return Err(GridFault::TooMany);
+        }
+        let choices = combinations(alloc, &axes)?;
+        let points = points(alloc, &axes, choices.as_slice())?;
+        Ok(Grid { axes, points })
+    }
+
+    /// How many configurations there are. Takes no memory.
+    pub fn len(&self) -> usize
+        ensures { result ≡ length (combinations self.now) }
+    {
+        self.points.len()
+    }
+
+    /// Whether there is no configuration. Takes no memory.
+    pub fn is_empty(&self) -> bool
+        ensures { IsTrue result ↔ (combinations self.now ≡ []) }
+    {
+        self.points.is_empty()
+    }
+
+    /// How many edges each configuration has.
+    pub(crate) fn edges(&self) -> u32
+        ensures { result ≡ self.now.edges }
+    {
+        self.axes.edges
+    }
+
+    /// Each choice with its configuration, in order.
+    pub(crate) fn points(&self) -> &[Point]
+        ensures { ArePoints self.now result.now }
+    {
+        self.points.as_slice()
+    }
+}

@@ -1,0 +1,26 @@
+#![tactic(auto)]
+//! One trace under many configurations: a table with three lines for each.
+//!
+//! A [`Grid`] is every combination of the values of some [`Axes`]. [`sweep`] runs a trace under each of its configurations, many
+//! side by side, and writes what the edges, the origins and all caches of each have counted. What a table is stands in
+//! `specs/Sweep.antt` and `specs/Table.antt`.
+//!
+//! Worked examples: `rw_tests/src/sweeps.rt`.
+
+mod axes;
+mod caches;
+mod choice;
+mod entry;
+mod grid;
+mod point;
+mod progress;
+mod running;
+mod sweeping;
+mod table;
+mod working;
+
+pub use axes::Axes;
+pub use choice::Choice;
+pub use grid::{Grid, GridFault, MAX_CONFIGURATIONS};
+pub use progress::{Progress, Silent};
+pub use sweeping::{MAX_WORKERS, every_limit, sweep};

@@ -1,0 +1,26 @@
+ghost use Rattle.std.specs.Prelude.{◌≡◌, ◌+◌, IfOk};
+ghost use Rattle.rw_sweep.specs.Working.{CanRun, IsResultOf};
+
+use crate::point::Point;
+use crate::table::lines;
+use rw_photo::Photo;
+use rw_ripqwarp::beginning_of_rows;
+use rw_serial::last_states;
+use rw_trace::Row;
+use rw_vt::Refusal;
+use std::alloc::Global;
+
+/// Runs these rows on this thread under a configuration, and gives its lines.
+///
+/// # Errors
+///
+/// `Exhausted` only where the run comes to a cache that can take no further event, and `Memory` only where memory was refused.
+pub(crate) fn run_one(alloc: Global, rows: &[Row], point: &Point) -> Result<Vec<u8>, Refusal>
+    requires { CanRun rows.now point.now }
+    ensures { IsResultOf rows.now point.now result }
+{
+    let (starts, initial) = beginning_of_rows(alloc, rows, &point.config)?;
+    let states = last_states(alloc, &Photo::new(point.config), starts, initial)?;
+    let text = lines(alloc, &point.config, point.choice, states.as_slice())?;
+    Ok(text)
+}
