@@ -2,9 +2,9 @@
 //! The program `ripqwarp`: hands its words, its files and its streams to the library, and ends with the status that it
 //! answers.
 
-use rw_command::{Fault, Out, Source, SourceFault, command};
+use rw_command::{Fault, Out, Source, SourceFault, command_at};
 use std::alloc::Global;
-use std::io::{ErrorKind, Read};
+use std::io::{ErrorKind, IsTerminal, Read};
 use std::process::ExitCode;
 use std::rt::{Env, Files};
 use std::{env, fs};
@@ -46,7 +46,8 @@ fn main(rt: HostRuntime) -> ExitCode {
     };
     let mut traces = Traces { rt: &rt };
     let mut out = Out::new(rt.stdout());
-    let status = command(&rt, alloc, words, &mut traces, &mut out, &mut err);
+    let terminal = err.is_terminal();
+    let status = command_at(&rt, alloc, words, &mut traces, &mut out, &mut err, terminal);
     ExitCode::from(status)
 }
 

@@ -1,7 +1,9 @@
 use crate::fault::Fault;
 use crate::lines::write_line;
 use crate::options::program;
+use crate::plotting::plot;
 use crate::source::Source;
+use crate::sweeping::sweep;
 use crate::values::{config, plan};
 use clap::ArgMatches;
 use clap::error::ErrorKind;
@@ -13,15 +15,16 @@ use std::thread::Threads;
 
 /// Does what the program's words ask, its name first, and answers the exit status.
 ///
-/// The report, the journal or help goes to `out`. A fault goes to `err` as one line; and so does, once the report of a
-/// run in rounds is written, what its rounds did. Where `err` fails it is ignored, and nothing is tried again.
+/// The report, the journal, the trace, the table, the picture or help goes to `out`. A fault goes to `err` as one line; and so
+/// does, once the report of a run in rounds is written, what its rounds did, and once a log is imported, what was left out
+/// of it. Where `err` fails it is ignored, and nothing is tried again.
 ///
 /// | Status | Meaning |
 /// |---|---|
 /// | 0 | done, also after help |
 /// | 2 | the command line, or the schedule |
-/// | 3 | the trace was refused |
-/// | 4 | the trace cannot be read |
+/// | 3 | the trace, log or sweep was refused |
+/// | 4 | its file cannot be read |
 /// | 5 | memory |
 /// | 6 | all rounds of the plan are used, or the start of a thread was refused |
 /// | 7 | a cache is exhausted |
@@ -34,12 +37,21 @@ pub fn command<S: Source, W: Write, E: Write, R: Threads + Wait + Sync>(
     out: &mut Out<W>,
     err: &mut E,
 ) -> u8 {
-    match attempt(rt, alloc, words.as_slice(), source, out) {
-        Ok(None) => 0,
-        Ok(Some(traffic)) => {
-            tell_traffic(&traffic, err);
-            0
-        }
+    command_at(rt, alloc, words, source, out, err, false)
+}
+
+/// The same, where `err` may be a terminal: there a sweep shows how much of it is done.
+pub fn command_at<S: Source, W: Write, E: Write, R: Threads + Wait + Sync>(
+    rt: &R,
+    alloc: Global,
+    words: Vec<String>,
+    source: &mut S,
+    out: &mut Out<W>,
+    err: &mut E,
+    terminal: bool,
+) -> u8 {
+    match attempt(rt, alloc, words.as_slice(), source, out, err, terminal) {
+        Ok(()) => 0,
         Err(fault) => {
             fault.tell(err);
             fault.status()
@@ -47,39 +59,60 @@ pub fn command<S: Source, W: Write, E: Write, R: Threads + Wait + Sync>(
     }
 }
 
-/// Does what the words ask; after a run in rounds, what they did.
-fn attempt<S: Source, W: Write, R: Threads + Wait + Sync>(
+/// Does what the words ask.
+fn attempt<S: Source, W: Write, E: Write, R: Threads + Wait + Sync>(
     rt: &R,
     alloc: Global,
     words: &[String],
     source: &mut S,
     out: &mut Out<W>,
-) -> Result<Option<Traffic>, Fault> {
+    err: &mut E,
+    terminal: bool,
+) -> Result<(), Fault> {
     let program = program(alloc)?;
     match program.try_get_matches_from(words) {
-        Ok(matches) => carry_out(rt, alloc, &matches, source, out),
-        Err(error) => {
-            answer(alloc, error, out)?;
-            Ok(None)
-        }
+        Ok(matches) => carry_out(rt, alloc, &matches, source, out, err, terminal),
+        Err(error) => answer(alloc, error, out),
     }
 }
 
-/// Does what `clap` has understood; after a run in rounds, what they did.
-fn carry_out<S: Source, W: Write, R: Threads + Wait + Sync>(
+/// Does what `clap` has understood.
+fn carry_out<S: Source, W: Write, E: Write, R: Threads + Wait + Sync>(
     rt: &R,
     alloc: Global,
     matches: &ArgMatches<'_>,
     source: &mut S,
     out: &mut Out<W>,
-) -> Result<Option<Traffic>, Fault> {
+    err: &mut E,
+    terminal: bool,
+) -> Result<(), Fault> {
     let Some((name, options)) = matches.subcommand() else {
         return Err(Fault::Plan);
     };
+    match name {
+        "sweep" => sweep(rt, alloc, options, source, out, err, terminal),
+        "plot" => plot(alloc, options, source, out),
+        _ => simulation(rt, alloc, name, options, source, out, err),
+    }
+}
+
+/// Runs a trace, and tells what the rounds of a run in rounds did.
+fn simulation<S: Source, W: Write, E: Write, R: Threads + Wait + Sync>(
+    rt: &R,
+    alloc: Global,
+    name: &str,
+    options: &ArgMatches<'_>,
+    source: &mut S,
+    out: &mut Out<W>,
+    err: &mut E,
+) -> Result<(), Fault> {
     let mode = mode(alloc, name, options)?;
     let is_warp = matches!(mode, Mode::Warp(_));
     let traffic = run(rt, alloc, options, mode, source, out)?;
-    Ok(is_warp.then_some(traffic))
+    if is_warp {
+        tell_traffic(&traffic, err);
+    }
+    Ok(())
 }
 
 /// How the command of this name runs a trace under these options.
@@ -106,11 +139,28 @@ fn run<S: Source, W: Write, R: Threads + Wait + Sync>(
     let Some(config) = config(options) else {
         return Err(Fault::Plan);
     };
-    let Some(trace) = options.get_str("trace") else {
-        return Err(Fault::Plan);
-    };
-    let bytes = source.bytes(alloc, trace).map_err(Fault::Source)?;
+    let bytes = read(alloc, options, "trace", source)?;
     simulate(rt, alloc, bytes.as_slice(), &config, mode, out).map_err(Fault::Run)
+}
+
+/// All bytes of the file that an argument names.
+pub(crate) fn read<S: Source>(
+    alloc: Global,
+    options: &ArgMatches<'_>,
+    argument: &str,
+    source: &mut S,
+) -> Result<Vec<u8>, Fault> {
+    let path = options.get_str(argument).ok_or(Fault::Plan)?;
+    source.bytes(alloc, path).map_err(Fault::Source)
+}
+
+/// Writes a text whole.
+pub(crate) fn write<W: Write>(text: &[u8], out: &mut Out<W>) -> Result<(), Fault> {
+    if out.write_text(text) {
+        Ok(())
+    } else {
+        Err(Fault::Run(SimFault::Output))
+    }
 }
 
 /// Deals with what `clap` answers in place of a command: help, which is printed, or a fault.
@@ -122,11 +172,7 @@ fn answer<W: Write>(alloc: Global, error: clap::Error, out: &mut Out<W>) -> Resu
     if error.use_stderr() {
         return Err(Fault::CommandLine(text));
     }
-    if out.write_text(text.as_bytes()) {
-        Ok(())
-    } else {
-        Err(Fault::Run(SimFault::Output))
-    }
+    write(text.as_bytes(), out)
 }
 
 /// Writes what the rounds of a run did as one line; a writer that fails is let be.

@@ -1,5 +1,6 @@
 use crate::lines::write_line;
 use crate::source::SourceFault;
+use rw_plot::PlotFault;
 use rw_ripqwarp::{ScheduleFault, SimFault};
 use std::alloc::AllocError;
 use std::io::Write;
@@ -25,6 +26,15 @@ pub enum Fault {
     /// The run has no report.
     #[error("{0}")]
     Run(SimFault),
+    /// An option is no list of its values.
+    #[error("error: --{0}: no list of its values; see ripqwarp sweep --help")]
+    List(&'static str),
+    /// The lists have too many combinations.
+    #[error("error: more than {0} combinations")]
+    Combinations(u64),
+    /// The sweep was refused.
+    #[error("{0}")]
+    Plot(PlotFault),
 }
 
 impl Fault {
@@ -33,14 +43,17 @@ impl Fault {
         match self {
             Fault::CommandLine(_)
             | Fault::Plan
+            | Fault::List(_)
+            | Fault::Combinations(_)
             | Fault::Schedule(ScheduleFault::Word(_))
             | Fault::Run(SimFault::Plan) => 2,
-            Fault::Run(SimFault::Trace(_)) => 3,
-            Fault::Source(SourceFault::Read) => 4,
             Fault::Memory
             | Fault::Schedule(ScheduleFault::Memory)
             | Fault::Source(SourceFault::Memory)
+            | Fault::Plot(PlotFault::Memory)
             | Fault::Run(SimFault::Memory) => 5,
+            Fault::Run(SimFault::Trace(_)) | Fault::Plot(_) => 3,
+            Fault::Source(SourceFault::Read) => 4,
             Fault::Run(SimFault::Rounds | SimFault::NoThread) => 6,
             Fault::Run(SimFault::Exhausted) => 7,
             Fault::Run(SimFault::Output) => 8,

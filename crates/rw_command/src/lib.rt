@@ -3,14 +3,18 @@
 //!
 //! Worked examples: `rw_tests/src/commands.rt`, and the cases of `rw_cases`.
 
+mod arguments;
 mod command_line;
 mod fault;
 mod lines;
+mod lists;
 mod options;
+mod plotting;
 mod source;
+mod sweeping;
 mod values;
 
-pub use command_line::command;
+pub use command_line::{command, command_at};
 pub use fault::Fault;
 pub use rw_ripqwarp::{Out, ScheduleFault, SimFault};
 pub use source::{Source, SourceFault};

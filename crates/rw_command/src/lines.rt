@@ -16,12 +16,16 @@ const ROOM: usize = 512;
 /// programs are not mixed; else in pieces. A failure is what it is for [`Out`]: an error, of an interrupted write too, or a
 /// write that takes nothing. So it ends at every writer. Takes no memory.
 pub(crate) fn write_line<E: Write, D: Display + Drop>(err: &mut E, line: D) {
-    let mut held = Held {
-        out: Out::new(err),
-        bytes: [0; ROOM],
-        used: 0,
-    };
+    let mut held = Held::new(err);
     if writeln!(held, "{line}").is_ok() {
+        let _ = held.send();
+    }
+}
+
+/// Writes a text over the line that a terminal stands in, and flushes the writer, as [`write_line`] does.
+pub(crate) fn write_over<E: Write, D: Display + Drop>(err: &mut E, text: D) {
+    let mut held = Held::new(err);
+    if write!(held, "\r\x1b[K{text}").is_ok() {
         let _ = held.send();
     }
 }
@@ -36,6 +40,15 @@ struct Held<W> {
 }
 
 impl<W: Write> Held<W> {
+    /// Nothing held, for this writer.
+    fn new(writer: W) -> Held<W> {
+        Held {
+            out: Out::new(writer),
+            bytes: [0; ROOM],
+            used: 0,
+        }
+    }
+
     /// Writes what is held; whether the writer took it.
     fn send(&mut self) -> bool
         ensures { self.new.used ≡ 0 }

@@ -1,5 +1,6 @@
-// The command line as `clap` reads it: what each command takes stands in tables, in the order of the help.
-use clap::{Arg, ArgAction, Command, value_parser};
+// The command line: what each command takes stands in tables, in the order of the help.
+use crate::arguments::{Argument, Kind};
+use clap::Command;
 use rw_photo::{Config, Shape};
 use rw_vt::END;
 use std::alloc::{AllocError, Global};
@@ -12,7 +13,9 @@ pub(crate) fn program<'a>(alloc: Global) -> Result<Command<'a>, AllocError> {
         .arg_required_else_help(true);
     let program = with_command(program, serial(alloc))?;
     let program = with_command(program, warp(alloc))?;
-    with_command(program, journal(alloc))
+    let program = with_command(program, journal(alloc))?;
+    let program = with_command(program, sweep(alloc))?;
+    with_command(program, plot(alloc))
 }
 
 /// The program with one command more, if that could be made.
@@ -26,28 +29,40 @@ fn with_command<'a>(
 /// The command that runs a trace on one thread.
 fn serial<'a>(alloc: Global) -> Result<Command<'a>, AllocError> {
     let about = "Runs a trace on one thread and prints the counters of each cache";
-    command(alloc, "serial", about, &[Argument::Trace])
+    let command = command(alloc, "serial", about, &[TRACE])?;
+    with_arguments(alloc, command, &CACHES)
 }
 
 /// The command that runs a trace in rounds of workers.
 fn warp<'a>(alloc: Global) -> Result<Command<'a>, AllocError> {
     let about =
         "Runs a trace on several threads, ahead of time, and prints the report that serial prints";
-    command(alloc, "warp", about, &ROUNDS)
+    let command = command(alloc, "warp", about, &ROUNDS)?;
+    with_arguments(alloc, command, &CACHES)
 }
 
 /// The command that runs a trace by a schedule.
 fn journal<'a>(alloc: Global) -> Result<Command<'a>, AllocError> {
     let about = "Runs a trace by a schedule of steps and prints what was refused and what is final";
-    command(
-        alloc,
-        "journal",
-        about,
-        &[Argument::Schedule, Argument::Trace],
-    )
+    let command = command(alloc, "journal", about, &[SCHEDULE, TRACE])?;
+    with_arguments(alloc, command, &CACHES)
 }
 
-/// A command that takes these arguments, and behind them the options of the caches.
+/// The command that runs a trace through many configurations.
+fn sweep<'a>(alloc: Global) -> Result<Command<'a>, AllocError> {
+    let about =
+        "Runs a trace through every combination of some settings and prints a table, as CSV";
+    command(alloc, "sweep", about, &GRID)
+}
+
+/// The command that draws what a sweep printed.
+fn plot<'a>(alloc: Global) -> Result<Command<'a>, AllocError> {
+    let about =
+        "Draws what sweep printed, a line for each policy over the size of the flash, as SVG";
+    command(alloc, "plot", about, &DRAWING)
+}
+
+/// A command that takes these arguments.
 fn command<'a>(
     alloc: Global,
     name: &'static str,
@@ -55,8 +70,7 @@ fn command<'a>(
     arguments: &[Argument],
 ) -> Result<Command<'a>, AllocError> {
     let command = Command::new(alloc, name).about(about);
-    let command = with_arguments(alloc, command, arguments)?;
-    with_arguments(alloc, command, &CACHES)
+    with_arguments(alloc, command, arguments)
 }
 
 /// The command with these arguments more.
@@ -72,40 +86,28 @@ fn with_arguments<'a>(
     Ok(command)
 }
 
-/// What a command takes.
-enum Argument {
-    /// The trace, which each command takes.
-    Trace,
-    /// The steps by which a trace is run.
-    Schedule,
-    /// Whether what an undone event had sent is held, until it is known whether it is sent again.
-    Lazy,
-    /// How caches choose what they keep.
-    Policy,
-    /// A number from 1 to the greatest that is taken.
-    Number {
-        name: &'static str,
-        kind: Kind,
-        most: i64,
-        default: &'static str,
-        help: &'static str,
-    },
-}
+/// The trace, which a run takes.
+const TRACE: Argument = Argument::File {
+    name: "trace",
+    value: "TRACE",
+    help: "The trace: CSV under time,edge,object,size and, for purges, kind; - is standard input",
+};
 
-/// What a number says.
-#[derive(Clone, Copy)]
-enum Kind {
-    /// How many there are.
-    Count,
-    /// How large something is.
-    Size,
-    /// How long something takes.
-    Ticks,
-}
+/// The steps by which a trace is run.
+const SCHEDULE: Argument = Argument::Required {
+    name: "schedule",
+    value: "TEXT",
+    help: "The steps, one space between: E, U or L and a process, D and a letter, C and a time",
+};
+
+/// The names of the policies: under segmented LRU one for each number of segments.
+pub(crate) const POLICIES: [&str; 9] = [
+    "off", "lru", "slru2", "slru3", "slru4", "slru5", "slru6", "slru7", "slru8",
+];
 
 /// The trace, then how the work of a round is shared out, and how far rounds go.
 const ROUNDS: [Argument; 8] = [
-    Argument::Trace,
+    TRACE,
     Argument::Number {
         name: "workers",
         kind: Kind::Count,
@@ -148,7 +150,10 @@ const ROUNDS: [Argument; 8] = [
         default: "65536",
         help: "Rounds after which the run is given up, 1 to 1048576",
     },
-    Argument::Lazy,
+    Argument::Flag {
+        name: "lazy",
+        help: "Hold what an undone event had sent until it is sent again or cancelled",
+    },
 ];
 
 /// How many caches there are, what they keep, how large they are, and how long what is sent is on its way.
@@ -167,7 +172,13 @@ const CACHES: [Argument; 10] = [
         default: "1",
         help: "Origin caches, 1 to 64",
     },
-    Argument::Policy,
+    Argument::Choice {
+        name: "policy",
+        value: "POLICY",
+        values: &POLICIES,
+        default: "slru3",
+        help: "How caches choose what they keep: off nothing, slru2 to slru8 by that many segments",
+    },
     Argument::Number {
         name: "sections",
         kind: Kind::Size,
@@ -219,78 +230,106 @@ const CACHES: [Argument; 10] = [
     },
 ];
 
-impl Argument {
-    /// The argument as `clap` knows it.
-    fn arg<'a>(&self, alloc: Global) -> Arg<'a> {
-        match *self {
-            Argument::Trace => trace(alloc),
-            Argument::Schedule => schedule(alloc),
-            Argument::Lazy => lazy(alloc),
-            Argument::Policy => policy(alloc),
-            Argument::Number {
-                name,
-                kind,
-                most,
-                default,
-                help,
-            } => number(alloc, name, kind, most)
-                .default_value(default)
-                .help(help),
-        }
-    }
-}
-
-/// The trace, which each command takes.
-fn trace<'a>(alloc: Global) -> Arg<'a> {
-    Arg::new(alloc, "trace")
-        .value_name("TRACE")
-        .required(true)
-        .help(
-            "The trace: CSV under time,edge,object,size and, for purges, kind; - is standard input",
-        )
-}
-
-/// The steps by which a trace is run.
-fn schedule<'a>(alloc: Global) -> Arg<'a> {
-    Arg::new(alloc, "schedule")
-        .long("schedule")
-        .value_name("TEXT")
-        .required(true)
-        .help("The steps, one space between: E, U or L and a process, D and a letter, C and a time")
-}
-
-/// Whether messages of undone events are held.
-fn lazy<'a>(alloc: Global) -> Arg<'a> {
-    Arg::new(alloc, "lazy")
-        .long("lazy")
-        .action(ArgAction::SetTrue)
-        .help("Hold what an undone event had sent until it is sent again or cancelled")
-}
-
-/// The names of the policies: under segmented LRU one for each number of segments.
-const POLICIES: [&str; 9] = [
-    "off", "lru", "slru2", "slru3", "slru4", "slru5", "slru6", "slru7", "slru8",
+/// What a sweep varies, as lists, and what all its runs have in common.
+const GRID: [Argument; 12] = [
+    TRACE,
+    Argument::Text {
+        name: "policy",
+        value: "LIST",
+        default: "slru3",
+        help: "Policies, commas between: off, lru, slru2 to slru8",
+    },
+    Argument::Text {
+        name: "sections",
+        value: "LIST",
+        default: "8",
+        help: "Insertion points of each cache, 1 to 16: numbers and ranges such as 2..16x2",
+    },
+    Argument::Text {
+        name: "block",
+        value: "LIST",
+        default: "1048576",
+        help: "Bytes of a block, 1 to 268435456",
+    },
+    Argument::Text {
+        name: "edge-blocks",
+        value: "LIST",
+        default: "64",
+        help: "Full blocks on each edge's flash, 1 to 65536: 16,32,64 or 16..1024x2",
+    },
+    Argument::Text {
+        name: "origin-blocks",
+        value: "LIST",
+        default: "64",
+        help: "Full blocks on each origin's flash, 1 to 65536",
+    },
+    Argument::OptionalNumber {
+        name: "workers",
+        kind: Kind::Count,
+        most: 64,
+        help: "Runs side by side, 1 to 64; by default as many as there are processors",
+    },
+    Argument::Number {
+        name: "edges",
+        kind: Kind::Count,
+        most: Config::MAX_EDGES as i64,
+        default: "1",
+        help: "Edge caches, 1 to 256",
+    },
+    Argument::Number {
+        name: "origins",
+        kind: Kind::Count,
+        most: Config::MAX_ORIGINS as i64,
+        default: "1",
+        help: "Origin caches, 1 to 64",
+    },
+    Argument::Number {
+        name: "up",
+        kind: Kind::Ticks,
+        most: Config::MAX_DELAY as i64,
+        default: "3",
+        help: "Ticks from an edge to an origin, 1 to 1048576",
+    },
+    Argument::Number {
+        name: "down",
+        kind: Kind::Ticks,
+        most: Config::MAX_DELAY as i64,
+        default: "3",
+        help: "Ticks from an origin to an edge, 1 to 1048576",
+    },
+    Argument::Number {
+        name: "back",
+        kind: Kind::Ticks,
+        most: Config::MAX_DELAY as i64,
+        default: "10",
+        help: "Ticks from an origin to the backend and back, 1 to 1048576",
+    },
 ];
 
-/// How caches choose what they keep.
-fn policy<'a>(alloc: Global) -> Arg<'a> {
-    Arg::new(alloc, "policy")
-        .long("policy")
-        .value_name("POLICY")
-        .value_parser(POLICIES.as_slice())
-        .default_value("slru3")
-        .help("How caches choose what they keep: off nothing, slru2 to slru8 by that many segments")
-}
-
-/// An option that takes a number from 1 to the greatest.
-fn number<'a>(alloc: Global, name: &'static str, kind: Kind, most: i64) -> Arg<'a> {
-    let (unit, parser) = match kind {
-        Kind::Count => ("N", value_parser!(u32)),
-        Kind::Size => ("N", value_parser!(u64)),
-        Kind::Ticks => ("TICKS", value_parser!(u64)),
-    };
-    Arg::new(alloc, name)
-        .long(name)
-        .value_name(unit)
-        .value_parser(parser.range(1..=most))
-}
+/// What is drawn of a sweep.
+const DRAWING: [Argument; 3] = [
+    Argument::File {
+        name: "sweep",
+        value: "SWEEP",
+        help: "What sweep printed; - is standard input",
+    },
+    Argument::Choice {
+        name: "of",
+        value: "MEASURE",
+        values: &[
+            "hit_ratio",
+            "byte_hit_ratio",
+            "flash_writes",
+            "backend_requests",
+        ],
+        default: "hit_ratio",
+        help: "What is drawn over the size of the flash",
+    },
+    Argument::Choice {
+        name: "caches",
+        value: "CACHES",
+        values: &["edges", "origins", "all"],
+        default: "all",
+        help: "Of which caches",
+    },
+];

@@ -23,7 +23,7 @@ pub(crate) fn config(options: &ArgMatches<'_>) -> Option<Config> {
 }
 
 /// The policy of this name.
-fn policy(name: &str) -> Option<Policy> {
+pub(crate) fn policy(name: &str) -> Option<Policy> {
     match name {
         "off" => Some(Policy::Off),
         "lru" => Some(Policy::Lru),

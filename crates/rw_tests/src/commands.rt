@@ -1,6 +1,6 @@
 // The program's words, what it says on standard error, and its exit status.
 use crate::pipe::Pipe;
-use rw_command::{Fault, Out, ScheduleFault, SimFault, Source, SourceFault, command};
+use rw_command::{Fault, Out, ScheduleFault, SimFault, Source, SourceFault, command, command_at};
 use rw_trace::TraceFault;
 use std::alloc::{AllocError, Global};
 use std::io::Write;
@@ -97,6 +97,58 @@ fn a_run_in_rounds_tells_what_they_did(rt: HostRuntime) -> Result<(), AllocError
         let answer = ripqwarp(&rt, alloc, words, trace, &mut err)?;
         assert_eq!(rt; answer, (0, 409), "for {words}");
         assert!(rt; err.as_slice() == told.as_bytes(), "for {words}");
+    }
+    Ok(())
+}
+
+// Lists that are none, and too long ones, are told before the trace is read.
+#[test]
+fn a_list_that_is_none_is_told(rt: HostRuntime) -> Result<(), AllocError> {
+    let alloc = rt.alloc();
+    let none = "no list of its values; see ripqwarp sweep --help\n";
+    for (option, value) in [
+        ("policy", "lru,slru9"),
+        ("sections", "1,,2"),
+        ("block", "0"),
+        ("edge-blocks", "16..65537x2"),
+        ("origin-blocks", "4..64x1"),
+    ] {
+        let words = format!(in alloc; "ripqwarp sweep --{option} {value} nothing")?;
+        let mut err = Vec::new(alloc);
+        let answer = ripqwarp(&rt, alloc, words.as_str(), TRACE, &mut err)?;
+        let told = format!(in alloc; "error: --{option}: {none}")?;
+        assert_eq!(rt; answer, (2, 0), "for {words}");
+        assert!(rt; err.as_slice() == told.as_bytes(), "for {words}");
+    }
+    Ok(())
+}
+
+// 64, 128 and 256 blocks under two policies: a header, and three lines for each of six configurations.
+#[test]
+fn a_sweep_shows_how_far_it_is_on_a_terminal_alone(rt: HostRuntime) -> Result<(), AllocError> {
+    let alloc = rt.alloc();
+    for terminal in [false, true] {
+        let mut words = Vec::new(alloc);
+        for word in "ripqwarp sweep --policy off,lru --edge-blocks 64..300x2 --workers 1 -".split(
+            ' ',
+        ) {
+            words.push(String::from_str(alloc, word)?)?;
+        }
+        let mut out = Out::new(Vec::new(alloc));
+        let mut err = Vec::new(alloc);
+        let source = &mut Given { trace: TRACE };
+        let status = command_at(&rt, alloc, words, source, &mut out, &mut err, terminal);
+        let lines = out
+            .into_inner()
+            .iter()
+            .filter(|byte| **byte == b'\n')
+            .count();
+        assert_eq!(rt; (status, lines), (0, 19));
+        if terminal {
+            assert!(rt; err.as_slice().ends_with(b"\r\x1b[Ksweep 6 of 6\r\x1b[K"));
+        } else {
+            assert!(rt; err.is_empty());
+        }
     }
     Ok(())
 }

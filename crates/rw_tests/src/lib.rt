@@ -24,6 +24,8 @@ mod photo_rounds;
 #[cfg(test)]
 mod pipe;
 #[cfg(test)]
+mod plots;
+#[cfg(test)]
 mod primitives;
 #[cfg(test)]
 mod purges;
@@ -41,5 +43,7 @@ mod reports;
 mod rings;
 #[cfg(test)]
 mod station_process;
+#[cfg(test)]
+mod sweeps;
 #[cfg(test)]
 mod traces;

@@ -1,0 +1,114 @@
+// One trace through many configurations.
+use crate::command_line::read;
+use crate::fault::Fault;
+use crate::lines::write_over;
+use crate::lists::{ListFault, numbers, policies};
+use crate::source::Source;
+use clap::ArgMatches;
+use rw_photo::Shape;
+use rw_ripqwarp::Out;
+use rw_sweep::{Axes, Grid, GridFault, MAX_CONFIGURATIONS, MAX_WORKERS, Progress};
+use std::alloc::Global;
+use std::io::Write;
+use std::thread::{Threads, available_parallelism};
+
+/// Runs the trace that the options name through every combination of what they list, and writes the table. On a terminal
+/// one line of `err` shows how many are done.
+pub(crate) fn sweep<S: Source, W: Write, E: Write, R: Threads + Sync>(
+    rt: &R,
+    alloc: Global,
+    options: &ArgMatches<'_>,
+    source: &mut S,
+    out: &mut Out<W>,
+    err: &mut E,
+    terminal: bool,
+) -> Result<(), Fault> {
+    let grid = Grid::new(alloc, axes(alloc, options)?).map_err(fault_of_grid)?;
+    let workers = workers(rt, options);
+    let trace = read(alloc, options, "trace", source)?;
+    let mut shown = Shown { err, terminal };
+    let swept = rw_sweep::sweep(rt, alloc, trace.as_slice(), &grid, workers, &mut shown, out);
+    shown.clear();
+    swept.map_err(Fault::Run)
+}
+
+/// What the options list, and what all runs have in common.
+fn axes(alloc: Global, options: &ArgMatches<'_>) -> Result<Axes, Fault> {
+    let list = options.get_str("policy").ok_or(Fault::Plan)?;
+    Ok(Axes {
+        edges: options.get_one("edges").ok_or(Fault::Plan)?,
+        origins: options.get_one("origins").ok_or(Fault::Plan)?,
+        policies: listed("policy", policies(alloc, list))?,
+        sections: numbers_of(alloc, options, "sections", Shape::MAX_SECTIONS)?,
+        blocks: numbers_of(alloc, options, "block", Shape::MAX_BLOCK)?,
+        edge_blocks: numbers_of(alloc, options, "edge-blocks", Shape::MAX_BLOCKS)?,
+        origin_blocks: numbers_of(alloc, options, "origin-blocks", Shape::MAX_BLOCKS)?,
+        up: options.get_one("up").ok_or(Fault::Plan)?,
+        down: options.get_one("down").ok_or(Fault::Plan)?,
+        back: options.get_one("back").ok_or(Fault::Plan)?,
+    })
+}
+
+/// The numbers that an option lists, each from 1 to `most`.
+fn numbers_of(
+    alloc: Global,
+    options: &ArgMatches<'_>,
+    name: &'static str,
+    most: u64,
+) -> Result<Vec<u64>, Fault> {
+    let list = options.get_str(name).ok_or(Fault::Plan)?;
+    listed(name, numbers(alloc, list, most))
+}
+
+/// What an option lists, or why it is a fault of the command line.
+fn listed<T: Drop>(name: &'static str, values: Result<Vec<T>, ListFault>) -> Result<Vec<T>, Fault> {
+    match values {
+        Ok(values) => Ok(values),
+        Err(ListFault::Item) => Err(Fault::List(name)),
+        Err(ListFault::Memory) => Err(Fault::Memory),
+    }
+}
+
+/// A grid that cannot be is a fault of the command line.
+fn fault_of_grid(fault: GridFault) -> Fault {
+    match fault {
+        GridFault::TooMany => Fault::Combinations(MAX_CONFIGURATIONS),
+        GridFault::OutOfRange => Fault::Plan,
+        GridFault::Memory => Fault::Memory,
+    }
+}
+
+/// How many runs go side by side: as the options say, or else as many as there are processors.
+fn workers<R: Threads>(rt: &R, options: &ArgMatches<'_>) -> u32 {
+    if let Some(workers) = options.get_one("workers") {
+        return workers;
+    }
+    match available_parallelism(rt) {
+        Ok(processors) => (processors.get() as u64).min(u64::from(MAX_WORKERS)) as u32,
+        Err(_) => 1,
+    }
+}
+
+/// What standard error shows of a sweep: a line that is written anew, where that is a terminal.
+#[derive(Drop)]
+struct Shown<'a, E> {
+    err: &'a mut E,
+    terminal: bool,
+}
+
+impl<E: Write> Shown<'_, E> {
+    /// Takes the line away.
+    fn clear(&mut self) {
+        if self.terminal {
+            write_over(self.err, "");
+        }
+    }
+}
+
+impl<E: Write> Progress for Shown<'_, E> {
+    fn done(&mut self, done: u64, of: u64) {
+        if self.terminal {
+            write_over(self.err, format_args!("sweep {done} of {of}"));
+        }
+    }
+}

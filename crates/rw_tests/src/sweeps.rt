@@ -1,0 +1,131 @@
+// Tables of a trace over a grid, by one worker and by more, and faults.
+use crate::pipe::Pipe;
+use rw_photo::{Levels, Policy};
+use rw_ripqwarp::{Out, SimFault};
+use rw_sweep::{Axes, Grid, GridFault, Progress, Silent, sweep};
+use rw_trace::TraceFault;
+use std::alloc::{AllocError, Global};
+use std::test::Fail;
+use std::thread::Threads;
+
+/// Two requests for two objects of 4 bytes. Each misses at the edge, and 3 ticks later at the origin, which asks the backend; the
+/// fill comes 13 ticks after that and answers one request.
+const TRACE: &[u8] = b"time,edge,object,size\n5,0,7,4\n100,0,8,4\n";
+
+/// What is counted then: nothing is stored, or each object at both caches, in a block that is not full.
+const TABLE: &[u8] =
+    b"policy,sections,block,edge_blocks,origin_blocks,caches,requests,hits,misses,coalesced,late,bypassed,inserted,evicted,reinserted,promoted,writes,splits,merges,hit_bytes,request_bytes,hit_ratio,byte_hit_ratio,flash_bytes,written_bytes,backend_requests\noff,1,10,1,2,edges,2,0,2,0,2,0,0,0,0,0,0,0,0,0,8,0.000000,0.000000,10,0,0\noff,1,10,1,2,origins,2,0,2,0,0,0,0,0,0,0,0,0,0,0,8,0.000000,0.000000,20,0,2\noff,1,10,1,2,all,4,0,4,0,2,0,0,0,0,0,0,0,0,0,16,0.000000,0.000000,30,0,2\nlru,1,10,1,2,edges,2,0,2,0,2,0,2,0,0,0,0,0,0,0,8,0.000000,0.000000,10,0,0\nlru,1,10,1,2,origins,2,0,2,0,0,0,2,0,0,0,0,0,0,0,8,0.000000,0.000000,20,0,2\nlru,1,10,1,2,all,4,0,4,0,2,0,4,0,0,0,0,0,0,0,16,0.000000,0.000000,30,0,2\nslru2,1,10,1,2,edges,2,0,2,0,2,0,2,0,0,0,0,0,0,0,8,0.000000,0.000000,10,0,0\nslru2,1,10,1,2,origins,2,0,2,0,0,0,2,0,0,0,0,0,0,0,8,0.000000,0.000000,20,0,2\nslru2,1,10,1,2,all,4,0,4,0,2,0,4,0,0,0,0,0,0,0,16,0.000000,0.000000,30,0,2\n";
+
+/// An edge and an origin, under so many of three policies.
+fn axes(alloc: Global, policies: usize, block: u64) -> Result<Axes, AllocError> {
+    let mut all = vec![in alloc; Policy::Off, Policy::Lru]?;
+    if let Some(levels) = Levels::new(2) {
+        all.push(Policy::Slru(levels))?;
+    }
+    all.truncate(policies);
+    Ok(Axes {
+        edges: 1,
+        origins: 1,
+        up: 3,
+        down: 3,
+        back: 10,
+        policies: all,
+        sections: vec![in alloc; 1]?,
+        blocks: vec![in alloc; block]?,
+        edge_blocks: vec![in alloc; 1]?,
+        origin_blocks: vec![in alloc; 2]?,
+    })
+}
+
+/// The table of a trace under three policies, by so many workers; None where there is none.
+fn table<R: Threads + Sync>(rt: &R, alloc: Global, trace: &[u8], workers: u32) -> Option<Vec<u8>> {
+    let grid = Grid::new(alloc, axes(alloc, 3, 10).ok()?).ok()?;
+    let mut out = Out::new(Pipe::new(alloc, 1000, 9, false));
+    sweep(rt, alloc, trace, &grid, workers, &mut Silent, &mut out).ok()?;
+    Some(out.into_inner().held)
+}
+
+#[test]
+fn three_policies_over_two_requests(rt: HostRuntime) {
+    for workers in [0, 1, 3, 64, 1000] {
+        let held = table(&rt, rt.alloc(), TRACE, workers);
+        assert!(rt; held.is_some_and(|text| text.as_slice() == TABLE));
+    }
+}
+
+/// How often somebody was told, and what last.
+#[derive(Drop)]
+struct Told {
+    times: u64,
+    last: (u64, u64),
+}
+
+impl Progress for Told {
+    fn done(&mut self, done: u64, of: u64) {
+        self.times = self.times.saturating_add(1);
+        self.last = (done, of);
+    }
+}
+
+#[test]
+fn one_worker_tells_of_each_configuration(rt: HostRuntime) -> Result<(), Fail> {
+    let alloc = rt.alloc();
+    let grid = Grid::new(alloc, axes(alloc, 3, 10)?).ok().ok_or("grid")?;
+    let mut out = Out::new(Pipe::new(alloc, 1000, 9, false));
+    let mut told = Told {
+        times: 0,
+        last: (0, 0),
+    };
+    let swept = sweep(&rt, alloc, TRACE, &grid, 1, &mut told, &mut out);
+    assert!(rt; swept.is_ok() && grid.len() == 3 && !grid.is_empty());
+    assert!(rt; told.times == 4 && told.last == (3, 3));
+    Ok(())
+}
+
+#[test]
+fn no_policy_leaves_the_header(rt: HostRuntime) -> Result<(), Fail> {
+    let alloc = rt.alloc();
+    let grid = Grid::new(alloc, axes(alloc, 0, 10)?).ok().ok_or("grid")?;
+    let mut out = Out::new(Pipe::new(alloc, 1000, 9, false));
+    let swept = sweep(&rt, alloc, TRACE, &grid, 4, &mut Silent, &mut out);
+    assert!(rt; swept.is_ok() && grid.is_empty());
+    assert!(rt;
+        out.into_inner()
+            .held
+            .as_slice()
+            .ends_with(b"backend_requests\n")
+    );
+    Ok(())
+}
+
+#[test]
+fn a_block_out_of_its_range_is_no_grid(rt: HostRuntime) -> Result<(), Fail> {
+    let alloc = rt.alloc();
+    let refused = Grid::new(alloc, axes(alloc, 3, 0)?).err();
+    assert!(rt; refused == Some(GridFault::OutOfRange));
+    Ok(())
+}
+
+#[test]
+fn too_many_configurations_are_no_grid(rt: HostRuntime) -> Result<(), Fail> {
+    let alloc = rt.alloc();
+    let mut many = axes(alloc, 1, 10)?;
+    many.edge_blocks = vec![in alloc; 1; 257]?;
+    many.origin_blocks = vec![in alloc; 1; 256]?;
+    assert!(rt; Grid::new(alloc, many).err() == Some(GridFault::TooMany));
+    Ok(())
+}
+
+#[test]
+fn faults_of_a_sweep(rt: HostRuntime) -> Result<(), Fail> {
+    let alloc = rt.alloc();
+    let grid = Grid::new(alloc, axes(alloc, 3, 10)?).ok().ok_or("grid")?;
+    let mut out = Out::new(Pipe::new(alloc, 100, 2, false));
+    let bad = b"time,edge,object,size\n5,1,7,4\n";
+    let refused = sweep(&rt, alloc, bad, &grid, 2, &mut Silent, &mut out);
+    assert!(rt; matches!(refused, Err(SimFault::Trace(TraceFault::EdgeRange(0)))));
+    let cut_off = sweep(&rt, alloc, TRACE, &grid, 2, &mut Silent, &mut out);
+    assert!(rt; matches!(cut_off, Err(SimFault::Output)) && out.failures() == 1);
+    assert!(rt; out.into_inner().held.as_slice() == &TABLE[..200]);
+    Ok(())
+}
