@@ -16,17 +16,18 @@ pub(crate) enum Argument {
         value: &'static str,
         help: &'static str,
     },
-    /// A text that may be given.
-    Optional {
-        name: &'static str,
-        value: &'static str,
-        help: &'static str,
-    },
     /// A text, which has a default.
     Text {
         name: &'static str,
         value: &'static str,
         default: &'static str,
+        help: &'static str,
+    },
+    /// One of some words, which has to be given.
+    RequiredChoice {
+        name: &'static str,
+        value: &'static str,
+        values: &'static [&'static str],
         help: &'static str,
     },
     /// One of some words.
@@ -83,13 +84,20 @@ impl Argument {
             Argument::Required { name, value, help } => {
                 text(alloc, name, value, help).required(true)
             }
-            Argument::Optional { name, value, help } => text(alloc, name, value, help),
             Argument::Text {
                 name,
                 value,
                 default,
                 help,
             } => text(alloc, name, value, help).default_value(default),
+            Argument::RequiredChoice {
+                name,
+                value,
+                values,
+                help,
+            } => text(alloc, name, value, help)
+                .value_parser(values)
+                .required(true),
             Argument::Choice {
                 name,
                 value,

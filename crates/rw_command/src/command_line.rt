@@ -1,4 +1,5 @@
 use crate::fault::Fault;
+use crate::importing::import;
 use crate::lines::write_line;
 use crate::options::program;
 use crate::plotting::plot;
@@ -90,6 +91,7 @@ fn carry_out<S: Source, W: Write, E: Write, R: Threads + Wait + Sync>(
         return Err(Fault::Plan);
     };
     match name {
+        "import" => import(alloc, options, source, out, err),
         "sweep" => sweep(rt, alloc, options, source, out, err, terminal),
         "plot" => plot(alloc, options, source, out),
         _ => simulation(rt, alloc, name, options, source, out, err),

@@ -1,5 +1,6 @@
 use crate::lines::write_line;
 use crate::source::SourceFault;
+use rw_import::ImportFault;
 use rw_plot::PlotFault;
 use rw_ripqwarp::{ScheduleFault, SimFault};
 use std::alloc::AllocError;
@@ -32,6 +33,9 @@ pub enum Fault {
     /// The lists have too many combinations.
     #[error("error: more than {0} combinations")]
     Combinations(u64),
+    /// The log was refused.
+    #[error("{0}")]
+    Import(ImportFault),
     /// The sweep was refused.
     #[error("{0}")]
     Plot(PlotFault),
@@ -50,9 +54,10 @@ impl Fault {
             Fault::Memory
             | Fault::Schedule(ScheduleFault::Memory)
             | Fault::Source(SourceFault::Memory)
+            | Fault::Import(ImportFault::Memory)
             | Fault::Plot(PlotFault::Memory)
             | Fault::Run(SimFault::Memory) => 5,
-            Fault::Run(SimFault::Trace(_)) | Fault::Plot(_) => 3,
+            Fault::Run(SimFault::Trace(_)) | Fault::Import(_) | Fault::Plot(_) => 3,
             Fault::Source(SourceFault::Read) => 4,
             Fault::Run(SimFault::Rounds | SimFault::NoThread) => 6,
             Fault::Run(SimFault::Exhausted) => 7,

@@ -6,6 +6,7 @@
 mod arguments;
 mod command_line;
 mod fault;
+mod importing;
 mod lines;
 mod lists;
 mod options;

@@ -1,6 +1,7 @@
 // The command line: what each command takes stands in tables, in the order of the help.
 use crate::arguments::{Argument, Kind};
 use clap::Command;
+use rw_import::MAX_TICKS;
 use rw_photo::{Config, Shape};
 use rw_vt::END;
 use std::alloc::{AllocError, Global};
@@ -14,6 +15,7 @@ pub(crate) fn program<'a>(alloc: Global) -> Result<Command<'a>, AllocError> {
     let program = with_command(program, serial(alloc))?;
     let program = with_command(program, warp(alloc))?;
     let program = with_command(program, journal(alloc))?;
+    let program = with_command(program, import(alloc))?;
     let program = with_command(program, sweep(alloc))?;
     with_command(program, plot(alloc))
 }
@@ -46,6 +48,12 @@ fn journal<'a>(alloc: Global) -> Result<Command<'a>, AllocError> {
     let about = "Runs a trace by a schedule of steps and prints what was refused and what is final";
     let command = command(alloc, "journal", about, &[SCHEDULE, TRACE])?;
     with_arguments(alloc, command, &CACHES)
+}
+
+/// The command that makes a trace of a log.
+fn import<'a>(alloc: Global) -> Result<Command<'a>, AllocError> {
+    let about = "Reads a log and prints it as a trace";
+    command(alloc, "import", about, &LOG)
 }
 
 /// The command that runs a trace through many configurations.
@@ -227,6 +235,46 @@ const CACHES: [Argument; 10] = [
         most: Config::MAX_DELAY as i64,
         default: "10",
         help: "Ticks from an origin to the backend and back, 1 to 1048576",
+    },
+];
+
+/// A log, and how its rows become a trace's.
+const LOG: [Argument; 6] = [
+    Argument::File {
+        name: "log",
+        value: "LOG",
+        help: "The log; - is standard input",
+    },
+    Argument::RequiredChoice {
+        name: "from",
+        value: "FORMAT",
+        values: &["oracle-general"],
+        help: "Its format: oracle-general, the binary one of libCacheSim",
+    },
+    Argument::Number {
+        name: "edges",
+        kind: Kind::Count,
+        most: Config::MAX_EDGES as i64,
+        default: "1",
+        help: "Edges to which requests are dealt out, 1 to 256",
+    },
+    Argument::Choice {
+        name: "edge-by",
+        value: "WHAT",
+        values: &["row", "object"],
+        default: "row",
+        help: "By what they are dealt out: row after row in turn, or each object to one edge",
+    },
+    Argument::Number {
+        name: "ticks",
+        kind: Kind::Ticks,
+        most: MAX_TICKS as i64,
+        default: "1000",
+        help: "Ticks in a unit of the log's times, 1 to 1000000000",
+    },
+    Argument::Flag {
+        name: "strict",
+        help: "Refuse the log at the first row that cannot be used, which else is left out and counted",
     },
 ];
 

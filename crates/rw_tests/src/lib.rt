@@ -14,6 +14,8 @@ mod edge_process;
 #[cfg(test)]
 mod held_messages;
 #[cfg(test)]
+mod imports;
+#[cfg(test)]
 mod insertions;
 #[cfg(test)]
 mod notes;

@@ -1,0 +1,4 @@
+pub mod Digits
+pub mod Records
+pub mod Reread
+pub mod Sheets

@@ -1,0 +1,167 @@
+-- What a log means, however its rows are written: what each row says, which rows are kept, and what each of these becomes.
+use Rattle.std.specs.Prelude.{◌≡◌, ◌+◌, ◌-◌, ◌*◌, ◌/◌, ◌%◌, ◌^◌, ◌++◌, ℕ, List, [], ◌∷◌, Bool, true, false, Result, Ok, Err, Option, Some, None, map, fold, min, count_by, bit_xor, length, nat_le, unwrap_or, if◌then◌else◌}
+use Rattle.std.specs.List.{AllPass, filter_map}
+use Rattle.std.specs.Result.{is_ok, result_ok}
+use Rattle.rw_trace.specs.Limits.{latest_time, most_rows}
+use Rattle.rw_trace.specs.declared.Row.{Row}
+use Rattle.rw_import.specs.declared.options.Dealing.{Dealing}
+use Rattle.rw_import.specs.declared.options.Dealing.TheVariants.{ByObject, ByRow}
+use Rattle.rw_import.specs.declared.options.Options.{Options}
+use Rattle.rw_import.specs.declared.fault.Part.{Part}
+use Rattle.rw_import.specs.declared.fault.Part.TheVariants as part
+use Rattle.rw_import.specs.declared.fault.Flaw.{Flaw}
+use Rattle.rw_import.specs.declared.fault.Flaw.TheVariants.{Column, Length}
+use Rattle.rw_import.specs.declared.fault.ImportFault.{ImportFault}
+use Rattle.rw_import.specs.declared.fault.ImportFault.TheVariants as fault
+use Rattle.rw_import.specs.declared.entry.Entry.{Entry}
+use Rattle.rw_import.specs.declared.entry.LeftOut.{LeftOut}
+
+-- what a row says: an entry, its time in billionths of the log's unit, and its object
+abbrev pub Said : Type 0 → Type 0
+Said O = Entry × O
+
+-- what a row says, or what is first wrong with it
+abbrev pub Saying : Type 0 → Type 0
+Saying O = Result (Said O) Flaw
+
+-- billionths in a unit of time
+abbrev pub billion : ℕ
+billion = 10 ^ 9
+
+-- the lesser of a time that may be there and that of a row, if it says one
+abbrev pub earlier : {O : Type 0} → Option ℕ → Saying O → Option ℕ
+earlier m (Err f) = m
+earlier None (Ok s) = Some s.0.time
+earlier (Some t) (Ok s) = Some (min t s.0.time)
+
+-- the least time that rows say, or 0 where none says one
+abbrev pub first_time : {O : Type 0} → List (Saying O) → ℕ
+first_time said = unwrap_or (fold earlier None said) 0
+
+-- the ticks from the least time to another, rounded down
+abbrev pub ticks_from : ℕ → ℕ → ℕ → ℕ
+ticks_from ticks least time = ((time - least) * ticks) / billion
+
+-- a row whose time is past the latest one of a trace is left out, for its time, which stands in this column
+abbrev pub in_time : {O : Type 0} → ℕ → ℕ → ℕ → Saying O → Saying O
+in_time ticks least column (Ok s) =
+    if nat_le (ticks_from ticks least s.0.time) latest_time then Ok s
+    else Err (Column column part.Time)
+in_time ticks least column (Err f) = Err f
+
+-- what becomes of each row: it is kept with what it says, or left out for what is wrong
+abbrev pub told_apart : {O : Type 0} → ℕ → ℕ → List (Saying O) → List (Saying O)
+told_apart ticks column said = map (in_time ticks (first_time said) column) said
+
+-- the rows that are kept, in order
+abbrev pub kept_in : {O : Type 0} → List (Saying O) → List (Said O)
+kept_in said = filter_map result_ok said
+
+-- whether a row is left out because it is cut off
+abbrev pub is_cut_off : {O : Type 0} → Saying O → Bool
+is_cut_off (Err Length) = true
+is_cut_off (Err (Column c p)) = false
+is_cut_off (Ok s) = false
+
+-- whether two parts are the same
+abbrev pub is_part : Part → Part → Bool
+is_part part.Time part.Time = true
+is_part part.Edge part.Edge = true
+is_part part.Object part.Object = true
+is_part part.Size part.Size = true
+is_part part.Kind part.Kind = true
+is_part p q = false
+
+-- whether a row is left out for this part
+abbrev pub is_flawed_in : {O : Type 0} → Part → Saying O → Bool
+is_flawed_in p (Err (Column c q)) = is_part p q
+is_flawed_in p (Err Length) = false
+is_flawed_in p (Ok s) = false
+
+-- how many rows are left out, by cause
+abbrev pub left_out_of : {O : Type 0} → List (Saying O) → LeftOut
+left_out_of said = record {
+  length = count_by is_cut_off said;
+  time = count_by (is_flawed_in part.Time) said;
+  edge = count_by (is_flawed_in part.Edge) said;
+  object = count_by (is_flawed_in part.Object) said;
+  size = count_by (is_flawed_in part.Size) said;
+  kind = count_by (is_flawed_in part.Kind) said;
+}
+
+-- a number's bits mixed, by the finalizer of SplitMix64
+abbrev pub mixed_once : ℕ → ℕ
+mixed_once n = (bit_xor n (n / 2 ^ 30) * 0xbf58476d1ce4e5b9) % 2 ^ 64
+
+abbrev pub mixed_twice : ℕ → ℕ
+mixed_twice n = (bit_xor n (n / 2 ^ 27) * 0x94d049bb133111eb) % 2 ^ 64
+
+unfoldable pub mixed : ℕ → ℕ
+mixed n = bit_xor (mixed_twice (mixed_once n)) (mixed_twice (mixed_once n) / 2 ^ 31)
+
+-- the edge that a kept row is dealt to, from its place among these or from its object's number
+unfoldable pub dealt_edge : Dealing → ℕ → ℕ → ℕ → ℕ
+dealt_edge ByRow edges place object = place % edges
+dealt_edge ByObject edges place object = mixed object % edges
+
+-- the edge of a kept row: its own where it names one
+abbrev pub edge_for : Options → ℕ → ℕ → Option ℕ → ℕ
+edge_for o place object (Some edge) = edge
+edge_for o place object None = dealt_edge o.dealing o.edges place object
+
+-- the trace's row of the kept row at a place, whose object has this number
+abbrev pub row_for : Options → ℕ → ℕ → ℕ → Entry → Row
+row_for o least place object entry = record {
+  time = ticks_from o.ticks least entry.time;
+  edge = edge_for o place object entry.edge;
+  object = object;
+  size = entry.size;
+  kind = entry.kind;
+}
+
+-- the trace's rows of kept rows from a place on, where each object has its number
+unfoldable pub rows_for : {O : Type 0} → Options → ℕ → (O → ℕ) → ℕ → List (Said O) → List Row
+rows_for o least number place [] = []
+rows_for o least number place (s ∷ ss) =
+    row_for o least place (number s.1) s.0 ∷ rows_for o least number (place + 1) ss
+
+-- every row is kept
+abbrev pub AllKept : {O : Type 0} → List (Saying O) → Type 0
+AllKept said = AllPass is_ok said
+
+-- strict or not: strict, every row is kept
+abbrev pub IsStrictlyKept : {O : Type 0} → Options → List (Saying O) → Type 0
+IsStrictlyKept o said = o.strict ≡ true → AllKept said
+
+-- the fault that names a row and what is wrong with it
+abbrev pub fault_at : ℕ → Flaw → ImportFault
+fault_at n Length = fault.RowLength n
+fault_at n (Column c p) = fault.Row n c p
+
+-- strict, the first row that is left out
+pub record IsFirstLeftOut {O : Type 0} (o : Options) (said : List (Saying O)) (e : ImportFault) : Type 0 where
+  pub strict : o.strict ≡ true
+  pub before : List (Saying O)
+  pub flaw : Flaw
+  pub after : List (Saying O)
+  pub parts : said ≡ before ++ (Err flaw ∷ after)
+  pub kept : AllKept before
+  pub told : e ≡ fault_at (length before) flaw
+
+-- one kept row too many for a trace, and strict none left out before it
+pub record IsOneTooMany {O : Type 0} (o : Options) (said : List (Saying O)) : Type 0 where
+  pub before : List (Saying O)
+  pub row : Said O
+  pub after : List (Saying O)
+  pub parts : said ≡ before ++ (Ok row ∷ after)
+  pub full : length (kept_in before) ≡ most_rows
+  pub kept : IsStrictlyKept o before
+
+-- why a log is refused for its rows
+abbrev pub IsRowsFault : {O : Type 0} → Options → List (Saying O) → ImportFault → Type 0
+IsRowsFault o said fault.TooManyRows = IsOneTooMany o said
+IsRowsFault o said (fault.RowLength n) = IsFirstLeftOut o said (fault.RowLength n)
+IsRowsFault o said (fault.Row n c p) = IsFirstLeftOut o said (fault.Row n c p)
+IsRowsFault o said fault.Header = ⊥
+IsRowsFault o said (fault.NoColumn p) = ⊥
+IsRowsFault o said fault.Memory = ⊥

@@ -1,0 +1,44 @@
+//! What a row of a log says, and what a log comes to.
+
+use rw_trace::Kind;
+
+/// What a row of a log says, but its object.
+#[derive(Clone, Copy, PartialEq, Eq, Debug)]
+pub struct Entry {
+    /// When, in billionths of the log's unit.
+    pub time: u128,
+    /// At which edge, if the log has a column of edges.
+    pub edge: Option<u32>,
+    /// The object's size in bytes.
+    pub size: u64,
+    /// Whether the object is asked for or purged.
+    pub kind: Kind,
+}
+
+/// How many rows of a log were left out, each counted once, by what was first wrong with it.
+#[derive(Clone, Copy, PartialEq, Eq, Debug)]
+pub struct LeftOut {
+    /// A column was not there, or a record was cut off.
+    pub length: u64,
+    /// The time could not be read, or is past the latest of a trace.
+    pub time: u64,
+    /// The edge was no number below 256.
+    pub edge: u64,
+    /// The object was empty.
+    pub object: u64,
+    /// The size was no number, 0 or too large.
+    pub size: u64,
+    /// The kind was neither `get` nor `purge`.
+    pub kind: u64,
+}
+
+/// A log as a trace.
+#[derive(Drop)]
+pub struct Imported {
+    /// The text of the trace.
+    pub text: Vec<u8>,
+    /// How many rows were kept.
+    pub kept: u64,
+    /// How many rows were left out.
+    pub left_out: LeftOut,
+}

@@ -1,0 +1,57 @@
+//! What can be wrong with a log.
+
+use std::fmt;
+
+/// A part of a row: a column of the log.
+#[derive(Clone, Copy, PartialEq, Eq, Debug)]
+pub enum Part {
+    Time,
+    Edge,
+    Object,
+    Size,
+    Kind,
+}
+
+impl fmt::Display for Part {
+    fn fmt<W: fmt::Write>(&self, f: &mut fmt::Formatter<W>) -> fmt::Result {
+        f.write_str(match self {
+            Part::Time => "time",
+            Part::Edge => "edge",
+            Part::Object => "object",
+            Part::Size => "size",
+            Part::Kind => "kind",
+        })
+    }
+}
+
+/// What is first wrong with a row.
+#[derive(Clone, Copy, PartialEq, Eq, Debug)]
+pub enum Flaw {
+    /// A column is not there, or the record is cut off.
+    Length,
+    /// The column with this number, from 0, does not have what it should.
+    Column(u64, Part),
+}
+
+/// Why a log is refused, each shown as one line. Rows and columns are numbered from 0, and a header is no row.
+#[derive(Debug, Drop, thiserror::Error)]
+pub enum ImportFault {
+    /// There is no record, and so no header.
+    #[error("log: header")]
+    Header,
+    /// The header has no column of the name.
+    #[error("log: no column {0}")]
+    NoColumn(Part),
+    /// Strict, the first row that is left out has a column too few, or is cut off.
+    #[error("log: row {0}: length")]
+    RowLength(u64),
+    /// Strict, the first row that is left out, the column's number and what is wrong there.
+    #[error("log: row {0} column {1}: {2}")]
+    Row(u64, u64, Part),
+    /// More rows are kept than a trace may have.
+    #[error("log: too many rows")]
+    TooManyRows,
+    /// A request for memory was refused.
+    #[error("memory")]
+    Memory,
+}

@@ -1,0 +1,60 @@
+//! How a log is read.
+
+ghost use Rattle.std.specs.Prelude.{◌≡◌, ◌≤◌, ◌^◌, IfSome};
+
+/// Where a row of a log is asked for, if the log does not say it.
+#[derive(Clone, Copy, PartialEq, Eq, Debug)]
+pub enum Dealing {
+    /// The kept rows go to the edges in turn.
+    ByRow,
+    /// All rows of an object go to one edge, by the object's number with its bits mixed.
+    ByObject,
+}
+
+/// How a log becomes a trace.
+#[derive(Clone, Copy)]
+pub struct Options {
+    /// The ticks of a unit of the log's time: 1 to 10^9.
+    pub ticks: u64,
+    /// The number of edges, where the log names none: 1 to 256.
+    pub edges: u32,
+    /// To which edge a row goes, where the log names none.
+    pub dealing: Dealing,
+    /// Whether a row that would be left out is a fault instead.
+    pub strict: bool,
+
+    ghost some_ticks: { 1 ≤ ticks },
+    ghost few_ticks: { ticks ≤ 10 ^ 9 },
+    ghost some_edges: { 1 ≤ edges },
+    ghost few_edges: { edges ≤ 256 },
+}
+
+/// The ticks of a unit of time, if none are asked for.
+pub const DEFAULT_TICKS: u64 = 1000;
+
+/// The most ticks of a unit of time.
+pub const MAX_TICKS: u64 = 1_000_000_000;
+
+/// The most edges.
+pub const MAX_EDGES: u32 = 256;
+
+impl Options {
+    /// Options in their ranges: `ticks` from 1 to [`MAX_TICKS`], `edges` from 1 to [`MAX_EDGES`]. `None` exactly where
+    /// one of them is not.
+    pub fn new(ticks: u64, edges: u32, dealing: Dealing, strict: bool) -> Option<Options>
+        ensures ticks { IfSome result (λ o. o.ticks ≡ ticks) }
+        ensures edges { IfSome result (λ o. o.edges ≡ edges) }
+        ensures dealing { IfSome result (λ o. o.dealing ≡ dealing) }
+        ensures strict { IfSome result (λ o. o.strict ≡ strict) }
+    {
+        if ticks == 0 || ticks > MAX_TICKS || edges == 0 || edges > MAX_EDGES {
+            return None;
+        }
+        Some(Options {
+            ticks,
+            edges,
+            dealing,
+            strict,
+        })
+    }
+}
