@@ -1,4 +1,5 @@
+pub mod Collecting
 pub mod Digits
-pub mod Records
 pub mod Reread
 pub mod Sheets
+pub mod Texts

@@ -22,11 +22,11 @@ use Rattle.rw_trace.specs.declared.Kind.{Kind}
 use Rattle.rw_trace.specs.declared.Kind.TheVariants.{Get, Purge}
 use Rattle.rw_trace.specs.declared.Row.{Row}
 use Rattle.rw_trace.specs.declared.TraceFault.TheVariants as fault
-use Rattle.rw_import.specs.Ahead.{records_ahead}
+use Rattle.rw_trace.specs.Unread.{records_left}
 use Rattle.rw_import.specs.Lines.{trace_header, row_line, trace_lines}
 use Rattle.rw_import.specs.Written.{WritesTrace, BeginsWithHeader, has_purge, header_fields, is_purging}
 use Rattle.rw_import.proofs.Digits.{decimal-digits, number-decimal}
-use Rattle.rw_import.proofs.Records.{left-more, left-none}
+use Rattle.rw_trace.proofs.Records.{left-more, left-none}
 
 -- the fields of a row's line
 abbrev row_fields : Bool → Row → Fields
@@ -80,9 +80,9 @@ header-read false tail = rw (header-text false) (read-write-many _ _ _ tail)
 header-read true tail = rw (header-text true) (read-write-many _ _ _ tail)
 
 -- the rows' lines read as their fields
-none-ahead : records_ahead default_config st.StartRecord (Some []) ≡ []
+none-left : records_left default_config st.StartRecord (Some []) ≡ []
 unfolding next_record
-none-ahead = left-none default_config st.StartRecord [] refl
+none-left = left-none default_config st.StartRecord [] refl
 
 -- a row in the ranges of a trace fits
 fits-row : (edges : ℕ) (r : Row) → edges < 2 ^ 32 → IsRow edges r → Fits64 r
@@ -94,8 +94,8 @@ fits-row edges r small h = record {
 }
 
 lines-read : (kinds : Bool) (rows : List Row) → All Fits64 rows
-    → records_ahead default_config st.StartRecord (Some (flat_map (row_line kinds) rows)) ≡ map (row_fields kinds) rows
-lines-read kinds [] h = none-ahead
+    → records_left default_config st.StartRecord (Some (flat_map (row_line kinds) rows)) ≡ map (row_fields kinds) rows
+lines-read kinds [] h = none-left
 lines-read kinds (r ∷ rs) h =
     left-more default_config st.StartRecord _ _ (line-read kinds r (flat_map (row_line kinds) rs) (All-head Fits64 r rs h))
     ∙ ap (λ (t : List Fields). row_fields kinds r ∷ t) (lines-read kinds rs (All-tail Fits64 r rs h))
@@ -108,7 +108,7 @@ no-mark true tail = refl
 
 -- the records of a trace's text
 records-first : (kinds : Bool) (rows : List Row)
-    → records_of (trace_lines kinds rows) ≡ header_fields kinds ∷ records_ahead default_config st.StartRecord (Some (flat_map (row_line kinds) rows))
+    → records_of (trace_lines kinds rows) ≡ header_fields kinds ∷ records_left default_config st.StartRecord (Some (flat_map (row_line kinds) rows))
 records-first kinds rows = rw (no-mark kinds (flat_map (row_line kinds) rows)) (left-more default_config st.StartRecord _ _ (header-read kinds (flat_map (row_line kinds) rows)))
 
 -- the header is that of a version, and each row is read back under it
@@ -190,4 +190,4 @@ lines-trace rows text same edges small h few =
 
 -- and begin with the header
 pub lines-header : (rows : List Row) (text : List ℕ) → text ≡ trace_lines (has_purge rows) rows → BeginsWithHeader (has_purge rows) text
-lines-header rows text same = (records_ahead default_config st.StartRecord (Some (flat_map (row_line (has_purge rows)) rows)), rw same (records-first (has_purge rows) rows))
+lines-header rows text same = (records_left default_config st.StartRecord (Some (flat_map (row_line (has_purge rows)) rows)), rw same (records-first (has_purge rows) rows))

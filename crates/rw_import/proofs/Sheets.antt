@@ -26,7 +26,7 @@ use Rattle.rw_import.specs.declared.options.Options.{Options}
 use Rattle.rw_import.specs.declared.sheet.Sheet.{Sheet}
 use Rattle.rw_import.specs.Log.{IsRowsFault, Said, Saying, dealt_edge, edge_for, first_time, in_time, is_cut_off, is_flawed_in, kept_in, left_out_of, mixed, row_for, rows_for}
 use Rattle.rw_import.specs.Oracle.{judged_all, oracle_rows, oracle_said, oracle_told, piece_at, piece_said}
-use Rattle.rw_import.specs.Sheet.{AddsRow, IsEdgeIn, IsKeepable, IsSheetOf, RefusesRow, counts_with, no_counts_yet}
+use Rattle.rw_import.specs.Sheet.{AddsRow, IsEdgeIn, IsKeepable, IsSheetOf, RefusesRow, counts_with, no_counts_yet, numbered_by}
 
 -- one more kept row has its row behind the others
 pub rows-push : {O : Type 0} (o : Options) (least : ℕ) (number : O → ℕ) (place : ℕ) (ss : List (Said O)) (s : Said O) (m : ℕ) → place + length ss ≡ m
@@ -79,22 +79,23 @@ row-fine edges o least place s some h = record {
 }
 
 -- one more row
-pub sheet-more : (edges : ℕ) (o : Options) (least : ℕ) (done : List (Saying ℕ)) (old new : Sheet) (s : Saying ℕ) → IsSheetOf edges o least done old → IsKeepable edges o least s → AddsRow o least old new s
-    → IsSheetOf edges o least (done ++ s ∷ []) new
-sheet-more edges o least done old new (Ok s) k fine h =
+pub sheet-more : {O : Type 0} (number : O → ℕ) (edges : ℕ) (o : Options) (least : ℕ) (done : List (Saying O)) (old new : Sheet) (s : Saying O) → IsSheetOf number edges o least done old
+    → IsKeepable edges o least (numbered_by number s) → AddsRow o least old new (numbered_by number s) → IsSheetOf number edges o least (done ++ s ∷ []) new
+sheet-more number edges o least done old new (Ok s) k fine h =
     let kept : kept_in (done ++ Ok s ∷ []) ≡ kept_in done ++ s ∷ [] = filter_map-append result_ok done (Ok s ∷ []) in
     let count : length old.rows.items ≡ length (kept_in done) = k.count in
-    let pushed = rows-push o least (λ n. n) 0 (kept_in done) s (length old.rows.items) (omega arith) in
-    let rows : old.rows.items ≡ rows_for o least (λ n. n) 0 (kept_in done) = k.rows in
+    let pushed = rows-push o least number 0 (kept_in done) s (length old.rows.items) (omega arith) in
+    let rows : old.rows.items ≡ rows_for o least number 0 (kept_in done) = k.rows in
+    let row = row_for o least (length old.rows.items) (number s.1) s.0 in
     record {
-      rows = rw kept (h.0 ∙ ap (λ (t : List Row). t ++ row_for o least (length old.rows.items) s.1 s.0 ∷ []) rows ∙ sym pushed);
+      rows = rw kept (h.0 ∙ ap (λ (t : List Row). t ++ row ∷ []) rows ∙ sym pushed);
       count = rw (kept, h.0, length_push, length_push) (ap (λ (n : ℕ). n + 1) count);
       left_out = h.1 ∙ k.left_out ∙ sym (left-kept done s);
       few = rw (kept, length_push) (omega (arith, h.2));
       strict = λ e. All-push (λ x. is_ok x ≡ true) done (Ok s) (k.strict e) refl;
-      ranges = λ some. rw h.0 (All-push (IsRow edges) old.rows.items (row_for o least (length old.rows.items) s.1 s.0) (k.ranges some) (row-fine edges o least (length old.rows.items) s some fine));
+      ranges = λ some. rw h.0 (All-push (IsRow edges) old.rows.items row (k.ranges some) (row-fine edges o least (length old.rows.items) (s.0, number s.1) some fine));
     }
-sheet-more edges o least done old new (Err f) k fine h =
+sheet-more number edges o least done old new (Err f) k fine h =
     let kept : kept_in (done ++ Err f ∷ []) ≡ kept_in done ++ [] = filter_map-append result_ok done (Err f ∷ []) in
     let plain : kept_in done ++ [] ≡ kept_in done = grind (arith, common_steps) in
     record {
@@ -107,9 +108,10 @@ sheet-more edges o least done old new (Err f) k fine h =
     }
 
 -- nothing yet
-pub sheet-none : (edges : ℕ) (o : Options) (least : ℕ) (sheet : Sheet) → sheet.rows.items ≡ [] → sheet.left_out ≡ no_counts_yet → IsSheetOf edges o least [] sheet
+pub sheet-none : {O : Type 0} (number : O → ℕ) (edges : ℕ) (o : Options) (least : ℕ) (sheet : Sheet) → sheet.rows.items ≡ [] → sheet.left_out ≡ no_counts_yet
+    → IsSheetOf number edges o least [] sheet
 unfolding rows_for
-sheet-none edges o least sheet rows counts = record {
+sheet-none number edges o least sheet rows counts = record {
   rows = rows;
   count = rw rows refl;
   left_out = counts;
@@ -119,14 +121,28 @@ sheet-none edges o least sheet rows counts = record {
 }
 
 -- one more row that is refused
-pub row-refused : (edges : ℕ) (o : Options) (least row : ℕ) (done after : List (Saying ℕ)) (old : Sheet) (s : Saying ℕ) (e : ImportFault) → IsSheetOf edges o least done old → length done ≡ row → RefusesRow o row old s e
-    → IsRowsFault o (done ++ s ∷ after) e
-row-refused edges o least row done after old (Ok s) e k at h =
+pub row-refused : {O : Type 0} (number : O → ℕ) (edges : ℕ) (o : Options) (least row : ℕ) (done after : List (Saying O)) (old : Sheet) (s : Saying O) (e : ImportFault)
+    → IsSheetOf number edges o least done old → length done ≡ row → RefusesRow o row old (numbered_by number s) e → IsRowsFault o (done ++ s ∷ after) e
+row-refused number edges o least row done after old (Ok s) e k at h =
     rw h.0 (record { before = done; row = s; after = after; parts = refl; full = omega (arith, k.count, k.few, h.1); kept = k.strict })
-row-refused edges o least row done after old (Err Length) e k at h =
+row-refused number edges o least row done after old (Err Length) e k at h =
     rw h.0 (record { strict = h.1; before = done; flaw = Length; after = after; parts = refl; kept = k.strict h.1; told = rw at refl })
-row-refused edges o least row done after old (Err (Column c p)) e k at h =
+row-refused number edges o least row done after old (Err (Column c p)) e k at h =
     rw h.0 (record { strict = h.1; before = done; flaw = Column c p; after = after; parts = refl; kept = k.strict h.1; told = rw at refl })
+
+-- an object that is its number
+abbrev pub itself : ℕ → ℕ
+itself n = n
+
+pub same-number : (s : Saying ℕ) → numbered_by itself s ≡ s
+same-number (Ok s) = refl
+same-number (Err f) = refl
+
+-- one more row whose object is its number
+pub sheet-next : (edges : ℕ) (o : Options) (least : ℕ) (done : List (Saying ℕ)) (old new : Sheet) (s : Saying ℕ) → IsSheetOf itself edges o least done old → IsKeepable edges o least s
+    → AddsRow o least old new s → IsSheetOf itself edges o least (done ++ s ∷ []) new
+sheet-next edges o least done old new s k fine h =
+    sheet-more itself edges o least done old new s k (subst (IsKeepable edges o least) (sym (same-number s)) fine) (subst (AddsRow o least old new) (sym (same-number s)) h)
 
 -- numbers from a place on fall into those below another and the rest
 pub range-split : (a n m : ℕ) → range_with_len a (n + m) ≡ range_with_len a n ++ range_with_len (a + n) m
@@ -156,10 +172,11 @@ pub told-all : (o : Options) (bytes : List ℕ) → judged_all o (first_time (or
 told-all o bytes = sym (map-map (in_time o.ticks (first_time (oracle_said bytes)) 0) (λ n. piece_said (piece_at bytes n)) (range_with_len 0 _))
 
 -- the same, as a call tells it
-pub row-told : (edges : ℕ) (o : Options) (least row : ℕ) (done after all : List (Saying ℕ)) (old : Sheet) (s : Saying ℕ) (e : ImportFault) → IsSheetOf edges o least done old → length done ≡ row
+pub row-told : (edges : ℕ) (o : Options) (least row : ℕ) (done after all : List (Saying ℕ)) (old : Sheet) (s : Saying ℕ) (e : ImportFault) → IsSheetOf itself edges o least done old → length done ≡ row
     → done ++ s ∷ after ≡ all → (e ≢ fault.Memory → RefusesRow o row old s e) → e ≢ fault.Memory → IsRowsFault o all e
 row-told edges o least row done after all old s e k at whole told other =
-    subst (λ (l : List (Saying ℕ)). IsRowsFault o l e) whole (row-refused edges o least row done after old s e k at (told other))
+    let refuses : RefusesRow o row old (numbered_by itself s) e = subst (λ (x : Saying ℕ). RefusesRow o row old x e) (sym (same-number s)) (told other) in
+    subst (λ (l : List (Saying ℕ)). IsRowsFault o l e) whole (row-refused itself edges o least row done after old s e k at refuses)
 
 -- a fault among the judged records is one of the log
 pub fault-whole : (o : Options) (bytes : List ℕ) (least : ℕ) → least ≡ first_time (oracle_said bytes) → (e : ImportFault)
@@ -168,14 +185,14 @@ fault-whole o bytes least h e told other =
     subst (λ (l : List (Saying ℕ)). IsRowsFault o l e) (ap (λ (t : ℕ). judged_all o t bytes) h ∙ told-all o bytes) (told other)
 
 -- what was collected of the judged records is what is to be collected of the log
-pub sheet-whole : (edges : ℕ) (o : Options) (bytes : List ℕ) (least : ℕ) (sheet : Sheet) → least ≡ first_time (oracle_said bytes) → IsSheetOf edges o least (judged_all o least bytes) sheet
-    → IsSheetOf edges o (first_time (oracle_said bytes)) (oracle_told o bytes) sheet
+pub sheet-whole : (edges : ℕ) (o : Options) (bytes : List ℕ) (least : ℕ) (sheet : Sheet) → least ≡ first_time (oracle_said bytes) → IsSheetOf itself edges o least (judged_all o least bytes) sheet
+    → IsSheetOf itself edges o (first_time (oracle_said bytes)) (oracle_told o bytes) sheet
 sheet-whole edges o bytes least sheet h k =
-    subst (λ (l : List (Saying ℕ)). IsSheetOf edges o (first_time (oracle_said bytes)) l sheet) (told-all o bytes)
-    (subst (λ (t : ℕ). IsSheetOf edges o t (judged_all o t bytes) sheet) h k)
+    subst (λ (l : List (Saying ℕ)). IsSheetOf itself edges o (first_time (oracle_said bytes)) l sheet) (told-all o bytes)
+    (subst (λ (t : ℕ). IsSheetOf itself edges o t (judged_all o t bytes) sheet) h k)
 
 -- its text is a trace of the log's rows
-pub sheet-trace : (o : Options) (bytes text : List ℕ) (sheet : Sheet) → 1 ≤ o.edges → o.edges ≤ 256 → IsSheetOf o.edges o (first_time (oracle_said bytes)) (oracle_told o bytes) sheet
+pub sheet-trace : (o : Options) (bytes text : List ℕ) (sheet : Sheet) → 1 ≤ o.edges → o.edges ≤ 256 → IsSheetOf itself o.edges o (first_time (oracle_said bytes)) (oracle_told o bytes) sheet
     → WritesTrace text sheet.rows.items → trace_of o.edges most_rows (records_of text) ≡ Ok (oracle_rows o bytes)
 sheet-trace o bytes text sheet some few k w =
     w o.edges (omega arith) (k.ranges some) (omega (arith, k.count, k.few)) ∙ ap (λ (rs : List Row). Ok rs) k.rows

@@ -2,7 +2,7 @@
 pub mod Written
 pub mod Log
 pub mod Oracle
+pub mod Csv
 -- what private contracts say
-pub mod Ahead
 pub mod Lines
 pub mod Sheet

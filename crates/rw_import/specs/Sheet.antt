@@ -1,7 +1,11 @@
 -- What is collected of a log, one row after the other.
-use Rattle.std.specs.Prelude.{◌≡◌, ◌≤◌, ◌<◌, ◌+◌, ◌^◌, ◌++◌, ℕ, List, [], ◌∷◌, true, false, Ok, Err, Option, Some, None, All, length}
+use Rattle.std.specs.Prelude.{◌≡◌, ◌≤◌, ◌<◌, ◌+◌, ◌^◌, ◌++◌, ℕ, List, [], ◌∷◌, true, false, Result, Ok, Err, Option, Some, None, All, if◌then◌else◌, length, map, nat_le}
+use Rattle.std.specs.Global.{Vec}
+use Rattle.indexmap.specs.IndexSet.{IndexSet}
 use Rattle.rw_trace.specs.Laws.{IsRow}
 use Rattle.rw_trace.specs.Limits.{greatest_size, latest_time, most_rows}
+use Rattle.rw_trace.specs.Words.{Text}
+use Rattle.rw_import.specs.Csv.{number_among, objects_in, with_text}
 use Rattle.rw_import.specs.Log.{IsStrictlyKept, Saying, fault_at, kept_in, left_out_of, row_for, rows_for, ticks_from}
 use Rattle.rw_import.specs.declared.options.Options.{Options}
 use Rattle.rw_import.specs.declared.fault.ImportFault.{ImportFault}
@@ -10,6 +14,7 @@ use Rattle.rw_import.specs.declared.sheet.Sheet.{Sheet}
 use Rattle.rw_import.specs.declared.fault.Part.TheVariants as part
 use Rattle.rw_import.specs.declared.fault.Flaw.{Flaw}
 use Rattle.rw_import.specs.declared.fault.Flaw.TheVariants.{Column, Length}
+use Rattle.rw_import.specs.declared.entry.Entry.{Entry}
 use Rattle.rw_import.specs.declared.entry.LeftOut.{LeftOut}
 
 -- the counts with one more row left out
@@ -46,6 +51,12 @@ IsKeepable edges o least (Ok s) =
     IsEdgeIn edges o s.0.edge × (1 ≤ s.0.size) × (s.0.size ≤ greatest_size) × (s.1 < 2 ^ 64)
     × (s.0.time < 10 ^ 29) × (ticks_from o.ticks least s.0.time ≤ latest_time)
 
+-- the time of a kept row is short, and within those of a trace
+abbrev pub IsTimely : Options → ℕ → Saying ℕ → Type 0
+IsTimely o least (Err f) = Unit {0}
+IsTimely o least (Ok s) =
+    (s.0.time < 10 ^ 29) × (ticks_from o.ticks least s.0.time ≤ latest_time)
+
 -- one more row is kept, or left out
 abbrev pub AddsRow : Options → ℕ → Sheet → Sheet → Saying ℕ → Type 0
 AddsRow o least old new (Ok s) =
@@ -61,12 +72,38 @@ RefusesRow o row old (Ok s) e =
     (e ≡ fault.TooManyRows) × (most_rows ≤ length old.rows.items)
 RefusesRow o row old (Err f) e = (e ≡ fault_at row f) × (o.strict ≡ true)
 
--- what has been collected of these rows
-pub record IsSheetOf (edges : ℕ) (o : Options) (least : ℕ) (done : List (Saying ℕ))
-    (sheet : Sheet) : Type 0 where
-  pub rows : sheet.rows.items ≡ rows_for o least (λ n. n) 0 (kept_in done)
+-- what a row says, its object by number
+abbrev pub numbered_by : {O : Type 0} → (O → ℕ) → Saying O → Saying ℕ
+numbered_by number (Ok s) = Ok (s.0, number s.1)
+numbered_by number (Err f) = Err f
+
+-- what a record says but its object, where its time is within those of a trace
+abbrev pub entry_in_time : ℕ → ℕ → ℕ → Result Entry Flaw → Result Entry Flaw
+entry_in_time ticks least column (Err f) = Err f
+entry_in_time ticks least column (Ok entry) =
+    if nat_le (ticks_from ticks least entry.time) latest_time then Ok entry
+    else Err (Column column part.Time)
+
+-- the texts of a set, in its order
+abbrev pub texts_in : {S : Type 0} → IndexSet (Vec ℕ) S → List Text
+texts_in s = map (λ v. v.items) s.keys
+
+-- the texts so far, with that of a row that is kept
+abbrev pub with_kept : List Text → Text → Result Entry Flaw → List Text
+with_kept texts text (Ok entry) = with_text texts text
+with_kept texts text (Err f) = texts
+
+-- what has been collected of these rows, where each object has its number
+pub record IsSheetOf {O : Type 0} (number : O → ℕ) (edges : ℕ) (o : Options) (least : ℕ)
+    (done : List (Saying O)) (sheet : Sheet) : Type 0 where
+  pub rows : sheet.rows.items ≡ rows_for o least number 0 (kept_in done)
   pub count : length sheet.rows.items ≡ length (kept_in done)
   pub left_out : sheet.left_out ≡ left_out_of done
   pub few : length (kept_in done) ≤ most_rows
   pub strict : IsStrictlyKept o done
   pub ranges : 1 ≤ o.edges → All (IsRow edges) sheet.rows.items
+
+-- the same of a log of fields, where each object's number is that of its text
+abbrev pub IsTextSheet : ℕ → Options → ℕ → List (Saying Text) → Sheet → Type 0
+IsTextSheet edges o least told sheet =
+    IsSheetOf (number_among (objects_in told)) edges o least told sheet

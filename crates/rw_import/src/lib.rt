@@ -2,17 +2,25 @@
 //! A log of requests becomes a trace that `rw_trace` reads.
 //!
 //! What a log means is `specs/Log.antt`: what each row says, which rows are kept, in order, and what row of the trace
-//! each of these becomes. `specs/Oracle.antt` says what a record of the oracle-general format says.
+//! each of these becomes. `specs/Csv.antt` says what a record of a log of fields says, where its columns stand and which
+//! number an object's text has; `specs/Oracle.antt` what a record of the oracle-general format says.
+//!
+//! Worked examples: `rw_tests/src/imports.rt`.
 
+mod csv_log;
+mod csv_row;
 mod entry;
 mod fault;
+mod layout;
 mod options;
 mod oracle;
 mod sheet;
 mod text;
 
+pub use csv_log::import_csv;
 pub use entry::{Entry, Imported, LeftOut};
 pub use fault::{Flaw, ImportFault, Part};
+pub use layout::{Column, Layout};
 pub use options::{DEFAULT_TICKS, Dealing, MAX_EDGES, MAX_TICKS, Options};
 pub use oracle::import_oracle;
 pub use text::write_trace;

@@ -6,7 +6,7 @@ ghost use Rattle.rw_trace.specs.Trace.{trace_of};
 ghost use Rattle.rw_trace.specs.Unread.{records_of};
 ghost use Rattle.rw_import.specs.Log.{IsRowsFault, IsStrictlyKept, earlier, first_time, kept_in, left_out_of};
 ghost use Rattle.rw_import.specs.Oracle.{judged_all, judged_at, oracle_rows, oracle_said, oracle_told, piece_at, piece_count, piece_said};
-ghost use Rattle.rw_import.specs.Sheet.{IsKeepable, IsSheetOf};
+ghost use Rattle.rw_import.specs.Sheet.{IsKeepable, IsSheetOf, IsTimely};
 ghost use Rattle.rw_import.specs.Written.{BeginsWithHeader, WritesTrace, has_purge};
 ghost use Rattle.rw_import.specs.declared.fault.ImportFault.TheVariants.{Memory};
 
@@ -98,6 +98,7 @@ fn judge(bytes: &[u8], at: usize, options: Options, least: u128) -> Result<(Entr
     requires { at < piece_count bytes.now }
     ensures judged { result ≡ judged_at options least bytes.now at }
     ensures keepable { IsKeepable options.edges options least result }
+    ensures timely { IsTimely options least result }
 {
     timely(options, least, 0, read_piece(piece(bytes, at)))
 }
@@ -105,7 +106,7 @@ fn judge(bytes: &[u8], at: usize, options: Options, least: u128) -> Result<(Entr
 /// The records that are kept, in order, and the counts of those that are left out.
 fn collect(alloc: Global, bytes: &[u8], options: Options, least: u128) -> Result<Sheet, ImportFault>
     ensures sheet { IfOk result (λ s.
-        IsSheetOf options.edges options least (judged_all options least bytes.now) s) }
+        IsSheetOf (λ n. n) options.edges options least (judged_all options least bytes.now) s) }
     ensures fault { IfErr result (λ e.
         e ≢ Memory → IsRowsFault options (judged_all options least bytes.now) e) }
 {
@@ -123,7 +124,7 @@ fn collect(alloc: Global, bytes: &[u8], options: Options, least: u128) -> Result
 }
 
 /// The trace of what was collected.
-fn finish(alloc: Global, sheet: Sheet) -> Result<Imported, ImportFault>
+pub fn finish(alloc: Global, sheet: Sheet) -> Result<Imported, ImportFault>
     ensures trace { IfOk result (λ i. WritesTrace i.text.items sheet.rows.items) }
     ensures header { IfOk result (λ i. BeginsWithHeader (has_purge sheet.rows.items) i.text.items) }
     ensures kept { IfOk result (λ i. i.kept ≡ length sheet.rows.items) }

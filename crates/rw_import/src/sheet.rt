@@ -4,7 +4,7 @@ ghost use Rattle.std.specs.Prelude.{◌≡◌, ◌≢◌, ◌≤◌, ◌<◌, �
 ghost use Rattle.rw_trace.specs.Laws.{IsRow};
 ghost use Rattle.rw_trace.specs.Limits.{most_rows, latest_time};
 ghost use Rattle.rw_import.specs.Log.{billion, dealt_edge, edge_for, fault_at, in_time, mixed, row_for, ticks_from};
-ghost use Rattle.rw_import.specs.Sheet.{AddsRow, AreCountsOf, IsKeepable, RefusesRow, counts_with, no_counts_yet};
+ghost use Rattle.rw_import.specs.Sheet.{AddsRow, AreCountsOf, IsTimely, RefusesRow, counts_with, no_counts_yet};
 ghost use Rattle.rw_import.specs.declared.fault.ImportFault.TheVariants.{Memory, TooManyRows};
 
 use crate::entry::{Entry, LeftOut};
@@ -41,7 +41,7 @@ fn deal(options: Options, place: u64, object: u64) -> u32
 }
 
 /// The ticks from the least time to a row's.
-fn ticks_since(options: Options, least: u128, time: u128) -> u128
+pub fn ticks_since(options: Options, least: u128, time: u128) -> u128
     requires { time < 10 ^ 29 }
     ensures { result ≡ ticks_from options.ticks least time }
 {
@@ -171,7 +171,7 @@ pub fn add(
     row: u64,
     said: Result<(Entry, u64), Flaw>,
 ) -> Result<(), ImportFault>
-    requires keepable { IsKeepable options.edges options least said }
+    requires timely { IsTimely options least said }
     requires within { AreCountsOf row sheet.old.left_out }
     requires few { row + 1 < 2 ^ 64 }
     ensures adds { OnOk result (AddsRow options least sheet.old sheet.new said) }

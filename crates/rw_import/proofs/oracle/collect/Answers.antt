@@ -6,14 +6,14 @@ use Rattle.std.proofs.lemmas.Result.{err_from_is_err_and}
 use Rattle.rw_import.specs.Log.{Saying}
 use Rattle.rw_import.specs.Oracle.{judged_all, judged_at, piece_count}
 use Rattle.rw_import.specs.Sheet.{IsSheetOf}
-use Rattle.rw_import.proofs.Sheets.{length-places, parted-at, row-told, sheet-more, sheet-none}
+use Rattle.rw_import.proofs.Sheets.{length-places, parted-at, row-told, itself, sheet-next, sheet-none}
 use Rattle.rw_import.proofs.oracle.collect.Goals as goal
 
 pub loop-at-init : goal.loop-at-init
 loop-at-init c =
     let counts = c.blank_sheet-sheet.ensures.left_out in
     record {
-      sheet = sheet-none c.args.options.edges c.args.options c.args.least c.blank_sheet-sheet.result c.blank_sheet-sheet.ensures.rows counts;
+      sheet = sheet-none itself c.args.options.edges c.args.options c.args.least c.blank_sheet-sheet.result c.blank_sheet-sheet.ensures.rows counts;
       counts = rw counts (record { length = omega arith; time = omega arith; edge = omega arith; object = omega arith; size = omega arith; kind = omega arith });
     }
 
@@ -27,8 +27,8 @@ loop-at-preserved c =
     let more : done ++ c.judge.result ∷ [] ≡ map f (range_with_len 0 (at + 1)) =
     ap (λ (s : Saying ℕ). done ++ s ∷ []) same ∙ sym (map-range_with_len_more f 0 at at (omega arith)) in
     record {
-      sheet = subst (λ (l : List (Saying ℕ)). IsSheetOf o.edges o c.args.least l c.add.new.sheet) more
-          (sheet-more o.edges o c.args.least done c.loop-at.sheet c.add.new.sheet c.judge.result c.loop-at.invariant.sheet c.judge.ensures.keepable c.in_ok-add.ensures.adds);
+      sheet = subst (λ (l : List (Saying ℕ)). IsSheetOf itself o.edges o c.args.least l c.add.new.sheet) more
+          (sheet-next o.edges o c.args.least done c.loop-at.sheet c.add.new.sheet c.judge.result c.loop-at.invariant.sheet c.judge.ensures.keepable c.in_ok-add.ensures.adds);
       counts = c.in_ok-add.ensures.after;
     }
 

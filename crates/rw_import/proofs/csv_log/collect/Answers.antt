@@ -1,0 +1,39 @@
+-- With the log's columns, its records are its rows.
+use Rattle.std.proofs.Common.{◌≡◌, ◌∙◌, List, Ok, ap, subst, sym}
+use Rattle.std.specs.Prelude.{Result}
+use Rattle.std.proofs.lemmas.Result.{MatchResult-weaker}
+use Rattle.csv.specs.Records.{fields_of}
+use Rattle.rw_trace.specs.Unread.{unread}
+use Rattle.rw_trace.specs.Words.{Fields, Text}
+use Rattle.rw_import.specs.Csv.{IsCsvFault, columns_found, csv_told, log_records, number_among, objects_in, record_told, rows_under}
+use Rattle.rw_import.specs.Log.{IsRowsFault, Saying}
+use Rattle.rw_import.specs.Sheet.{IsSheetOf}
+use Rattle.rw_import.specs.declared.fault.ImportFault.{ImportFault}
+use Rattle.rw_import.specs.declared.layout.Places.{Places}
+use Rattle.rw_import.proofs.Collecting.{edges-asked, told-whole}
+use Rattle.rw_import.proofs.csv_log.collect.Goals as goal
+
+pub rows_left-requires-clause-edges : goal.rows_left-requires-clause-edges
+rows_left-requires-clause-edges c none =
+    edges-asked c.args.layout.now c.args.options (unread c.open-reader.result) c.in_ok-places.places c.args.edges c.in_ok-places.ensures.places c.requires.edges none
+
+pub returns-clause-sheet : goal.returns-clause-sheet
+returns-clause-sheet c =
+    let o = c.args.options in
+    let all = c.open-reader.ensures.all in
+    let places = ap (λ (rs : List Fields). columns_found c.args.layout.now rs) (sym all) ∙ c.in_ok-places.ensures.places in
+    let rows = ap (λ (rs : List Fields). rows_under c.args.layout.now rs) (sym all) ∙ c.in_ok-places.ensures.rows in
+    let whole = told-whole c.args.layout.now o c.args.bytes.now c.in_ok-places.places (unread c.start.new.reader) c.args.edges c.args.least places rows c.requires.edges c.requires.least in
+    MatchResult-weaker c.rows_left.result c.rows_left.ensures.sheet
+    (λ s k. subst (λ (l : List (Saying Text)). IsSheetOf (number_among (objects_in l)) c.args.edges o c.args.least l s) whole k) (λ e p. p)
+
+pub returns-clause-fault : goal.returns-clause-fault
+returns-clause-fault c =
+    let o = c.args.options in
+    let all = c.open-reader.ensures.all in
+    let places = ap (λ (rs : List Fields). columns_found c.args.layout.now rs) (sym all) ∙ c.in_ok-places.ensures.places in
+    let rows = ap (λ (rs : List Fields). rows_under c.args.layout.now rs) (sym all) ∙ c.in_ok-places.ensures.rows in
+    let told = csv_told c.args.layout.now o c.args.bytes.now in
+    let whole = told-whole c.args.layout.now o c.args.bytes.now c.in_ok-places.places (unread c.start.new.reader) c.args.edges c.args.least places rows c.requires.edges c.requires.least in
+    MatchResult-weaker c.rows_left.result c.rows_left.ensures.fault (λ s p. p)
+    (λ e k other. subst (λ (r : Result Places ImportFault). IsCsvFault o told r e) (sym places) (subst (λ (l : List (Saying Text)). IsRowsFault o l e) whole (k other)))

@@ -1,0 +1,400 @@
+//! Logs of fields: CSV, with any byte between the fields.
+
+ghost use Rattle.std.specs.Prelude.{◌≡◌, ◌≢◌, ◌+◌, ◌<◌, ◌^◌, ◌==◌, ℕ, [], ◌∷◌, true, Ok, Err, None, IfOk, IfErr, MatchBool, OnOk, map, length};
+ghost use Rattle.std.specs.List.{position, position_or_len};
+ghost use Rattle.csv.specs.Reading.{error_kind, stops_reader};
+ghost use Rattle.csv.specs.Records.{fields_of};
+ghost use Rattle.rw_trace.specs.Limits.{most_rows};
+ghost use Rattle.rw_trace.specs.Trace.{trace_of};
+ghost use Rattle.rw_trace.specs.Unread.{Steady, records_of, unread};
+ghost use Rattle.rw_trace.specs.Words.{Text};
+ghost use Rattle.rw_import.specs.Csv.{HaveOneNumberEach, IsCsvFault, beside, columns_found, csv_rows, csv_said, csv_told, edges_of, entry_of, has_header, is_named, is_named_if, is_same_text, log_records, objects_in, place_if, place_in, places_in, record_said, record_told, rows_under, with_text};
+ghost use Rattle.rw_import.specs.Log.{IsRowsFault, IsStrictlyKept, earlier, first_time, kept_in, left_out_of};
+ghost use Rattle.rw_import.specs.Sheet.{IsKeepable, IsTextSheet, entry_in_time, texts_in, with_kept};
+ghost use Rattle.rw_import.specs.Written.{BeginsWithHeader, has_purge};
+ghost use Rattle.rw_import.specs.declared.fault.ImportFault.TheVariants.{Memory};
+
+use crate::csv_row::{field_of, read_fields};
+use crate::entry::{Entry, Imported};
+use crate::fault::{Flaw, ImportFault, Part};
+use crate::layout::{Column, Layout, Places};
+use crate::options::{MAX_EDGES, Options};
+use crate::oracle::finish;
+use crate::sheet::{Sheet, add, blank_sheet, ticks_since};
+use csv::{ByteRecord, Error, ErrorKind, Reader, ReaderBuilder};
+use indexmap::IndexSet;
+use rw_trace::MAX_TIME;
+use std::alloc::Global;
+
+/// Whether a column is given by its name.
+fn is_named(column: &Column) -> bool
+    ensures { result ≡ is_named column.now }
+{
+    match column {
+        Column::Named(_) => true,
+        Column::At(_) => false,
+    }
+}
+
+/// Whether a column that may be there is given by its name.
+fn is_named_if(column: &Option<Column>) -> bool
+    ensures { result ≡ is_named_if column.now }
+{
+    match column {
+        Some(column) => is_named(column),
+        None => false,
+    }
+}
+
+/// Whether the log's first record is a header.
+fn has_header(layout: &Layout) -> bool
+    ensures { result ≡ has_header layout.now }
+{
+    is_named(&layout.time)
+        || is_named_if(&layout.edge)
+        || is_named(&layout.object)
+        || is_named(&layout.size)
+        || is_named_if(&layout.kind)
+}
+
+/// Where a name first stands in a header.
+fn find(header: &ByteRecord, name: &[u8]) -> Option<u64>
+    ensures { result ≡ position (λ field. is_same_text field name.now) (fields_of header.now) }
+{
+    for place in 0..header.len() as u64 {
+        if field_of(header, place) == name {
+            return Some(place);
+        }
+    }
+    None
+}
+
+/// Where a column stands.
+fn place_of(header: &ByteRecord, column: &Column, part: Part) -> Result<u64, ImportFault>
+    ensures { result ≡ place_in (fields_of header.now) part column.now }
+{
+    match column {
+        Column::At(place) => Ok(*place),
+        Column::Named(name) => find(header, name.as_slice()).ok_or(ImportFault::NoColumn(part)),
+    }
+}
+
+/// Where a column stands that may be there.
+fn place_if(
+    header: &ByteRecord,
+    column: &Option<Column>,
+    part: Part,
+) -> Result<Option<u64>, ImportFault>
+    ensures { result ≡ place_if (fields_of header.now) part column.now }
+{
+    match column {
+        Some(column) => Ok(Some(place_of(header, column, part)?)),
+        None => Ok(None),
+    }
+}
+
+/// Where the columns stand.
+#[tactic(auto, unfolding(crate::specs::Csv::places_in))]
+fn places_of(header: &ByteRecord, layout: &Layout) -> Result<Places, ImportFault>
+    ensures { result ≡ places_in (fields_of header.now) layout.now }
+{
+    let time = place_of(header, &layout.time, Part::Time)?;
+    let edge = place_if(header, &layout.edge, Part::Edge)?;
+    let object = place_of(header, &layout.object, Part::Object)?;
+    let size = place_of(header, &layout.size, Part::Size)?;
+    let kind = place_if(header, &layout.kind, Part::Kind)?;
+    Ok(Places {
+        time,
+        object,
+        size,
+        edge,
+        kind,
+    })
+}
+
+/// A reader of the records of a log.
+#[tactic(auto, unfolding(rw_trace::specs::Unread::unread))]
+fn open<'a>(alloc: Global, bytes: &'a [u8], layout: &Layout) -> Reader<&'a [u8]>
+    ensures steady { Steady result }
+    ensures all { unread result ≡ log_records layout.now bytes.now }
+{
+    ReaderBuilder::new()
+        .has_headers(false)
+        .flexible(true)
+        .delimiter(layout.delimiter)
+        .from_reader(alloc, bytes)
+}
+
+/// The fault of a read that memory, or the reader underneath, refused.
+fn refusal(error: Error) -> ImportFault
+    requires { stops_reader (error_kind error) ≡ true }
+    ensures { result ≡ Memory }
+{
+    match error.into_kind() {
+        ErrorKind::Io(_) | ErrorKind::OutOfMemory => ImportFault::Memory,
+        _ => unreachable!(),
+    }
+}
+
+/// The next record into `fields`, and whether there was one. `Memory` where memory was refused.
+fn next(reader: &mut Reader<&[u8]>, fields: &mut ByteRecord) -> Result<bool, ImportFault>
+    requires { Steady reader.old }
+    ensures steady { IfOk result (λ found. found ≡ true → Steady reader.new) }
+    ensures gives { IfOk result (λ found. MatchBool found
+        (unread reader.old ≡ fields_of fields.new ∷ unread reader.new)
+        (unread reader.old ≡ [])) }
+    ensures refused { IfErr result (λ e. e ≡ Memory) }
+{
+    match reader.read_byte_record(fields) {
+        Ok(found) => Ok(found),
+        Err(error) => Err(refusal(error)),
+    }
+}
+
+/// Where the columns stand, behind the header if there is one.
+#[tactic(auto, unfolding(crate::specs::Csv::columns_found, crate::specs::Csv::rows_under))]
+fn start(
+    reader: &mut Reader<&[u8]>,
+    fields: &mut ByteRecord,
+    layout: &Layout,
+) -> Result<Places, ImportFault>
+    requires steady { Steady reader.old }
+    requires blank { fields_of fields.old ≡ [] }
+    ensures steady { OnOk result (Steady reader.new) }
+    ensures places { IfOk result (λ p. columns_found layout.now (unread reader.old) ≡ Ok p) }
+    ensures rows { OnOk result (rows_under layout.now (unread reader.old) ≡ unread reader.new) }
+    ensures fault { IfErr result (λ e.
+        e ≢ Memory → columns_found layout.now (unread reader.old) ≡ Err e) }
+{
+    if has_header(layout) {
+        if !next(reader, fields)? {
+            return Err(ImportFault::Header);
+        }
+    }
+    places_of(fields, layout)
+}
+
+/// The lesser of a time that may be there and that of a row.
+fn lesser(least: Option<u128>, said: Result<Entry, Flaw>) -> Option<u128>
+    ensures { (text : Text) → result ≡ earlier least (beside text said) }
+{
+    match (least, said) {
+        (least, Err(_)) => least,
+        (None, Ok(entry)) => Some(entry.time),
+        (Some(time), Ok(entry)) => Some(time.min(entry.time)),
+    }
+}
+
+/// The least time that the records left say, or 0 where none says one.
+fn least_left(
+    reader: &mut Reader<&[u8]>,
+    fields: &mut ByteRecord,
+    places: Places,
+    edges: u32,
+) -> Result<u128, ImportFault>
+    requires { Steady reader.old }
+    ensures least { IfOk result (λ t.
+        t ≡ first_time (map (record_said places edges) (unread reader.old))) }
+    ensures refused { IfErr result (λ e. e ≡ Memory) }
+{
+    let mut least = None;
+    for _row in 0..u64::MAX {
+        if !next(reader, fields)? {
+            return Ok(least.unwrap_or(0));
+        }
+        least = lesser(least, read_fields(fields, places, edges));
+    }
+    Err(ImportFault::Memory)
+}
+
+/// The least time that a log's rows say, or 0 where none says one.
+fn first_of(
+    alloc: Global,
+    bytes: &[u8],
+    layout: &Layout,
+    options: Options,
+    edges: u32,
+) -> Result<u128, ImportFault>
+    requires { edges ≡ edges_of layout.now options }
+    ensures least { IfOk result (λ t. t ≡ first_time (csv_said layout.now options bytes.now)) }
+    ensures fault { IfErr result (λ e.
+        e ≢ Memory → columns_found layout.now (log_records layout.now bytes.now) ≡ Err e) }
+{
+    let mut reader = open(alloc, bytes, layout);
+    let mut fields = ByteRecord::new(alloc);
+    let places = start(&mut reader, &mut fields, layout)?;
+    least_left(&mut reader, &mut fields, places, edges)
+}
+
+/// The number of a text among those so far and it.
+#[tactic(auto, using(crate::proofs::Texts::item_rules))]
+fn number_of(texts: &mut IndexSet<Vec<u8>>, text: Vec<u8>) -> Result<u64, ImportFault>
+    ensures number { IfOk result (λ n.
+        n ≡ position_or_len (is_same_text text.items) (texts_in texts.old)) }
+    ensures texts { OnOk result (texts_in texts.new ≡ with_text (texts_in texts.old) text.items) }
+    ensures refused { IfErr result (λ e. e ≡ Memory) }
+{
+    let Ok((number, _)) = texts.insert_full(text) else {
+        return Err(ImportFault::Memory);
+    };
+    Ok(number as u64)
+}
+
+/// The text of a field.
+fn owned(alloc: Global, field: &[u8]) -> Result<Vec<u8>, ImportFault>
+    ensures text { IfOk result (λ v. v.items ≡ field.now) }
+    ensures refused { IfErr result (λ e. e ≡ Memory) }
+{
+    Vec::from_slice(alloc, field).map_err(|_| ImportFault::Memory)
+}
+
+/// What a row says, its object by number, among the texts so far and its own if it is kept.
+fn numbered(
+    alloc: Global,
+    texts: &mut IndexSet<Vec<u8>>,
+    text: &[u8],
+    said: Result<Entry, Flaw>,
+) -> Result<Result<(Entry, u64), Flaw>, ImportFault>
+    ensures said { IfOk result (λ s.
+        s ≡ beside (position_or_len (is_same_text text.now) (texts_in texts.old)) said) }
+    ensures small { IfOk result (λ s. IfOk s (λ p. p.1 < 2 ^ 64)) }
+    ensures texts { OnOk result
+        (texts_in texts.new ≡ with_kept (texts_in texts.old) text.now said) }
+    ensures refused { IfErr result (λ e. e ≡ Memory) }
+{
+    match said {
+        Ok(entry) => Ok(Ok((entry, number_of(texts, owned(alloc, text)?)?))),
+        Err(flaw) => Ok(Err(flaw)),
+    }
+}
+
+/// What a record says, but its object, where its time is within those of a trace.
+fn judge(
+    fields: &ByteRecord,
+    places: Places,
+    edges: u32,
+    options: Options,
+    least: u128,
+) -> Result<Entry, Flaw>
+    requires { places.edge ≡ None → options.edges ≡ edges }
+    ensures judged { result
+        ≡ entry_in_time options.ticks least places.time
+        (entry_of places edges (fields_of fields.now)) }
+    ensures keepable { (n : ℕ) → n < 2 ^ 64 → IsKeepable edges options least (beside n result) }
+{
+    let entry = read_fields(fields, places, edges)?;
+    if ticks_since(options, least, entry.time) > u128::from(MAX_TIME) {
+        return Err(Flaw::Column(places.time, Part::Time));
+    }
+    Ok(entry)
+}
+
+/// Of the records left, those that are kept, in order, and the counts of those that are left out.
+fn rows_left(
+    alloc: Global,
+    reader: &mut Reader<&[u8]>,
+    fields: &mut ByteRecord,
+    places: Places,
+    edges: u32,
+    options: Options,
+    least: u128,
+) -> Result<Sheet, ImportFault>
+    requires steady { Steady reader.old }
+    requires edges { places.edge ≡ None → options.edges ≡ edges }
+    ensures sheet { IfOk result (λ s. IsTextSheet edges options least
+        (map (record_told places edges options.ticks least) (unread reader.old)) s) }
+    ensures fault { IfErr result (λ e. e ≢ Memory → IsRowsFault options
+        (map (record_told places edges options.ticks least) (unread reader.old)) e) }
+{
+    let mut texts = IndexSet::new(alloc);
+    let mut sheet = blank_sheet(alloc);
+    for row in 0..u64::MAX {
+        if !next(reader, fields)? {
+            return Ok(sheet);
+        }
+        let judged = judge(fields, places, edges, options, least);
+        let said = numbered(alloc, &mut texts, field_of(fields, places.object), judged)?;
+        add(&mut sheet, options, least, row, said)?;
+    }
+    Err(ImportFault::Memory)
+}
+
+/// The rows of a log that are kept, in order, and the counts of those that are left out.
+fn collect(
+    alloc: Global,
+    bytes: &[u8],
+    layout: &Layout,
+    options: Options,
+    edges: u32,
+    least: u128,
+) -> Result<Sheet, ImportFault>
+    requires edges { edges ≡ edges_of layout.now options }
+    requires least { least ≡ first_time (csv_said layout.now options bytes.now) }
+    ensures sheet { IfOk result (λ s.
+        IsTextSheet edges options least (csv_told layout.now options bytes.now) s) }
+    ensures fault { IfErr result (λ e. e ≢ Memory → IsCsvFault options
+        (csv_told layout.now options bytes.now)
+        (columns_found layout.now (log_records layout.now bytes.now)) e) }
+{
+    let mut reader = open(alloc, bytes, layout);
+    let mut fields = ByteRecord::new(alloc);
+    let places = start(&mut reader, &mut fields, layout)?;
+    rows_left(
+        alloc,
+        &mut reader,
+        &mut fields,
+        places,
+        edges,
+        options,
+        least,
+    )
+}
+
+/// How many edges the trace of a log is for.
+fn edges_of(layout: &Layout, options: &Options) -> u32
+    ensures { result ≡ edges_of layout.now options.now }
+{
+    match layout.edge {
+        Some(_) => MAX_EDGES,
+        None => options.edges,
+    }
+}
+
+/// The trace of a log of fields, as the `csv` crate parts them, with the layout's byte between two. If a column is given
+/// by its name, the first record is the header and no row. The trace is one for 256 edges where the log has a column
+/// of edges, else for as many as the options have. Objects are numbered from 0 in the order in which their texts first
+/// come among the rows that are kept. The log is read twice, and each different object's text is held.
+///
+/// # Errors
+///
+/// `Header` where there is no header, `NoColumn` where it lacks a column, the first of time, edge, object, size and kind;
+/// strict, the first row that would be left out; one kept row too many for a trace, where no such row comes before it;
+/// `Memory` where a request for memory was refused: nothing is said of the log then.
+pub fn import_csv(
+    alloc: Global,
+    bytes: &[u8],
+    layout: &Layout,
+    options: &Options,
+) -> Result<Imported, ImportFault>
+    ensures trace { IfOk result (λ i. trace_of (edges_of layout.now options.now) most_rows
+        (records_of i.text.items) ≡ Ok (csv_rows layout.now options.now bytes.now)) }
+    ensures header { IfOk result (λ i.
+        BeginsWithHeader (has_purge (csv_rows layout.now options.now bytes.now)) i.text.items) }
+    ensures objects { HaveOneNumberEach
+        (objects_in (csv_told layout.now options.now bytes.now))
+        (map (λ r. r.object) (csv_rows layout.now options.now bytes.now)) }
+    ensures kept { IfOk result (λ i.
+        i.kept ≡ length (kept_in (csv_told layout.now options.now bytes.now))) }
+    ensures left_out { IfOk result (λ i.
+        i.left_out ≡ left_out_of (csv_told layout.now options.now bytes.now)) }
+    ensures strict { IfOk result (λ i.
+        IsStrictlyKept options.now (csv_told layout.now options.now bytes.now)) }
+    ensures fault { IfErr result (λ e. e ≢ Memory → IsCsvFault options.now
+        (csv_told layout.now options.now bytes.now)
+        (columns_found layout.now (log_records layout.now bytes.now)) e) }
+{
+    let edges = edges_of(layout, options);
+    let least = first_of(alloc, bytes, layout, *options, edges)?;
+    let sheet = collect(alloc, bytes, layout, *options, edges, least)?;
+    finish(alloc, sheet)
+}
