@@ -23,11 +23,10 @@ pub(crate) enum Argument {
         default: &'static str,
         help: &'static str,
     },
-    /// One of some words, which has to be given.
-    RequiredChoice {
+    /// A text that may be given.
+    Optional {
         name: &'static str,
         value: &'static str,
-        values: &'static [&'static str],
         help: &'static str,
     },
     /// One of some words.
@@ -90,14 +89,7 @@ impl Argument {
                 default,
                 help,
             } => text(alloc, name, value, help).default_value(default),
-            Argument::RequiredChoice {
-                name,
-                value,
-                values,
-                help,
-            } => text(alloc, name, value, help)
-                .value_parser(values)
-                .required(true),
+            Argument::Optional { name, value, help } => text(alloc, name, value, help),
             Argument::Choice {
                 name,
                 value,

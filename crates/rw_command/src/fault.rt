@@ -30,6 +30,9 @@ pub enum Fault {
     /// An option is no list of its values.
     #[error("error: --{0}: no list of its values; see ripqwarp sweep --help")]
     List(&'static str),
+    /// A delimiter is none.
+    #[error("error: --delimiter: neither one ASCII character nor tab")]
+    Delimiter,
     /// The lists have too many combinations.
     #[error("error: more than {0} combinations")]
     Combinations(u64),
@@ -48,6 +51,7 @@ impl Fault {
             Fault::CommandLine(_)
             | Fault::Plan
             | Fault::List(_)
+            | Fault::Delimiter
             | Fault::Combinations(_)
             | Fault::Schedule(ScheduleFault::Word(_))
             | Fault::Run(SimFault::Plan) => 2,

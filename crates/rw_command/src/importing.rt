@@ -4,7 +4,9 @@ use crate::fault::Fault;
 use crate::lines::write_line;
 use crate::source::Source;
 use clap::ArgMatches;
-use rw_import::{Dealing, Imported, LeftOut, Options, import_oracle};
+use rw_import::{
+    Column, Dealing, Imported, Layout, LeftOut, Options, import_csv, import_oracle,
+};
 use rw_ripqwarp::Out;
 use std::alloc::Global;
 use std::io::Write;
@@ -18,8 +20,13 @@ pub(crate) fn import<S: Source, W: Write, E: Write>(
     err: &mut E,
 ) -> Result<(), Fault> {
     let reading = reading(options).ok_or(Fault::Plan)?;
+    let layout = layout(alloc, options)?;
     let log = read(alloc, options, "log", source)?;
-    let imported = import_oracle(alloc, log.as_slice(), &reading).map_err(Fault::Import)?;
+    let imported = match options.get_str("from") {
+        Some("oracle-general") => import_oracle(alloc, log.as_slice(), &reading),
+        _ => import_csv(alloc, log.as_slice(), &layout, &reading),
+    };
+    let imported = imported.map_err(Fault::Import)?;
     write(imported.text.as_slice(), out)?;
     tell(&imported, err);
     Ok(())
@@ -37,6 +44,44 @@ fn reading(options: &ArgMatches<'_>) -> Option<Options> {
         dealing,
         options.get_flag("strict"),
     )
+}
+
+/// How the columns of a log of fields are found.
+fn layout(alloc: Global, options: &ArgMatches<'_>) -> Result<Layout, Fault> {
+    Ok(Layout {
+        delimiter: delimiter(options).ok_or(Fault::Delimiter)?,
+        time: needed_column(alloc, options, "time")?,
+        object: needed_column(alloc, options, "object")?,
+        size: needed_column(alloc, options, "size")?,
+        edge: column(alloc, options, "edge")?,
+        kind: column(alloc, options, "kind")?,
+    })
+}
+
+/// What stands between two fields, if it is one ASCII character or the word for a tab.
+fn delimiter(options: &ArgMatches<'_>) -> Option<u8> {
+    match options.get_str("delimiter")?.as_bytes() {
+        b"tab" => Some(b'\t'),
+        [byte] if byte.is_ascii() => Some(*byte),
+        _ => None,
+    }
+}
+
+/// A column that has a default.
+fn needed_column(alloc: Global, options: &ArgMatches<'_>, name: &str) -> Result<Column, Fault> {
+    column(alloc, options, name)?.ok_or(Fault::Plan)
+}
+
+/// The column that an option names, by its number where that is one.
+fn column(alloc: Global, options: &ArgMatches<'_>, name: &str) -> Result<Option<Column>, Fault> {
+    let Some(text) = options.get_str(name) else {
+        return Ok(None);
+    };
+    let column = match rw_trace::number(text.as_bytes()) {
+        Some(number) => Column::At(number),
+        None => Column::Named(Vec::from_slice(alloc, text.as_bytes())?),
+    };
+    Ok(Some(column))
 }
 
 /// Tells how many rows of a log the trace has, and how many were left out, by the reason; a writer that fails is let be.

@@ -238,18 +238,53 @@ const CACHES: [Argument; 10] = [
     },
 ];
 
-/// A log, and how its rows become a trace's.
-const LOG: [Argument; 6] = [
+/// A log, how it is read, and how its rows become a trace's.
+const LOG: [Argument; 12] = [
     Argument::File {
         name: "log",
         value: "LOG",
         help: "The log; - is standard input",
     },
-    Argument::RequiredChoice {
+    Argument::Choice {
         name: "from",
         value: "FORMAT",
-        values: &["oracle-general"],
-        help: "Its format: oracle-general, the binary one of libCacheSim",
+        values: &["csv", "oracle-general"],
+        default: "csv",
+        help: "Its format: csv, or libCacheSim's binary oracle-general, which has no use for the columns",
+    },
+    Argument::Text {
+        name: "delimiter",
+        value: "BYTE",
+        default: ",",
+        help: "What stands between two fields: one ASCII character, or tab",
+    },
+    Argument::Text {
+        name: "time",
+        value: "COLUMN",
+        default: "time",
+        help: "The column of times, by its name in the header or its number from 0",
+    },
+    Argument::Text {
+        name: "object",
+        value: "COLUMN",
+        default: "object",
+        help: "The column of objects, which may be any text",
+    },
+    Argument::Text {
+        name: "size",
+        value: "COLUMN",
+        default: "size",
+        help: "The column of sizes in bytes",
+    },
+    Argument::Optional {
+        name: "edge",
+        value: "COLUMN",
+        help: "The column of edges, numbers from 0; without it requests are dealt out to --edges",
+    },
+    Argument::Optional {
+        name: "kind",
+        value: "COLUMN",
+        help: "The column of kinds, get or purge; without it all rows are requests",
     },
     Argument::Number {
         name: "edges",
