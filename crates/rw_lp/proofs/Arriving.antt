@@ -7,7 +7,7 @@ use Rattle.rw_vt.specs.declared.event.Event.{Event}
 use Rattle.rw_vt.specs.declared.event.Letter.{Letter}
 use Rattle.rw_vt.specs.Order.{AtMost, Each, Has, IsAscending, insert_in_order, has, without}
 use Rattle.rw_vt.specs.Letters.{letters_of}
-use Rattle.rw_vt.specs.System.{System}
+use Rattle.rw_vt.specs.System.{Rules}
 use Rattle.rw_vt.proofs.Sorting.{IsExactOrder, at_most_chain, Has-head, Has-right}
 use Rattle.rw_vt.proofs.Bags.{Each-nil, Each-cons}
 use Rattle.rw_lp.specs.declared.step.StepFault.TheVariants.{StillDone}
@@ -90,7 +90,7 @@ module _ {S B : Type 0} {cmp : Event B → Event B → Ordering} (o : IsExactOrd
       go true d k = true≢false (sym k)
       go false d k = true≢false (sym k)
 
-module _ {S B : Type 0} (y : System S B) (p : ℕ) where
+module _ {S B : Type 0} (y : Rules S B) (p : ℕ) where
   -- an undoing where something is processed
   pub undo_taken : (x z : ProcessState S B) (a : Answer) (given : List (Letter B)) → (x.processed ≡ [] → ⊥) → Took x z a given (undo_one y p x) → (undo_one y p x ≡ Turned z given) × (length z.processed < length x.processed)
   undo_taken x z a given some took = go (split_last x.processed) (split_is x.processed) took
@@ -141,7 +141,7 @@ module _ {S B : Type 0} (undo : ProcessState S B → Turn S B) (cmp : Event B �
           let last : k ≡ g.count = omega arith in
           refused (subst (Accepts cmp l) (same v out (subst (λ i. undo_times undo i x ≡ Turned v out) last u)) a)
 
-pub arrived : {S B : Type 0} (way : Way) (y : System S B) (p : ℕ) (l : Letter B) (x w z : ProcessState S B) (a : Answer) (given rest : List (Letter B)) → IsGoing (undo_by way y p) y.order l x w given → Accepts y.order l w → Took w z a rest (deliver y.order l w) → ArrivedBy way y p l x z (given ++ rest)
+pub arrived : {S B : Type 0} (way : Way) (y : Rules S B) (p : ℕ) (l : Letter B) (x w z : ProcessState S B) (a : Answer) (given rest : List (Letter B)) → IsGoing (undo_by way y p) y.order l x w given → Accepts y.order l w → Took w z a rest (deliver y.order l w) → ArrivedBy way y p l x z (given ++ rest)
 arrived {S} {B} way y p l x w z a given rest g accepts took = record {
   count = g.count;
   between = w;
@@ -159,7 +159,7 @@ arrived {S} {B} way y p l x w z a given rest g accepts took = record {
     go (Turned v out) k q = ap (λ u. Turned u out) (sym q.0) ∙ ap (Turned z) (sym q.2)
 
 -- an arrival on its way, seen from the code
-pub record IsUnderway {M S B : Type 0} (way : Way) (y : System S B) (l : Letter B) (from now : LogicalProcess M S B) (old new : List (Letter B)) : Type 0 where
+pub record IsUnderway {M S B : Type 0} (way : Way) (y : Rules S B) (l : Letter B) (from now : LogicalProcess M S B) (old new : List (Letter B)) : Type 0 where
   pub model : now.model ≡ from.model
   pub number : now.number ≡ from.number
   pub given : List (Letter B)

@@ -4,7 +4,7 @@ use Rattle.rw_vt.specs.declared.event.Event.{Event}
 use Rattle.rw_vt.specs.declared.event.Letter.{Letter}
 use Rattle.rw_vt.specs.Order.{one_if_same, copies, insert_in_order, has, without}
 use Rattle.rw_vt.specs.Letters.{letters_of, messages, antis}
-use Rattle.rw_vt.specs.System.{System, state_after, sends_of}
+use Rattle.rw_vt.specs.System.{Rules, state_after, sends_of}
 use Rattle.rw_vt.proofs.Sorting.{IsExactOrder, copies-append, copies-insert}
 use Rattle.rw_vt.proofs.Bags.{copies-without}
 use Rattle.rw_vt.proofs.Letters.{messages-append, antis-append, messages_sent, antis_sent, messages_unsent, antis_unsent}
@@ -24,7 +24,7 @@ use Rattle.rw_lp.specs.Arrival.{Way, Cancelling, Holding, undo_by, undo_times, a
 use Rattle.rw_lp.specs.Sound.{Balance}
 use Rattle.rw_lp.proofs.Splits.{IsSplit, split_is}
 
-module _ {S B : Type 0} (y : System S B) (o : IsExactOrder y.order) (p : ℕ) where
+module _ {S B : Type 0} (y : Rules S B) (o : IsExactOrder y.order) (p : ℕ) where
   count_last : (a e : Event B) (xs : List (Event B)) → copies y.order a (xs ++ e ∷ []) ≡ copies y.order a xs + one_if_same y.order a e
   count_last a e xs = omega (arith, copies-append o a xs (e ∷ []))
 

@@ -3,7 +3,7 @@ use Rattle.std.proofs.Common.{◌≡◌, ℕ, true, false, cond, List, [], ◌�
 use Rattle.rw_vt.specs.declared.event.Event.{Event}
 use Rattle.rw_vt.specs.declared.event.Letter.{Letter}
 use Rattle.rw_vt.specs.Letters.{letters_of}
-use Rattle.rw_vt.specs.System.{System}
+use Rattle.rw_vt.specs.System.{Rules}
 use Rattle.rw_lp.specs.declared.step.StepFault.TheVariants.{NothingPending, Straggler, NothingToUndo}
 use Rattle.rw_lp.specs.declared.step.Answer.TheVariants.{Done, Refused}
 use Rattle.rw_lp.specs.HeldMessages.{held_of, unheld_sends}
@@ -16,7 +16,7 @@ pub split_push : {A : Type 0} (xs : List A) (l : A) → split_last (xs ++ l ∷ 
 split_push [] l = refl
 split_push (x ∷ xs) l = let h = split_push xs l in rw h refl
 
-module _ {S B : Type 0} (y : System S B) (p : ℕ) (x : ProcessState S B) where
+module _ {S B : Type 0} (y : Rules S B) (p : ℕ) (x : ProcessState S B) where
   pub nothing_pending : x.pending ≡ [] → Took x x (Refused NothingPending) [] (execute_next y p x)
   nothing_pending none = subst (λ es. Took x x (Refused NothingPending) [] (execute_least y p x es)) (sym none) (refl, refl, refl)
 

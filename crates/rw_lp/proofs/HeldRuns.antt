@@ -23,7 +23,7 @@ use Rattle.rw_lp.proofs.Plain.{unheld_none}
 use Rattle.rw_lp.proofs.Orders.{least_each, least_both}
 use Rattle.rw_lp.specs.Calls.{least_time}
 use Rattle.rw_lp.specs.Sound.{IsHeldFor}
-use Rattle.rw_vt.specs.System.{System}
+use Rattle.rw_vt.specs.System.{Rules}
 use Rattle.rw_lp.proofs.Queues.{ge_back, not_gt_back}
 
 gt_not_eq : (r : Ordering) → is_gt r ≡ true → is_eq r ≡ false
@@ -348,7 +348,7 @@ pub zero_if : (n : ℕ) → IsTrue (nat_eq n 0) → n ≡ 0
 zero_if n h = eqb-true n 0 h
 
 -- no held message is before all pending events
-module _ {S B : Type 0} (y : System S B) (o : IsExactOrder y.order) (ps : List (Event B)) (m : ℕ) where
+module _ {S B : Type 0} (y : Rules S B) (o : IsExactOrder y.order) (ps : List (Event B)) (m : ℕ) where
   least_small : (es : List (Event B)) → least_time m es ≤ m
   least_small [] = omega arith
   least_small (e ∷ es) = omega (arith, least_small es)

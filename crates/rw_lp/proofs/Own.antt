@@ -7,7 +7,7 @@ use Rattle.std.specs.Ordering.{is_eq}
 use Rattle.rw_vt.specs.declared.event.Event.{Event}
 use Rattle.rw_vt.specs.declared.model.Model.{Ghosts}
 use Rattle.rw_vt.specs.Order.{event_cmp, AtMost, copies, one_if_same, Each, Has, IsAscending, insert_in_order, has, without}
-use Rattle.rw_vt.specs.System.{System, state_after}
+use Rattle.rw_vt.specs.System.{Rules, state_after, rules}
 use Rattle.rw_vt.specs.Valid.{IsSentBy}
 use Rattle.rw_vt.proofs.Sorting.{IsExactOrder, tied, at_most_itself, copies-insert, Has-left, Has-right, Has-head}
 use Rattle.rw_vt.proofs.Bags.{one_if-itself, one_if-other, Each-insert, Each-without, Each-append, Each-front, Each-cons, Each-nil, copies-without, Has-test}
@@ -16,7 +16,7 @@ use Rattle.rw_lp.specs.HeldMessages.{held_of, unheld_sends}
 use Rattle.rw_lp.specs.HeldBack.{held_after, held_unless}
 use Rattle.rw_lp.specs.Past.{HistoryState, IsFor, IsTakenBack, done_in}
 use Rattle.rw_lp.specs.Own.{AreFor}
-use Rattle.rw_lp.specs.Calls.{process_of, rules}
+use Rattle.rw_lp.specs.Calls.{process_of}
 use Rattle.rw_lp.specs.Sound.{SoundAt, HasCollected, IsHeldFor}
 use Rattle.rw_lp.proofs.Arriving.{all_up_to_last}
 use Rattle.rw_lp.proofs.Holding.{held_more, held_rest, held_append, held_unheld}
@@ -116,7 +116,7 @@ module _ {M S B U : Type 0} (model : Ghosts M S B U) {order : B → B → Orderi
     pub may_hold : All (λ (k : Held B). AtMost (event_cmp order) e k.undone) hs
     may_hold = All-weaker (λ (k : Held B). Each (event_cmp order) (λ a. AtMost (event_cmp order) a k.undone) (done_in x)) (λ (k : Held B). AtMost (event_cmp order) e k.undone) (λ k all. all e last_there) hs h.late
 
-fresh_held : {S B : Type 0} (y : System S B) (p : ℕ) (ps : List (Event B)) (e : Event B) → Has y.order ps e → (ms : List (Event B)) → All (λ m. IsSentBy p e m × (y.valid m ≡ true)) ms → All (IsHeldFor y ps) (held_of e ms)
+fresh_held : {S B : Type 0} (y : Rules S B) (p : ℕ) (ps : List (Event B)) (e : Event B) → Has y.order ps e → (ms : List (Event B)) → All (λ m. IsSentBy p e m × (y.valid m ≡ true)) ms → All (IsHeldFor y ps) (held_of e ms)
 fresh_held y p ps e there [] all = All-nil (IsHeldFor y ps)
 fresh_held {S} {B} y p ps e there (m ∷ ms) all =
     let first = All-head (λ (m : Event B). IsSentBy p e m × (y.valid m ≡ true)) m ms all in

@@ -6,11 +6,11 @@ use Rattle.rw_vt.specs.declared.event.Event.{Event}
 use Rattle.rw_vt.specs.declared.event.Letter.{Letter}
 use Rattle.rw_vt.specs.Order.{AtMost, one_if_same, copies, Each, IsAscending, insert_in_order, has, without}
 use Rattle.rw_vt.specs.Letters.{letters_of, messages, antis}
-use Rattle.rw_vt.specs.System.{System, state_after, sends_of}
+use Rattle.rw_vt.specs.System.{Rules, state_after, sends_of}
 use Rattle.rw_vt.proofs.Sorting.{tied, copies-append, copies-insert, Has-head, IsAscending-insert}
 use Rattle.rw_vt.proofs.Bags.{one_if-itself, one_if-other, Each-nil, Each-cons, Each-tail, Each-append, Each-front, Each-insert, Each-without, IsAscending-front, IsAscending-push, IsAscending-without, copies-without, Has-test}
 use Rattle.rw_vt.proofs.Letters.{messages-append, antis-append, messages_sent, antis_sent, messages_unsent, antis_unsent}
-use Rattle.rw_vt.proofs.Runs.{IsLawful, after-append, outs-append, well_formed_after, each_sent}
+use Rattle.rw_vt.proofs.Runs.{AreLawful, after-append, outs-append, well_formed_after, each_sent}
 use Rattle.rw_lp.specs.declared.held.Held.{Held}
 use Rattle.rw_lp.specs.declared.step.StepFault.TheVariants.{Straggler, StillDone}
 use Rattle.rw_lp.specs.HeldMessages.{held_messages, held_of, unheld_sends, held_with, held_without}
@@ -21,7 +21,7 @@ use Rattle.rw_lp.proofs.Splits.{IsSplit, split_is}
 use Rattle.rw_lp.proofs.Holding.{AllHeld, count-held_append, count-held_of, count-held_parts, count-unheld, count-unheld_le, held_more, held_rest, held_append, held_unheld, held_fresh, held_valid, held_from}
 use Rattle.rw_lp.proofs.GivenOut.{no_letters, letters_sound, letters_join}
 
-module _ {S B : Type 0} (y : System S B) {WellFormed : ℕ → S → Type 0} (law : IsLawful y WellFormed) where
+module _ {S B : Type 0} (y : Rules S B) {WellFormed : ℕ → S → Type 0} (law : AreLawful y WellFormed) where
   -- one more event: what is sent, and where it leads
   sent_push : (p : ℕ) (s : S) (xs : List (Event B)) (e a : Event B) → copies y.order a (sends_of (y.step p) s (xs ++ e ∷ [])) ≡ copies y.order a (sends_of (y.step p) s xs) + copies y.order a (y.step p (state_after (y.step p) s xs) e).1
   sent_push p s xs e a =

@@ -5,7 +5,7 @@ use Rattle.rw_vt.specs.Words.{Count, Process}
 use Rattle.rw_vt.specs.declared.event.Event.{Event}
 use Rattle.rw_vt.specs.declared.event.Letter.{Letter}
 use Rattle.rw_vt.specs.Order.{AtMost, Each, has}
-use Rattle.rw_vt.specs.System.{System}
+use Rattle.rw_vt.specs.System.{Rules}
 use Rattle.rw_lp.specs.Process.{ProcessState, Turn, Turned, Stays, split_last, is_less_than_last, undo_one, undo_lazily, deliver}
 use Rattle.rw_lp.specs.Calls.{IsTaken}
 
@@ -20,7 +20,7 @@ pub data Way : Type 0 where
   Holding : Way
 
 -- the undoing of the last processed event, that way
-abbrev pub undo_by : {S B : Type 0} → Way → System S B → Process → ProcessState S B → Turn S B
+abbrev pub undo_by : {S B : Type 0} → Way → Rules S B → Process → ProcessState S B → Turn S B
 undo_by Cancelling y p x = undo_one y p x
 undo_by Holding y p x = undo_lazily y p x
 
@@ -47,7 +47,7 @@ pub record Accepts {S B : Type 0} (cmp : Event B → Event B → Ordering) (l : 
   pub in_time : l.anti ≡ false → Each cmp (λ e. AtMost cmp e l.event) x.processed
 
 -- the letter arrives at x, which leads to z and gives these letters out; what has to be undone is undone that way
-pub record ArrivedBy {S B : Type 0} (way : Way) (y : System S B) (p : Process) (l : Letter B) (x z : ProcessState S B) (given : List (Letter B)) : Type 0 where
+pub record ArrivedBy {S B : Type 0} (way : Way) (y : Rules S B) (p : Process) (l : Letter B) (x z : ProcessState S B) (given : List (Letter B)) : Type 0 where
   -- `count` undoings lead to a process that accepts the letter
   pub count : Count
   pub between : ProcessState S B
@@ -62,8 +62,8 @@ pub record ArrivedBy {S B : Type 0} (way : Way) (y : System S B) (p : Process) (
   pub all : given ≡ unsent ++ rest
 
 -- what is undone is cancelled; or what it sent is held
-abbrev pub Arrived : {S B : Type 0} → System S B → Process → Letter B → ProcessState S B → ProcessState S B → List (Letter B) → Type 0
+abbrev pub Arrived : {S B : Type 0} → Rules S B → Process → Letter B → ProcessState S B → ProcessState S B → List (Letter B) → Type 0
 Arrived = ArrivedBy Cancelling
 
-abbrev pub ArrivedLazily : {S B : Type 0} → System S B → Process → Letter B → ProcessState S B → ProcessState S B → List (Letter B) → Type 0
+abbrev pub ArrivedLazily : {S B : Type 0} → Rules S B → Process → Letter B → ProcessState S B → ProcessState S B → List (Letter B) → Type 0
 ArrivedLazily = ArrivedBy Holding

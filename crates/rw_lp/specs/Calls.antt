@@ -5,7 +5,7 @@ use Rattle.rw_vt.specs.Words.{Process, Time}
 use Rattle.rw_vt.specs.declared.event.Event.{Event}
 use Rattle.rw_vt.specs.declared.event.Letter.{Letter}
 use Rattle.rw_vt.specs.declared.model.Model.{Ghosts}
-use Rattle.rw_vt.specs.System.{System, system}
+use Rattle.rw_vt.specs.System.{rules}
 use Rattle.rw_vt.specs.Order.{IsFirst, IsLeastOf, in_order}
 use Rattle.rw_lp.specs.declared.held.Held.{Held}
 use Rattle.rw_lp.specs.declared.step.Answer.{Answer}
@@ -29,10 +29,6 @@ process_of x pending debts held =
       number = x.number;
       process = record { start = x.start; committed = x.committed; processed = x.processed; pending = pending; debts = debts; held = held; state = x.state };
     }
-
--- how processes of the model m step, whatever their starts are
-abbrev pub rules : {M S B U : Type 0} → Ghosts M S B U → (B → B → Ordering) → M → System S B
-rules model order m = system model order m [] []
 
 -- a process that has done nothing yet, and to which these events are to come
 abbrev pub new_process : {S B : Type 0} → (Event B → Event B → Ordering) → S → List (Event B) → ProcessState S B

@@ -4,9 +4,9 @@ use Rattle.std.specs.declared.cmp.Ordering.{Ordering}
 use Rattle.rw_vt.specs.declared.event.Event.{Event}
 use Rattle.rw_vt.specs.declared.model.Model.{Ghosts}
 use Rattle.rw_vt.specs.Order.{event_cmp, AtMost, Each}
+use Rattle.rw_vt.specs.System.{rules}
 use Rattle.rw_lp.specs.declared.held.Held.{Held}
 use Rattle.rw_lp.specs.Past.{HistoryState, IsFor, done_in}
-use Rattle.rw_lp.specs.Calls.{rules}
 use Rattle.rw_lp.specs.Sound.{IsHeldFor}
 
 -- what is pending and owed is for the process; what is held is later and valid, and hangs on a pending event that is less than no done one

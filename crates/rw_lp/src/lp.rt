@@ -1,13 +1,13 @@
 ghost use Rattle.std.specs.Prelude.{◌≡◌, ◌<◌, ◌≤◌, ◌++◌, ◌∷◌, ◌↔◌, ◌^◌, true, false, List, [], IfOk, IfErr, OnOk, MatchOption, All};
 ghost use Rattle.rw_vt.specs.Limits.{end_of_time};
 ghost use Rattle.rw_vt.specs.Order.{copies, event_cmp, has, AtMost, Each, Has, IsAscending, IsFirst, IsLeastOf};
-ghost use Rattle.rw_vt.specs.System.{state_after};
+ghost use Rattle.rw_vt.specs.System.{state_after, rules};
 ghost use Rattle.rw_vt.specs.declared.event.Event.{Event};
 ghost use Rattle.rw_vt.specs.declared.event.Letter.{Letter};
 ghost use Rattle.rw_vt.specs.declared.refusal.Refusal.TheVariants.{Memory};
 ghost use Rattle.rw_lp.specs.HeldMessages.{held_messages};
 ghost use Rattle.rw_lp.specs.Process.{ProcessState, done, deliver, execute_next, undo_one, collect};
-ghost use Rattle.rw_lp.specs.Calls.{LogicalProcess, process_of, rules, new_process, MeetsNext, Took, letters_taken, least_time, IsSameProcess, GivesOut, IsNextOf, execution_by, undoing_by, lazy_undoing_by, IsDelivered, least_outstanding};
+ghost use Rattle.rw_lp.specs.Calls.{LogicalProcess, process_of, new_process, MeetsNext, Took, letters_taken, least_time, IsSameProcess, GivesOut, IsNextOf, execution_by, undoing_by, lazy_undoing_by, IsDelivered, least_outstanding};
 ghost use Rattle.rw_lp.specs.Past.{IsFor};
 ghost use Rattle.rw_lp.specs.Own.{AreFor};
 ghost use Rattle.rw_lp.specs.HeldBack.{antis_unless, held_unless};

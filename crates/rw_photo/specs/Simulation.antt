@@ -18,9 +18,7 @@ starts_of c = map (start c) (range_with_len 0 (c.edges + c.origins))
 abbrev pub simulation : Config → List Row → System Cache Body
 simulation c rows =
     record {
-      order = event_cmp order.ghosts.cmp;
-      step = step c;
-      valid = is_valid c;
+      rules = record { order = event_cmp order.ghosts.cmp; step = step c; valid = is_valid c };
       starts = starts_of c;
       initial = map_from 0 event_of rows;
     }

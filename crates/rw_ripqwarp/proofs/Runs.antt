@@ -53,16 +53,14 @@ pub simulates : (c : Config) (m : Photo) (bytes : List ℕ) (starts : List Cache
     → system model.ghosts order.ghosts.cmp m starts initial ≡ simulation c b.rows
 simulates c m bytes starts initial config b i =
     record {
-      order = (simulation c b.rows).order;
-      step = (simulation (config i) b.rows).step;
-      valid = (simulation (config i) b.rows).valid;
+      rules = (simulation (config i) b.rows).rules;
       starts = b.starts_are i;
       initial = b.initial_are i;
     }
 
 -- a state for each process
 pub length-states : {S B : Type 0} (y : System S B) (t : ℕ) (journals : List (List (Event B))) (states : List S) → IsOutcome y t journals states → length states ≡ length y.starts
-length-states y t journals states o = ap length o.states_are ∙ length-map_from 0 (λ q s. state_after (y.step q) s (journal_below y t q)) y.starts
+length-states y t journals states o = ap length o.states_are ∙ length-map_from 0 (λ q s. state_after (y.rules.step q) s (journal_below y t q)) y.starts
 
 -- a refusal is a fault of the run: want of memory always, and a cache that can take no further event where one was met
 pub refusal-is-fault : {T : Type 0} (r : Result T SimFault) (e : Refusal) (mode : Mode) (c : Config) (bytes : List ℕ) → IsErrAnd r (λ f. f ≡ sim_refusal_of e)

@@ -4,7 +4,7 @@ use Rattle.std.specs.Prelude.{◌⊎◌, not, slice_get, slice_set, slice_index_
 use Rattle.std.proofs.lemmas.Bool.{cases_eq, ne_eqb}
 use Rattle.std.proofs.lemmas.List.{get_or-set_same, get_or-set_other}
 use Rattle.rw_vt.specs.declared.event.Letter.{Letter}
-use Rattle.rw_vt.specs.System.{System}
+use Rattle.rw_vt.specs.System.{Rules}
 use Rattle.rw_lp.specs.Process.{ProcessState}
 use Rattle.rw_lp.specs.Arrival.{Way}
 use Rattle.rw_lp.specs.Calls.{LogicalProcess}
@@ -16,7 +16,7 @@ use Rattle.rw_rounds.specs.Turns.{Role, WorkerState, owner, is_own, is_accepted,
 use Rattle.rw_rounds.specs.Working.{Works}
 use Rattle.rw_rounds.proofs.Sums.{total_same, total_add, total_zero, weigh-append, every_append, at_only, at_here, at_other, weigh_at}
 
-module _ {S B : Type 0} (y : System S B) (g : ℕ) (way : Way) where
+module _ {S B : Type 0} (y : Rules S B) (g : ℕ) (way : Way) where
   pub goes_append : (ds es : List (Deed B)) (a b c : ℕ → Option (ProcessState S B)) (given more : List (Letter B)) → Goes y g way ds a b given → Goes y g way es b c more → Goes y g way (ds ++ es) a c (given ++ more)
   goes_append [] es a b c given more x z = subst (λ u. Goes y g way es u c (given ++ more)) x.0 (subst (λ ls. Goes y g way es b c ls) (sym (ap (λ l. l ++ more) x.1)) z)
   goes_append (d ∷ ds) es a b c given more x z = (x.0, x.1, x.2 ++ more, x.3, goes_append ds es x.0 b c x.2 more x.4 z, ap (λ l. l ++ more) x.5 ∙ append_assoc x.1 x.2 more)
@@ -87,7 +87,7 @@ module _ {B : Type 0} (r : Role) where
       let o = only_other h l (ne_eqb (owner r l) r.number all.0) in
       ((omega (arith, rest.0, o.0)), (omega (arith, rest.1, o.1)))
 
-module _ {M S B : Type 0} (y : System S B) (r : Role) where
+module _ {M S B : Type 0} (y : Rules S B) (r : Role) where
   -- the same processes are there
   pub named_itself : (xs zs : List (LogicalProcess M S B)) → zs ≡ xs → (place : ℕ) (l z : LogicalProcess M S B) → slice_get xs place ≡ Some l → slice_get zs place ≡ Some z → (z.model ≡ l.model) × (z.number ≡ l.number)
   named_itself xs zs same place l z at there =

@@ -1,14 +1,14 @@
 -- The workers of a sound world are fit for their turns.
-use Rattle.std.proofs.Common.{◌≡◌, ℕ, ◌+◌, ◌*◌, ◌<◌, true, [], length, sym, ap, ◌∙◌, subst, arith, Some}
+use Rattle.std.proofs.Common.{◌≡◌, ℕ, ◌+◌, ◌*◌, ◌<◌, true, length, sym, ap, ◌∙◌, subst, arith, Some}
 use Rattle.std.specs.Prelude.{◌/◌, ◌%◌, slice_get}
 use Rattle.std.specs.Option.{option_map}
 use Rattle.std.specs.declared.cmp.Ordering.{Ordering}
 use Rattle.std.proofs.lemmas.List.{length-map}
 use Rattle.std.proofs.lemmas.Option.{slice_get-map}
 use Rattle.rw_vt.specs.declared.model.Model.{Ghosts}
+use Rattle.rw_vt.specs.System.{rules}
 use Rattle.rw_lp.specs.Process.{ProcessState}
-use Rattle.rw_lp.specs.Calls.{LogicalProcess, rules}
-use Rattle.rw_lp.specs.Sound.{SoundAt}
+use Rattle.rw_lp.specs.Calls.{LogicalProcess}
 use Rattle.rw_world.specs.declared.parts.Parts.{Parts}
 use Rattle.rw_world.specs.Calls.{world_of, IsWhole}
 use Rattle.rw_rounds.specs.declared.plan.Plan.{Plan}
@@ -22,7 +22,6 @@ use Rattle.rw_rounds.proofs.Governing.{Laws, Governs, StartsIn, governs}
 use Rattle.rw_rounds.proofs.Going.{Well, fair_letters}
 use Rattle.rw_rounds.proofs.Fits.{there_is, collected_of}
 use Rattle.rw_rounds.proofs.Stepping.{number_of}
-use Rattle.rw_rounds.proofs.Systems.{sound_among, letters_among}
 use Rattle.rw_rounds.proofs.Totals.{every_filter, every_passes}
 
 module _ {M S B U : Type 0} {model : Ghosts M S B U} {order : B → B → Ordering} (x : Parts M S B U) (whole : IsWhole model order x) where
@@ -36,10 +35,7 @@ module _ {M S B U : Type 0} {model : Ghosts M S B U} {order : B → B → Orderi
       let c = ap length whole.sound.starts in
       sym a ∙ sym b ∙ c ∙ whole.ready.enough
 
-  -- each process of the world is sound, and starts well
-  pub sound_there : (q : ℕ) (u : ProcessState S B) → slice_get (world_of x).processes q ≡ Some u → SoundAt (rules model order x.model) x.collected q u
-  sound_there q u at = sound_among model order x.model x.starts.value.items [] x.initial.value.items [] x.collected q u (whole.sound.each q u at)
-
+  -- each process of the world starts well
   pub started_there : (q : ℕ) (u : ProcessState S B) → slice_get (world_of x).processes q ≡ Some u → StartsIn model x.model q u.start
   started_there q u at =
       let named : slice_get x.starts.value.items q ≡ Some u.start = ap (λ ss. slice_get ss q) (sym whole.sound.starts) ∙ slice_get-map (λ v. v.start) (world_of x).processes q ∙ ap (option_map (λ v. v.start)) at in
@@ -58,7 +54,7 @@ module _ {M S B U : Type 0} {model : Ghosts M S B U} {order : B → B → Orderi
         record {
           model_is = known.0;
           number = known.1;
-          collected = collected_of model order x.model x.collected q l.process (sound_there q l.process here);
+          collected = collected_of model order x.model x.collected q l.process (whole.sound.each q l.process here);
         }
 
     -- seen by numbers, the worker has its processes of the world
@@ -72,7 +68,7 @@ module _ {M S B U : Type 0} {model : Ghosts M S B U} {order : B → B → Orderi
         ∙ ap (λ v. Some v) f.2
 
     pub begun_well : Well (rules model order x.model) (StartsIn model x.model) x.collected (process_at (role plan x.collected i) a.processes)
-    begun_well = record { sound = λ q u h. sound_there q u (begun_there q u h); started = λ q u h. started_there q u (begun_there q u h) }
+    begun_well = record { sound = λ q u h. whole.sound.each q u (begun_there q u h); started = λ q u h. started_there q u (begun_there q u h) }
 
     begun_complete : (q : ℕ) → q < model.process_count x.model → q % plan.workers ≡ i → q / plan.workers < length a.processes
     begun_complete q inside own =
@@ -83,7 +79,7 @@ module _ {M S B U : Type 0} {model : Ghosts M S B U} {order : B → B → Orderi
     begun_fair : Laws model order → Every (IsFair (rules model order x.model) x.collected) x.letters.items
     begun_fair laws =
         let rule : Governs (rules model order x.model) (StartsIn model x.model) x.collected (model.process_count x.model) = governs model order x.model laws x.collected in
-        fair_letters (rules model order x.model) x.collected (model.process_count x.model) rule x.letters.items (letters_among model order x.model x.starts.value.items [] x.initial.value.items [] x.collected x.letters.items whole.sound.letters)
+        fair_letters (rules model order x.model) x.collected (model.process_count x.model) rule x.letters.items whole.sound.letters
 
     -- a worker that begins a round is fit for a turn
     pub begins_fit : Laws model order → IsInRanges plan → IsFit model order x.model a

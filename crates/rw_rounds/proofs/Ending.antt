@@ -27,27 +27,27 @@ by_starts {X = X} start f g k (x ∷ xs) h =
 
 module _ {S B : Type 0} (y : System S B) {WellFormed : ℕ → S → Type 0} (law : IsLawful y WellFormed) (w : WorldState S B) (sound : Sound y w) (ordered : IsInOrder y w) (floored : 2 ^ 40 ≤ floor w) (collected : 2 ^ 40 ≤ w.collected) where
   -- no event is at the end or after, and none before it is left uncommitted
-  all_committed : (q : ℕ) (x : ProcessState S B) → SoundAt y w.collected q x → x.committed ≡ done x
+  all_committed : (q : ℕ) (x : ProcessState S B) → SoundAt y.rules w.collected q x → x.committed ≡ done x
   all_committed q x at =
       let p : Event B → Bool = λ e. nat_lt e.time (2 ^ 40) in
-      let all : filter p x.processed ≡ x.processed = filter_all law.exact p x.processed (λ e k. lt-ltb e.time (2 ^ 40) (law.inside e (at.processed_stand e k).valid).time) in
-      let none : filter p x.processed ≡ [] = filter_none law.exact p x.processed (λ e k. (let from : w.collected ≤ e.time = at.processed_from e k in le-ltb e.time (2 ^ 40) (omega arith))) in
+      let all : filter p x.processed ≡ x.processed = filter_all law.rules.exact p x.processed (λ e k. lt-ltb e.time (2 ^ 40) (law.inside e (at.processed_stand e k).valid).time) in
+      let none : filter p x.processed ≡ [] = filter_none law.rules.exact p x.processed (λ e k. (let from : w.collected ≤ e.time = at.processed_from e k in le-ltb e.time (2 ^ 40) (omega arith))) in
       sym (append-nil x.committed) ∙ ap (λ l. x.committed ++ l) (sym none ∙ all)
 
   -- what is done is done in order
   done_in_order : (q : ℕ) (x : ProcessState S B) → slice_get w.processes q ≡ Some x → done x ≡ journal_below y (2 ^ 40) q
   done_in_order q x there =
-      let at : SoundAt y w.collected q x = sound.each q x there in
+      let at : SoundAt y.rules w.collected q x = sound.each q x there in
       let p : Event B → Bool = λ e. nat_lt e.time (2 ^ 40) in
-      let stands : Each y.order (Stands y q) (done x) = Each-append law.exact (Stands y q) x.committed x.processed at.committed_stand at.processed_stand in
-      let all : filter p (done x) ≡ done x = filter_all law.exact p (done x) (λ e k. lt-ltb e.time (2 ^ 40) (law.inside e (stands e k).valid).time) in
+      let stands : Each y.rules.order (Stands y.rules q) (done x) = Each-append law.rules.exact (Stands y.rules q) x.committed x.processed at.committed_stand at.processed_stand in
+      let all : filter p (done x) ≡ done x = filter_all law.rules.exact p (done x) (λ e k. lt-ltb e.time (2 ^ 40) (law.inside e (stands e k).valid).time) in
       sym all ∙ ap (λ o. filter p (list_at done o)) (sym there) ∙ ordered.before_floor (2 ^ 40) q floored
 
   committed_in_order : (q : ℕ) (x : ProcessState S B) → slice_get w.processes q ≡ Some x → x.committed ≡ journal_below y (2 ^ 40) q
   committed_in_order q x there = all_committed q x (sound.each q x there) ∙ done_in_order q x there
 
-  state_in_order : (q : ℕ) (x : ProcessState S B) → slice_get w.processes q ≡ Some x → x.state ≡ state_after (y.step q) x.start (journal_below y (2 ^ 40) q)
-  state_in_order q x there = (sound.each q x there).state ∙ ap (λ es. state_after (y.step q) x.start es) (done_in_order q x there)
+  state_in_order : (q : ℕ) (x : ProcessState S B) → slice_get w.processes q ≡ Some x → x.state ≡ state_after (y.rules.step q) x.start (journal_below y (2 ^ 40) q)
+  state_in_order q x there = (sound.each q x there).state ∙ ap (λ es. state_after (y.rules.step q) x.start es) (done_in_order q x there)
 
   at_place : (i j : ℕ) (x : ProcessState S B) → slice_get w.processes i ≡ Some x → j ≡ 0 + i → slice_get w.processes j ≡ Some x
   at_place i j x there q = let same : j ≡ i = omega arith in ap (slice_get w.processes) same ∙ there
@@ -55,7 +55,7 @@ module _ {S B : Type 0} (y : System S B) {WellFormed : ℕ → S → Type 0} (la
   pub ended : IsOutcome y (2 ^ 40) (map (λ x. x.committed) w.processes) (map (λ x. x.state) w.processes)
   ended = record {
     journals_are = by_starts (λ x. x.start) (λ x. x.committed) (λ q _. journal_below y (2 ^ 40) q) 0 w.processes (λ i j x there q. committed_in_order j x (at_place i j x there q)) ∙ ap (map_from 0 (λ q _. journal_below y (2 ^ 40) q)) sound.starts;
-    states_are = by_starts (λ x. x.start) (λ x. x.state) (λ q s. state_after (y.step q) s (journal_below y (2 ^ 40) q)) 0 w.processes (λ i j x there q. state_in_order j x (at_place i j x there q)) ∙ ap (map_from 0 (λ q s. state_after (y.step q) s (journal_below y (2 ^ 40) q))) sound.starts;
+    states_are = by_starts (λ x. x.start) (λ x. x.state) (λ q s. state_after (y.rules.step q) s (journal_below y (2 ^ 40) q)) 0 w.processes (λ i j x there q. state_in_order j x (at_place i j x there q)) ∙ ap (map_from 0 (λ q s. state_after (y.rules.step q) s (journal_below y (2 ^ 40) q))) sound.starts;
   }
 
 module _ {M S B U : Type 0} {model : Ghosts M S B U} {order : B → B → Ordering} where

@@ -3,11 +3,11 @@ use Rattle.std.proofs.Common.{ℕ, zero, suc, List, refl, ap, subst, sym}
 use Rattle.std.specs.declared.cmp.Ordering.{Ordering}
 use Rattle.rw_vt.specs.declared.event.Letter.{Letter}
 use Rattle.rw_vt.specs.declared.model.Model.{Ghosts}
-use Rattle.rw_vt.specs.System.{System}
+use Rattle.rw_vt.specs.System.{Rules}
 use Rattle.rw_rounds.specs.Turns.{WorkerState, IsFit, TookTurn, TookTurns}
 use Rattle.rw_rounds.specs.Rounds.{Closes}
 
-module _ {M S B : Type 0} (y : System S B) where
+module _ {M S B : Type 0} (y : Rules S B) where
   -- one turn more, at the end
   pub turns_more : (turns : ℕ) (a c b : WorkerState M S B) (n : ℕ) → TookTurns y turns a c → TookTurn y c b n → TookTurns y (suc turns) a b
   turns_more zero a c b n same last = (b, n, subst (λ w. TookTurn y w b n) same last, refl)

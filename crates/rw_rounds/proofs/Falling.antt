@@ -8,7 +8,7 @@ use Rattle.rw_vt.specs.declared.event.Event.{Event}
 use Rattle.rw_vt.specs.declared.event.Letter.{Letter}
 use Rattle.rw_vt.specs.Order.{insert_in_order, has, without}
 use Rattle.rw_vt.specs.Letters.{letters_of}
-use Rattle.rw_vt.specs.System.{System, state_after, sends_of}
+use Rattle.rw_vt.specs.System.{Rules, state_after, sends_of}
 use Rattle.rw_vt.proofs.Runs.{outs-append}
 use Rattle.rw_lp.specs.declared.held.Held.{Held}
 use Rattle.rw_lp.specs.declared.step.StepFault.TheVariants.{StillDone}
@@ -35,7 +35,7 @@ held_parts cmp e (h ∷ hs) = go (is_eq (cmp h.undone e)) (held_parts cmp e hs)
     go true k = omega arith
     go false k = omega arith
 
-module _ {S B : Type 0} (y : System S B) (p : ℕ) where
+module _ {S B : Type 0} (y : Rules S B) (p : ℕ) where
   -- the done events of a process, what they sent, and what is held
   abbrev pub work : ProcessState S B → ℕ
   work x = length (done x) + length (sends_of (y.step p) x.start (done x)) + length x.held
@@ -161,7 +161,7 @@ module _ {S B : Type 0} (y : System S B) (p : ℕ) where
       go (Some r) q k = one_fewer x z r (held_then r) q (let is : after_undoing y p x r.0 r.1 (held_then r) ≡ z = cc in is)
 
 -- one process among others
-module _ {M S B : Type 0} (y : System S B) where
+module _ {M S B : Type 0} (y : Rules S B) where
   pub sizes_set : (q : ℕ) (xs : List (LogicalProcess M S B)) (l z : LogicalProcess M S B) → slice_get xs q ≡ Some l → sizes y (slice_set xs q z) + size y l ≡ sizes y xs + size y z
   sizes_set q [] l z h = cc
   sizes_set zero (u ∷ xs) l z h = let k : u ≡ l = cc in let a : size y u ≡ size y l = ap (size y) k in omega arith

@@ -6,8 +6,9 @@ use Rattle.std.proofs.lemmas.Bool.{eqb-true, eq-eqb}
 use Rattle.rw_vt.specs.declared.event.Letter.{Letter}
 use Rattle.rw_vt.specs.declared.model.Model.{Ghosts}
 use Rattle.rw_vt.specs.Order.{event_cmp}
+use Rattle.rw_vt.specs.System.{rules}
 use Rattle.rw_lp.specs.Process.{ProcessState}
-use Rattle.rw_lp.specs.Calls.{LogicalProcess, rules}
+use Rattle.rw_lp.specs.Calls.{LogicalProcess}
 use Rattle.rw_lp.specs.Sound.{SoundAt, HasCollected, IsSoundOnceCollected, StartsWell}
 use Rattle.rw_exchange.specs.Ports.{PortState, SamePort, IsWide}
 use Rattle.rw_board.specs.Seats.{SeatState}

@@ -8,10 +8,10 @@ use Rattle.std.proofs.lemmas.List.{get_or-map, length-map}
 use Rattle.std.proofs.lemmas.Option.{get_or_from_slice_get}
 use Rattle.rw_vt.specs.declared.event.Letter.{Letter}
 use Rattle.rw_vt.specs.declared.model.Model.{Ghosts}
-use Rattle.rw_vt.specs.System.{System, flatten}
+use Rattle.rw_vt.specs.System.{Rules, flatten, rules}
 use Rattle.rw_lp.specs.Process.{ProcessState}
 use Rattle.rw_lp.specs.Arrival.{Way}
-use Rattle.rw_lp.specs.Calls.{LogicalProcess, rules}
+use Rattle.rw_lp.specs.Calls.{LogicalProcess}
 use Rattle.rw_world.specs.declared.parts.Parts.{Parts}
 use Rattle.rw_world.specs.Calls.{IsWhole}
 use Rattle.rw_exchange.specs.Ports.{PortState, SamePort, IsNew, IsWide, IsOpening, StayAnOpening, sent_to, received_from, sent_between, received_between}
@@ -49,7 +49,7 @@ pairs {W} {E} Went ws ws' rs all each long =
     )
 
 -- a worker gets no process that it did not have
-module _ {S B : Type 0} (y : System S B) where
+module _ {S B : Type 0} (y : Rules S B) where
   stepped_none : (p : ℕ) (By : ProcessState S B → ProcessState S B → List (Letter B) → Type 0) (a b : Owned S B) (x z : ProcessState S B) (out : List (Letter B)) → Stepped p By a b x z out → (q : ℕ) → a q ≡ None → b q ≡ None
   stepped_none p By a b x z out s q none = s.others q (λ is. (let some : None ≡ Some x = sym none ∙ ap a is ∙ s.was in cc)) ∙ none
 
@@ -68,7 +68,7 @@ pub record Stays {M S B : Type 0} (a b : WorkerState M S B) : Type 0 where
   pub port : SamePort a.port b.port
   pub board : b.seat.board ≡ a.seat.board
 
-module _ {M S B : Type 0} (y : System S B) where
+module _ {M S B : Type 0} (y : Rules S B) where
   stays_then : (a c b : WorkerState M S B) → Stays a c → Stays c b → Stays a b
   stays_then a c b f s = record {
     role = s.role ∙ f.role;

@@ -2,32 +2,26 @@
 use Rattle.std.proofs.Common.{◌≡◌, ℕ, ◌+◌, List, [], ◌∷◌, ◌++◌, refl, sym, ap, ◌∙◌, subst, arith, ⊎_elim, Option, Some, None}
 use Rattle.std.proofs.lemmas.Bool.{cases_eq}
 use Rattle.rw_vt.specs.declared.event.Letter.{Letter}
-use Rattle.rw_vt.specs.System.{System}
+use Rattle.rw_vt.specs.System.{Rules}
 use Rattle.rw_vt.proofs.Letters.{count-letter}
 use Rattle.rw_vt.proofs.Bags.{one_if-itself}
 use Rattle.rw_lp.specs.Process.{ProcessState, execute_next}
 use Rattle.rw_lp.specs.Arrival.{Way, undo_by}
 use Rattle.rw_lp.specs.Sound.{SoundAt, SoundLetters, Kept}
+use Rattle.rw_world.specs.Rounds.{KeptAt}
 use Rattle.rw_rounds.specs.Bags.{weigh, Every, sum_below}
 use Rattle.rw_rounds.specs.Deeds.{Deed, Arrival, Undoing, Execution, Stepped, IsFair, Did, Goes, arrivals}
 use Rattle.rw_rounds.proofs.Governing.{Governs}
 use Rattle.rw_rounds.proofs.Keeping.{kept_more, kept_none, kept_of, arrival_keeps}
 use Rattle.rw_rounds.proofs.Sums.{total_same, total_add, total_zero, weigh-append, every_append, at_only, at_here, at_other, weigh_at}
 
--- process q, if it is there, kept its balance of letters
-abbrev pub KeptAt : {S B : Type 0} → System S B → ℕ → ℕ → Option (ProcessState S B) → Option (ProcessState S B) → List (Letter B) → List (Letter B) → Type 0
-KeptAt y g q (Some x) (Some z) came out = Kept y g q x z came out
-KeptAt y g q None None came out = Unit {0}
-KeptAt y g q (Some x) None came out = ⊥
-KeptAt y g q None (Some z) came out = ⊥
-
 -- each process that is there is sound, and started so
-pub record Well {S B : Type 0} (y : System S B) (Started : ℕ → S → Type 0) (g : ℕ) (a : ℕ → Option (ProcessState S B)) : Type 0 where
+pub record Well {S B : Type 0} (y : Rules S B) (Started : ℕ → S → Type 0) (g : ℕ) (a : ℕ → Option (ProcessState S B)) : Type 0 where
   pub sound : (q : ℕ) (x : ProcessState S B) → a q ≡ Some x → SoundAt y g q x
   pub started : (q : ℕ) (x : ProcessState S B) → a q ≡ Some x → Started q x.start
 
 -- from a to b these letters arrived and those were given out, each at its process
-pub record Gone {S B : Type 0} (y : System S B) (g n : ℕ) (a b : ℕ → Option (ProcessState S B)) (arrived given : List (Letter B)) : Type 0 where
+pub record Gone {S B : Type 0} (y : Rules S B) (g n : ℕ) (a b : ℕ → Option (ProcessState S B)) (arrived given : List (Letter B)) : Type 0 where
   pub came : ℕ → List (Letter B)
   pub out : ℕ → List (Letter B)
   pub kept : (q : ℕ) → KeptAt y g q (a q) (b q) (came q) (out q)
@@ -37,7 +31,7 @@ pub record Gone {S B : Type 0} (y : System S B) (g n : ℕ) (a b : ℕ → Optio
   pub come_here : (q : ℕ) → Every (λ l. l.event.to ≡ q) (came q)
   pub fair : Every (IsFair y g) given
 
-module _ {S B : Type 0} (y : System S B) {Started : ℕ → S → Type 0} (g n : ℕ) (rule : Governs y Started g n) where
+module _ {S B : Type 0} (y : Rules S B) {Started : ℕ → S → Type 0} (g n : ℕ) (rule : Governs y Started g n) where
   -- letters that are sound are fair, one by one
   pub fair_letters : (ls : List (Letter B)) → SoundLetters y g ls → Every (IsFair y g) ls
   fair_letters [] s = tt

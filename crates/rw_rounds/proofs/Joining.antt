@@ -8,12 +8,11 @@ use Rattle.std.proofs.lemmas.Option.{slice_get-map}
 use Rattle.rw_vt.specs.declared.event.Letter.{Letter}
 use Rattle.rw_vt.specs.declared.model.Model.{Ghosts}
 use Rattle.rw_vt.specs.Order.{event_cmp}
-use Rattle.rw_vt.specs.System.{System}
-use Rattle.rw_lp.specs.Calls.{LogicalProcess, rules}
+use Rattle.rw_vt.specs.System.{Rules, rules}
+use Rattle.rw_lp.specs.Calls.{LogicalProcess}
 use Rattle.rw_world.specs.declared.parts.Parts.{Parts}
 use Rattle.rw_world.specs.Calls.{system_of, simulation_of, world_of, IsWhole}
-use Rattle.rw_world.specs.Rounds as world
-use Rattle.rw_world.specs.Rounds.{all_letters, Exchanged}
+use Rattle.rw_world.specs.Rounds.{all_letters, KeptAt, Exchanged}
 use Rattle.rw_exchange.specs.Ports.{sent_to, received_from}
 use Rattle.rw_rounds.specs.declared.plan.Plan.{Plan}
 use Rattle.rw_rounds.specs.Plans.{IsInRanges}
@@ -22,11 +21,9 @@ use Rattle.rw_rounds.specs.Deeds.{IsFair}
 use Rattle.rw_rounds.specs.Turns.{Role, WorkerState, owner, is_own, is_accepted, process_at}
 use Rattle.rw_rounds.specs.Rounds.{role, Round}
 use Rattle.rw_rounds.proofs.Governing.{Laws, Governs, StartsIn, governs}
-use Rattle.rw_rounds.proofs.Going.{KeptAt}
 use Rattle.rw_rounds.proofs.Stepping.{number_of}
 use Rattle.rw_rounds.proofs.Sums.{total_same, total_add, total_zero, total_one, weigh-append, weigh_zero, every_front}
 use Rattle.rw_rounds.proofs.Totals.{total_swap, weigh_by, weigh_joined, weightless, every_both, message, anti, messages_weigh, antis_weigh, every_counted}
-use Rattle.rw_rounds.proofs.Systems.{kept_in_world}
 use Rattle.rw_rounds.proofs.Working.{IsConsistent, Worked, turns_keep, closing_keeps, inbox_empties}
 use Rattle.rw_rounds.proofs.Beginning.{in_world, begun_well}
 
@@ -50,7 +47,7 @@ pub record Mail (B : Type 0) : Type 0 where
   pub given : List (Letter B)
 
 module _ {M S B U : Type 0} {model : Ghosts M S B U} {order : B → B → Ordering} (laws : Laws model order) (plan : Plan) (x z : Parts M S B U) (least : ℕ) (ranges : IsInRanges plan) (whole : IsWhole model order x) (round : Round model order plan x z least) where
-  abbrev y : System S B
+  abbrev y : Rules S B
   y = rules model order x.model
 
   abbrev n : ℕ
@@ -248,11 +245,10 @@ module _ {M S B U : Type 0} {model : Ghosts M S B U} {order : B → B → Orderi
       come_here = λ q e k. every_counted (event_cmp order) (rule x.collected).exact (λ f. f.to ≡ q) e (came_to q) ((by (q % plan.workers) (owned q)).come_here q) k;
     }
       where
-        kept : (q : ℕ) → world.KeptAt (system_of model order (simulation_of x)) x.collected q (slice_get (world_of x).processes q) (slice_get (world_of z).processes q) (came_to q) (out_of q)
+        kept : (q : ℕ) → KeptAt y x.collected q (slice_get (world_of x).processes q) (slice_get (world_of z).processes q) (came_to q) (out_of q)
         kept q =
-            kept_in_world model order x.model [] x.starts.value.items [] x.initial.value.items x.collected q (slice_get (world_of x).processes q) (slice_get (world_of z).processes q) (came_to q) (out_of q)
-            (subst (λ o. KeptAt y x.collected q o (slice_get (world_of z).processes q) (came_to q) (out_of q)) (was_at q)
-            (subst (λ o. KeptAt y x.collected q (process_at (r (q % plan.workers)) (round.first (q % plan.workers)).processes q) o (came_to q) (out_of q)) (is_at q) ((by (q % plan.workers) (owned q)).kept q)))
+            subst (λ o. KeptAt y x.collected q o (slice_get (world_of z).processes q) (came_to q) (out_of q)) (was_at q)
+            (subst (λ o. KeptAt y x.collected q (process_at (r (q % plan.workers)) (round.first (q % plan.workers)).processes q) o (came_to q) (out_of q)) (is_at q) ((by (q % plan.workers) (owned q)).kept q))
 
   -- the workers' processes exchanged letters with one another, and what is left of them is on its way
   pub workers_exchanged : (came out : ℕ → List (Letter B)) × Exchanged (system_of model order (simulation_of x)) (world_of x) (world_of z) came out

@@ -1,7 +1,7 @@
 -- An arrival, with the undoings that it needs, keeps a process sound.
 use Rattle.std.proofs.Common.{◌≡◌, ℕ, zero, suc, ◌≤◌, List, [], ◌∷◌, ◌++◌, refl, sym, ◌∙◌, subst, arith}
 use Rattle.rw_vt.specs.declared.event.Letter.{Letter}
-use Rattle.rw_vt.specs.System.{System}
+use Rattle.rw_vt.specs.System.{Rules}
 use Rattle.rw_vt.proofs.Letters.{messages-append, antis-append}
 use Rattle.rw_lp.specs.Process.{ProcessState, Turn, Turned, Stays, deliver}
 use Rattle.rw_lp.specs.Arrival.{Way, undo_by, with_out, and_undo, undo_times, ArrivedBy}
@@ -9,7 +9,7 @@ use Rattle.rw_lp.specs.Sound.{Stands, SoundAt, Kept, Keeps}
 use Rattle.rw_lp.proofs.Cited.{no_letters, letters_join}
 use Rattle.rw_rounds.proofs.Governing.{Governs}
 
-module _ {S B : Type 0} (y : System S B) (g p : ℕ) where
+module _ {S B : Type 0} (y : Rules S B) (g p : ℕ) where
   -- one turn after another
   pub kept_more : (x z u : ProcessState S B) (came out came' out' : List (Letter B)) → Kept y g p x z came out → Kept y g p z u came' out' → Kept y g p x u (came ++ came') (out ++ out')
   kept_more x z u came out came' out' a b = record {

@@ -11,7 +11,7 @@ use Rattle.rw_vt.specs.declared.model.Model.{Ghosts}
 use Rattle.rw_vt.specs.Order.{event_cmp, AtMost, Has, Each, IsAscending, insert_in_order, has, without}
 use Rattle.rw_vt.specs.Letters.{letters_of}
 use Rattle.rw_vt.specs.Valid.{IsSentBy}
-use Rattle.rw_vt.specs.System.{System, state_after}
+use Rattle.rw_vt.specs.System.{Rules, state_after, rules}
 use Rattle.rw_vt.proofs.EventOrder.{events_exact, time_at_most}
 use Rattle.rw_vt.proofs.Sorting.{IsExactOrder, at_most_itself, at_most_other, Has-cons, Has-head, Has-tail, Has-right}
 use Rattle.rw_vt.proofs.Bags.{Each-tail, Each-insert, Each-without, Has-test, IsAscending-back}
@@ -20,7 +20,6 @@ use Rattle.rw_lp.specs.declared.step.StepFault.TheVariants.{Straggler, StillDone
 use Rattle.rw_lp.specs.HeldMessages.{holds, held_without_first, unheld_sends, held_with, held_without}
 use Rattle.rw_lp.specs.Process.{ProcessState, done, Turn, Turned, Stays, with_front, split_last, is_less_than_last, execute_event, execute_least, execute_next, sends_of_last, undo_last, undo_last_lazily, annihilate, deliver_message, deliver_anti, deliver}
 use Rattle.rw_lp.specs.Arrival.{Way, Cancelling, Holding, undo_by, with_out, and_undo, undo_times, is_barred, Accepts, ArrivedBy}
-use Rattle.rw_lp.specs.Calls.{rules}
 use Rattle.rw_lp.specs.Sound.{Stands, IsHeldFor, SoundAt, Keeps}
 use Rattle.rw_lp.proofs.Cited.{with_bags, IsSplit, split_is, open_accepts}
 use Rattle.rw_rounds.specs.Bags.{Every}
@@ -99,7 +98,7 @@ StaysLate cmp t (Stays fault) = Unit {0}
 StaysLate cmp t (Turned z out) = IsLate cmp t z × Every (λ l. t < l.event.time) out
 
 module _ {M S B U : Type 0} {model : Ghosts M S B U} {order : B → B → Ordering} (laws : Laws model order) (m : M) (g t p : ℕ) where
-  abbrev y : System S B
+  abbrev y : Rules S B
   y = rules model order m
 
   exact : IsExactOrder (event_cmp order)

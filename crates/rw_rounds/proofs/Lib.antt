@@ -1,6 +1,5 @@
 pub mod ByPlace
 pub mod Sums
-pub mod OneProcess
 pub mod Governing
 pub mod Keeping
 pub mod Later
@@ -17,7 +16,6 @@ pub mod Taking
 pub mod Ends
 pub mod Shares
 pub mod Totals
-pub mod Systems
 pub mod Working
 pub mod Beginning
 pub mod Joining

@@ -9,7 +9,8 @@ use Rattle.rw_vt.specs.Order.{event_cmp, AtMost, Each}
 use Rattle.rw_vt.proofs.EventOrder.{time_at_most}
 use Rattle.rw_vt.proofs.Bags.{Each-nil}
 use Rattle.rw_vt.proofs.Sorting.{IsExactOrder, at_most_chain, at_most_other}
-use Rattle.rw_lp.specs.Calls.{LogicalProcess, rules}
+use Rattle.rw_vt.specs.System.{rules}
+use Rattle.rw_lp.specs.Calls.{LogicalProcess}
 use Rattle.rw_rounds.specs.Working.{comes_before, IsLeastBefore, IsNext, HeldBack}
 use Rattle.rw_rounds.proofs.ByPlace.{get_within}
 

@@ -6,7 +6,7 @@ use Rattle.rw_vt.specs.declared.event.Letter.{Letter}
 use Rattle.rw_vt.specs.declared.model.Model.{Ghosts}
 use Rattle.rw_vt.specs.Order.{event_cmp, Has, AtMost}
 use Rattle.rw_vt.proofs.EventOrder.{time_at_most}
-use Rattle.rw_vt.specs.System.{System}
+use Rattle.rw_vt.specs.System.{Rules, rules}
 use Rattle.rw_vt.proofs.Sorting.{IsExactOrder, Has-head, Has-right, at_most_other}
 use Rattle.rw_lp.specs.declared.step.Answer.{Answer}
 use Rattle.rw_lp.specs.declared.step.Answer.TheVariants.{Done, Refused}
@@ -14,12 +14,12 @@ use Rattle.rw_lp.specs.declared.step.StepFault.TheVariants.{Straggler}
 use Rattle.rw_lp.specs.HeldMessages.{unheld_sends}
 use Rattle.rw_lp.specs.Process.{ProcessState, Turn, Turned, Stays, done, split_last, is_less_than_last, execute_event, execute_least, execute_next, undo_last, undo_last_lazily}
 use Rattle.rw_lp.specs.Arrival.{Way, Cancelling, Holding, undo_by}
-use Rattle.rw_lp.specs.Calls.{LogicalProcess, rules, Took}
+use Rattle.rw_lp.specs.Calls.{LogicalProcess, Took}
 use Rattle.rw_lp.specs.Sound.{HasCollected}
 use Rattle.rw_lp.proofs.Cited.{IsSplit, split_is}
 use Rattle.rw_rounds.specs.Working.{Moved}
 
-module _ {S B : Type 0} (y : System S B) (p : ℕ) where
+module _ {S B : Type 0} (y : Rules S B) (p : ℕ) where
   -- where it was done, it was executed
   pub taken : (x z : ProcessState S B) (a : Answer) (given : List (Letter B)) (t : Turn S B) → a ≡ Done → Took x z a given t → t ≡ Turned z given
   taken x z a given (Turned after out) done k = ap (λ w. Turned w out) (sym k.0) ∙ ap (Turned z) (sym k.2)

@@ -11,14 +11,14 @@ use Rattle.rw_vt.specs.declared.event.Letter.{Letter}
 use Rattle.rw_vt.specs.declared.model.Model.{Ghosts}
 use Rattle.rw_vt.specs.Order.{event_cmp, Each}
 use Rattle.rw_vt.specs.Letters.{messages, antis}
-use Rattle.rw_vt.specs.System.{Setting, System, IsReady}
+use Rattle.rw_vt.specs.System.{Setting, Rules, IsReady, rules}
 use Rattle.rw_vt.proofs.EventOrder.{events_exact}
 use Rattle.rw_vt.proofs.Sorting.{IsExactOrder}
 use Rattle.rw_vt.proofs.Bags.{one_if-itself}
 use Rattle.rw_vt.proofs.Letters.{count-letter}
 use Rattle.rw_lp.specs.Process.{ProcessState}
 use Rattle.rw_lp.specs.Arrival.{Way}
-use Rattle.rw_lp.specs.Calls.{LogicalProcess, rules}
+use Rattle.rw_lp.specs.Calls.{LogicalProcess}
 use Rattle.rw_lp.specs.Sound.{IsHeldFor}
 use Rattle.rw_world.specs.declared.parts.Parts.{Parts}
 use Rattle.rw_world.specs.Calls.{system_of, simulation_of, world_of, IsWhole}
@@ -87,7 +87,7 @@ module _ {M S B U : Type 0} {model : Ghosts M S B U} {order : B → B → Orderi
 
 -- The turns of a worker, as one list of deeds
 
-module _ {S B : Type 0} (y : System S B) where
+module _ {S B : Type 0} (y : Rules S B) where
   goes_more : (g : ℕ) (way : Way) (ds es : List (Deed B)) (a b c : Owned S B) (given more : List (Letter B)) → Goes y g way ds a b given → Goes y g way es b c more → Goes y g way (ds ++ es) a c (given ++ more)
   goes_more g way [] es a b c given more u v = subst (λ ls. Goes y g way es a c (ls ++ more)) (sym u.1) (subst (λ k. Goes y g way es k c more) u.0 v)
   goes_more g way (d ∷ ds) es a b c given more u v =

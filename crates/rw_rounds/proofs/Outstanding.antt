@@ -8,14 +8,13 @@ use Rattle.rw_vt.specs.declared.event.Event.{Event}
 use Rattle.rw_vt.specs.declared.event.Letter.{Letter}
 use Rattle.rw_vt.specs.declared.model.Model.{Ghosts}
 use Rattle.rw_vt.specs.Order.{event_cmp, Each}
-use Rattle.rw_vt.specs.System.{System}
+use Rattle.rw_vt.specs.System.{Rules, rules}
 use Rattle.rw_vt.proofs.EventOrder.{events_exact}
 use Rattle.rw_vt.proofs.Sorting.{IsExactOrder}
 use Rattle.rw_vt.proofs.Bags.{Each-cons, Each-append}
 use Rattle.rw_lp.specs.declared.held.Held.{Held}
 use Rattle.rw_lp.specs.HeldMessages.{held_messages}
 use Rattle.rw_lp.specs.Process.{ProcessState}
-use Rattle.rw_lp.specs.Calls.{rules}
 use Rattle.rw_lp.specs.Sound.{IsHeldFor, SoundAt}
 use Rattle.rw_world.specs.declared.parts.Parts.{Parts}
 use Rattle.rw_world.specs.Calls.{system_of, simulation_of, world_of, IsWhole}
@@ -36,7 +35,7 @@ use Rattle.rw_rounds.proofs.Joining.{owned, closed, none_aside, is_at}
 
 -- A held message is later than its event, which is pending
 
-module _ {S B : Type 0} (y : System S B) (o : IsExactOrder y.order) (t : ℕ) where
+module _ {S B : Type 0} (y : Rules S B) (o : IsExactOrder y.order) (t : ℕ) where
   held_later : (pending : List (Event B)) (hs : List (Held B)) → Each y.order (λ e. t ≤ e.time) pending → All (λ h. IsHeldFor y pending h) hs → Each y.order (λ e. t ≤ e.time) (held_messages hs)
   held_later pending [] late all = λ e k. absurd (omega arith)
   held_later pending (h ∷ hs) late all =

@@ -6,8 +6,9 @@ use Rattle.std.proofs.lemmas.Bool.{cases_eq, eqb-true}
 use Rattle.rw_vt.specs.declared.event.Letter.{Letter}
 use Rattle.rw_vt.specs.declared.model.Model.{Ghosts}
 use Rattle.rw_vt.specs.Order.{event_cmp, Each, AtMost}
+use Rattle.rw_vt.specs.System.{rules}
 use Rattle.rw_lp.specs.Process.{ProcessState, Turned, Stays, execute_next}
-use Rattle.rw_lp.specs.Calls.{LogicalProcess, rules}
+use Rattle.rw_lp.specs.Calls.{LogicalProcess}
 use Rattle.rw_lp.specs.Arrival.{undo_by, ArrivedBy}
 use Rattle.rw_lp.specs.Sound.{SoundAt, HasCollected, Kept}
 use Rattle.rw_rounds.specs.Bags.{Every}

@@ -1,7 +1,7 @@
 -- What a worker did with its inbox at hand makes up a turn.
 use Rattle.std.proofs.Common.{◌≡◌, ℕ, ◌+◌, ◌<◌, ◌≤◌, true, [], sym, subst, arith}
 use Rattle.rw_vt.specs.Order.{Each}
-use Rattle.rw_vt.specs.System.{System}
+use Rattle.rw_vt.specs.System.{Rules}
 use Rattle.rw_lp.specs.Process.{ProcessState}
 use Rattle.rw_rounds.specs.Bags.{Every}
 use Rattle.rw_rounds.specs.Deeds.{Goes, way_of}
@@ -10,7 +10,7 @@ use Rattle.rw_rounds.specs.Working.{Works, HeldBack}
 use Rattle.rw_rounds.proofs.ByPlace.{place_of}
 use Rattle.rw_rounds.proofs.Adding.{all_own}
 
-module _ {M S B : Type 0} (y : System S B) (a z : WorkerState M S B) (n : ℕ) where
+module _ {M S B : Type 0} (y : Rules S B) (a z : WorkerState M S B) (n : ℕ) where
   pub turn_taken : Every (λ l. is_own a.role l ≡ true) a.inbox → Works y a.role (record a { inbox = [] }) z a.inbox [] n → n ≤ a.role.plan.batch → (n < a.role.plan.batch → HeldBack y (z.seat.read + a.role.plan.window) z.processes) → TookTurn y a z n
   turn_taken own w within held = record {
     role = w.after;

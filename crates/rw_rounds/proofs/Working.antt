@@ -3,7 +3,7 @@ use Rattle.std.proofs.Common.{◌≡◌, ℕ, zero, suc, ◌+◌, ◌<◌, ◌�
 use Rattle.std.specs.Prelude.{◌⊎◌, not, nat_lt}
 use Rattle.std.proofs.lemmas.Bool.{cases_lt, lt-ltb, le-ltb}
 use Rattle.rw_vt.specs.declared.event.Letter.{Letter}
-use Rattle.rw_vt.specs.System.{System}
+use Rattle.rw_vt.specs.System.{Rules}
 use Rattle.rw_exchange.specs.Ports.{sent_to, received_from}
 use Rattle.rw_rounds.specs.Bags.{weigh, only, Every, sum_below}
 use Rattle.rw_rounds.specs.Deeds.{IsFair, Goes, arrivals, way_of}
@@ -28,7 +28,7 @@ none_early f t h = go (cases_lt t f)
     go (inl k) = let a : early f t ≡ 1 = ap (λ b. cond {A = ℕ} b 1 0) (lt-ltb t f k) in absurd (omega arith)
     go (inr k) = k
 
-module _ {S B : Type 0} (y : System S B) where
+module _ {S B : Type 0} (y : Rules S B) where
   -- 1 where the letter is not fair
   abbrev unfair : ℕ → Letter B → ℕ
   unfair g l = cond (y.valid l.event) (early g l.event.time) 1

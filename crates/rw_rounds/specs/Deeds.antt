@@ -4,7 +4,7 @@ use Rattle.rw_vt.specs.Words.{Count, Process, Time}
 use Rattle.rw_vt.specs.declared.event.Event.{Event}
 use Rattle.rw_vt.specs.declared.event.Letter.{Letter}
 use Rattle.rw_vt.specs.Order.{AtMost, Each}
-use Rattle.rw_vt.specs.System.{System}
+use Rattle.rw_vt.specs.System.{Rules}
 use Rattle.rw_lp.specs.Process.{ProcessState, Turned, Stays, execute_next}
 use Rattle.rw_lp.specs.Arrival.{Way, Cancelling, Holding, undo_by, ArrivedBy}
 use Rattle.rw_lp.specs.declared.step.StepFault.TheVariants.{Straggler}
@@ -36,19 +36,19 @@ pub record Stepped {S B : Type 0} (p : Process)
   pub others : (q : Process) → (q ≡ p → ⊥) → b q ≡ a q
 
 -- the letter is of a valid event that is not before g
-pub record IsFair {S B : Type 0} (y : System S B) (g : Time) (l : Letter B) : Type 0 where
+pub record IsFair {S B : Type 0} (y : Rules S B) (g : Time) (l : Letter B) : Type 0 where
   pub valid : y.valid l.event ≡ true
   pub from : g ≤ l.event.time
 
 -- what is next at x is the least of all pending events
-abbrev pub IsLeast : {S B : Type 0} → System S B → Owned S B → ProcessState S B → Type 0
+abbrev pub IsLeast : {S B : Type 0} → Rules S B → Owned S B → ProcessState S B → Type 0
 IsLeast {S} {B} y a x = (e : Event B) (rest : List (Event B)) → x.pending ≡ e ∷ rest
     → (q : Process) (z : ProcessState S B) → a q ≡ Some z
     → Each y.order (λ f. AtMost y.order e f) z.pending
 
 -- the deed, done by processes none of which may go back before g; what has to be undone is undone
 -- that way
-abbrev pub Did : {S B : Type 0} → System S B → Time → Way → Deed B
+abbrev pub Did : {S B : Type 0} → Rules S B → Time → Way → Deed B
     → Owned S B → Owned S B → List (Letter B) → Type 0
 Did {S} {B} y g way (Arrival l) a b out = (x z : ProcessState S B)
     × Stepped l.event.to (ArrivedBy way y l.event.to l) a b x z out
@@ -62,7 +62,7 @@ Did {S} {B} y g way (Execution p) a b out = (x z : ProcessState S B)
     × IsLeast y a x
 
 -- the deeds lead from a to b, and give out these letters
-abbrev pub Goes : {S B : Type 0} → System S B → Time → Way → List (Deed B)
+abbrev pub Goes : {S B : Type 0} → Rules S B → Time → Way → List (Deed B)
     → Owned S B → Owned S B → List (Letter B) → Type 0
 Goes y g way [] a b given = (b ≡ a) × (given ≡ [])
 Goes {S} {B} y g way (d ∷ ds) a b given = (c : Owned S B) × (out rest : List (Letter B))

@@ -7,9 +7,9 @@ use Rattle.rw_vt.specs.declared.event.Event.{Event}
 use Rattle.rw_vt.specs.declared.event.Letter.{Letter}
 use Rattle.rw_vt.specs.declared.model.Model.{Ghosts}
 use Rattle.rw_vt.specs.Order.{Each}
-use Rattle.rw_vt.specs.System.{flatten}
+use Rattle.rw_vt.specs.System.{flatten, rules}
 use Rattle.rw_lp.specs.Process.{ProcessState}
-use Rattle.rw_lp.specs.Calls.{LogicalProcess, rules}
+use Rattle.rw_lp.specs.Calls.{LogicalProcess}
 use Rattle.rw_world.specs.declared.parts.Parts.{Parts}
 use Rattle.rw_world.specs.Calls.{Simulation, system_of}
 use Rattle.rw_world.specs.Sound.{Sound}

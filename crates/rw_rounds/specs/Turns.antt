@@ -7,9 +7,9 @@ use Rattle.rw_vt.specs.Limits.{end_of_time}
 use Rattle.rw_vt.specs.declared.event.Letter.{Letter}
 use Rattle.rw_vt.specs.declared.model.Model.{Ghosts}
 use Rattle.rw_vt.specs.Order.{event_cmp, Each}
-use Rattle.rw_vt.specs.System.{System}
+use Rattle.rw_vt.specs.System.{Rules, rules}
 use Rattle.rw_lp.specs.Process.{ProcessState}
-use Rattle.rw_lp.specs.Calls.{LogicalProcess, rules}
+use Rattle.rw_lp.specs.Calls.{LogicalProcess}
 use Rattle.rw_lp.specs.Sound.{HasCollected}
 use Rattle.rw_exchange.specs.Ports.{PortState, SamePort, IsWide, sent_to, received_from}
 use Rattle.rw_board.specs.Seats.{SeatState}
@@ -55,7 +55,7 @@ processes_of w = process_at w.role w.processes
 
 -- the test of a letter that was received: it is valid, to an own process, and not before the
 -- greatest time collected
-abbrev pub is_accepted : {S B : Type 0} → System S B → Role → Letter B → Bool
+abbrev pub is_accepted : {S B : Type 0} → Rules S B → Role → Letter B → Bool
 is_accepted y r l = y.valid l.event && (is_own r l && nat_le r.collected l.event.time)
 
 -- How letters are counted
@@ -73,11 +73,11 @@ abbrev pub if_other : {B : Type 0} → Role → (Letter B → ℕ) → Letter B 
 if_other r h = only (λ l. not (is_own r l)) h
 
 -- weighs the letters that pass the test
-abbrev pub if_passes : {S B : Type 0} → System S B → Role → (Letter B → ℕ) → Letter B → ℕ
+abbrev pub if_passes : {S B : Type 0} → Rules S B → Role → (Letter B → ℕ) → Letter B → ℕ
 if_passes y r h = only (is_accepted y r) h
 
 -- weighs the letters that fail it
-abbrev pub if_fails : {S B : Type 0} → System S B → Role → (Letter B → ℕ) → Letter B → ℕ
+abbrev pub if_fails : {S B : Type 0} → Rules S B → Role → (Letter B → ℕ) → Letter B → ℕ
 if_fails y r h = only (λ l. not (is_accepted y r l)) h
 
 -- The conditions of a turn
@@ -111,7 +111,7 @@ pub record IsFit {M S B U : Type 0} (model : Ghosts M S B U) (order : B → B �
 -- A turn
 
 -- a worker that was a is b after a turn with n executions
-pub record TookTurn {M S B : Type 0} (y : System S B) (a b : WorkerState M S B) (n : Count)
+pub record TookTurn {M S B : Type 0} (y : Rules S B) (a b : WorkerState M S B) (n : Count)
     : Type 0 where
   pub role : b.role ≡ a.role
   pub same_port : SamePort a.port b.port
@@ -155,7 +155,7 @@ pub record TookTurn {M S B : Type 0} (y : System S B) (a b : WorkerState M S B) 
       → Each y.order (λ e. b.seat.read + a.role.plan.window ≤ e.time) x.pending
 
 -- a worker that was a is b after so many turns, one after another
-abbrev pub TookTurns : {M S B : Type 0} → System S B → Count
+abbrev pub TookTurns : {M S B : Type 0} → Rules S B → Count
     → WorkerState M S B → WorkerState M S B → Type 0
 TookTurns y zero a b = b ≡ a
 TookTurns {M} {S} {B} y (suc turns) a b = (c : WorkerState M S B) × (n : Count)

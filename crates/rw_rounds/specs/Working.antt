@@ -8,10 +8,10 @@ use Rattle.rw_vt.specs.declared.event.Event.{Event}
 use Rattle.rw_vt.specs.declared.event.Letter.{Letter}
 use Rattle.rw_vt.specs.declared.model.Model.{Ghosts}
 use Rattle.rw_vt.specs.Order.{Each, AtMost}
-use Rattle.rw_vt.specs.System.{System, sends_of}
+use Rattle.rw_vt.specs.System.{Rules, sends_of, rules}
 use Rattle.rw_lp.specs.Process.{ProcessState, done, Turned, Stays, execute_next}
 use Rattle.rw_lp.specs.Arrival.{Way, undo_by}
-use Rattle.rw_lp.specs.Calls.{LogicalProcess, rules}
+use Rattle.rw_lp.specs.Calls.{LogicalProcess}
 use Rattle.rw_lp.specs.Sound.{SoundAt, StartsWell}
 use Rattle.rw_lp.specs.declared.step.StepFault.TheVariants.{Straggler}
 use Rattle.rw_exchange.specs.Ports.{SamePort, sent_to, received_from}
@@ -52,7 +52,7 @@ pub record IsFitAndSound {M S B U : Type 0} (model : Ghosts M S B U) (order : B 
 -- From a to b the worker r dealt with letters: of those that were at hand and those that were given
 -- out or received since, own ones arrived, others were sent or are kept, and the rest is at hand;
 -- with n executions
-pub record Works {M S B : Type 0} (y : System S B) (r : Role) (a b : WorkerState M S B)
+pub record Works {M S B : Type 0} (y : Rules S B) (r : Role) (a b : WorkerState M S B)
     (at_hand rest : List (Letter B)) (n : Count) : Type 0 where
   pub before : a.role ≡ r
   pub after : b.role ≡ r
@@ -116,7 +116,7 @@ ClosesDesk a b = Closes (desk_of a) (desk_of b)
 -- Which process executes next
 
 -- x executed what was next, or undid its last event, that way, where what is next is a straggler
-abbrev pub Moved : {S B : Type 0} → System S B → Way → Process → ProcessState S B → ProcessState S B
+abbrev pub Moved : {S B : Type 0} → Rules S B → Way → Process → ProcessState S B → ProcessState S B
     → Bool → List (Letter B) → Type 0
 Moved y way p x z true given = execute_next y p x ≡ Turned z given
 Moved y way p x z false given =
@@ -132,7 +132,7 @@ Advances {M} {S} {B} model order way x z executed before after =
     × Moved (rules model order x.model) way x.number x.process z.process executed given
 
 -- no pending event is before the bound
-abbrev pub HeldBack : {M S B : Type 0} → System S B → Time → List (LogicalProcess M S B) → Type 0
+abbrev pub HeldBack : {M S B : Type 0} → Rules S B → Time → List (LogicalProcess M S B) → Type 0
 HeldBack y bound xs = NoneBefore y.order (λ x. x.pending) bound xs
 
 -- the desk went from a to b with n executions; if these are fewer than its batch, all that is
@@ -162,7 +162,7 @@ IsLeastBefore {M} {S} {B} cmp xs k (Some found) =
     → Each cmp (λ f. AtMost cmp found.1 f) l.process.pending)
 
 -- the process at this place has the least of all pending events, and that is before the bound
-pub record IsNext {M S B : Type 0} (y : System S B) (bound : Time)
+pub record IsNext {M S B : Type 0} (y : Rules S B) (bound : Time)
     (xs : List (LogicalProcess M S B)) (place : Position) : Type 0 where
   pub within : place < length xs
   pub process : LogicalProcess M S B
@@ -178,13 +178,13 @@ pub record IsNext {M S B : Type 0} (y : System S B) (bound : Time)
 -- How much work may be left
 
 -- the done events of a process, what they sent, and what is held
-abbrev pub size : {M S B : Type 0} → System S B → LogicalProcess M S B → Count
+abbrev pub size : {M S B : Type 0} → Rules S B → LogicalProcess M S B → Count
 size y l =
     length (done l.process)
     + length (sends_of (y.step l.number) l.process.start (done l.process))
     + length l.process.held
 
-abbrev pub sizes : {M S B : Type 0} → System S B → List (LogicalProcess M S B) → Count
+abbrev pub sizes : {M S B : Type 0} → Rules S B → List (LogicalProcess M S B) → Count
 sizes y [] = 0
 sizes y (l ∷ ls) = size y l + sizes y ls
 

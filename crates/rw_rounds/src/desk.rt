@@ -1,8 +1,9 @@
 ghost use Rattle.std.specs.Prelude.{◌≡◌, ◌≢◌, ◌<◌, ◌≤◌, ◌+◌, ◌∷◌, ◌++◌, [], ℕ, true, false, if◌then◌else◌, length, map, OnOk, IfOk, IfSome, IfNone};
 ghost use Rattle.std.specs.Option.{option_map};
 ghost use Rattle.rw_vt.specs.Order.{event_cmp};
+ghost use Rattle.rw_vt.specs.System.{rules};
 ghost use Rattle.rw_lp.specs.Arrival.{undo_by, ArrivedBy};
-ghost use Rattle.rw_lp.specs.Calls.{rules, GivesOut, IsSameProcess, Took};
+ghost use Rattle.rw_lp.specs.Calls.{GivesOut, IsSameProcess, Took};
 ghost use Rattle.rw_lp.specs.Sound.{HasCollected};
 ghost use Rattle.rw_exchange.specs.Ports.{IsWide};
 ghost use Rattle.rw_rounds.specs.Deeds.{IsFair, way_of};

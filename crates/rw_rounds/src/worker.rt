@@ -1,5 +1,6 @@
 ghost use Rattle.std.specs.Prelude.{◌≡◌, ℕ, [], IfOk, slice_get, Some};
-ghost use Rattle.rw_lp.specs.Calls.{LogicalProcess, rules};
+ghost use Rattle.rw_vt.specs.System.{rules};
+ghost use Rattle.rw_lp.specs.Calls.{LogicalProcess};
 ghost use Rattle.rw_lp.specs.Sound.{IsSoundOnceCollected, StartsWell};
 ghost use Rattle.rw_rounds.specs.Rounds.{Closes};
 ghost use Rattle.rw_rounds.specs.Turns.{IsFit, TookTurn};

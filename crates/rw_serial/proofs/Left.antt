@@ -90,39 +90,39 @@ module _ {E : Type 0} {cmp : E → E → Ordering} (o : IsExactOrder cmp) where
 
 -- each step of a run leaves less of it: from clauses that speak of whatever state stands there
 module _ {S B : Type 0} {y : System S B} {WellFormed : ℕ → S → Type 0} {ss : List S} {js : List (List (Event B))} {P : List (Event B)} (run : IsMidrun y WellFormed ss js P)
-    {x : Event B} {R : List (Event B)} (taken : IsPermutation P (x ∷ R)) (least : All (AtMost y.order x) P) where
+    {x : Event B} {R : List (Event B)} (taken : IsPermutation P (x ∷ R)) (least : All (AtMost y.rules.order x) P) where
   pub midrun_falls : (ss' : List S) (js' : List (List (Event B))) (sent Q : List (Event B))
-      → ((s : S) → slice_get ss x.to ≡ Some s → ss' ≡ slice_set ss x.to (y.step x.to s x).0)
+      → ((s : S) → slice_get ss x.to ≡ Some s → ss' ≡ slice_set ss x.to (y.rules.step x.to s x).0)
       → js' ≡ slice_set js x.to (get_or js x.to [] ++ x ∷ [])
-      → ((s : S) → slice_get ss x.to ≡ Some s → sent ≡ (y.step x.to s x).1)
+      → ((s : S) → slice_get ss x.to ≡ Some s → sent ≡ (y.rules.step x.to s x).1)
       → IsPermutation (R ++ sent) Q
       → (t : ℕ) → ((e : Event B) → IsInRange (length y.starts) e → e.time < t)
-      → left y.order (flatten (map_from 0 (λ q _. journal_below y t q) y.starts)) Q < left y.order (flatten (map_from 0 (λ q _. journal_below y t q) y.starts)) P
+      → left y.rules.order (flatten (map_from 0 (λ q _. journal_below y t q) y.starts)) Q < left y.rules.order (flatten (map_from 0 (λ q _. journal_below y t q) y.starts)) P
   midrun_falls ss' js' sent Q states journals sends joined t times =
       left_falls o (flatten (map_from 0 (λ q _. journal_below y t q) y.starts)) P Q x (next_there run taken least) (next_least run taken least) later fewer room
     where
-      o : IsExactOrder y.order
-      o = run.law.exact
+      o : IsExactOrder y.rules.order
+      o = run.law.rules.exact
 
       s : S
-      s = state_after (y.step x.to) (start_of run taken least).0 (at_list js x.to)
+      s = state_after (y.rules.step x.to) (start_of run taken least).0 (at_list js x.to)
 
       there : slice_get ss x.to ≡ Some s
       there = state_there run taken least
 
-      goes_on : IsPermutation (R ++ (y.step x.to s x).1) Q
+      goes_on : IsPermutation (R ++ (y.rules.step x.to s x).1) Q
       goes_on = subst (λ l. IsPermutation (R ++ l) Q) (sends s there) joined
 
       next : IsMidrun y WellFormed ss' js' Q
       next = midrun_step run taken least s there ss' js' Q (states s there) journals goes_on
 
-      later : (b : Event B) → Has y.order Q b → AtMost y.order x b
+      later : (b : Event B) → Has y.rules.order Q b → AtMost y.rules.order x b
       later = after_x run taken least s there ss' js' Q (states s there) journals goes_on
 
-      fewer : copies y.order x Q < copies y.order x P
+      fewer : copies y.rules.order x Q < copies y.rules.order x P
       fewer =
-          let none = none_sent_back run.law x.to s x x (next_well_formed run taken least s there) (next_valid run taken least) refl (omega arith) in
+          let none = none_sent_back run.law.rules x.to s x x (next_well_formed run taken least s there) (next_valid run taken least) refl (omega arith) in
           omega (arith, none, same_counts run taken least x, copies-head o x R, added run taken least s there ss' js' Q (states s there) journals goes_on x)
 
-      room : (z : Event B) → Has y.order Q z → ((b : Event B) → Has y.order Q b → AtMost y.order z b) → copies y.order z Q ≤ copies y.order z (flatten (map_from 0 (λ q _. journal_below y t q) y.starts))
+      room : (z : Event B) → Has y.rules.order Q z → ((b : Event B) → Has y.rules.order Q b → AtMost y.rules.order z b) → copies y.rules.order z Q ≤ copies y.rules.order z (flatten (map_from 0 (λ q _. journal_below y t q) y.starts))
       room z here first = copies_to_come next z here first t (times z (next.law.inside z (next.mid.sound z here)))

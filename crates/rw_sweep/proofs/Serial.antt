@@ -30,9 +30,7 @@ pub simulates : (c : Config) (m : Photo) (rows : List Row) (starts : List Cache)
     → starts ≡ (simulation c rows).starts → initial ≡ (simulation c rows).initial → system model.ghosts order.ghosts.cmp m starts initial ≡ simulation c rows
 simulates c m rows starts initial config first events i =
     record {
-      order = (simulation c rows).order;
-      step = (simulation (config i) rows).step;
-      valid = (simulation (config i) rows).valid;
+      rules = (simulation (config i) rows).rules;
       starts = first i;
       initial = events i;
     }
@@ -46,7 +44,7 @@ pub length-states : (c : Config) (rows : List Row) (journals : List (List (Event
     → length states ≡ c.edges + c.origins
 length-states c rows journals states o =
     let y = simulation c rows in
-    ap length o.states_are ∙ (length-map_from 0 (λ q s. state_after (y.step q) s (journal_below y end_of_time q)) y.starts ∙ length-map-range_with_len (start c) 0 (c.edges + c.origins))
+    ap length o.states_are ∙ (length-map_from 0 (λ q s. state_after (y.rules.step q) s (journal_below y end_of_time q)) y.starts ∙ length-map-range_with_len (start c) 0 (c.edges + c.origins))
 
 -- a refusal of the run is what became of the configuration
 pub refused : (rows : List Row) (p : Point) (r : Result (Vec ℕ) Refusal) (e : Refusal) → IsErrAnd r (λ f. f ≡ e) → (e ≡ Exhausted → IsExhaustedAt rows p) → IsResultOf rows p r

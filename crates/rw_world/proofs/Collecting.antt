@@ -29,7 +29,7 @@ module _ {S B : Type 0} (y : System S B) {WellFormed : ℕ → S → Type 0} (la
       where
         go : (o : Option (ProcessState S B)) → slice_get w.processes q ≡ o → list_at done (option_map (process.collect t) o) ≡ list_at done o
         go None h = refl
-        go (Some x) h = done_stays y law t w.collected q x (sound.each q x h)
+        go (Some x) h = done_stays y.rules law.rules t w.collected q x (sound.each q x h)
 
     same_pending : (q : ℕ) → pending_of (map (process.collect t) w.processes) q ≡ pending_of w.processes q
     same_pending q = ap (list_at (λ x. x.pending)) (slice_get-map (process.collect t) w.processes q) ∙ go (slice_get w.processes q)
@@ -45,17 +45,17 @@ module _ {S B : Type 0} (y : System S B) {WellFormed : ℕ → S → Type 0} (la
         go None = refl
         go (Some x) = refl
 
-    collected_each : (q : ℕ) (u : ProcessState S B) → slice_get (map (process.collect t) w.processes) q ≡ Some u → SoundAt y (max w.collected t) q u
+    collected_each : (q : ℕ) (u : ProcessState S B) → slice_get (map (process.collect t) w.processes) q ≡ Some u → SoundAt y.rules (max w.collected t) q u
     collected_each q u h = go (slice_get w.processes q) refl (sym (slice_get-map (process.collect t) w.processes q) ∙ h)
       where
-        go : (o : Option (ProcessState S B)) → slice_get w.processes q ≡ o → option_map (process.collect t) o ≡ Some u → SoundAt y (max w.collected t) q u
+        go : (o : Option (ProcessState S B)) → slice_get w.processes q ≡ o → option_map (process.collect t) o ≡ Some u → SoundAt y.rules (max w.collected t) q u
         go None h k = cc
         go (Some x) h k =
             let is : process.collect t x ≡ u = cc in
-            subst (SoundAt y (max w.collected t) q) is
-            (collect_keeps y law t w.collected q x (sound.each q x h)
-            (subst (λ o. Each y.order (λ e. t ≤ e.time) (list_at (λ x. x.pending) o)) h (quiet.pending q))
-            (subst (λ o. Each y.order (λ e. t ≤ e.time) (list_at (λ x. x.debts) o)) h (quiet.debts q)))
+            subst (SoundAt y.rules (max w.collected t) q) is
+            (collect_keeps y.rules law.rules t w.collected q x (sound.each q x h)
+            (subst (λ o. Each y.rules.order (λ e. t ≤ e.time) (list_at (λ x. x.pending) o)) h (quiet.pending q))
+            (subst (λ o. Each y.rules.order (λ e. t ≤ e.time) (list_at (λ x. x.debts) o)) h (quiet.debts q)))
 
     same_held : (ps : List (ProcessState S B)) → held_in (map (process.collect t) ps) ≡ held_in ps
     same_held [] = refl
@@ -63,13 +63,13 @@ module _ {S B : Type 0} (y : System S B) {WellFormed : ℕ → S → Type 0} (la
 
     collected_balance : (e : Event B) → Balanced y (map (process.collect t) w.processes) w.letters e
     collected_balance e =
-        let sent : (List (ProcessState S B)) → ℕ → S → List (Event B) = λ xs q s. sends_of (y.step q) s (done_of xs q) in
-        let a = copies_joined law.exact e (sent (map (process.collect t) w.processes)) (sent w.processes) 0 y.starts (λ i j s m q. ap (λ l. copies y.order e (sends_of (y.step j) s l)) (same_done j)) in
-        let b = ap (copies y.order e) (same_done e.to) in
-        let c = ap (copies y.order e) (same_pending e.to) in
-        let d = ap (copies y.order e) (same_debts e.to) in
-        let h = ap (copies y.order e) (same_held w.processes) in
-        omega (arith, sound.balance e, copies-append law.exact e y.initial (flatten (map_from 0 (sent w.processes) y.starts)), copies-append law.exact e y.initial (flatten (map_from 0 (sent (map (process.collect t) w.processes)) y.starts)))
+        let sent : (List (ProcessState S B)) → ℕ → S → List (Event B) = λ xs q s. sends_of (y.rules.step q) s (done_of xs q) in
+        let a = copies_joined law.rules.exact e (sent (map (process.collect t) w.processes)) (sent w.processes) 0 y.starts (λ i j s m q. ap (λ l. copies y.rules.order e (sends_of (y.rules.step j) s l)) (same_done j)) in
+        let b = ap (copies y.rules.order e) (same_done e.to) in
+        let c = ap (copies y.rules.order e) (same_pending e.to) in
+        let d = ap (copies y.rules.order e) (same_debts e.to) in
+        let h = ap (copies y.rules.order e) (same_held w.processes) in
+        omega (arith, sound.balance e, copies-append law.rules.exact e y.initial (flatten (map_from 0 (sent w.processes) y.starts)), copies-append law.rules.exact e y.initial (flatten (map_from 0 (sent (map (process.collect t) w.processes)) y.starts)))
 
     same_starts : (ps : List (ProcessState S B)) → map (λ x. x.start) (map (process.collect t) ps) ≡ map (λ x. x.start) ps
     same_starts [] = refl

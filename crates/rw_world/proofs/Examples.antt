@@ -37,9 +37,11 @@ step p s e =
 
 abbrev example : List (Event Body) → System Cache Body
 example initial = record {
-  order = event_cmp (λ a b. ordering_then (nat_cmp a.kind b.kind) (nat_cmp a.object b.object));
-  step = step;
-  valid = λ e. nat_lt e.time 1099511627776 && nat_lt e.to 2;
+  rules = record {
+    order = event_cmp (λ a b. ordering_then (nat_cmp a.kind b.kind) (nat_cmp a.object b.object));
+    step = step;
+    valid = λ e. nat_lt e.time 1099511627776 && nat_lt e.to 2;
+  };
   starts = record { awaited = []; sends = 0 } ∷ record { awaited = []; sends = 0 } ∷ [];
   initial = initial;
 }

@@ -89,27 +89,27 @@ module _ {S B : Type 0} where
       no_letters [] h m = refl
       no_letters (l ∷ ls) h m = elim (false≢true h) [ ]
 
-module _ {S B : Type 0} (y : System S B) {WellFormed : ℕ → S → Type 0} (law : IsLawful y WellFormed) (w : WorldState S B) (sound : Sound y w) (end : ℕ) (late : (e : Event B) → y.valid e ≡ true → e.time < end) where
+module _ {S B : Type 0} (y : System S B) {WellFormed : ℕ → S → Type 0} (law : IsLawful y WellFormed) (w : WorldState S B) (sound : Sound y w) (end : ℕ) (late : (e : Event B) → y.rules.valid e ≡ true → e.time < end) where
   -- events that stand somewhere, and none of which is before the end, are none
-  no_events : (q : ℕ) (es : List (Event B)) → Each y.order (Stands y q) es → Each y.order (λ e. end ≤ e.time) es → is_empty es ≡ true
+  no_events : (q : ℕ) (es : List (Event B)) → Each y.rules.order (Stands y.rules q) es → Each y.rules.order (λ e. end ≤ e.time) es → is_empty es ≡ true
   no_events q [] s h = refl
   no_events q (e ∷ es) s h =
-      let there : Has y.order (e ∷ es) e = Has-head law.exact e es in
+      let there : Has y.rules.order (e ∷ es) e = Has-head law.rules.exact e es in
       let a = late e (s e there).valid in
       let b = h e there in
       absurd (omega arith)
 
-  none_held : (es : List (Event B)) (hs : List (Held B)) → is_empty es ≡ true → (h : (x : Held B) (rest : List (Held B)) → hs ≡ x ∷ rest → Has y.order es x.undone) → is_empty hs ≡ true
+  none_held : (es : List (Event B)) (hs : List (Held B)) → is_empty es ≡ true → (h : (x : Held B) (rest : List (Held B)) → hs ≡ x ∷ rest → Has y.rules.order es x.undone) → is_empty hs ≡ true
   none_held es [] e h = refl
   none_held [] (x ∷ hs) e h = let k = h x hs refl in absurd (omega arith)
   none_held (a ∷ es) (x ∷ hs) e h = elim (false≢true e) [ ]
 
   idle_at : (q : ℕ) (x : ProcessState S B) → slice_get w.processes q ≡ Some x → IsQuiet y end w → (is_empty x.pending ≡ true) × (is_empty x.debts ≡ true) × (is_empty x.held ≡ true)
   idle_at q x at quiet =
-      let here : SoundAt y w.collected q x = sound.each q x at in
-      let pending = no_events q x.pending here.pending_stand (subst (λ o. Each y.order (λ e. end ≤ e.time) (list_at (λ u. u.pending) o)) at (quiet.pending q)) in
-      let debts = no_events q x.debts here.debts_stand (subst (λ o. Each y.order (λ e. end ≤ e.time) (list_at (λ u. u.debts) o)) at (quiet.debts q)) in
-      (pending, debts, none_held x.pending x.held pending (λ z rest is. (All-head (λ h. IsHeldFor y x.pending h) z rest (subst (λ hs. Rattle.std.specs.List.All (λ h. IsHeldFor y x.pending h) hs) is here.held)).there))
+      let here : SoundAt y.rules w.collected q x = sound.each q x at in
+      let pending = no_events q x.pending here.pending_stand (subst (λ o. Each y.rules.order (λ e. end ≤ e.time) (list_at (λ u. u.pending) o)) at (quiet.pending q)) in
+      let debts = no_events q x.debts here.debts_stand (subst (λ o. Each y.rules.order (λ e. end ≤ e.time) (list_at (λ u. u.debts) o)) at (quiet.debts q)) in
+      (pending, debts, none_held x.pending x.held pending (λ z rest is. (All-head (λ h. IsHeldFor y.rules x.pending h) z rest (subst (λ hs. Rattle.std.specs.List.All (λ h. IsHeldFor y.rules x.pending h) hs) is here.held)).there))
 
   all_idle : (ps : List (ProcessState S B)) → ((q : ℕ) (x : ProcessState S B) → slice_get ps q ≡ Some x → (is_empty x.pending ≡ true) × (is_empty x.debts ≡ true) × (is_empty x.held ≡ true)) → are_idle ps ≡ true
   all_idle [] h = refl

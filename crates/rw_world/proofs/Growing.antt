@@ -45,7 +45,7 @@ module _ {S B : Type 0} (y : System S B) where
 
     at_place : (i : ℕ) (l : Letter B) (o : Option (ProcessState S B)) → w.collected ≤ (deliver_to y w i l o).0.collected
     at_place i l None = omega arith
-    at_place i l (Some x) = at_turned l.event.to (remove_at w.letters i) (process.deliver y.order l x)
+    at_place i l (Some x) = at_turned l.event.to (remove_at w.letters i) (process.deliver y.rules.order l x)
 
     at_deliver : (i : ℕ) (o : Option (Letter B)) → w.collected ≤ (deliver_letter y w i o).0.collected
     at_deliver i None = omega arith
@@ -56,9 +56,9 @@ module _ {S B : Type 0} (y : System S B) where
     at_collect t false = omega arith
 
     pub collected_grows : (s : Step) → w.collected ≤ (apply y w s).0.collected
-    collected_grows (Execute p) = at_turn p (execute_next y p) (slice_get w.processes p)
-    collected_grows (Undo p) = at_turn p (undo_one y p) (slice_get w.processes p)
-    collected_grows (UndoLazily p) = at_turn p (undo_lazily y p) (slice_get w.processes p)
+    collected_grows (Execute p) = at_turn p (execute_next y.rules p) (slice_get w.processes p)
+    collected_grows (Undo p) = at_turn p (undo_one y.rules p) (slice_get w.processes p)
+    collected_grows (UndoLazily p) = at_turn p (undo_lazily y.rules p) (slice_get w.processes p)
     collected_grows (Deliver i) = at_deliver i (slice_get w.letters i)
     collected_grows (Collect t) = at_collect t (nat_le t (floor w))
 

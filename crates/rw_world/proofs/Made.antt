@@ -1,21 +1,20 @@
 -- From what a body did with one process to the step that it made.
-use Rattle.std.proofs.Common.{◌≡◌, ℕ, zero, suc, ◌<◌, List, [], ◌∷◌, ◌++◌, length, map, take, drop, refl, sym, ap, ◌∙◌, subst, arith, append-nil, inl, inr, Option, Some, None}
+use Rattle.std.proofs.Common.{◌≡◌, ℕ, zero, suc, ◌<◌, List, [], ◌∷◌, ◌++◌, length, map, take, drop, refl, sym, ap, ◌∙◌, subst, arith, append-nil, inl, inr, Some}
 use Rattle.std.specs.Prelude.{◌⊎◌, slice_get, slice_set}
 use Rattle.std.specs.Option.{option_map}
 use Rattle.std.specs.declared.cmp.Ordering.{Ordering}
 use Rattle.std.proofs.lemmas.Bool.{cases_eq}
 use Rattle.std.proofs.lemmas.List.{map-set, length-map}
 use Rattle.std.proofs.lemmas.Option.{slice_get-map}
-use Rattle.rw_vt.specs.declared.event.Event.{Event}
 use Rattle.rw_vt.specs.declared.event.Letter.{Letter}
 use Rattle.rw_vt.specs.declared.model.Model.{Ghosts}
 use Rattle.rw_vt.specs.Order.{event_cmp}
-use Rattle.rw_vt.specs.System.{System, system}
+use Rattle.rw_vt.specs.System.{Rules, System, rules}
 use Rattle.rw_lp.specs.declared.step.Answer.{Answer}
 use Rattle.rw_lp.specs.declared.step.Answer.TheVariants.{Done, Refused}
 use Rattle.rw_lp.specs.Process as process
-use Rattle.rw_lp.specs.Process.{ProcessState, Turn, Turned, Stays, execute_least, execute_next, undo_last, undo_one, split_last, undo_last_lazily, undo_lazily}
-use Rattle.rw_lp.specs.Calls.{LogicalProcess, MeetsNext, rules, Took}
+use Rattle.rw_lp.specs.Process.{ProcessState, Turn, Turned, Stays, execute_next, undo_one, undo_lazily}
+use Rattle.rw_lp.specs.Calls.{LogicalProcess, MeetsNext, Took}
 use Rattle.rw_world.specs.declared.parts.Parts.{Parts}
 use Rattle.rw_world.specs.declared.step.Step.{Step}
 use Rattle.rw_world.specs.declared.step.Step.TheVariants.{Execute, Undo, UndoLazily, Deliver}
@@ -53,29 +52,6 @@ module _ {S B : Type 0} (w : WorldState S B) (p : ℕ) (u v : ProcessState S B) 
   undelivered_is left given (Turned after out) not_done k = absurd (not_done k.1)
   undelivered_is left given (Stays f) not_done k = let same = set_there w.processes p u at in rw (k.0, k.1, k.2, same, append-nil w.letters) refl
 
--- starts and initial events say nothing of a turn
-module _ {M S B U : Type 0} (model : Ghosts M S B U) (order : B → B → Ordering) (m : M) (starts : List S) (initial : List (Event B)) (p : ℕ) (x : ProcessState S B) where
-  execute_by_rules : execute_next (rules model order m) p x ≡ execute_next (system model order m starts initial) p x
-  execute_by_rules = go x.pending
-    where
-      go : (es : List (Event B)) → execute_least (rules model order m) p x es ≡ execute_least (system model order m starts initial) p x es
-      go [] = refl
-      go (e ∷ es) = refl
-
-  undo_by_rules : undo_one (rules model order m) p x ≡ undo_one (system model order m starts initial) p x
-  undo_by_rules = go (split_last x.processed)
-    where
-      go : (o : Option (List (Event B) × Event B)) → undo_last (rules model order m) p x o ≡ undo_last (system model order m starts initial) p x o
-      go None = refl
-      go (Some r) = refl
-
-  lazily_by_rules : undo_lazily (rules model order m) p x ≡ undo_lazily (system model order m starts initial) p x
-  lazily_by_rules = go (split_last x.processed)
-    where
-      go : (o : Option (List (Event B) × Event B)) → undo_last_lazily (rules model order m) p x o ≡ undo_last_lazily (system model order m starts initial) p x o
-      go None = refl
-      go (Some r) = refl
-
 -- process p of the parts x, which was `old`, is `new` in the parts z
 module _ {M S B U : Type 0} (model : Ghosts M S B U) (order : B → B → Ordering) (x z : Parts M S B U) (whole : IsWhole model order x)
     (same_model : z.model ≡ x.model) (same_starts : z.starts ≡ x.starts) (same_initial : z.initial ≡ x.initial) (same_collected : z.collected ≡ x.collected)
@@ -105,33 +81,32 @@ module _ {M S B U : Type 0} (model : Ghosts M S B U) (order : B → B → Orderi
         numbered = subst (λ m. AreNumbered m z.processes.items) (sym same_model) (subst (AreNumbered x.model) (sym back) numbered_still);
       }
 
+  -- a turn by its own model and number is one by those of the parts
+  turn_there : (turn : Rules S B → ℕ → ProcessState S B → Turn S B) (answer : Answer) (given : List (Letter B)) → Took old.process new.process answer given (turn (rules model order old.model) old.number old.process)
+      → Took old.process new.process answer given (turn (rules model order x.model) p old.process)
+  turn_there turn answer given took =
+      let known = whole.numbered p old there in
+      subst (λ n. Took old.process new.process answer given (turn (rules model order x.model) n old.process)) known.1
+      (subst (λ m. Took old.process new.process answer given (turn (rules model order m) old.number old.process)) known.0 took)
+
   pub made_execute : (answer : Answer) (given : List (Letter B)) → z.letters.items ≡ x.letters.items ++ given → Took old.process new.process answer given (execute_next (rules model order old.model) old.number old.process) → Made model order x z (Execute p) answer
   made_execute answer given is took =
-      let known = whole.numbered p old there in
-      let y : System S B = system_of model order (simulation_of x) in
-      let by_model = subst (λ m. Took old.process new.process answer given (execute_next (rules model order m) old.number old.process)) known.0 took in
-      let by_number = subst (λ n. Took old.process new.process answer given (execute_next (rules model order x.model) n old.process)) known.1 by_model in
-      let turn_taken = subst (Took old.process new.process answer given) (execute_by_rules model order x.model x.starts.value.items x.initial.value.items p old.process) by_number in
+      let y : Rules S B = rules model order x.model in
+      let turn_taken = turn_there (λ y q u. execute_next y q u) answer given took in
       made (Execute p) answer (x.letters.items ++ given) is
       (ap (turn_at (world_of x) p (execute_next y p)) process_there ∙ turned_is (world_of x) p old.process new.process answer process_there given (execute_next y p old.process) turn_taken)
 
   pub made_undo : (answer : Answer) (given : List (Letter B)) → z.letters.items ≡ x.letters.items ++ given → Took old.process new.process answer given (undo_one (rules model order old.model) old.number old.process) → Made model order x z (Undo p) answer
   made_undo answer given is took =
-      let known = whole.numbered p old there in
-      let y : System S B = system_of model order (simulation_of x) in
-      let by_model = subst (λ m. Took old.process new.process answer given (undo_one (rules model order m) old.number old.process)) known.0 took in
-      let by_number = subst (λ n. Took old.process new.process answer given (undo_one (rules model order x.model) n old.process)) known.1 by_model in
-      let turn_taken = subst (Took old.process new.process answer given) (undo_by_rules model order x.model x.starts.value.items x.initial.value.items p old.process) by_number in
+      let y : Rules S B = rules model order x.model in
+      let turn_taken = turn_there (λ y q u. undo_one y q u) answer given took in
       made (Undo p) answer (x.letters.items ++ given) is
       (ap (turn_at (world_of x) p (undo_one y p)) process_there ∙ turned_is (world_of x) p old.process new.process answer process_there given (undo_one y p old.process) turn_taken)
 
   pub made_undo_lazily : (answer : Answer) → z.letters.items ≡ x.letters.items → Took old.process new.process answer [] (undo_lazily (rules model order old.model) old.number old.process) → Made model order x z (UndoLazily p) answer
   made_undo_lazily answer is took =
-      let known = whole.numbered p old there in
-      let y : System S B = system_of model order (simulation_of x) in
-      let by_model = subst (λ m. Took old.process new.process answer [] (undo_lazily (rules model order m) old.number old.process)) known.0 took in
-      let by_number = subst (λ n. Took old.process new.process answer [] (undo_lazily (rules model order x.model) n old.process)) known.1 by_model in
-      let turn_taken = subst (Took old.process new.process answer []) (lazily_by_rules model order x.model x.starts.value.items x.initial.value.items p old.process) by_number in
+      let y : Rules S B = rules model order x.model in
+      let turn_taken = turn_there (λ y q u. undo_lazily y q u) answer [] took in
       made (UndoLazily p) answer (x.letters.items ++ []) (is ∙ sym (append-nil x.letters.items))
       (ap (turn_at (world_of x) p (undo_lazily y p)) process_there ∙ turned_is (world_of x) p old.process new.process answer process_there [] (undo_lazily y p old.process) turn_taken)
 

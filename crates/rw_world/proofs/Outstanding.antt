@@ -23,39 +23,39 @@ use Rattle.rw_world.specs.Sound.{held_in, Sound, IsQuiet, list_at, pending_of, d
 
 module _ {S B : Type 0} (y : System S B) where
   module _ {WellFormed : ℕ → S → Type 0} (law : IsLawful y WellFormed) (t : ℕ) where
-    within_least : (m : ℕ) (xs : List (Event B)) → t ≤ least_time m xs → (t ≤ m) × Each y.order (λ e. t ≤ e.time) xs
+    within_least : (m : ℕ) (xs : List (Event B)) → t ≤ least_time m xs → (t ≤ m) × Each y.rules.order (λ e. t ≤ e.time) xs
     within_least m [] h = (h, λ e k. absurd (omega arith))
     within_least m (x ∷ xs) h =
-        let ih : (t ≤ m) × Each y.order (λ e. t ≤ e.time) xs = within_least m xs (omega arith) in
-        (ih.0, Each-cons law.exact (λ e. t ≤ e.time) x xs (omega arith) ih.1)
+        let ih : (t ≤ m) × Each y.rules.order (λ e. t ≤ e.time) xs = within_least m xs (omega arith) in
+        (ih.0, Each-cons law.rules.exact (λ e. t ≤ e.time) x xs (omega arith) ih.1)
 
-    within_processes : (m : ℕ) (ps : List (ProcessState S B)) → t ≤ least_of_processes m ps → (t ≤ m) × ((q : ℕ) → Each y.order (λ e. t ≤ e.time) (pending_of ps q)) × ((q : ℕ) → Each y.order (λ e. t ≤ e.time) (debts_of ps q)) × Each y.order (λ e. t ≤ e.time) (held_in ps)
+    within_processes : (m : ℕ) (ps : List (ProcessState S B)) → t ≤ least_of_processes m ps → (t ≤ m) × ((q : ℕ) → Each y.rules.order (λ e. t ≤ e.time) (pending_of ps q)) × ((q : ℕ) → Each y.rules.order (λ e. t ≤ e.time) (debts_of ps q)) × Each y.rules.order (λ e. t ≤ e.time) (held_in ps)
     within_processes m [] h = (h, (λ q e k. absurd (omega arith)), (λ q e k. absurd (omega arith)), λ e k. absurd (omega arith))
     within_processes m (x ∷ ps) h =
         let held = held_messages x.held in
-        let one : (t ≤ least_time (least_time (least_of_processes m ps) held) x.debts) × Each y.order (λ e. t ≤ e.time) x.pending = within_least (least_time (least_time (least_of_processes m ps) held) x.debts) x.pending h in
-        let two : (t ≤ least_time (least_of_processes m ps) held) × Each y.order (λ e. t ≤ e.time) x.debts = within_least (least_time (least_of_processes m ps) held) x.debts one.0 in
-        let three : (t ≤ least_of_processes m ps) × Each y.order (λ e. t ≤ e.time) held = within_least (least_of_processes m ps) held two.0 in
+        let one : (t ≤ least_time (least_time (least_of_processes m ps) held) x.debts) × Each y.rules.order (λ e. t ≤ e.time) x.pending = within_least (least_time (least_time (least_of_processes m ps) held) x.debts) x.pending h in
+        let two : (t ≤ least_time (least_of_processes m ps) held) × Each y.rules.order (λ e. t ≤ e.time) x.debts = within_least (least_time (least_of_processes m ps) held) x.debts one.0 in
+        let three : (t ≤ least_of_processes m ps) × Each y.rules.order (λ e. t ≤ e.time) held = within_least (least_of_processes m ps) held two.0 in
         let ih = within_processes m ps three.0 in
-        (ih.0, at_pending one.1 ih.1, at_debts two.1 ih.2, Each-append law.exact (λ e. t ≤ e.time) held (held_in ps) three.1 ih.3)
+        (ih.0, at_pending one.1 ih.1, at_debts two.1 ih.2, Each-append law.rules.exact (λ e. t ≤ e.time) held (held_in ps) three.1 ih.3)
       where
-        at_pending : Each y.order (λ e. t ≤ e.time) x.pending → ((q : ℕ) → Each y.order (λ e. t ≤ e.time) (pending_of ps q)) → (q : ℕ) → Each y.order (λ e. t ≤ e.time) (pending_of (x ∷ ps) q)
+        at_pending : Each y.rules.order (λ e. t ≤ e.time) x.pending → ((q : ℕ) → Each y.rules.order (λ e. t ≤ e.time) (pending_of ps q)) → (q : ℕ) → Each y.rules.order (λ e. t ≤ e.time) (pending_of (x ∷ ps) q)
         at_pending a b zero = a
         at_pending a b (suc q) = b q
 
-        at_debts : Each y.order (λ e. t ≤ e.time) x.debts → ((q : ℕ) → Each y.order (λ e. t ≤ e.time) (debts_of ps q)) → (q : ℕ) → Each y.order (λ e. t ≤ e.time) (debts_of (x ∷ ps) q)
+        at_debts : Each y.rules.order (λ e. t ≤ e.time) x.debts → ((q : ℕ) → Each y.rules.order (λ e. t ≤ e.time) (debts_of ps q)) → (q : ℕ) → Each y.rules.order (λ e. t ≤ e.time) (debts_of (x ∷ ps) q)
         at_debts a b zero = a
         at_debts a b (suc q) = b q
 
-    within_letters : (m : ℕ) (ls : List (Letter B)) → t ≤ least_of_letters m ls → (t ≤ m) × ((e : Event B) → 0 < messages y.order e ls + antis y.order e ls → t ≤ e.time)
+    within_letters : (m : ℕ) (ls : List (Letter B)) → t ≤ least_of_letters m ls → (t ≤ m) × ((e : Event B) → 0 < messages y.rules.order e ls + antis y.rules.order e ls → t ≤ e.time)
     within_letters m [] h = (h, λ e k. absurd (omega arith))
     within_letters m (l ∷ ls) h =
-        let ih : (t ≤ m) × ((e : Event B) → 0 < messages y.order e ls + antis y.order e ls → t ≤ e.time) = within_letters m ls (omega arith) in
-        (ih.0, λ e k. here ih.1 e k (cases_Bool (is_eq (y.order e l.event))))
+        let ih : (t ≤ m) × ((e : Event B) → 0 < messages y.rules.order e ls + antis y.rules.order e ls → t ≤ e.time) = within_letters m ls (omega arith) in
+        (ih.0, λ e k. here ih.1 e k (cases_Bool (is_eq (y.rules.order e l.event))))
       where
-        here : ((e : Event B) → 0 < messages y.order e ls + antis y.order e ls → t ≤ e.time) → (e : Event B) → 0 < messages y.order e (l ∷ ls) + antis y.order e (l ∷ ls) → (is_eq (y.order e l.event) ≡ true) ⊎ (is_eq (y.order e l.event) ≡ false) → t ≤ e.time
-        here rest e k (inl q) = let at : e.time ≡ l.event.time = ap (λ e. e.time) (tied law.exact e l.event q) in omega arith
-        here rest e k (inr q) = let none = one_if-other law.exact e l.event q in rest e (omega (arith, count-letter y.order e l ls))
+        here : ((e : Event B) → 0 < messages y.rules.order e ls + antis y.rules.order e ls → t ≤ e.time) → (e : Event B) → 0 < messages y.rules.order e (l ∷ ls) + antis y.rules.order e (l ∷ ls) → (is_eq (y.rules.order e l.event) ≡ true) ⊎ (is_eq (y.rules.order e l.event) ≡ false) → t ≤ e.time
+        here rest e k (inl q) = let at : e.time ≡ l.event.time = ap (λ e. e.time) (tied law.rules.exact e l.event q) in omega arith
+        here rest e k (inr q) = let none = one_if-other law.rules.exact e l.event q in rest e (omega (arith, count-letter y.rules.order e l ls))
 
     pub quiet_to_floor : (w : WorldState S B) → t ≤ floor w → IsQuiet y t w
     quiet_to_floor w h =
@@ -65,11 +65,11 @@ module _ {S B : Type 0} (y : System S B) where
 
   module _ {WellFormed : ℕ → S → Type 0} (law : IsLawful y WellFormed) where
     -- where nothing is outstanding, any time is quiet
-    empty_none : (t : ℕ) (xs : List (Event B)) → is_empty xs ≡ true → Each y.order (λ e. t ≤ e.time) xs
+    empty_none : (t : ℕ) (xs : List (Event B)) → is_empty xs ≡ true → Each y.rules.order (λ e. t ≤ e.time) xs
     empty_none t [] h = λ e k. absurd (omega arith)
     empty_none t (x ∷ xs) h = elim (false≢true h) [ ]
 
-    idle_none : (t : ℕ) (ps : List (ProcessState S B)) → are_idle ps ≡ true → (q : ℕ) → Each y.order (λ e. t ≤ e.time) (pending_of ps q) × Each y.order (λ e. t ≤ e.time) (debts_of ps q)
+    idle_none : (t : ℕ) (ps : List (ProcessState S B)) → are_idle ps ≡ true → (q : ℕ) → Each y.rules.order (λ e. t ≤ e.time) (pending_of ps q) × Each y.rules.order (λ e. t ≤ e.time) (debts_of ps q)
     idle_none t [] h q = ((λ e k. absurd (omega arith)), (λ e k. absurd (omega arith)))
     idle_none t (x ∷ ps) h zero =
         let a = and_parts (is_empty x.pending) (is_empty x.debts && (is_empty x.held && are_idle ps)) h in
@@ -81,19 +81,19 @@ module _ {S B : Type 0} (y : System S B) where
         let c = and_parts (is_empty x.held) (are_idle ps) b.1 in
         idle_none t ps c.1 q
 
-    idle_held : (t : ℕ) (ps : List (ProcessState S B)) → are_idle ps ≡ true → Each y.order (λ e. t ≤ e.time) (held_in ps)
+    idle_held : (t : ℕ) (ps : List (ProcessState S B)) → are_idle ps ≡ true → Each y.rules.order (λ e. t ≤ e.time) (held_in ps)
     idle_held t [] h = λ e k. absurd (omega arith)
     idle_held t (x ∷ ps) h =
         let a = and_parts (is_empty x.pending) (is_empty x.debts && (is_empty x.held && are_idle ps)) h in
         let b = and_parts (is_empty x.debts) (is_empty x.held && are_idle ps) a.1 in
         let c = and_parts (is_empty x.held) (are_idle ps) b.1 in
-        Each-append law.exact (λ e. t ≤ e.time) (held_messages x.held) (held_in ps) (none x.held c.0) (idle_held t ps c.1)
+        Each-append law.rules.exact (λ e. t ≤ e.time) (held_messages x.held) (held_in ps) (none x.held c.0) (idle_held t ps c.1)
       where
-        none : (hs : List (Held B)) → is_empty hs ≡ true → Each y.order (λ e. t ≤ e.time) (held_messages hs)
+        none : (hs : List (Held B)) → is_empty hs ≡ true → Each y.rules.order (λ e. t ≤ e.time) (held_messages hs)
         none [] q = λ e k. absurd (omega arith)
         none (x ∷ hs) q = elim (false≢true q) [ ]
 
-    no_letters : (t : ℕ) (ls : List (Letter B)) → is_empty ls ≡ true → (e : Event B) → 0 < messages y.order e ls + antis y.order e ls → t ≤ e.time
+    no_letters : (t : ℕ) (ls : List (Letter B)) → is_empty ls ≡ true → (e : Event B) → 0 < messages y.rules.order e ls + antis y.rules.order e ls → t ≤ e.time
     no_letters t [] h e k = absurd (omega arith)
     no_letters t (l ∷ ls) h e k = elim (false≢true h) [ ]
 
@@ -103,24 +103,24 @@ module _ {S B : Type 0} (y : System S B) where
         record { pending = λ q. (idle_none t w.processes a.1 q).0; debts = λ q. (idle_none t w.processes a.1 q).1; letters = no_letters t w.letters a.0; held = idle_held t w.processes a.1 }
 
   module _ {WellFormed : ℕ → S → Type 0} (law : IsLawful y WellFormed) (w : WorldState S B) (sound : Sound y w) where
-    held_all : (g : ℕ) (i : ℕ) (ps : List (ProcessState S B)) → ((q : ℕ) (x : ProcessState S B) → slice_get ps q ≡ Some x → SoundAt y g (i + q) x) → Each y.order (λ e. g ≤ e.time) (held_in ps)
+    held_all : (g : ℕ) (i : ℕ) (ps : List (ProcessState S B)) → ((q : ℕ) (x : ProcessState S B) → slice_get ps q ≡ Some x → SoundAt y.rules g (i + q) x) → Each y.rules.order (λ e. g ≤ e.time) (held_in ps)
     held_all g i [] f = λ e k. absurd (omega arith)
     held_all g i (x ∷ ps) f =
         let at = f zero x refl in
-        Each-append law.exact (λ e. g ≤ e.time) (held_messages x.held) (held_in ps)
-        (held_from y law g x.pending at.pending_from x.held at.held)
-        (held_all g (suc i) ps (λ q z h. let k : i + suc q ≡ suc i + q = omega arith in subst (λ n. SoundAt y g n z) k (f (suc q) z h)))
+        Each-append law.rules.exact (λ e. g ≤ e.time) (held_messages x.held) (held_in ps)
+        (held_from y.rules law.rules g x.pending at.pending_from x.held at.held)
+        (held_all g (suc i) ps (λ q z h. let k : i + suc q ≡ suc i + q = omega arith in subst (λ n. SoundAt y.rules g n z) k (f (suc q) z h)))
 
     pub quiet_collected : IsQuiet y w.collected w
     quiet_collected = record { pending = λ q. pending q (slice_get w.processes q) refl; debts = λ q. debts q (slice_get w.processes q) refl; letters = sound.letters.from; held = held w.processes (λ q x h. sound.each q x h) }
       where
-        held : (ps : List (ProcessState S B)) → ((q : ℕ) (x : ProcessState S B) → slice_get ps q ≡ Some x → SoundAt y w.collected q x) → Each y.order (λ e. w.collected ≤ e.time) (held_in ps)
-        held ps f = held_all w.collected 0 ps (λ q x h. let k : q ≡ 0 + q = omega arith in subst (λ n. SoundAt y w.collected n x) k (f q x h))
+        held : (ps : List (ProcessState S B)) → ((q : ℕ) (x : ProcessState S B) → slice_get ps q ≡ Some x → SoundAt y.rules w.collected q x) → Each y.rules.order (λ e. w.collected ≤ e.time) (held_in ps)
+        held ps f = held_all w.collected 0 ps (λ q x h. let k : q ≡ 0 + q = omega arith in subst (λ n. SoundAt y.rules w.collected n x) k (f q x h))
 
-        pending : (q : ℕ) (o : Option (ProcessState S B)) → slice_get w.processes q ≡ o → Each y.order (λ e. w.collected ≤ e.time) (list_at (λ x. x.pending) o)
+        pending : (q : ℕ) (o : Option (ProcessState S B)) → slice_get w.processes q ≡ o → Each y.rules.order (λ e. w.collected ≤ e.time) (list_at (λ x. x.pending) o)
         pending q None h = λ e k. absurd (omega arith)
         pending q (Some x) h = (sound.each q x h).pending_from
 
-        debts : (q : ℕ) (o : Option (ProcessState S B)) → slice_get w.processes q ≡ o → Each y.order (λ e. w.collected ≤ e.time) (list_at (λ x. x.debts) o)
+        debts : (q : ℕ) (o : Option (ProcessState S B)) → slice_get w.processes q ≡ o → Each y.rules.order (λ e. w.collected ≤ e.time) (list_at (λ x. x.debts) o)
         debts q None h = λ e k. absurd (omega arith)
         debts q (Some x) h = (sound.each q x h).debts_from

@@ -23,26 +23,26 @@ letters_below m [] = omega arith
 letters_below m (l ∷ ls) = omega (arith, letters_below m ls)
 
 module _ {S B : Type 0} (y : System S B) {WellFormed : ℕ → S → Type 0} (law : IsLawful y WellFormed) (t : ℕ) where
-  least_from : (m : ℕ) (es : List (Event B)) → t ≤ m → Each y.order (λ e. t ≤ e.time) es → t ≤ least_time m es
+  least_from : (m : ℕ) (es : List (Event B)) → t ≤ m → Each y.rules.order (λ e. t ≤ e.time) es → t ≤ least_time m es
   least_from m [] h k = h
   least_from m (e ∷ es) h k =
-      let here : t ≤ e.time = k e (Has-head law.exact e es) in
+      let here : t ≤ e.time = k e (Has-head law.rules.exact e es) in
       let rest : t ≤ least_time m es = least_from m es h (λ a there. k a (omega arith)) in
       omega arith
 
-  processes_from : (m : ℕ) (ps : List (ProcessState S B)) → t ≤ m → ((q : ℕ) → Each y.order (λ e. t ≤ e.time) (pending_of ps q)) → ((q : ℕ) → Each y.order (λ e. t ≤ e.time) (debts_of ps q)) → Each y.order (λ e. t ≤ e.time) (held_in ps) → t ≤ least_of_processes m ps
+  processes_from : (m : ℕ) (ps : List (ProcessState S B)) → t ≤ m → ((q : ℕ) → Each y.rules.order (λ e. t ≤ e.time) (pending_of ps q)) → ((q : ℕ) → Each y.rules.order (λ e. t ≤ e.time) (debts_of ps q)) → Each y.rules.order (λ e. t ≤ e.time) (held_in ps) → t ≤ least_of_processes m ps
   processes_from m [] h pending debts held = h
   processes_from m (x ∷ ps) h pending debts held =
-      let both = λ (a : Event B). copies-append law.exact a (held_messages x.held) (held_in ps) in
+      let both = λ (a : Event B). copies-append law.rules.exact a (held_messages x.held) (held_in ps) in
       let rest : t ≤ least_of_processes m ps = processes_from m ps h (λ q. pending (suc q)) (λ q. debts (suc q)) (λ a there. held a (omega (arith, both a))) in
       let with_held : t ≤ least_time (least_of_processes m ps) (held_messages x.held) = least_from (least_of_processes m ps) (held_messages x.held) rest (λ a there. held a (omega (arith, both a))) in
       least_from (least_time (least_time (least_of_processes m ps) (held_messages x.held)) x.debts) x.pending (least_from (least_time (least_of_processes m ps) (held_messages x.held)) x.debts with_held (debts zero)) (pending zero)
 
-  letters_from : (m : ℕ) (ls : List (Letter B)) → t ≤ m → ((e : Event B) → 0 < messages y.order e ls + antis y.order e ls → t ≤ e.time) → t ≤ least_of_letters m ls
+  letters_from : (m : ℕ) (ls : List (Letter B)) → t ≤ m → ((e : Event B) → 0 < messages y.rules.order e ls + antis y.rules.order e ls → t ≤ e.time) → t ≤ least_of_letters m ls
   letters_from m [] h k = h
   letters_from m (l ∷ ls) h k =
-      let here : t ≤ l.event.time = k l.event (omega (arith, count-letter y.order l.event l ls, one_if-itself law.exact l.event)) in
-      let rest : t ≤ least_of_letters m ls = letters_from m ls h (λ a there. k a (omega (arith, count-letter y.order a l ls))) in
+      let here : t ≤ l.event.time = k l.event (omega (arith, count-letter y.rules.order l.event l ls, one_if-itself law.rules.exact l.event)) in
+      let rest : t ≤ least_of_letters m ls = letters_from m ls h (λ a there. k a (omega (arith, count-letter y.rules.order a l ls))) in
       omega arith
 
   pub quiet_is : (w : WorldState S B) → (t ≤ floor w) ↔ ((t ≤ 2 ^ 40) × IsQuiet y t w)

@@ -29,7 +29,7 @@ module _ {S B : Type 0} (y : System S B) (w : WorldState S B) where
 
   at_place : (i : ℕ) (l : Letter B) (o : Option (ProcessState S B)) → Same (deliver_to y w i l o)
   at_place i l None f q = refl
-  at_place i l (Some x) f q = at_turned l.event.to (remove_at w.letters i) (process.deliver y.order l x) f q
+  at_place i l (Some x) f q = at_turned l.event.to (remove_at w.letters i) (process.deliver y.rules.order l x) f q
 
   at_deliver : (i : ℕ) (o : Option (Letter B)) → Same (deliver_letter y w i o)
   at_deliver i None f q = refl
@@ -40,8 +40,8 @@ module _ {S B : Type 0} (y : System S B) (w : WorldState S B) where
   at_collect false v f q = refl
 
   pub refused_is_same : (s : Step) → Same (apply y w s)
-  refused_is_same (Execute p) = at_turn p (execute_next y p) (slice_get w.processes p)
-  refused_is_same (Undo p) = at_turn p (undo_one y p) (slice_get w.processes p)
-  refused_is_same (UndoLazily p) = at_turn p (undo_lazily y p) (slice_get w.processes p)
+  refused_is_same (Execute p) = at_turn p (execute_next y.rules p) (slice_get w.processes p)
+  refused_is_same (Undo p) = at_turn p (undo_one y.rules p) (slice_get w.processes p)
+  refused_is_same (UndoLazily p) = at_turn p (undo_lazily y.rules p) (slice_get w.processes p)
   refused_is_same (Deliver i) = at_deliver i (slice_get w.letters i)
   refused_is_same (Collect t) = at_collect (nat_le t (floor w)) (record { processes = map (process.collect t) w.processes; letters = w.letters; collected = max w.collected t })

@@ -14,9 +14,9 @@ use Rattle.rw_world.proofs.Collecting.{collect_sound}
 
 module _ {S B : Type 0} (y : System S B) {WellFormed : ℕ → S → Type 0} (law : IsLawful y WellFormed) where
   pub apply_sound : (w : WorldState S B) → Sound y w → (s : Step) → Sound y (apply y w s).0
-  apply_sound w sound (Execute p) = turn_sound y law w sound p (execute_next y p) (execute_keeps y law w.collected p)
-  apply_sound w sound (Undo p) = turn_sound y law w sound p (undo_one y p) (undo_keeps y law w.collected p)
-  apply_sound w sound (UndoLazily p) = turn_sound y law w sound p (undo_lazily y p) (undo_lazily_keeps y law w.collected p)
+  apply_sound w sound (Execute p) = turn_sound y law w sound p (execute_next y.rules p) (execute_keeps y.rules law.rules w.collected p)
+  apply_sound w sound (Undo p) = turn_sound y law w sound p (undo_one y.rules p) (undo_keeps y.rules law.rules w.collected p)
+  apply_sound w sound (UndoLazily p) = turn_sound y law w sound p (undo_lazily y.rules p) (undo_lazily_keeps y.rules law.rules w.collected p)
   apply_sound w sound (Deliver i) = deliver_sound y law w sound i
   apply_sound w sound (Collect t) = collect_sound y law t w sound
 

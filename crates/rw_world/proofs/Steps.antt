@@ -32,7 +32,7 @@ module _ {S B : Type 0} (y : System S B) {WellFormed : ℕ → S → Type 0} (la
   good_start p x at = law.starts p x.start (start_is y w sound p x at)
 
   -- a turn to which no letter comes
-  pub turn_sound : (p : ℕ) (step : ProcessState S B → Turn S B) → ((x : ProcessState S B) → WellFormed p x.start → SoundAt y w.collected p x → Keeps y w.collected p x [] (step x)) → Sound y (turn_at w p step (slice_get w.processes p)).0
+  pub turn_sound : (p : ℕ) (step : ProcessState S B → Turn S B) → ((x : ProcessState S B) → WellFormed p x.start → SoundAt y.rules w.collected p x → Keeps y.rules w.collected p x [] (step x)) → Sound y (turn_at w p step (slice_get w.processes p)).0
   turn_sound p step keeps = find (slice_get w.processes p) refl
     where
       find : (o : Option (ProcessState S B)) → slice_get w.processes p ≡ o → Sound y (turn_at w p step o).0
@@ -44,12 +44,12 @@ module _ {S B : Type 0} (y : System S B) {WellFormed : ℕ → S → Type 0} (la
   one_came i l h = record {
     messages_are = λ e. omega (arith, messages-remove_at y e w.letters i l h);
     antis_are = λ e. omega (arith, antis-remove_at y e w.letters i l h);
-    come_here = λ e k. here e (omega (arith, count-letter y.order e l [])) (cases_Bool (is_eq (y.order e l.event)));
+    come_here = λ e k. here e (omega (arith, count-letter y.rules.order e l [])) (cases_Bool (is_eq (y.rules.order e l.event)));
   }
     where
-      here : (e : Event B) → 0 < one_if_same y.order e l.event → (is_eq (y.order e l.event) ≡ true) ⊎ (is_eq (y.order e l.event) ≡ false) → e.to ≡ l.event.to
-      here e k (inl q) = ap (λ e. e.to) (tied law.exact e l.event q)
-      here e k (inr q) = let none = one_if-other law.exact e l.event q in absurd (omega arith)
+      here : (e : Event B) → 0 < one_if_same y.rules.order e l.event → (is_eq (y.rules.order e l.event) ≡ true) ⊎ (is_eq (y.rules.order e l.event) ≡ false) → e.to ≡ l.event.to
+      here e k (inl q) = ap (λ e. e.to) (tied law.rules.exact e l.event q)
+      here e k (inr q) = let none = one_if-other law.rules.exact e l.event q in absurd (omega arith)
 
   pub deliver_sound : (i : ℕ) → Sound y (deliver_letter y w i (slice_get w.letters i)).0
   deliver_sound i = find (slice_get w.letters i) refl
@@ -57,9 +57,9 @@ module _ {S B : Type 0} (y : System S B) {WellFormed : ℕ → S → Type 0} (la
       place : (l : Letter B) → slice_get w.letters i ≡ Some l → (o : Option (ProcessState S B)) → slice_get w.processes l.event.to ≡ o → Sound y (deliver_to y w i l o).0
       place l is None h = sound
       place l is (Some x) h =
-          let there : 0 < messages y.order l.event w.letters + antis y.order l.event w.letters = letter_counts y law w.letters i l is in
-          any_turn_sound y law w sound l.event.to x h (remove_at w.letters i) (l ∷ []) (one_came i l is) (letters_fewer y w.collected w.letters i l is sound.letters) (process.deliver y.order l x)
-          (deliver_keeps y law w.collected l.event.to x (good_start l.event.to x h) (sound.each l.event.to x h) l
+          let there : 0 < messages y.rules.order l.event w.letters + antis y.rules.order l.event w.letters = letter_counts y law w.letters i l is in
+          any_turn_sound y law w sound l.event.to x h (remove_at w.letters i) (l ∷ []) (one_came i l is) (letters_fewer y w.collected w.letters i l is sound.letters) (process.deliver y.rules.order l x)
+          (deliver_keeps y.rules law.rules w.collected l.event.to x (good_start l.event.to x h) (sound.each l.event.to x h) l
           (record { valid = sound.letters.valid l.event there; here = refl })
           (sound.letters.from l.event there))
 

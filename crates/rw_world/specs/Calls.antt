@@ -80,4 +80,4 @@ pub record MeetsAt {S B : Type 0} (y : System S B) (w : WorldState S B) (test : 
   pub step : Step
   pub rest : List Step
   pub steps_are : steps ≡ before ++ step ∷ rest
-  pub executes : ExecutesAt y.order (run y w before) test step
+  pub executes : ExecutesAt y.rules.order (run y w before) test step

@@ -36,7 +36,7 @@ remove_at (x ∷ xs) (suc i) = x ∷ remove_at xs i
 -- letter i comes to this process
 abbrev pub deliver_to : {S B : Type 0} → System S B → WorldState S B → Count → Letter B → Option (ProcessState S B) → WorldState S B × Answer
 deliver_to y w i l None = refusal w NoSuchProcess
-deliver_to y w i l (Some x) = world_after w l.event.to (remove_at w.letters i) (process.deliver y.order l x)
+deliver_to y w i l (Some x) = world_after w l.event.to (remove_at w.letters i) (process.deliver y.rules.order l x)
 
 -- letter i, if there is one, comes to its process
 abbrev pub deliver_letter : {S B : Type 0} → System S B → WorldState S B → Count → Option (Letter B) → WorldState S B × Answer
@@ -52,9 +52,9 @@ collect_to w t =
 
 -- one step, and what it answers
 abbrev pub apply : {S B : Type 0} → System S B → WorldState S B → Step → WorldState S B × Answer
-apply y w (Execute p) = turn_at w p (execute_next y p) (slice_get w.processes p)
-apply y w (Undo p) = turn_at w p (undo_one y p) (slice_get w.processes p)
-apply y w (UndoLazily p) = turn_at w p (undo_lazily y p) (slice_get w.processes p)
+apply y w (Execute p) = turn_at w p (execute_next y.rules p) (slice_get w.processes p)
+apply y w (Undo p) = turn_at w p (undo_one y.rules p) (slice_get w.processes p)
+apply y w (UndoLazily p) = turn_at w p (undo_lazily y.rules p) (slice_get w.processes p)
 apply y w (Deliver i) = deliver_letter y w i (slice_get w.letters i)
 apply y w (Collect t) = collect_to w t
 

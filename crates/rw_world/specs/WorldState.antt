@@ -1,5 +1,5 @@
 -- A world of processes: what it is, where it starts, and what is outstanding in it.
-use Rattle.std.specs.Prelude.{◌^◌, min, Bool, true, false, List, [], ◌∷◌, filter, ◌==◌, ◌&&◌}
+use Rattle.std.specs.Prelude.{min, Bool, true, false, List, [], ◌∷◌, filter, ◌==◌, ◌&&◌}
 use Rattle.rw_vt.specs.Words.{Process, Time}
 use Rattle.rw_vt.specs.Limits.{end_of_time}
 use Rattle.rw_vt.specs.declared.event.Letter.{Letter}
@@ -17,7 +17,7 @@ pub record WorldState (S B : Type 0) : Type 0 where
 
 -- process q as it starts
 abbrev pub opening_process : {S B : Type 0} → System S B → Process → S → ProcessState S B
-opening_process y q s = new_process y.order s (filter (λ e. e.to == q) y.initial)
+opening_process y q s = new_process y.rules.order s (filter (λ e. e.to == q) y.initial)
 
 -- the world in which nothing is done
 abbrev pub opening_world : {S B : Type 0} → System S B → WorldState S B

@@ -2,9 +2,10 @@ use Rattle.std.proofs.Common.{◌≡◌, [], refl, sym, subst, ◌∙◌, append
 use Rattle.rw_vt.specs.Order.{event_cmp, has}
 use Rattle.rw_vt.proofs.EventOrder.{events_exact}
 use Rattle.rw_vt.proofs.Sorting.{IsExactOrder}
+use Rattle.rw_vt.specs.System.{rules}
 use Rattle.rw_lp.specs.HeldBack.{antis_unless}
 use Rattle.rw_lp.specs.Own.{AreFor}
-use Rattle.rw_lp.specs.Calls.{process_of, rules}
+use Rattle.rw_lp.specs.Calls.{process_of}
 use Rattle.rw_lp.proofs.Meeting.{meets, refuses, owes, met, put}
 use Rattle.rw_lp.proofs.Own.{pending_less, pending_more, debts_less, debts_more}
 use Rattle.rw_lp.proofs.Balance.{anti_meets, anti_owed, anti_refused, message_meets, message_put}

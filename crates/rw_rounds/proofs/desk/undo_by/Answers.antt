@@ -1,8 +1,9 @@
 use Rattle.std.proofs.Common.{List, [], sym, subst, append-nil}
 use Rattle.std.proofs.lemmas.Result.{IfOk-weaker}
 use Rattle.rw_vt.specs.declared.event.Letter.{Letter}
+use Rattle.rw_vt.specs.System.{rules}
 use Rattle.rw_lp.specs.Process.{undo_lazily}
-use Rattle.rw_lp.specs.Calls.{LogicalProcess, rules, GivesOut, Took}
+use Rattle.rw_lp.specs.Calls.{LogicalProcess, GivesOut, Took}
 use Rattle.rw_lp.specs.Arrival.{undo_by}
 use Rattle.rw_lp.specs.declared.step.Answer.{Answer}
 use Rattle.rw_rounds.specs.Deeds.{way_of}

@@ -3,8 +3,8 @@ use Rattle.std.proofs.lemmas.List.{append_cancel_left}
 use Rattle.rw_vt.specs.Order.{event_cmp}
 use Rattle.rw_vt.proofs.EventOrder.{events_exact}
 use Rattle.rw_vt.proofs.Sorting.{IsExactOrder}
+use Rattle.rw_vt.specs.System.{rules}
 use Rattle.rw_lp.specs.Process.{Turned, undo_lazily}
-use Rattle.rw_lp.specs.Calls.{rules}
 use Rattle.rw_lp.specs.Arrival.{Holding, undo_by, is_barred}
 use Rattle.rw_lp.proofs.Arriving.{barred_refuses, open_accepts, barred_some, lazy_undo_taken, going_start, going_more, arrived}
 use Rattle.rw_lp.specs.Sound.{Balance}

@@ -1,5 +1,5 @@
 use Rattle.std.proofs.Common.{length}
-use Rattle.rw_lp.specs.Calls.{rules}
+use Rattle.rw_vt.specs.System.{rules}
 use Rattle.rw_lp.specs.Arrival.{Holding}
 use Rattle.rw_lp.proofs.Arriving.{IsUnderway}
 use Rattle.rw_lp.proofs.lp.Lp.arrive_lazily.Given as goal

@@ -1,9 +1,10 @@
 use Rattle.std.proofs.Common.{◌≡◌, List, ◌++◌, sym, subst}
 use Rattle.rw_vt.specs.declared.event.Letter.{Letter}
 use Rattle.rw_vt.specs.Order.{event_cmp}
+use Rattle.rw_vt.specs.System.{rules}
 use Rattle.rw_lp.specs.Past.{IsFor}
 use Rattle.rw_lp.specs.Process.{ProcessState, deliver}
-use Rattle.rw_lp.specs.Calls.{LogicalProcess, process_of, rules, Took, letters_taken}
+use Rattle.rw_lp.specs.Calls.{LogicalProcess, process_of, Took, letters_taken}
 use Rattle.rw_lp.specs.Sound.{Balance}
 use Rattle.rw_lp.proofs.lp.Lp.deliver.Goals as goal
 

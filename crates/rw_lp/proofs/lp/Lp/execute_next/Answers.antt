@@ -5,13 +5,14 @@ use Rattle.rw_vt.specs.declared.event.Letter.{Letter}
 use Rattle.rw_vt.specs.Order.{event_cmp, copies, without}
 use Rattle.rw_vt.proofs.EventOrder.{events_exact}
 use Rattle.rw_vt.proofs.Sorting.{IsExactOrder, Has-head}
+use Rattle.rw_vt.specs.System.{rules}
 use Rattle.rw_lp.specs.declared.step.StepFault.TheVariants.{NothingPending, Straggler}
 use Rattle.rw_lp.specs.declared.step.Answer.TheVariants.{Done, Refused}
 use Rattle.rw_lp.specs.Past.{HistoryState, done_in}
 use Rattle.rw_lp.specs.HeldMessages.{unheld_sends}
 use Rattle.rw_lp.specs.HeldBack.{letters_given}
 use Rattle.rw_lp.specs.Process.{ProcessState, after_execution, execute_next}
-use Rattle.rw_lp.specs.Calls.{LogicalProcess, process_of, rules, MeetsNext, Took}
+use Rattle.rw_lp.specs.Calls.{LogicalProcess, process_of, MeetsNext, Took}
 use Rattle.rw_lp.proofs.Bridges.{nothing_pending, is_straggler, is_executed}
 use Rattle.rw_lp.proofs.Own.{executed_for}
 use Rattle.rw_lp.proofs.Orders.{without_head}

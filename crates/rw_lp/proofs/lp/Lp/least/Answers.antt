@@ -2,8 +2,9 @@ use Rattle.std.proofs.Common.{◌≡◌, ◌≤◌, sym, ap, ◌∙◌, subst, m
 use Rattle.rw_vt.specs.Order.{event_cmp, Each}
 use Rattle.rw_vt.proofs.EventOrder.{events_exact}
 use Rattle.rw_vt.proofs.Sorting.{IsExactOrder}
+use Rattle.rw_vt.specs.System.{rules}
 use Rattle.rw_lp.specs.HeldMessages.{held_messages}
-use Rattle.rw_lp.specs.Calls.{LogicalProcess, least_time, rules}
+use Rattle.rw_lp.specs.Calls.{LogicalProcess, least_time}
 use Rattle.rw_lp.proofs.Orders.{least_each}
 use Rattle.rw_lp.proofs.HeldRuns.{held_least}
 use Rattle.rw_lp.proofs.lp.Lp.least.Goals as goal

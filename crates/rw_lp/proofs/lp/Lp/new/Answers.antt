@@ -5,8 +5,8 @@ use Rattle.rw_vt.proofs.Sorting.{IsExactOrder, each_of_all, copies-in_order}
 use Rattle.rw_vt.proofs.Bags.{Each-nil}
 use Rattle.std.specs.Prelude.{All}
 use Rattle.std.proofs.lemmas.List.Elements.{All-nil}
+use Rattle.rw_vt.specs.System.{rules}
 use Rattle.rw_lp.specs.declared.held.Held.{Held}
-use Rattle.rw_lp.specs.Calls.{rules}
 use Rattle.rw_lp.specs.Sound.{IsHeldFor}
 use Rattle.rw_lp.specs.Past.{HistoryState, IsFor, done_in}
 use Rattle.rw_lp.proofs.lp.Lp.new.Goals as goal

@@ -1,6 +1,6 @@
 use Rattle.std.proofs.Common.{◌≡◌, [], ◌++◌, sym, ap, ◌∙◌, subst}
 use Rattle.rw_vt.specs.Order.{event_cmp, Has}
-use Rattle.rw_vt.specs.System.{state_after}
+use Rattle.rw_vt.specs.System.{state_after, rules}
 use Rattle.rw_vt.proofs.EventOrder.{events_exact}
 use Rattle.rw_vt.proofs.Sorting.{IsExactOrder}
 use Rattle.rw_lp.specs.declared.step.Answer.TheVariants.{Done, Refused}
@@ -8,7 +8,7 @@ use Rattle.rw_lp.specs.declared.step.StepFault.TheVariants.{NothingToUndo}
 use Rattle.rw_lp.specs.HeldMessages.{held_of}
 use Rattle.rw_lp.specs.Past.{HistoryState, TookBack, IsTakenBack, done_in}
 use Rattle.rw_lp.specs.Process.{ProcessState, after_undoing, undo_lazily}
-use Rattle.rw_lp.specs.Calls.{LogicalProcess, process_of, rules, Took}
+use Rattle.rw_lp.specs.Calls.{LogicalProcess, process_of, Took}
 use Rattle.rw_lp.specs.Sound.{Balance}
 use Rattle.rw_lp.proofs.Bridges.{nothing_to_undo_lazily, is_undone_lazily}
 use Rattle.rw_lp.proofs.Own.{still_for, may_be_held, undone_lazily_own}

@@ -2,14 +2,14 @@ use Rattle.std.proofs.Common.{◌≡◌, true, List, [], ◌++◌, sym, ap, ◌�
 use Rattle.rw_vt.specs.declared.event.Letter.{Letter}
 use Rattle.rw_vt.specs.Letters.{letters_of}
 use Rattle.rw_vt.specs.Order.{event_cmp, Has}
-use Rattle.rw_vt.specs.System.{state_after}
+use Rattle.rw_vt.specs.System.{state_after, rules}
 use Rattle.rw_vt.proofs.EventOrder.{events_exact}
 use Rattle.rw_vt.proofs.Sorting.{IsExactOrder}
 use Rattle.rw_lp.specs.declared.step.Answer.TheVariants.{Done, Refused}
 use Rattle.rw_lp.specs.declared.step.StepFault.TheVariants.{NothingToUndo}
 use Rattle.rw_lp.specs.Past.{HistoryState, TookBack, IsTakenBack, done_in}
 use Rattle.rw_lp.specs.Process.{ProcessState, after_undoing, undo_one}
-use Rattle.rw_lp.specs.Calls.{LogicalProcess, process_of, rules, Took}
+use Rattle.rw_lp.specs.Calls.{LogicalProcess, process_of, Took}
 use Rattle.rw_lp.specs.Sound.{Balance}
 use Rattle.rw_lp.proofs.Bridges.{nothing_to_undo, is_undone}
 use Rattle.rw_lp.proofs.Own.{still_for, undone_own}

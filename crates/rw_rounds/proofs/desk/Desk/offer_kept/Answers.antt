@@ -1,5 +1,5 @@
 use Rattle.std.proofs.Common.{◌≡◌, List, ◌∷◌, [], length, refl, sym, ap, ◌∙◌, subst, arith}
-use Rattle.rw_lp.specs.Calls as calls
+use Rattle.rw_vt.specs.System.{rules}
 use Rattle.rw_rounds.specs.Bags.{Every}
 use Rattle.rw_rounds.specs.Turns.{owner}
 use Rattle.rw_rounds.specs.Working.{role_of, desk_of, IsFitAndSound, Works}
@@ -20,9 +20,9 @@ loop-letter-init g c =
     let all : c.into_iter-letter-iterator.result.rest.items ≡ x.kept.items = c.into_iter-letter-iterator.ensures.into_iter_gives.0 ∙ ap (λ v. v.items) c.replace-kept.ensures.value in
     record {
       works =
-          subst (λ ls. Works (calls.rules g.M.Model g.M.Body.Ord.cmp c.args.bench.now.model.now) (role_of x) (record (desk_of x) { kept = [] }) (record (desk_of x) { kept = c.replace-kept.new.dest.items }) x.kept.items ls 0) (sym all)
-          (subst (λ ls. Works (calls.rules g.M.Model g.M.Body.Ord.cmp c.args.bench.now.model.now) (role_of x) (record (desk_of x) { kept = [] }) (record (desk_of x) { kept = ls }) x.kept.items x.kept.items 0) (sym none)
-          (works_none (calls.rules g.M.Model g.M.Body.Ord.cmp c.args.bench.now.model.now) (role_of x) (record (desk_of x) { kept = [] }) x.kept.items refl));
+          subst (λ ls. Works (rules g.M.Model g.M.Body.Ord.cmp c.args.bench.now.model.now) (role_of x) (record (desk_of x) { kept = [] }) (record (desk_of x) { kept = c.replace-kept.new.dest.items }) x.kept.items ls 0) (sym all)
+          (subst (λ ls. Works (rules g.M.Model g.M.Body.Ord.cmp c.args.bench.now.model.now) (role_of x) (record (desk_of x) { kept = [] }) (record (desk_of x) { kept = ls }) x.kept.items x.kept.items 0) (sym none)
+          (works_none (rules g.M.Model g.M.Body.Ord.cmp c.args.bench.now.model.now) (role_of x) (record (desk_of x) { kept = [] }) x.kept.items refl));
       fit = subst (λ ls. IsFitAndSound g.M.Model g.M.Body.Ord.cmp c.args.bench.now.model.now (record (desk_of x) { kept = ls })) (sym none) (fit_without_kept laws c.args.bench.now.model.now (desk_of x) c.requires.fit);
       others = subst (Every (λ l. owner (role_of x) l ≡ x.number → ⊥)) (sym all) c.requires.fit.fit.kept;
       board = c.requires.board;
@@ -39,10 +39,10 @@ loop-letter-preserved g c =
     let here : c.loop-letter.letter-iterator.rest.items ≡ letter ∷ rest = c.in-Some.ensures.steps.0 in
     let others = subst (Every (λ l. owner (role_of x) l ≡ x.number → ⊥)) here known.others in
     let posted = c.in_ok-post.ensures.works in
-    let beside = works_beside (calls.rules g.M.Model g.M.Body.Ord.cmp c.args.bench.now.model.now) (role_of before) (desk_of before) (desk_of c.post.new.self) rest (letter ∷ []) [] 0 posted in
-    let one = subst (λ ls. Works (calls.rules g.M.Model g.M.Body.Ord.cmp c.args.bench.now.model.now) (role_of before) (desk_of before) (desk_of c.post.new.self) ls rest 0) (sym here) beside in
+    let beside = works_beside (rules g.M.Model g.M.Body.Ord.cmp c.args.bench.now.model.now) (role_of before) (desk_of before) (desk_of c.post.new.self) rest (letter ∷ []) [] 0 posted in
+    let one = subst (λ ls. Works (rules g.M.Model g.M.Body.Ord.cmp c.args.bench.now.model.now) (role_of before) (desk_of before) (desk_of c.post.new.self) ls rest 0) (sym here) beside in
     record {
-      works = works_then (calls.rules g.M.Model g.M.Body.Ord.cmp c.args.bench.now.model.now) (role_of x) (record (desk_of x) { kept = [] }) (desk_of before) (desk_of c.post.new.self) x.kept.items c.loop-letter.letter-iterator.rest.items rest 0 0 known.works one;
+      works = works_then (rules g.M.Model g.M.Body.Ord.cmp c.args.bench.now.model.now) (role_of x) (record (desk_of x) { kept = [] }) (desk_of before) (desk_of c.post.new.self) x.kept.items c.loop-letter.letter-iterator.rest.items rest 0 0 known.works one;
       fit = fit_after laws c.args.bench.now.model.now (role_of before) (desk_of before) (desk_of c.post.new.self) (letter ∷ []) [] 0 known.fit posted;
       others = others.1;
       board = posted.same_board ∙ known.board;
@@ -53,4 +53,4 @@ returns-clause-works g c =
     let x = c.args.self.now in
     let known = c.loop-letter.invariant in
     let empty : c.loop-letter.letter-iterator.rest.items ≡ [] = none_left c.loop-letter.letter-iterator.rest.items (omega (arith, c.in-None.ensures.steps.0)) in
-    works_offered (calls.rules g.M.Model g.M.Body.Ord.cmp c.args.bench.now.model.now) (role_of x) (desk_of x) (desk_of c.loop-letter.self) c.requires.fit.fit.kept (subst (λ ls. Works (calls.rules g.M.Model g.M.Body.Ord.cmp c.args.bench.now.model.now) (role_of x) (record (desk_of x) { kept = [] }) (desk_of c.loop-letter.self) x.kept.items ls 0) empty known.works)
+    works_offered (rules g.M.Model g.M.Body.Ord.cmp c.args.bench.now.model.now) (role_of x) (desk_of x) (desk_of c.loop-letter.self) c.requires.fit.fit.kept (subst (λ ls. Works (rules g.M.Model g.M.Body.Ord.cmp c.args.bench.now.model.now) (role_of x) (record (desk_of x) { kept = [] }) (desk_of c.loop-letter.self) x.kept.items ls 0) empty known.works)

@@ -1,6 +1,6 @@
 use Rattle.std.proofs.Common.{◌≡◌, ◌∷◌, ◌++◌, [], false, refl, ap, ◌∙◌, arith}
 use Rattle.std.proofs.lemmas.Bool.{ne_eqb}
-use Rattle.rw_lp.specs.Calls.{rules}
+use Rattle.rw_vt.specs.System.{rules}
 use Rattle.rw_rounds.specs.Turns.{owner, is_own}
 use Rattle.rw_rounds.specs.Working.{role_of, desk_of}
 use Rattle.rw_rounds.proofs.Adding.{works_sent, works_kept}

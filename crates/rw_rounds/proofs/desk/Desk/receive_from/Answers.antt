@@ -1,5 +1,5 @@
 use Rattle.std.proofs.Common.{[], refl, ◌∙◌}
-use Rattle.rw_lp.specs.Calls.{rules}
+use Rattle.rw_vt.specs.System.{rules}
 use Rattle.rw_rounds.specs.Working.{role_of, desk_of}
 use Rattle.rw_rounds.proofs.Adding.{works_none, works_then}
 use Rattle.rw_rounds.proofs.desk.Desk.receive_from.Goals as goal

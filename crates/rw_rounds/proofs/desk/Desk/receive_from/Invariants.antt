@@ -1,5 +1,5 @@
 use Rattle.std.proofs.Common.{◌≡◌, []}
-use Rattle.rw_lp.specs.Calls.{rules}
+use Rattle.rw_vt.specs.System.{rules}
 use Rattle.rw_rounds.specs.Working.{role_of, desk_of, IsFitAndSound, Works}
 use Rattle.rw_rounds.proofs.desk.Desk.receive_from.Given as goal
 

@@ -1,6 +1,6 @@
 use Rattle.std.proofs.Common.{◌≡◌, ◌+◌, ◌<◌, ◌≤◌, [], ◌∙◌, subst, arith}
 use Rattle.std.proofs.lemmas.Result.{IfOk-weaker}
-use Rattle.rw_lp.specs.Calls.{rules}
+use Rattle.rw_vt.specs.System.{rules}
 use Rattle.rw_rounds.specs.Working.{role_of, desk_of, Works, HeldBack}
 use Rattle.rw_rounds.proofs.Adding.{works_then}
 use Rattle.rw_rounds.proofs.desk.Desk.turn.Goals as goal

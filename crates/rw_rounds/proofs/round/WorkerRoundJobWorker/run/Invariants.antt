@@ -1,4 +1,4 @@
-use Rattle.rw_lp.specs.Calls.{rules}
+use Rattle.rw_vt.specs.System.{rules}
 use Rattle.rw_rounds.specs.Turns.{TookTurns}
 use Rattle.rw_rounds.specs.Seated.{IsSeated}
 use Rattle.rw_rounds.proofs.round.WorkerRoundJobWorker.run.Given as goal

@@ -1,6 +1,6 @@
 use Rattle.std.proofs.Common.{sym, ap, ◌∙◌, subst}
 use Rattle.std.specs.Prelude.{slice_get}
-use Rattle.rw_lp.specs.Calls.{rules}
+use Rattle.rw_vt.specs.System.{rules}
 use Rattle.rw_rounds.specs.Turns.{IsFit, TookTurn}
 use Rattle.rw_rounds.specs.Working.{desk_of}
 use Rattle.rw_rounds.proofs.Governing.{Laws}

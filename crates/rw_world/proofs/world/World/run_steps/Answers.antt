@@ -23,7 +23,7 @@ returns-in_err-make-clause-exhausted g c = λ e.
     let same : Err p.0 ≡ Err Exhausted = sym p.1 ∙ e in
     let cause : p.0 ≡ Exhausted = cc in
     let here = c.in_err-make.ensures.exhausted (ap Err (sym p.2 ∙ cause)) in
-    let there = subst (λ (v : Simulation g.row.M.Denot g.row.M-State.Denot g.row.M-Body.Denot). ExecutesAt y.order v.world (g.M.Model.is_exhausted v.model) s) c.loop-step.invariant.went here in
+    let there = subst (λ (v : Simulation g.row.M.Denot g.row.M-State.Denot g.row.M-Body.Denot). ExecutesAt y.rules.order v.world (g.M.Model.is_exhausted v.model) s) c.loop-step.invariant.went here in
     subst (λ (v : Simulation g.row.M.Denot g.row.M-State.Denot g.row.M-Body.Denot). MeetsAt (system_of g.M.Model g.M.Body.Ord.cmp v) v.world (g.M.Model.is_exhausted v.model) steps) c.self.view_is
     (record { before = take k steps; step = s; rest = drop (k + 1) steps; steps_are = parted_at steps k s c.loop-step-test.true read; executes = there })
 
