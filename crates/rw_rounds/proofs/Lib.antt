@@ -6,6 +6,7 @@ pub mod Later
 pub mod Falling
 pub mod Going
 pub mod Adding
+pub mod Dealt
 pub mod Fits
 pub mod Stepping
 pub mod Moving

@@ -90,10 +90,11 @@ pub record Works {M S B : Type 0} (y : Rules S B) (r : Role) (a b : WorkerState 
 
 -- What the clauses of a desk say
 
--- the worker at this desk is fit, and its processes are sound
-abbrev pub CanWork : {M S B U : Type 0} → Ghosts M S B U → (B → B → Ordering) → Bench M S B U
-    → Desk M S B U → Type 0
-CanWork model order bench d = IsFitAndSound model order bench.model.now (desk_of d)
+-- the worker at this desk is fit, its processes are sound, and its seat is of the board of the round
+pub record CanWork {M S B U : Type 0} (model : Ghosts M S B U) (order : B → B → Ordering)
+    (bench : Bench M S B U) (d : Desk M S B U) : Type 0 where
+  pub worker : IsFitAndSound model order bench.model.now (desk_of d)
+  pub board : d.seat.board ≡ bench.board.now.board
 
 -- the worker at this desk went from a to b: it dealt with the letters at hand and those that came
 -- up since, but for the rest; with n executions
@@ -101,6 +102,14 @@ abbrev pub Deals : {M S B U : Type 0} → Ghosts M S B U → (B → B → Orderi
     → Desk M S B U → Desk M S B U → List (Letter B) → List (Letter B) → Count → Type 0
 Deals model order bench a b at_hand rest n =
     Works (rules model order bench.model.now) (role_of a) (desk_of a) (desk_of b) at_hand rest n
+
+-- the same, where none is left at hand, and the worker can work on
+pub record DealsWithAll {M S B U : Type 0} (model : Ghosts M S B U) (order : B → B → Ordering)
+    (bench : Bench M S B U) (a b : Desk M S B U) (at_hand left : List (Letter B)) (n : Count)
+    : Type 0 where
+  pub works : Deals model order bench a b at_hand [] n
+  pub can_work : CanWork model order bench b
+  pub none_left : left ≡ []
 
 -- each of the letters is of a valid event that is not before the greatest time that this desk has
 -- collected

@@ -8,7 +8,7 @@ ghost use Rattle.rw_lp.specs.Sound.{HasCollected};
 ghost use Rattle.rw_exchange.specs.Ports.{IsWide};
 ghost use Rattle.rw_rounds.specs.Deeds.{IsFair, way_of};
 ghost use Rattle.rw_rounds.specs.Turns.{is_own, owner, is_accepted};
-ghost use Rattle.rw_rounds.specs.Working.{role_of, CanWork, Deals, AreFair, HoldsBackRest, ClosesDesk, HeldBack, IsNext, Advances, comes_before, done_count, work_left};
+ghost use Rattle.rw_rounds.specs.Working.{role_of, CanWork, Deals, DealsWithAll, AreFair, HoldsBackRest, ClosesDesk, HeldBack, IsNext, Advances, comes_before, done_count, work_left};
 
 use crate::plan::Plan;
 use crate::sim::Traffic;
@@ -59,13 +59,10 @@ impl<M: VtModel> Desk<M> {
         bench: &Bench<'_, M>,
         at_hand: &mut Vec<Letter<M::Body>>,
     ) -> Result<u64, Refusal>
-        requires fit { CanWork M.Model M.Body.cmp bench.now self.old }
-        requires board { self.old.seat.board ≡ bench.now.board.now.board }
+        requires ready { CanWork M.Model M.Body.cmp bench.now self.old }
         requires fair { AreFair M.Model M.Body.cmp bench.now self.old at_hand.old.items }
-        ensures works { IfOk result (λ n.
-            Deals M.Model M.Body.cmp bench.now self.old self.new at_hand.old.items [] n) }
-        ensures fit { OnOk result (CanWork M.Model M.Body.cmp bench.now self.new) }
-        ensures none_left { OnOk result (at_hand.new.items ≡ []) }
+        ensures works { IfOk result (λ n. DealsWithAll M.Model M.Body.cmp bench.now
+            self.old self.new at_hand.old.items at_hand.new.items n) }
         ensures within { IfOk result (λ n. n ≤ self.old.plan.batch) }
         ensures held_back { IfOk result (λ n.
             HoldsBackRest M.Model M.Body.cmp bench.now self.old self.new n) }
@@ -85,13 +82,10 @@ impl<M: VtModel> Desk<M> {
         bench: &Bench<'_, M>,
         at_hand: &mut Vec<Letter<M::Body>>,
     ) -> Result<(), Refusal>
-        requires fit { CanWork M.Model M.Body.cmp bench.now self.old }
-        requires board { self.old.seat.board ≡ bench.now.board.now.board }
+        requires ready { CanWork M.Model M.Body.cmp bench.now self.old }
         requires fair { AreFair M.Model M.Body.cmp bench.now self.old at_hand.old.items }
-        ensures works { OnOk result (
-            Deals M.Model M.Body.cmp bench.now self.old self.new at_hand.old.items [] 0) }
-        ensures fit { OnOk result (CanWork M.Model M.Body.cmp bench.now self.new) }
-        ensures none_left { OnOk result (at_hand.new.items ≡ []) }
+        ensures works { OnOk result (DealsWithAll M.Model M.Body.cmp bench.now
+            self.old self.new at_hand.old.items at_hand.new.items 0) }
         ensures fewer { OnOk result (done_count self.new ≤ done_count self.old) }
     {
         // What is next stands last, so that it can be popped.
@@ -121,14 +115,14 @@ impl<M: VtModel> Desk<M> {
         letter: Letter<M::Body>,
         out: &mut Vec<Letter<M::Body>>,
     ) -> Result<(), Refusal>
-        requires fit { CanWork M.Model M.Body.cmp bench.now self.old }
+        requires ready { CanWork M.Model M.Body.cmp bench.now self.old }
         requires fair { IsFair (rules M.Model M.Body.cmp bench.now.model.now)
             self.old.collected letter }
         requires own { is_own (role_of self.old) letter ≡ true }
         ensures works { OnOk result (
             Deals M.Model M.Body.cmp bench.now self.old self.new
             (out.old.items ++ letter ∷ []) out.new.items 0) }
-        ensures fit { OnOk result (CanWork M.Model M.Body.cmp bench.now self.new) }
+        ensures ready { OnOk result (CanWork M.Model M.Body.cmp bench.now self.new) }
         ensures fair { OnOk result (
             AreFair M.Model M.Body.cmp bench.now self.old out.old.items
             → AreFair M.Model M.Body.cmp bench.now self.old out.new.items) }
@@ -177,11 +171,10 @@ impl<M: VtModel> Desk<M> {
 
     /// Offers the kept letters to their rings again, in order. Those that are refused stay kept.
     fn offer_kept(&mut self, bench: &Bench<'_, M>) -> Result<(), Refusal>
-        requires fit { CanWork M.Model M.Body.cmp bench.now self.old }
-        requires board { self.old.seat.board ≡ bench.now.board.now.board }
+        requires ready { CanWork M.Model M.Body.cmp bench.now self.old }
         ensures works { OnOk result (
             Deals M.Model M.Body.cmp bench.now self.old self.new [] [] 0) }
-        ensures fit { OnOk result (CanWork M.Model M.Body.cmp bench.now self.new) }
+        ensures ready { OnOk result (CanWork M.Model M.Body.cmp bench.now self.new) }
     {
         let kept = mem::replace(&mut self.kept, Vec::new(bench.alloc));
         for letter in kept {
@@ -198,13 +191,10 @@ impl<M: VtModel> Desk<M> {
         bench: &Bench<'_, M>,
         at_hand: &mut Vec<Letter<M::Body>>,
     ) -> Result<(), Refusal>
-        requires fit { CanWork M.Model M.Body.cmp bench.now self.old }
-        requires board { self.old.seat.board ≡ bench.now.board.now.board }
+        requires ready { CanWork M.Model M.Body.cmp bench.now self.old }
         requires none { at_hand.old.items ≡ [] }
-        ensures works { OnOk result (
-            Deals M.Model M.Body.cmp bench.now self.old self.new [] [] 0) }
-        ensures fit { OnOk result (CanWork M.Model M.Body.cmp bench.now self.new) }
-        ensures none_left { OnOk result (at_hand.new.items ≡ []) }
+        ensures works { OnOk result (DealsWithAll M.Model M.Body.cmp bench.now
+            self.old self.new [] at_hand.new.items 0) }
     {
         for from in 0..self.plan.workers {
             if from == self.number {
@@ -222,14 +212,11 @@ impl<M: VtModel> Desk<M> {
         from: u32,
         at_hand: &mut Vec<Letter<M::Body>>,
     ) -> Result<(), Refusal>
-        requires fit { CanWork M.Model M.Body.cmp bench.now self.old }
-        requires board { self.old.seat.board ≡ bench.now.board.now.board }
+        requires ready { CanWork M.Model M.Body.cmp bench.now self.old }
         requires none { at_hand.old.items ≡ [] }
         requires other { (from < self.old.plan.workers) × (from ≢ self.old.number) }
-        ensures works { OnOk result (
-            Deals M.Model M.Body.cmp bench.now self.old self.new [] [] 0) }
-        ensures fit { OnOk result (CanWork M.Model M.Body.cmp bench.now self.new) }
-        ensures none_left { OnOk result (at_hand.new.items ≡ []) }
+        ensures works { OnOk result (DealsWithAll M.Model M.Body.cmp bench.now
+            self.old self.new [] at_hand.new.items 0) }
     {
         for _ in 0..self.plan.ring {
             let found = self.receive_one(bench, from, at_hand)?;
@@ -248,14 +235,11 @@ impl<M: VtModel> Desk<M> {
         from: u32,
         at_hand: &mut Vec<Letter<M::Body>>,
     ) -> Result<bool, Refusal>
-        requires fit { CanWork M.Model M.Body.cmp bench.now self.old }
-        requires board { self.old.seat.board ≡ bench.now.board.now.board }
+        requires ready { CanWork M.Model M.Body.cmp bench.now self.old }
         requires none { at_hand.old.items ≡ [] }
         requires other { (from < self.old.plan.workers) × (from ≢ self.old.number) }
-        ensures works { OnOk result (
-            Deals M.Model M.Body.cmp bench.now self.old self.new [] [] 0) }
-        ensures fit { OnOk result (CanWork M.Model M.Body.cmp bench.now self.new) }
-        ensures none_left { OnOk result (at_hand.new.items ≡ []) }
+        ensures works { OnOk result (DealsWithAll M.Model M.Body.cmp bench.now
+            self.old self.new [] at_hand.new.items 0) }
     {
         let Some(letter) = self.port.receive(from as usize) else {
             return Ok(false);
@@ -291,13 +275,10 @@ impl<M: VtModel> Desk<M> {
         bench: &Bench<'_, M>,
         at_hand: &mut Vec<Letter<M::Body>>,
     ) -> Result<u64, Refusal>
-        requires fit { CanWork M.Model M.Body.cmp bench.now self.old }
-        requires board { self.old.seat.board ≡ bench.now.board.now.board }
+        requires ready { CanWork M.Model M.Body.cmp bench.now self.old }
         requires none { at_hand.old.items ≡ [] }
-        ensures works { IfOk result (λ n.
-            Deals M.Model M.Body.cmp bench.now self.old self.new [] [] n) }
-        ensures fit { OnOk result (CanWork M.Model M.Body.cmp bench.now self.new) }
-        ensures none_left { OnOk result (at_hand.new.items ≡ []) }
+        ensures works { IfOk result (λ n. DealsWithAll M.Model M.Body.cmp bench.now
+            self.old self.new [] at_hand.new.items n) }
         ensures within { IfOk result (λ n. n ≤ self.old.plan.batch) }
         ensures held_back { IfOk result (λ n.
             HoldsBackRest M.Model M.Body.cmp bench.now self.old self.new n) }
@@ -325,16 +306,12 @@ impl<M: VtModel> Desk<M> {
         place: usize,
         at_hand: &mut Vec<Letter<M::Body>>,
     ) -> Result<bool, Refusal>
-        requires fit { CanWork M.Model M.Body.cmp bench.now self.old }
-        requires board { self.old.seat.board ≡ bench.now.board.now.board }
+        requires ready { CanWork M.Model M.Body.cmp bench.now self.old }
         requires none { at_hand.old.items ≡ [] }
         requires next { (bound : ℕ) × IsNext (rules M.Model M.Body.cmp bench.now.model.now) bound
             self.old.processes.items place }
-        ensures works { IfOk result (λ executed.
-            Deals M.Model M.Body.cmp bench.now self.old self.new [] []
-            (if executed then 1 else 0)) }
-        ensures fit { OnOk result (CanWork M.Model M.Body.cmp bench.now self.new) }
-        ensures none_left { OnOk result (at_hand.new.items ≡ []) }
+        ensures works { IfOk result (λ executed. DealsWithAll M.Model M.Body.cmp bench.now
+            self.old self.new [] at_hand.new.items (if executed then 1 else 0)) }
         ensures executed { IfOk result (λ executed.
             executed ≡ true → done_count self.new ≤ done_count self.old + 1) }
         ensures undone { IfOk result (λ executed.

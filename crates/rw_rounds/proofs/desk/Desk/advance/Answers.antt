@@ -15,24 +15,24 @@ execute_or_undo-requires-clause-model g c =
     let x = c.args.self.now in
     let next = c.requires.next in
     let there = slice_get_read x.processes.items (length x.processes.items) c.args.place c.swap_remove-process.result refl next.1.within c.swap_remove-process.ensures.value in
-    sym (there_model c.args.bench.now.model.now (desk_of x) c.requires.fit.fit c.args.place c.swap_remove-process.result there)
+    sym (there_model c.args.bench.now.model.now (desk_of x) c.requires.ready.worker.fit c.args.place c.swap_remove-process.result there)
 
 pub execute_or_undo-requires-clause-pending : goal.execute_or_undo-requires-clause-pending
 execute_or_undo-requires-clause-pending g c =
     let x = c.args.self.now in
     let next = c.requires.next in
     let there = slice_get_read x.processes.items (length x.processes.items) c.args.place c.swap_remove-process.result refl next.1.within c.swap_remove-process.ensures.value in
-    next_pending c.args.bench.now.model.now (desk_of x) c.requires.fit.fit c.args.place c.swap_remove-process.result there next.0 next.1
+    next_pending c.args.bench.now.model.now (desk_of x) c.requires.ready.worker.fit c.args.place c.swap_remove-process.result there next.0 next.1
 
 pub execute_or_undo-requires-clause-undoable : goal.execute_or_undo-requires-clause-undoable
 execute_or_undo-requires-clause-undoable g c =
     let x = c.args.self.now in
     let next = c.requires.next in
     let there = slice_get_read x.processes.items (length x.processes.items) c.args.place c.swap_remove-process.result refl next.1.within c.swap_remove-process.ensures.value in
-    there_collected c.args.bench.now.model.now (desk_of x) c.requires.fit.fit c.args.place c.swap_remove-process.result there
+    there_collected c.args.bench.now.model.now (desk_of x) c.requires.ready.worker.fit c.args.place c.swap_remove-process.result there
 
-pub deal-requires-clause-fit : goal.deal-requires-clause-fit
-deal-requires-clause-fit g c =
+pub deal-requires-clause-ready : goal.deal-requires-clause-ready
+deal-requires-clause-ready g c =
     let laws : Laws g.M.Model g.M.Body.Ord.cmp = record { total = g.met.M.Body.Ord.total; same = g.met.M.Model.same; keeps = g.met.M.Model.keeps; future = g.met.M.Model.future; ranges = g.met.M.Model.ranges } in
     let x = c.args.self.now in
     let next = c.requires.next in
@@ -40,7 +40,10 @@ deal-requires-clause-fit g c =
     let set = c.in_ok-put_back.ensures.back x.processes.items c.swap_remove-process.result next.1.within c.swap_remove-process.ensures.items in
     let moved = c.in_ok-process.ensures.moved in
     let given : c.execute_or_undo.new.out.items ≡ moved.0 = moved.1 ∙ ap (λ l. l ++ moved.0) c.requires.none in
-    fit_after laws c.args.bench.now.model.now (role_of x) (desk_of x) _ [] moved.0 (cond c.in_ok-process.executed 1 0) c.requires.fit (works_moved laws c.args.bench.now.model.now (desk_of x) _ c.requires.fit refl refl refl refl refl refl c.args.place c.swap_remove-process.result c.in_ok-process.process there set c.in_ok-process.ensures.same next.0 next.1 moved.0 c.in_ok-process.executed moved.2)
+    record {
+      worker = fit_after laws c.args.bench.now.model.now (role_of x) (desk_of x) _ [] moved.0 (cond c.in_ok-process.executed 1 0) c.requires.ready.worker (works_moved laws c.args.bench.now.model.now (desk_of x) _ c.requires.ready.worker refl refl refl refl refl refl c.args.place c.swap_remove-process.result c.in_ok-process.process there set c.in_ok-process.ensures.same next.0 next.1 moved.0 c.in_ok-process.executed moved.2);
+      board = c.requires.ready.board;
+    }
 
 pub deal-requires-clause-fair : goal.deal-requires-clause-fair
 deal-requires-clause-fair g c =
@@ -51,7 +54,7 @@ deal-requires-clause-fair g c =
     let set = c.in_ok-put_back.ensures.back x.processes.items c.swap_remove-process.result next.1.within c.swap_remove-process.ensures.items in
     let moved = c.in_ok-process.ensures.moved in
     let given : c.execute_or_undo.new.out.items ≡ moved.0 = moved.1 ∙ ap (λ l. l ++ moved.0) c.requires.none in
-    subst (Every (IsFair (rules g.M.Model g.M.Body.Ord.cmp c.args.bench.now.model.now) x.collected)) (sym given) (moved_fair laws c.args.bench.now.model.now (desk_of x) (record (desk_of x) { processes = c.put_back.new.items.items }) c.requires.fit refl refl refl refl refl refl c.args.place c.swap_remove-process.result c.in_ok-process.process there set c.in_ok-process.ensures.same next.0 next.1 moved.0 c.in_ok-process.executed moved.2)
+    subst (Every (IsFair (rules g.M.Model g.M.Body.Ord.cmp c.args.bench.now.model.now) x.collected)) (sym given) (moved_fair laws c.args.bench.now.model.now (desk_of x) (record (desk_of x) { processes = c.put_back.new.items.items }) c.requires.ready.worker refl refl refl refl refl refl c.args.place c.swap_remove-process.result c.in_ok-process.process there set c.in_ok-process.ensures.same next.0 next.1 moved.0 c.in_ok-process.executed moved.2)
 
 pub returns-clause-works : goal.returns-clause-works
 returns-clause-works g c =
@@ -62,10 +65,14 @@ returns-clause-works g c =
     let set = c.in_ok-put_back.ensures.back x.processes.items c.swap_remove-process.result next.1.within c.swap_remove-process.ensures.items in
     let moved = c.in_ok-process.ensures.moved in
     let given : c.execute_or_undo.new.out.items ≡ moved.0 = moved.1 ∙ ap (λ l. l ++ moved.0) c.requires.none in
-    let one = works_moved laws c.args.bench.now.model.now (desk_of x) (record (desk_of x) { processes = c.put_back.new.items.items }) c.requires.fit refl refl refl refl refl refl c.args.place c.swap_remove-process.result c.in_ok-process.process there set c.in_ok-process.ensures.same next.0 next.1 moved.0 c.in_ok-process.executed moved.2 in
-    let dealt = subst (λ ls. Works (rules g.M.Model g.M.Body.Ord.cmp c.args.bench.now.model.now) (role_of x) (record (desk_of x) { processes = c.put_back.new.items.items }) (desk_of c.deal.new.self) ls [] 0) given c.in_ok-deal.ensures.works in
+    let one = works_moved laws c.args.bench.now.model.now (desk_of x) (record (desk_of x) { processes = c.put_back.new.items.items }) c.requires.ready.worker refl refl refl refl refl refl c.args.place c.swap_remove-process.result c.in_ok-process.process there set c.in_ok-process.ensures.same next.0 next.1 moved.0 c.in_ok-process.executed moved.2 in
+    let dealt = subst (λ ls. Works (rules g.M.Model g.M.Body.Ord.cmp c.args.bench.now.model.now) (role_of x) (record (desk_of x) { processes = c.put_back.new.items.items }) (desk_of c.deal.new.self) ls [] 0) given c.in_ok-deal.ensures.works.works in
     let n : cond c.in_ok-process.executed 1 0 + 0 ≡ cond c.in_ok-process.executed 1 0 = omega arith in
-    subst (Works (rules g.M.Model g.M.Body.Ord.cmp c.args.bench.now.model.now) (role_of x) (desk_of x) (desk_of c.deal.new.self) [] []) n (works_then (rules g.M.Model g.M.Body.Ord.cmp c.args.bench.now.model.now) (role_of x) (desk_of x) (record (desk_of x) { processes = c.put_back.new.items.items }) (desk_of c.deal.new.self) [] moved.0 [] (cond c.in_ok-process.executed 1 0) 0 one dealt)
+    record {
+      works = subst (Works (rules g.M.Model g.M.Body.Ord.cmp c.args.bench.now.model.now) (role_of x) (desk_of x) (desk_of c.deal.new.self) [] []) n (works_then (rules g.M.Model g.M.Body.Ord.cmp c.args.bench.now.model.now) (role_of x) (desk_of x) (record (desk_of x) { processes = c.put_back.new.items.items }) (desk_of c.deal.new.self) [] moved.0 [] (cond c.in_ok-process.executed 1 0) 0 one dealt);
+      can_work = c.in_ok-deal.ensures.works.can_work;
+      none_left = c.in_ok-deal.ensures.works.none_left;
+    }
 
 pub returns-clause-executed : goal.returns-clause-executed
 returns-clause-executed g c =
@@ -78,7 +85,7 @@ returns-clause-executed g c =
     let given : c.execute_or_undo.new.out.items ≡ moved.0 = moved.1 ∙ ap (λ l. l ++ moved.0) c.requires.none in
     λ did.
     let by = subst (λ b. Moved (rules g.M.Model g.M.Body.Ord.cmp c.swap_remove-process.result.model) (way_of x.plan.lazy) c.swap_remove-process.result.number c.swap_remove-process.result.process c.in_ok-process.process.process b moved.0) did moved.2 in
-    omega (arith, c.in_ok-deal.ensures.fewer, executed_dones laws c.args.bench.now.model.now (desk_of x) (record (desk_of x) { processes = c.put_back.new.items.items }) c.requires.fit refl refl refl refl refl refl c.args.place c.swap_remove-process.result c.in_ok-process.process there set c.in_ok-process.ensures.same next.0 next.1 moved.0 by)
+    omega (arith, c.in_ok-deal.ensures.fewer, executed_dones laws c.args.bench.now.model.now (desk_of x) (record (desk_of x) { processes = c.put_back.new.items.items }) c.requires.ready.worker refl refl refl refl refl refl c.args.place c.swap_remove-process.result c.in_ok-process.process there set c.in_ok-process.ensures.same next.0 next.1 moved.0 by)
 
 pub returns-clause-undone : goal.returns-clause-undone
 returns-clause-undone g c =
@@ -91,4 +98,4 @@ returns-clause-undone g c =
     let given : c.execute_or_undo.new.out.items ≡ moved.0 = moved.1 ∙ ap (λ l. l ++ moved.0) c.requires.none in
     λ did.
     let by = subst (λ b. Moved (rules g.M.Model g.M.Body.Ord.cmp c.swap_remove-process.result.model) (way_of x.plan.lazy) c.swap_remove-process.result.number c.swap_remove-process.result.process c.in_ok-process.process.process b moved.0) did moved.2 in
-    omega (arith, c.in_ok-deal.ensures.fewer, undone_dones laws c.args.bench.now.model.now (desk_of x) (record (desk_of x) { processes = c.put_back.new.items.items }) c.requires.fit refl refl refl refl refl refl c.args.place c.swap_remove-process.result c.in_ok-process.process there set c.in_ok-process.ensures.same next.0 next.1 moved.0 by)
+    omega (arith, c.in_ok-deal.ensures.fewer, undone_dones laws c.args.bench.now.model.now (desk_of x) (record (desk_of x) { processes = c.put_back.new.items.items }) c.requires.ready.worker refl refl refl refl refl refl c.args.place c.swap_remove-process.result c.in_ok-process.process there set c.in_ok-process.ensures.same next.0 next.1 moved.0 by)

@@ -15,9 +15,8 @@ loop-letter-init g c = record {
   works =
       subst (λ ls. Works (rules g.M.Model g.M.Body.Ord.cmp c.args.bench.now.model.now) (role_of c.args.self.now) (desk_of c.args.self.now) (desk_of c.args.self.now) c.args.at_hand.now.items ls 0) (sym c.reverse.ensures.items)
       (works_reordered (rules g.M.Model g.M.Body.Ord.cmp c.args.bench.now.model.now) (role_of c.args.self.now) (desk_of c.args.self.now) c.args.at_hand.now.items (reverse c.args.at_hand.now.items) refl (λ h. weigh_reverse h c.args.at_hand.now.items));
-  fit = c.requires.fit;
+  ready = c.requires.ready;
   fair = subst (Every (IsFair (rules g.M.Model g.M.Body.Ord.cmp c.args.bench.now.model.now) c.args.self.now.collected)) (sym c.reverse.ensures.items) (every_reverse (IsFair (rules g.M.Model g.M.Body.Ord.cmp c.args.bench.now.model.now) c.args.self.now.collected) c.args.at_hand.now.items c.requires.fair);
-  board = c.requires.board;
   fewer = omega arith;
 }
 
@@ -38,9 +37,8 @@ loop-letter-preserved-in-Continue-1 g c =
     let one = subst (λ ls. Works (rules g.M.Model g.M.Body.Ord.cmp c.args.bench.now.model.now) (role_of before) (desk_of before) (desk_of c.arrive.new.self) ls c.arrive.new.out.items 0) (sym c.in-Some.ensures.items) c.in_ok-arrive.ensures.works in
     record {
       works = works_then (rules g.M.Model g.M.Body.Ord.cmp c.args.bench.now.model.now) (role_of c.args.self.now) (desk_of c.args.self.now) (desk_of before) (desk_of c.arrive.new.self) c.args.at_hand.now.items c.loop-letter.at_hand.items c.arrive.new.out.items 0 0 known.works one;
-      fit = c.in_ok-arrive.ensures.fit;
+      ready = c.in_ok-arrive.ensures.ready;
       fair = subst (λ k. Every (IsFair (rules g.M.Model g.M.Body.Ord.cmp c.args.bench.now.model.now) k) c.arrive.new.out.items) collected (c.in_ok-arrive.ensures.fair (subst (λ k. Every (IsFair (rules g.M.Model g.M.Body.Ord.cmp c.args.bench.now.model.now) k) c.pop.new.self.items) (sym collected) rest));
-      board = c.in_ok-arrive.ensures.works.same_board ∙ known.board;
       fewer = omega (arith, c.in_ok-arrive.ensures.fewer, known.fewer);
     }
 
@@ -57,8 +55,7 @@ loop-letter-preserved g c =
     (subst (λ ls. Works (rules g.M.Model g.M.Body.Ord.cmp c.args.bench.now.model.now) (role_of before) (desk_of before) (desk_of c.post.new.self) (c.pop.new.self.items ++ c.in-Some.letter ∷ []) ls 0) (append-nil c.pop.new.self.items) more) in
     record {
       works = works_then (rules g.M.Model g.M.Body.Ord.cmp c.args.bench.now.model.now) (role_of c.args.self.now) (desk_of c.args.self.now) (desk_of before) (desk_of c.post.new.self) c.args.at_hand.now.items c.loop-letter.at_hand.items c.pop.new.self.items 0 0 known.works one;
-      fit = fit_after laws c.args.bench.now.model.now (role_of before) (desk_of before) (desk_of c.post.new.self) (c.in-Some.letter ∷ []) [] 0 known.fit posted;
+      ready = record { worker = fit_after laws c.args.bench.now.model.now (role_of before) (desk_of before) (desk_of c.post.new.self) (c.in-Some.letter ∷ []) [] 0 known.ready.worker posted; board = posted.same_board ∙ known.ready.board };
       fair = every_front (IsFair (rules g.M.Model g.M.Body.Ord.cmp c.args.bench.now.model.now) c.args.self.now.collected) c.pop.new.self.items (c.in-Some.letter ∷ []) all;
-      board = posted.same_board ∙ known.board;
       fewer = omega (arith, known.fewer, ap (λ v. dones v.items) c.in_ok-post.ensures.processes);
     }

@@ -1,59 +1,62 @@
 use Rattle.std.proofs.Common.{◌≡◌, ℕ, Bool, ◌+◌, cond, [], refl, ap, ◌∙◌, subst, arith}
 use Rattle.rw_vt.specs.System.{rules}
-use Rattle.rw_rounds.specs.Working.{role_of, desk_of, Works, HeldBack}
+use Rattle.rw_rounds.specs.Working.{role_of, desk_of, DealsWithAll, Works, HeldBack}
 use Rattle.rw_rounds.proofs.Governing.{Laws}
-use Rattle.rw_rounds.proofs.Adding.{works_none, works_then, works_read}
+use Rattle.rw_rounds.proofs.Adding.{works_then, works_read}
+use Rattle.rw_rounds.proofs.Dealt.{dealt_none, dealt_then}
 use Rattle.rw_rounds.proofs.Fits.{fit_with_seat}
 use Rattle.rw_rounds.proofs.desk.Desk.execute_some.Goals as goal
 
 pub loop-executed-init : goal.loop-executed-init
-loop-executed-init g c = record { works = works_none (rules g.M.Model g.M.Body.Ord.cmp c.args.bench.now.model.now) (role_of c.args.self.now) (desk_of c.args.self.now) [] refl; fit = c.requires.fit; board = c.requires.board; none = c.requires.none; plan = refl; within = omega arith }
+loop-executed-init g c = record { dealt = dealt_none g.M.Model g.M.Body.Ord.cmp c.args.bench.now c.args.self.now c.args.at_hand.now.items c.requires.ready c.requires.none; plan = refl; within = omega arith }
 
 pub loop-executed-preserved-then-done : goal.loop-executed-preserved-then-done
 loop-executed-preserved-then-done g c =
     let known = c.loop-executed.invariant in
+    let x = c.args.self.now in
     let before = c.loop-executed.self in
+    let y = rules g.M.Model g.M.Body.Ord.cmp c.args.bench.now.model.now in
     let seat = c.floor.ensures.seat in
-    let looked = works_read (rules g.M.Model g.M.Body.Ord.cmp c.args.bench.now.model.now) (role_of before) (desk_of before) (record (desk_of before) { seat = c.floor.new.seat }) refl refl refl refl refl refl refl (ap (λ s. s.board) seat) (ap (λ s. s.noted) seat) in
-    let first = works_then (rules g.M.Model g.M.Body.Ord.cmp c.args.bench.now.model.now) (role_of c.args.self.now) (desk_of c.args.self.now) (desk_of before) (record (desk_of before) { seat = c.floor.new.seat }) [] [] [] c.loop-executed.executed 0 known.works looked in
-    let both = works_then (rules g.M.Model g.M.Body.Ord.cmp c.args.bench.now.model.now) (role_of c.args.self.now) (desk_of c.args.self.now) (record (desk_of before) { seat = c.floor.new.seat }) (desk_of c.advance.new.self) [] [] [] (c.loop-executed.executed + 0) (cond c.in_ok-done.done 1 0) first c.in_ok-done.ensures.works in
+    let looked = works_read y (role_of before) (desk_of before) (record (desk_of before) { seat = c.floor.new.seat }) refl refl refl refl refl refl refl (ap (λ s. s.board) seat) (ap (λ s. s.noted) seat) in
+    let first = works_then y (role_of x) (desk_of x) (desk_of before) (record (desk_of before) { seat = c.floor.new.seat }) [] [] [] c.loop-executed.executed 0 known.dealt.works looked in
+    let both = dealt_then g.M.Model g.M.Body.Ord.cmp c.args.bench.now x _ c.advance.new.self [] c.advance.new.at_hand.items (c.loop-executed.executed + 0) (cond c.in_ok-done.done 1 0) first c.in_ok-done.ensures.works in
     let one : cond {A = ℕ} c.in_ok-done.done 1 0 ≡ 1 = ap (λ (b : Bool). cond {A = ℕ} b 1 0) c.if-done.true in
     let sum : c.loop-executed.executed + 0 + cond {A = ℕ} c.in_ok-done.done 1 0 ≡ c.loop-executed.executed + 1 = omega arith in
     record {
-      works = subst (Works (rules g.M.Model g.M.Body.Ord.cmp c.args.bench.now.model.now) (role_of c.args.self.now) (desk_of c.args.self.now) (desk_of c.advance.new.self) [] []) sum both;
-      fit = c.in_ok-done.ensures.fit;
-      board = both.same_board ∙ c.requires.board;
-      none = c.in_ok-done.ensures.none_left;
-      plan = ap (λ k. k.plan) both.after;
+      dealt = subst (DealsWithAll g.M.Model g.M.Body.Ord.cmp c.args.bench.now x c.advance.new.self [] c.advance.new.at_hand.items) sum both;
+      plan = ap (λ k. k.plan) both.works.after;
       within = omega (arith, known.within, c.from-batch.ensures);
     }
 
 pub loop-executed-preserved : goal.loop-executed-preserved
 loop-executed-preserved g c =
     let known = c.loop-executed.invariant in
+    let x = c.args.self.now in
     let before = c.loop-executed.self in
+    let y = rules g.M.Model g.M.Body.Ord.cmp c.args.bench.now.model.now in
     let seat = c.floor.ensures.seat in
-    let looked = works_read (rules g.M.Model g.M.Body.Ord.cmp c.args.bench.now.model.now) (role_of before) (desk_of before) (record (desk_of before) { seat = c.floor.new.seat }) refl refl refl refl refl refl refl (ap (λ s. s.board) seat) (ap (λ s. s.noted) seat) in
-    let first = works_then (rules g.M.Model g.M.Body.Ord.cmp c.args.bench.now.model.now) (role_of c.args.self.now) (desk_of c.args.self.now) (desk_of before) (record (desk_of before) { seat = c.floor.new.seat }) [] [] [] c.loop-executed.executed 0 known.works looked in
-    let both = works_then (rules g.M.Model g.M.Body.Ord.cmp c.args.bench.now.model.now) (role_of c.args.self.now) (desk_of c.args.self.now) (record (desk_of before) { seat = c.floor.new.seat }) (desk_of c.advance.new.self) [] [] [] (c.loop-executed.executed + 0) (cond c.in_ok-done.done 1 0) first c.in_ok-done.ensures.works in
+    let looked = works_read y (role_of before) (desk_of before) (record (desk_of before) { seat = c.floor.new.seat }) refl refl refl refl refl refl refl (ap (λ s. s.board) seat) (ap (λ s. s.noted) seat) in
+    let first = works_then y (role_of x) (desk_of x) (desk_of before) (record (desk_of before) { seat = c.floor.new.seat }) [] [] [] c.loop-executed.executed 0 known.dealt.works looked in
+    let both = dealt_then g.M.Model g.M.Body.Ord.cmp c.args.bench.now x _ c.advance.new.self [] c.advance.new.at_hand.items (c.loop-executed.executed + 0) (cond c.in_ok-done.done 1 0) first c.in_ok-done.ensures.works in
     let one : cond {A = ℕ} c.in_ok-done.done 1 0 ≡ 0 = ap (λ (b : Bool). cond {A = ℕ} b 1 0) c.if-done.false in
     let sum : c.loop-executed.executed + 0 + cond {A = ℕ} c.in_ok-done.done 1 0 ≡ c.loop-executed.executed = omega arith in
     record {
-      works = subst (Works (rules g.M.Model g.M.Body.Ord.cmp c.args.bench.now.model.now) (role_of c.args.self.now) (desk_of c.args.self.now) (desk_of c.advance.new.self) [] []) sum both;
-      fit = c.in_ok-done.ensures.fit;
-      board = both.same_board ∙ c.requires.board;
-      none = c.in_ok-done.ensures.none_left;
-      plan = ap (λ k. k.plan) both.after;
+      dealt = subst (DealsWithAll g.M.Model g.M.Body.Ord.cmp c.args.bench.now x c.advance.new.self [] c.advance.new.at_hand.items) sum both;
+      plan = ap (λ k. k.plan) both.works.after;
       within = omega (arith, known.within, c.from-batch.ensures);
     }
 
 pub overflow_add-bound : goal.overflow_add-bound
-overflow_add-bound g c = omega (arith, c.floor.ensures.end, c.loop-executed.invariant.fit.fit.window)
+overflow_add-bound g c = omega (arith, c.floor.ensures.end, c.loop-executed.invariant.dealt.can_work.worker.fit.window)
 
-pub advance-requires-clause-fit : goal.advance-requires-clause-fit
-advance-requires-clause-fit g c =
+pub advance-requires-clause-ready : goal.advance-requires-clause-ready
+advance-requires-clause-ready g c =
     let laws : Laws g.M.Model g.M.Body.Ord.cmp = record { total = g.met.M.Body.Ord.total; same = g.met.M.Model.same; keeps = g.met.M.Model.keeps; future = g.met.M.Model.future; ranges = g.met.M.Model.ranges } in
-    fit_with_seat laws c.args.bench.now.model.now (desk_of c.loop-executed.self) c.floor.new.seat c.loop-executed.invariant.fit
+    let ready = c.loop-executed.invariant.dealt.can_work in
+    record {
+      worker = fit_with_seat laws c.args.bench.now.model.now (desk_of c.loop-executed.self) c.floor.new.seat ready.worker;
+      board = ap (λ s. s.board) c.floor.ensures.seat ∙ ready.board;
+    }
 
 pub loop-executed-smaller-then-done : goal.loop-executed-smaller-then-done
 loop-executed-smaller-then-done g c = omega (arith, c.in_ok-done.ensures.executed c.if-done.true, c.loop-executed-test.true, c.from-batch.ensures)
@@ -63,18 +66,22 @@ loop-executed-smaller g c = omega (arith, c.in_ok-done.ensures.undone c.if-done.
 
 pub returns-in_default-clause-works : goal.returns-in_default-clause-works
 returns-in_default-clause-works g c =
+    let laws : Laws g.M.Model g.M.Body.Ord.cmp = record { total = g.met.M.Body.Ord.total; same = g.met.M.Model.same; keeps = g.met.M.Model.keeps; future = g.met.M.Model.future; ranges = g.met.M.Model.ranges } in
     let y = rules g.M.Model g.M.Body.Ord.cmp c.args.bench.now.model.now in
+    let known = c.loop-executed.invariant.dealt in
     let before = c.loop-executed.self in
     let seat = c.floor.ensures.seat in
     let looked = works_read y (role_of before) (desk_of before) (record (desk_of before) { seat = c.floor.new.seat }) refl refl refl refl refl refl refl (ap (λ s. s.board) seat) (ap (λ s. s.noted) seat) in
-    let both = works_then y (role_of c.args.self.now) (desk_of c.args.self.now) (desk_of before) (record (desk_of before) { seat = c.floor.new.seat }) [] [] [] c.loop-executed.executed 0 c.loop-executed.invariant.works looked in
+    let both = works_then y (role_of c.args.self.now) (desk_of c.args.self.now) (desk_of before) (record (desk_of before) { seat = c.floor.new.seat }) [] [] [] c.loop-executed.executed 0 known.works looked in
     let sum : c.loop-executed.executed + 0 ≡ c.loop-executed.executed = omega arith in
-    subst (Works y (role_of c.args.self.now) (desk_of c.args.self.now) (record (desk_of before) { seat = c.floor.new.seat }) [] []) sum both
-
-pub returns-in_default-clause-fit : goal.returns-in_default-clause-fit
-returns-in_default-clause-fit g c =
-    let laws : Laws g.M.Model g.M.Body.Ord.cmp = record { total = g.met.M.Body.Ord.total; same = g.met.M.Model.same; keeps = g.met.M.Model.keeps; future = g.met.M.Model.future; ranges = g.met.M.Model.ranges } in
-    fit_with_seat laws c.args.bench.now.model.now (desk_of c.loop-executed.self) c.floor.new.seat c.loop-executed.invariant.fit
+    record {
+      works = subst (Works y (role_of c.args.self.now) (desk_of c.args.self.now) (record (desk_of before) { seat = c.floor.new.seat }) [] []) sum both;
+      can_work = record {
+        worker = fit_with_seat laws c.args.bench.now.model.now (desk_of before) c.floor.new.seat known.can_work.worker;
+        board = ap (λ s. s.board) seat ∙ known.can_work.board;
+      };
+      none_left = known.none_left;
+    }
 
 pub returns-in_default-clause-held_back : goal.returns-in_default-clause-held_back
 returns-in_default-clause-held_back g c few =

@@ -23,9 +23,11 @@ loop-letter-init g c =
           subst (λ ls. Works (rules g.M.Model g.M.Body.Ord.cmp c.args.bench.now.model.now) (role_of x) (record (desk_of x) { kept = [] }) (record (desk_of x) { kept = c.replace-kept.new.dest.items }) x.kept.items ls 0) (sym all)
           (subst (λ ls. Works (rules g.M.Model g.M.Body.Ord.cmp c.args.bench.now.model.now) (role_of x) (record (desk_of x) { kept = [] }) (record (desk_of x) { kept = ls }) x.kept.items x.kept.items 0) (sym none)
           (works_none (rules g.M.Model g.M.Body.Ord.cmp c.args.bench.now.model.now) (role_of x) (record (desk_of x) { kept = [] }) x.kept.items refl));
-      fit = subst (λ ls. IsFitAndSound g.M.Model g.M.Body.Ord.cmp c.args.bench.now.model.now (record (desk_of x) { kept = ls })) (sym none) (fit_without_kept laws c.args.bench.now.model.now (desk_of x) c.requires.fit);
-      others = subst (Every (λ l. owner (role_of x) l ≡ x.number → ⊥)) (sym all) c.requires.fit.fit.kept;
-      board = c.requires.board;
+      ready = record {
+        worker = subst (λ ls. IsFitAndSound g.M.Model g.M.Body.Ord.cmp c.args.bench.now.model.now (record (desk_of x) { kept = ls })) (sym none) (fit_without_kept laws c.args.bench.now.model.now (desk_of x) c.requires.ready.worker);
+        board = c.requires.ready.board;
+      };
+      others = subst (Every (λ l. owner (role_of x) l ≡ x.number → ⊥)) (sym all) c.requires.ready.worker.fit.kept;
     }
 
 pub loop-letter-preserved : goal.loop-letter-preserved
@@ -43,9 +45,8 @@ loop-letter-preserved g c =
     let one = subst (λ ls. Works (rules g.M.Model g.M.Body.Ord.cmp c.args.bench.now.model.now) (role_of before) (desk_of before) (desk_of c.post.new.self) ls rest 0) (sym here) beside in
     record {
       works = works_then (rules g.M.Model g.M.Body.Ord.cmp c.args.bench.now.model.now) (role_of x) (record (desk_of x) { kept = [] }) (desk_of before) (desk_of c.post.new.self) x.kept.items c.loop-letter.letter-iterator.rest.items rest 0 0 known.works one;
-      fit = fit_after laws c.args.bench.now.model.now (role_of before) (desk_of before) (desk_of c.post.new.self) (letter ∷ []) [] 0 known.fit posted;
+      ready = record { worker = fit_after laws c.args.bench.now.model.now (role_of before) (desk_of before) (desk_of c.post.new.self) (letter ∷ []) [] 0 known.ready.worker posted; board = posted.same_board ∙ known.ready.board };
       others = others.1;
-      board = posted.same_board ∙ known.board;
     }
 
 pub returns-clause-works : goal.returns-clause-works
@@ -53,4 +54,4 @@ returns-clause-works g c =
     let x = c.args.self.now in
     let known = c.loop-letter.invariant in
     let empty : c.loop-letter.letter-iterator.rest.items ≡ [] = none_left c.loop-letter.letter-iterator.rest.items (omega (arith, c.in-None.ensures.steps.0)) in
-    works_offered (rules g.M.Model g.M.Body.Ord.cmp c.args.bench.now.model.now) (role_of x) (desk_of x) (desk_of c.loop-letter.self) c.requires.fit.fit.kept (subst (λ ls. Works (rules g.M.Model g.M.Body.Ord.cmp c.args.bench.now.model.now) (role_of x) (record (desk_of x) { kept = [] }) (desk_of c.loop-letter.self) x.kept.items ls 0) empty known.works)
+    works_offered (rules g.M.Model g.M.Body.Ord.cmp c.args.bench.now.model.now) (role_of x) (desk_of x) (desk_of c.loop-letter.self) c.requires.ready.worker.fit.kept (subst (λ ls. Works (rules g.M.Model g.M.Body.Ord.cmp c.args.bench.now.model.now) (role_of x) (record (desk_of x) { kept = [] }) (desk_of c.loop-letter.self) x.kept.items ls 0) empty known.works)
