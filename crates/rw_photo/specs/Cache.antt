@@ -43,8 +43,11 @@ abbrev pub is_stored : Cache → Object → Bool
 is_stored s o = is_some (row_at s.queue o)
 
 -- how many requests wait for an object, where it is awaited
+abbrev pub waiting_in : List (Object × Count) → Object → Option Count
+waiting_in awaited o = lookup (is_at (nat_cmp o)) awaited
+
 abbrev pub waiting_for : Cache → Object → Option Count
-waiting_for s o = lookup (is_at (nat_cmp o)) s.awaited
+waiting_for s o = waiting_in s.awaited o
 
 -- the awaited objects once n requests wait for object o, or once it is awaited no more
 abbrev pub with_waiting : List (Object × Count) → Object → Option Count → List (Object × Count)

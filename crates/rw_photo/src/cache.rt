@@ -9,12 +9,12 @@ ghost use Rattle.rw_photo.specs.Counts.{sum_of, minus, plus, difference_of};
 ghost use Rattle.rw_photo.specs.Events.{event_from};
 ghost use Rattle.rw_photo.specs.Storing.{hit, purge_if_stored, store};
 
+use crate::awaited::Awaited;
 use crate::body::Body;
 use crate::counters::Counters;
 use rw_ripq::{Change, Place, Policy, Queue, Shape, Trail};
 use rw_vt::{Event, NoMemory, Refusal};
 use std::alloc::Global;
-use std::collections::BTreeMap;
 use std::marker::Model;
 
 /// What one cache keeps: its queue on flash, which objects are on their way to it and how many requests wait for
@@ -24,7 +24,7 @@ use std::marker::Model;
 #[derive(Drop)]
 pub struct CacheState {
     queue: Queue,
-    awaited: BTreeMap<u64, u64>,
+    awaited: Awaited,
     sends: u64,
     counters: Counters,
 }
@@ -36,7 +36,7 @@ impl Model for CacheState {
 
     ghost view = { λ s. record {
       queue = s.queue;
-      awaited = s.awaited.entries;
+      awaited = s.awaited;
       sends = s.sends;
       counters = s.counters;
     } };
@@ -49,7 +49,7 @@ impl CacheState {
     {
         Ok(CacheState {
             queue: Queue::new(alloc, shape)?,
-            awaited: BTreeMap::new(alloc),
+            awaited: Awaited::new(alloc),
             sends: 0,
             counters: Counters::default(),
         })
@@ -94,7 +94,7 @@ impl CacheState {
     pub(crate) fn waiting(&self, object: u64) -> Option<u64>
         ensures { result ≡ waiting_for self.now object }
     {
-        self.awaited.get(&object).copied()
+        self.awaited.get(object)
     }
 
     /// Sets how many requests wait for an object; `None`: it is not awaited.
@@ -102,15 +102,7 @@ impl CacheState {
         ensures { OnOk result (self.new
             ≡ record self.old { awaited = with_waiting self.old.awaited object waiting }) }
     {
-        match waiting {
-            Some(count) => {
-                self.awaited.insert(object, count)?;
-            }
-            None => {
-                self.awaited.remove(&object);
-            }
-        }
-        Ok(())
+        self.awaited.set(object, waiting)
     }
 
     /// A hit, by a request for `size` bytes, of an object that is stored and whose row is `row`: it is promoted. Hands

@@ -11,6 +11,7 @@
 //!
 //! Worked examples: `rw_tests/src/edge_process.rt` and `photo_rounds.rt`.
 
+mod awaited;
 mod body;
 mod cache;
 mod config;

@@ -2,7 +2,7 @@ ghost use Rattle.std.specs.Prelude.{◌≡◌, ◌≤◌, IfOk, OnOk, [], ◌++�
 ghost use Rattle.rw_vt.specs.Limits.{end_of_time};
 ghost use Rattle.rw_trace.specs.Limits.{greatest_size};
 ghost use Rattle.rw_ripq.specs.Limits.{exhaustion};
-ghost use Rattle.rw_photo.specs.Cache.{IsWellFormed, is_edge, shape_at, start};
+ghost use Rattle.rw_photo.specs.Cache.{IsWellFormed, is_edge, shape_at, start, waiting_for};
 ghost use Rattle.rw_photo.specs.Deeds.{HasDone, list_of};
 ghost use Rattle.rw_photo.specs.Events.{clears_of, miss_happening, fill_happening, happening, purge_happening, is_origin, is_valid, object_of, origin_of, request_happening};
 
@@ -92,16 +92,18 @@ impl Photo {
 
 /// What each event does to the cache that it goes to, but for what is counted and sent. The event is valid there.
 impl Photo {
-    /// Does what the event does, by its kind.
+    /// Does what the event does, by its kind. So many requests wait for its object.
     fn happen(
         &self,
         alloc: Global,
         process: u32,
         state: &mut CacheState,
         event: &Event<Body>,
+        waiting: Option<u64>,
     ) -> Result<Deed, NoMemory>
         requires well_formed { IsWellFormed self.now.config process state.old }
         requires fresh { state.old.queue.next < exhaustion }
+        requires waiting { waiting ≡ waiting_for state.old (object_of event.now.body) }
         requires valid { is_valid self.now.config event.now ≡ true }
         requires here { event.now.to ≡ process }
         ensures { IfOk result (λ deed. HasDone self.now.config process
@@ -111,12 +113,12 @@ impl Photo {
         let time = event.time;
         match event.body {
             Body::Request { object, size } => {
-                self.request(alloc, process, state, time, object, size)
+                self.request(alloc, process, state, time, object, size, waiting)
             }
             Body::Miss { object, size, edge } => {
                 self.miss(alloc, process, state, time, object, size, edge)
             }
-            Body::Fill { object, size } => self.fill(alloc, process, state, object, size),
+            Body::Fill { object, size } => self.fill(alloc, process, state, object, size, waiting),
             Body::Purge { object } => self.purge(alloc, process, state, time, object),
             Body::Drop { object, edge } => {
                 self.drop_object(alloc, process, state, time, object, edge)
@@ -125,7 +127,8 @@ impl Photo {
         }
     }
 
-    /// A request at an edge. A hit promotes its object; a miss waits for it, and the first that waits asks the origin.
+    /// A request at an edge. A hit promotes its object; a miss waits for it, beside the requests that do so already, and
+    /// the first that waits asks the origin.
     fn request(
         &self,
         alloc: Global,
@@ -134,7 +137,9 @@ impl Photo {
         time: u64,
         object: u64,
         size: u64,
+        waiting: Option<u64>,
     ) -> Result<Deed, NoMemory>
+        requires waiting { waiting ≡ waiting_for state.old object }
         requires well_formed { IsWellFormed self.now.config process state.old }
         requires fresh { state.old.queue.next < exhaustion }
         requires early { time < end_of_time }
@@ -149,7 +154,7 @@ impl Photo {
                 sends: Sends::Nothing,
             });
         }
-        if let Some(others) = state.waiting(object) {
+        if let Some(others) = waiting {
             state.set_waiting(object, Some(others.wrapping_add(1)))?;
             return Ok(Deed {
                 change: Change::new(alloc, Counters::of_coalesced(size)),
@@ -222,7 +227,9 @@ impl Photo {
         state: &mut CacheState,
         object: u64,
         size: u64,
+        waiting: Option<u64>,
     ) -> Result<Deed, NoMemory>
+        requires waiting { waiting ≡ waiting_for state.old object }
         requires well_formed { IsWellFormed self.now.config process state.old }
         requires fresh { state.old.queue.next < exhaustion }
         requires some { 1 ≤ size }
@@ -230,7 +237,7 @@ impl Photo {
             (fill_happening self.now.config state.old object size)
             state.old object deed state.new) }
     {
-        let answered = state.waiting(object).unwrap_or(0);
+        let answered = waiting.unwrap_or(0);
         let Change { trail, counts } = if state.is_stored(object) {
             Change::new(alloc, Counters::default())
         } else {
@@ -466,7 +473,7 @@ impl VtModel for Photo {
         }
         let waiting = state.waiting(event.body.object());
         let first = state.sends();
-        let Deed { change, sends } = self.happen(alloc, process, state, event)?;
+        let Deed { change, sends } = self.happen(alloc, process, state, event, waiting)?;
         state.count(&change.counts);
         let sent = self.send(process, first, sends, out)?;
         state.count_sends(sent);
