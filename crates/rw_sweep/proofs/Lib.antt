@@ -1,7 +1,9 @@
+pub mod Dealt
 pub mod InRange
 pub mod Lists
 pub mod Serial
 pub mod Slots
+pub mod Tables
 pub mod ThreeLines
 pub mod Totals
 pub mod Widened

@@ -2,6 +2,8 @@ pub mod Limits
 pub mod Grids
 pub mod Table
 pub mod Sweep
+pub mod Parts
+pub mod Lists
 pub mod Points
 pub mod Widening
 pub mod Working

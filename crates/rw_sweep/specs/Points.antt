@@ -1,7 +1,10 @@
 -- The configurations of a grid, each beside its choice.
-use Rattle.std.specs.Prelude.{◌≡◌, List, All, map}
+use Rattle.std.specs.Prelude.{◌≡◌, ℕ, List, All, None, Some, map}
+use Rattle.std.specs.List.{Contains}
 use Rattle.rw_sweep.specs.declared.axes.Axes.{Axes}
 use Rattle.rw_sweep.specs.declared.point.Point.{Point}
+use Rattle.rw_vt.specs.Words.{Count, Position}
+use Rattle.rw_sweep.specs.Parts.{dealt}
 use Rattle.rw_sweep.specs.Grids.{IsConfigOf, IsInGridRanges, combinations}
 
 -- its choice is in its ranges, and this is its configuration
@@ -9,7 +12,21 @@ pub record IsPoint (a : Axes) (p : Point) : Type 0 where
   pub in_range : IsInGridRanges a p.choice
   pub config_is : IsConfigOf a p.choice p.config
 
--- these are the combinations in order, each with its configuration
+-- these are the combinations in order, each with its configuration, and told without their places
 pub record ArePoints (a : Axes) (points : List Point) : Type 0 where
   pub choices : map (λ p. p.choice) points ≡ combinations a
   pub each : All (IsPoint a) points
+  pub unplaced : All (λ p. p.place ≡ None) points
+
+-- a configuration of the grid
+pub record IsOfGrid (a : Axes) (p : Point) : Type 0 where
+  pub is : IsPoint a p
+  pub among : Contains (combinations a) p.choice
+
+-- the configuration at a place, told with it
+abbrev pub told_at : Position × Point → Point
+told_at at = record at.1 { place = Some at.0 }
+
+-- the configurations of a part, in order, told with their places
+abbrev pub points_of_part : ℕ → Count → List Point → List Point
+points_of_part index count points = map told_at (dealt index count points)

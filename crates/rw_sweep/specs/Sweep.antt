@@ -1,6 +1,6 @@
 -- From the bytes of a trace and a grid to the bytes of the table.
 use Rattle.std.specs.Prelude.{◌≡◌, ℕ, List, ◌++◌, map, Ok, Err, Option}
-use Rattle.std.specs.List.{AllZip, Contains, flat_map}
+use Rattle.std.specs.List.{AllZip, Contains, concat, flat_map}
 use Rattle.std.specs.Io.KnownBytes.{Appends}
 use Rattle.rw_vt.specs.declared.event.Event.{Event}
 use Rattle.rw_vt.specs.System.{IsOutcome, Meets}
@@ -21,28 +21,28 @@ use Rattle.rw_sweep.specs.declared.axes.Axes.{Axes}
 use Rattle.rw_sweep.specs.Grids.{IsConfigOf, combinations}
 use Rattle.rw_sweep.specs.Table.{header_line, sweep_lines}
 
--- the part tells of a configuration at work on these rows: executing their requests, and all that follows from them, in order of
--- time leaves the caches in these states; and its three lines tell what they have counted
-pub record IsPartOf (c : Config) (x : Choice) (rows : List Row) (part : List ℕ) : Type 0 where
+-- the lines tell of a configuration at work on these rows: executing their requests, and all that follows from them, in order of
+-- time leaves the caches in these states; and the three lines tell what they have counted
+pub record AreLinesOf (c : Config) (x : Choice) (rows : List Row) (lines : List (List ℕ)) : Type 0 where
   pub journals : List (List (Event Body))
   pub states : List Cache
   pub outcome : IsOutcome (simulation c rows) end_of_time journals states
-  pub told : part ≡ sweep_lines c x (map (λ s. s.counters) states)
+  pub told : lines ≡ sweep_lines c x (map (λ s. s.counters) states)
 
 -- the same, of the configuration of a choice
-pub record IsPartOfChoice (a : Axes) (rows : List Row) (x : Choice) (part : List ℕ) : Type 0 where
+pub record AreLinesOfChoice (a : Axes) (rows : List Row) (x : Choice) (lines : List (List ℕ)) : Type 0 where
   pub config : Config
   pub config_is : IsConfigOf a x config
-  pub tells : IsPartOf config x rows part
+  pub tells : AreLinesOf config x rows lines
 
--- the text is the table of the trace in these bytes over a grid: the trace is accepted with these rows, and behind the header stands
--- a part for each combination, in their order
+-- the text is the table of the trace in these bytes over a grid: the trace is accepted with these rows, and behind the header stand
+-- the lines of each combination, in their order
 pub record IsSweepOf (a : Axes) (bytes text : List ℕ) : Type 0 where
   pub rows : List Row
-  pub parts : List (List ℕ)
+  pub lines : List (List (List ℕ))
   pub accepted : trace_of a.edges most_rows (records_of bytes) ≡ Ok rows
-  pub each : AllZip (IsPartOfChoice a rows) (combinations a) parts
-  pub told : text ≡ header_line ++ flat_map (λ part. part) parts
+  pub each : AllZip (AreLinesOfChoice a rows) (combinations a) lines
+  pub told : text ≡ header_line ++ flat_map concat lines
 
 -- a finished sweep has written, between what the writer held before and what it holds after, its table
 abbrev pub HasSwept : Axes → List ℕ → Option (List ℕ) → Option (List ℕ) → Type 0

@@ -96,5 +96,5 @@ abbrev pub sweep_line : Config → Choice → List Counters → Caches → List 
 sweep_line c x ks caches = line_with c x caches (totals (those_of c caches ks)) (backend_requests c caches ks)
 
 -- a configuration's three lines
-abbrev pub sweep_lines : Config → Choice → List Counters → List ℕ
-sweep_lines c x ks = sweep_line c x ks Edges ++ sweep_line c x ks Origins ++ sweep_line c x ks All
+abbrev pub sweep_lines : Config → Choice → List Counters → List (List ℕ)
+sweep_lines c x ks = sweep_line c x ks Edges ∷ sweep_line c x ks Origins ∷ sweep_line c x ks All ∷ []

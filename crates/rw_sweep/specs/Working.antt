@@ -1,6 +1,6 @@
 -- What those who work on a sweep need and make.
-use Rattle.std.specs.Prelude.{◌≡◌, ◌<◌, ℕ, List, ◌++◌, length, All, Option, IfSome, Result, MatchResult, slice_index_or}
-use Rattle.std.specs.List.{AllZip, flat_map}
+use Rattle.std.specs.Prelude.{◌≡◌, ◌<◌, ℕ, List, [], ◌++◌, codes, decimal, length, All, Option, Some, None, IfSome, Result, Ok, MatchResult, slice_index_or}
+use Rattle.std.specs.List.{AllZip, concat, flat_map}
 use Rattle.std.specs.Global.{Vec}
 use Rattle.rw_vt.specs.declared.refusal.Refusal.{Refusal}
 use Rattle.rw_vt.specs.declared.refusal.Refusal.TheVariants.{Exhausted}
@@ -9,12 +9,16 @@ use Rattle.rw_vt.specs.Limits.{end_of_time}
 use Rattle.rw_blocks.specs.State.{IsShape}
 use Rattle.rw_trace.specs.declared.Row.{Row}
 use Rattle.rw_trace.specs.Laws.{IsRow}
+use Rattle.rw_trace.specs.Limits.{most_rows}
+use Rattle.rw_trace.specs.Trace.{trace_of}
+use Rattle.rw_trace.specs.Unread.{records_of}
 use Rattle.rw_photo.specs.Cache.{is_exhausted}
 use Rattle.rw_photo.specs.Simulation.{simulation}
+use Rattle.rw_sweep.specs.declared.axes.Axes.{Axes}
 use Rattle.rw_sweep.specs.declared.point.Point.{Point}
 use Rattle.rw_sweep.specs.declared.entry.Entry.{Entry}
-use Rattle.rw_sweep.specs.Sweep.{IsPartOf}
-use Rattle.rw_sweep.specs.Table.{header_line}
+use Rattle.rw_sweep.specs.Sweep.{AreLinesOf}
+use Rattle.rw_vt.specs.Words.{Position}
 
 -- a configuration can run these rows, and its line can be written
 pub record CanRun (rows : List Row) (p : Point) : Type 0 where
@@ -26,10 +30,25 @@ pub record CanRun (rows : List Row) (p : Point) : Type 0 where
 abbrev pub IsExhaustedAt : List Row → Point → Type 0
 IsExhaustedAt rows p = Meets (simulation p.config rows) end_of_time is_exhausted
 
+-- what stands before a line: the place of its configuration, where that is told
+abbrev pub before_line : Option Position → List ℕ
+before_line None = []
+before_line (Some place) = decimal place ++ codes ","
+
+-- some lines as a text, each behind its place, where that is told
+abbrev pub text_of_lines : Option Position → List (List ℕ) → List ℕ
+text_of_lines place lines = flat_map (λ line. before_line place ++ line) lines
+
+-- the text is the lines of a configuration at work on these rows
+pub record IsTextOf (rows : List Row) (p : Point) (text : List ℕ) : Type 0 where
+  pub lines : List (List ℕ)
+  pub tell : AreLinesOf p.config p.choice rows lines
+  pub told : text ≡ text_of_lines p.place lines
+
 -- what became of a configuration: its lines, or why there are none
 abbrev pub IsResultOf : List Row → Point → Result (Vec ℕ) Refusal → Type 0
 IsResultOf rows p r =
-    MatchResult r (λ part. IsPartOf p.config p.choice rows part.items)
+    MatchResult r (λ text. IsTextOf rows p text.items)
     (λ refusal. refusal ≡ Exhausted → IsExhaustedAt rows p)
 
 -- the entry says what became of the configuration of its number
@@ -43,13 +62,20 @@ pub record AreSlots (rows : List Row) (points : List Point) (slots : List (Optio
       → IfSome (slice_index_or slots i d) (IsResultOf rows (slice_index_or points i p))
 
 -- the text has grown by the lines of a configuration
-pub record IsPartAt (rows : List Row) (p : Point) (old new : List ℕ) : Type 0 where
-  pub part : List ℕ
-  pub tells : IsPartOf p.config p.choice rows part
-  pub grown : new ≡ old ++ part
+pub record HasLinesAt (rows : List Row) (p : Point) (old new : List ℕ) : Type 0 where
+  pub more : List ℕ
+  pub tells : IsTextOf rows p more
+  pub grown : new ≡ old ++ more
 
--- the text has the lines of these configurations behind the header, in order
-pub record HasParts (rows : List Row) (points : List Point) (text : List ℕ) : Type 0 where
-  pub parts : List (List ℕ)
-  pub each : AllZip (λ p part. IsPartOf p.config p.choice rows part) points parts
-  pub told : text ≡ header_line ++ flat_map (λ part. part) parts
+-- the text has the lines of these configurations behind a header, in order
+pub record HasLines (rows : List Row) (points : List Point) (header text : List ℕ) : Type 0 where
+  pub texts : List (List ℕ)
+  pub each : AllZip (IsTextOf rows) points texts
+  pub told : text ≡ header ++ concat texts
+
+-- the text has the lines of these configurations behind a header: the trace in these bytes is accepted, and they were at work on
+-- its rows
+pub record HasLinesOfTrace (a : Axes) (bytes : List ℕ) (points : List Point) (header text : List ℕ) : Type 0 where
+  pub rows : List Row
+  pub accepted : trace_of a.edges most_rows (records_of bytes) ≡ Ok rows
+  pub behind : HasLines rows points header text

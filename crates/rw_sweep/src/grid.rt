@@ -1,4 +1,4 @@
-ghost use Rattle.std.specs.Prelude.{◌≡◌, ◌*◌, ◌^◌, ◌-◌, ◌++◌, ◌<◌, ◌≤◌, ◌↔◌, min, map, length, All, [], Err, IsTrue, IsSome, IfOk, IfSome, OnOk};
+ghost use Rattle.std.specs.Prelude.{◌≡◌, ◌*◌, ◌^◌, ◌-◌, ◌++◌, ◌<◌, ◌≤◌, ◌↔◌, min, map, length, All, [], None, Err, IsTrue, IsSome, IfOk, IfSome, OnOk};
 ghost use Rattle.std.specs.List.{Any};
 ghost use Rattle.rw_sweep.specs.Grids.{IsConfigOf, IsInGridRanges, combinations};
 ghost use Rattle.rw_sweep.specs.Points.{ArePoints, IsPoint};
@@ -165,6 +165,7 @@ fn config_of(axes: &Axes, choice: Choice) -> Option<Config>
 fn points(alloc: Global, axes: &Axes, choices: &[Choice]) -> Result<Vec<Point>, GridFault>
     ensures choices { IfOk result (λ points. map (λ p. p.choice) points.items ≡ choices.now) }
     ensures each { IfOk result (λ points. All (IsPoint axes.now) points.items) }
+    ensures unplaced { IfOk result (λ points. All (λ p. p.place ≡ None) points.items) }
     ensures in_range { OnOk result (All (IsInGridRanges axes.now) choices.now) }
     ensures out_of_range { result ≡ Err GridFault.OutOfRange
         → Any (λ x. IsInGridRanges axes.now x → ⊥) choices.now }
@@ -178,6 +179,7 @@ fn points(alloc: Global, axes: &Axes, choices: &[Choice]) -> Result<Vec<Point>, 
             return Err(GridFault::OutOfRange);
         };
         let point = Point {
+            place: None,
             choice: *choice,
             config,
         };

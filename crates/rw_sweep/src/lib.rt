@@ -3,7 +3,8 @@
 //!
 //! A [`Grid`] is every combination of the values of some [`Axes`]. [`sweep`] runs a trace under each of its configurations, many
 //! side by side, and writes what the edges, the origins and all caches of each have counted. What a table is stands in
-//! `specs/Sweep.antt` and `specs/Table.antt`.
+//! `specs/Sweep.antt` and `specs/Table.antt`. [`sweep_part`] runs it under some of them alone, a [`Part`], so that several
+//! machines can share a sweep: `specs/Parts.antt`. [`list`] tells which configurations a part has.
 //!
 //! Worked examples: `rw_tests/src/sweeps.rt`.
 
@@ -12,6 +13,8 @@ mod caches;
 mod choice;
 mod entry;
 mod grid;
+mod listing;
+mod part;
 mod point;
 mod progress;
 mod running;
@@ -22,5 +25,7 @@ mod working;
 pub use axes::Axes;
 pub use choice::Choice;
 pub use grid::{Grid, GridFault, MAX_CONFIGURATIONS};
+pub use listing::list;
+pub use part::Part;
 pub use progress::{Progress, Silent};
-pub use sweeping::{MAX_WORKERS, every_limit, sweep};
+pub use sweeping::{MAX_WORKERS, every_limit, sweep, sweep_part};

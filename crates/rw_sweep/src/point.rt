@@ -4,6 +4,8 @@ use rw_photo::Config;
 /// A choice and its configuration.
 #[derive(Clone, Copy)]
 pub(crate) struct Point {
+    /// Its place in the grid, where each of its lines begins with it.
+    pub(crate) place: Option<u64>,
     pub(crate) choice: Choice,
     pub(crate) config: Config,
 }

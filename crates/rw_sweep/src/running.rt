@@ -21,6 +21,6 @@ pub(crate) fn run_one(alloc: Global, rows: &[Row], point: &Point) -> Result<Vec<
 {
     let (starts, initial) = beginning_of_rows(alloc, rows, &point.config)?;
     let states = last_states(alloc, &Photo::new(point.config), starts, initial)?;
-    let text = lines(alloc, &point.config, point.choice, states.as_slice())?;
+    let text = lines(alloc, point, states.as_slice())?;
     Ok(text)
 }

@@ -1,15 +1,18 @@
 ghost use Rattle.std.specs.Prelude.{◌≡◌, ◌≢◌, ◌+◌, ◌<◌, ◌↔◌, ◌++◌, ℕ, List, Err, All, length, IfOk, IfErr, IfSome, OnOk};
 ghost use Rattle.std.specs.List.{Any};
 ghost use Rattle.rw_sweep.specs.Limits.{most_configurations, most_workers};
+ghost use Rattle.rw_sweep.specs.Parts.{HasSweptPart, HasSweptPartBeginning, IsPartSweepOf};
+ghost use Rattle.rw_sweep.specs.Points.{IsOfGrid};
 ghost use Rattle.rw_sweep.specs.Sweep.{HasSwept, HasSweptBeginning, IsSweepFault, IsSweepOf};
-ghost use Rattle.rw_sweep.specs.Working.{AreSlots, CanRun, HasParts, IsExhaustedAt, IsPartAt, IsResultOf};
+ghost use Rattle.rw_sweep.specs.Working.{AreSlots, CanRun, HasLines, HasLinesAt, HasLinesOfTrace, IsExhaustedAt, IsResultOf};
 
 use crate::entry::Lines;
 use crate::grid::{Grid, MAX_CONFIGURATIONS};
+use crate::part::{Part, points_of_part};
 use crate::point::Point;
 use crate::progress::Progress;
 use crate::running::run_one;
-use crate::table::header;
+use crate::table::{header, part_header};
 use crate::working::run_all;
 use rw_ripqwarp::{Out, SimFault};
 use rw_trace::{Row, read};
@@ -53,7 +56,40 @@ pub fn sweep<W: Write, P: Progress, R: Threads + Sync>(
         (W.contents out.old.writer) (W.contents out.new.writer) }
     ensures nothing { IfErr result (λ e. e ≢ SimFault.Output → out.new ≡ out.old) }
 {
-    let text = text_of(rt, alloc, bytes, grid, workers, progress)?;
+    let text = table(rt, alloc, bytes, grid, workers, progress)?;
+    if out.write_text(text.as_slice()) {
+        Ok(())
+    } else {
+        Err(SimFault::Output)
+    }
+}
+
+/// Runs one trace under the configurations of a part of a grid, as [`sweep`] runs it under all, and writes their lines: before
+/// each, and before the header, stands one column more, `place`: the configuration's place in the grid, from 0.
+///
+/// # Errors
+///
+/// As those of [`sweep`].
+pub fn sweep_part<W: Write, P: Progress, R: Threads + Sync>(
+    rt: &R,
+    alloc: Global,
+    bytes: &[u8],
+    grid: &Grid,
+    part: Part,
+    workers: u32,
+    progress: &mut P,
+    out: &mut Out<W>,
+) -> Result<(), SimFault>
+    ensures table { OnOk result (HasSweptPart grid.now part.index part.count bytes.now
+        (W.contents out.old.writer) (W.contents out.new.writer)) }
+    ensures fault { IfErr result (IsSweepFault grid.now bytes.now) }
+    ensures output { (result ≡ Err SimFault.Output) ↔ (out.new.failures ≢ out.old.failures) }
+    ensures cut_off { result ≡ Err SimFault.Output
+        → HasSweptPartBeginning grid.now part.index part.count bytes.now
+        (W.contents out.old.writer) (W.contents out.new.writer) }
+    ensures nothing { IfErr result (λ e. e ≢ SimFault.Output → out.new ≡ out.old) }
+{
+    let text = table_of_part(rt, alloc, bytes, grid, part, workers, progress)?;
     if out.write_text(text.as_slice()) {
         Ok(())
     } else {
@@ -62,7 +98,7 @@ pub fn sweep<W: Write, P: Progress, R: Threads + Sync>(
 }
 
 /// The table of a trace over a grid.
-fn text_of<P: Progress, R: Threads + Sync>(
+fn table<P: Progress, R: Threads + Sync>(
     rt: &R,
     alloc: Global,
     bytes: &[u8],
@@ -74,39 +110,98 @@ fn text_of<P: Progress, R: Threads + Sync>(
     ensures fault { IfErr result (IsSweepFault grid.now bytes.now) }
     ensures unwritten { IfErr result (λ e. e ≢ SimFault.Output) }
 {
+    let head = header(alloc)?;
+    text_of(
+        rt,
+        alloc,
+        bytes,
+        grid,
+        grid.points(),
+        head,
+        workers,
+        progress,
+    )
+}
+
+/// The table of a trace over a part of a grid.
+fn table_of_part<P: Progress, R: Threads + Sync>(
+    rt: &R,
+    alloc: Global,
+    bytes: &[u8],
+    grid: &Grid,
+    part: Part,
+    workers: u32,
+    progress: &mut P,
+) -> Result<Vec<u8>, SimFault>
+    ensures table { IfOk result (λ text.
+        IsPartSweepOf grid.now part.index part.count bytes.now text.items) }
+    ensures fault { IfErr result (IsSweepFault grid.now bytes.now) }
+    ensures unwritten { IfErr result (λ e. e ≢ SimFault.Output) }
+{
+    let head = part_header(alloc)?;
+    let own = points_of_part(alloc, grid.points(), part)?;
+    text_of(
+        rt,
+        alloc,
+        bytes,
+        grid,
+        own.as_slice(),
+        head,
+        workers,
+        progress,
+    )
+}
+
+/// What these configurations of a grid make of a trace, behind a header.
+fn text_of<P: Progress, R: Threads + Sync>(
+    rt: &R,
+    alloc: Global,
+    bytes: &[u8],
+    grid: &Grid,
+    points: &[Point],
+    head: Vec<u8>,
+    workers: u32,
+    progress: &mut P,
+) -> Result<Vec<u8>, SimFault>
+    requires { All (IsOfGrid grid.now) points.now }
+    ensures lines { IfOk result (λ text.
+        HasLinesOfTrace grid.now bytes.now points.now head.items text.items) }
+    ensures fault { IfErr result (IsSweepFault grid.now bytes.now) }
+    ensures unwritten { IfErr result (λ e. e ≢ SimFault.Output) }
+{
     let all = read(alloc, bytes, grid.edges())?;
     let rows = all.as_slice();
-    let points = grid.points();
     let workers = workers.clamp(1, MAX_WORKERS) as usize;
     let workers = workers.min(points.len());
     let slots = run_all(rt, alloc, rows, points, workers, progress)?;
-    let text = gather(alloc, rows, points, slots.as_slice())?;
+    let text = gather(alloc, rows, points, slots.as_slice(), head)?;
     progress.done(points.len() as u64, points.len() as u64);
     Ok(text)
 }
 
-/// The header and the lines of all configurations, in order. One whose slot is empty is run now.
+/// A header and the lines of all configurations, in order. One whose slot is empty is run now.
 fn gather(
     alloc: Global,
     rows: &[Row],
     points: &[Point],
     slots: &[Option<Lines>],
+    head: Vec<u8>,
 ) -> Result<Vec<u8>, Refusal>
     requires can_run { All (CanRun rows.now) points.now }
     requires slots { AreSlots rows.now points.now slots.now }
-    ensures parts { IfOk result (λ text. HasParts rows.now points.now text.items) }
+    ensures lines { IfOk result (λ text. HasLines rows.now points.now head.items text.items) }
     ensures exhausted { IfErr result (λ refusal. refusal ≡ Refusal.Exhausted
         → Any (IsExhaustedAt rows.now) points.now) }
 {
-    let mut text = header(alloc)?;
+    let mut text = head;
     for (index, point) in points.iter().enumerate() {
-        write_part(alloc, rows, point, &slots[index], &mut text)?;
+        add_lines(alloc, rows, point, &slots[index], &mut text)?;
     }
     Ok(text)
 }
 
 /// Puts the lines of a configuration behind the text; where its slot is empty it is run now.
-fn write_part(
+fn add_lines(
     alloc: Global,
     rows: &[Row],
     point: &Point,
@@ -115,7 +210,7 @@ fn write_part(
 ) -> Result<(), Refusal>
     requires can_run { CanRun rows.now point.now }
     requires slot { IfSome slot.now (IsResultOf rows.now point.now) }
-    ensures part { OnOk result (IsPartAt rows.now point.now text.old.items text.new.items) }
+    ensures lines { OnOk result (HasLinesAt rows.now point.now text.old.items text.new.items) }
     ensures exhausted { IfErr result (λ refusal. refusal ≡ Refusal.Exhausted
         → IsExhaustedAt rows.now point.now) }
 {

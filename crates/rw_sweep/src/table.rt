@@ -1,9 +1,13 @@
 ghost use Rattle.std.specs.Prelude.{◌≡◌, ◌+◌, ◌*◌, ◌/◌, ◌%◌, ◌<◌, ◌^◌, ◌++◌, ◌∷◌, [], codes, decimal, length, map, IfOk, OnOk};
 ghost use Rattle.rw_ripqwarp.specs.Report.{totals};
+ghost use Rattle.rw_sweep.specs.Lists.{list_header, listed_line};
+ghost use Rattle.rw_sweep.specs.Parts.{part_header};
+ghost use Rattle.rw_sweep.specs.Working.{before_line, text_of_lines};
 ghost use Rattle.rw_sweep.specs.Table.{backend_requests, caches_name, choice_columns, columns_of, counts_columns, counts_of, flash_bytes, header_line, line_with, millionths, policy_name, ratio_text, six_digits, sweep_line, sweep_lines, with_decimals};
 
 use crate::caches::Caches;
 use crate::choice::Choice;
+use crate::point::Point;
 use itoa::Buffer;
 use rw_photo::{CacheState, Config, Counters, NoMemory, Policy};
 use std::alloc::Global;
@@ -11,6 +15,12 @@ use std::alloc::Global;
 /// The names of the columns.
 const HEADER: &[u8] =
     b"policy,sections,block,edge_blocks,origin_blocks,caches,requests,hits,misses,coalesced,late,bypassed,inserted,evicted,reinserted,promoted,writes,splits,merges,hit_bytes,request_bytes,hit_ratio,byte_hit_ratio,flash_bytes,written_bytes,backend_requests\n";
+
+/// The name of the column before those of a part.
+const PLACE: &[u8] = b"place,";
+
+/// The names of the columns of a list.
+const LIST_HEADER: &[u8] = b"place,policy,sections,block,edge_blocks,origin_blocks\n";
 
 /// The first line of a table.
 pub(crate) fn header(alloc: Global) -> Result<Vec<u8>, NoMemory>
@@ -21,32 +31,53 @@ pub(crate) fn header(alloc: Global) -> Result<Vec<u8>, NoMemory>
     Ok(text)
 }
 
-/// The three lines of a configuration whose caches are in these states.
+/// The first line of a part.
+pub(crate) fn part_header(alloc: Global) -> Result<Vec<u8>, NoMemory>
+    ensures { IfOk result (λ text. text.items ≡ part_header) }
+{
+    let mut text = Vec::new(alloc);
+    text.extend_from_slice(PLACE)?;
+    text.extend_from_slice(HEADER)?;
+    Ok(text)
+}
+
+/// The first line of a list.
+pub(crate) fn list_header(alloc: Global) -> Result<Vec<u8>, NoMemory>
+    ensures { IfOk result (λ text. text.items ≡ list_header) }
+{
+    let mut text = Vec::new(alloc);
+    text.extend_from_slice(LIST_HEADER)?;
+    Ok(text)
+}
+
+/// The line of a list for the configuration at a place.
+pub(crate) fn write_listed(text: &mut Vec<u8>, place: u64, choice: Choice) -> Result<(), NoMemory>
+    ensures { OnOk result (text.new.items ≡ text.old.items ++ listed_line (place, choice)) }
+{
+    write_place(text, Some(place))?;
+    write_choice(text, choice)?;
+    text.push(b'\n')?;
+    Ok(())
+}
+
+/// The three lines of a configuration whose caches are in these states, each behind its place, where that is told.
 pub(crate) fn lines(
     alloc: Global,
-    config: &Config,
-    choice: Choice,
+    point: &Point,
     states: &[CacheState],
 ) -> Result<Vec<u8>, NoMemory>
-    requires states { length states.now ≡ config.now.edges + config.now.origins }
-    requires edge_blocks { choice.edge_blocks < 2 ^ 17 }
-    requires origin_blocks { choice.origin_blocks < 2 ^ 17 }
-    ensures { IfOk result (λ text.
-        text.items ≡ sweep_lines config.now choice (map (λ s. s.counters) states.now)) }
+    requires states { length states.now ≡ point.now.config.edges + point.now.config.origins }
+    requires edge_blocks { point.now.choice.edge_blocks < 2 ^ 17 }
+    requires origin_blocks { point.now.choice.origin_blocks < 2 ^ 17 }
+    ensures { IfOk result (λ text. text.items ≡ text_of_lines point.now.place
+        (sweep_lines point.now.config point.now.choice (map (λ s. s.counters) states.now))) }
 {
-    let (edges, origins) = states.split_at(config.edges() as usize);
+    let (edges, origins) = states.split_at(point.config.edges() as usize);
     let (edges, origins, all) = (totals(edges), totals(origins), totals(states));
     let mut text = Vec::new(alloc);
-    write_line(&mut text, config, choice, Caches::Edges, &edges, 0)?;
-    write_line(
-        &mut text,
-        config,
-        choice,
-        Caches::Origins,
-        &origins,
-        origins.misses,
-    )?;
-    write_line(&mut text, config, choice, Caches::All, &all, origins.misses)?;
+    write_placed(&mut text, point, Caches::Edges, &edges, 0)?;
+    write_placed(&mut text, point, Caches::Origins, &origins, origins.misses)?;
+    write_placed(&mut text, point, Caches::All, &all, origins.misses)?;
     Ok(text)
 }
 
@@ -59,6 +90,35 @@ fn totals(states: &[CacheState]) -> Counters
         total.add(&state.counters());
     }
     total
+}
+
+/// A configuration's line for these caches behind its place, where that is told, from what they have counted together and how
+/// often they asked the backend.
+fn write_placed(
+    text: &mut Vec<u8>,
+    point: &Point,
+    caches: Caches,
+    total: &Counters,
+    backend: u64,
+) -> Result<(), NoMemory>
+    requires edge_blocks { point.now.choice.edge_blocks < 2 ^ 17 }
+    requires origin_blocks { point.now.choice.origin_blocks < 2 ^ 17 }
+    ensures { OnOk result (text.new.items ≡ text.old.items ++ (before_line point.now.place
+        ++ line_with point.now.config point.now.choice caches total.now backend)) }
+{
+    write_place(text, point.place)?;
+    write_line(text, &point.config, point.choice, caches, total, backend)
+}
+
+/// What stands before a line: its place, where that is told.
+fn write_place(text: &mut Vec<u8>, place: Option<u64>) -> Result<(), NoMemory>
+    ensures { OnOk result (text.new.items ≡ text.old.items ++ before_line place) }
+{
+    if let Some(place) = place {
+        write_number(text, u128::from(place))?;
+        text.push(b',')?;
+    }
+    Ok(())
 }
 
 /// A configuration's line for these caches, from what they have counted together and how often they asked the backend.

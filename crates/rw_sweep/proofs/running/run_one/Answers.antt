@@ -1,4 +1,4 @@
-use Rattle.std.proofs.Common.{List, ap, ◌∙◌, subst, length, map}
+use Rattle.std.proofs.Common.{List, refl, ap, ◌∙◌, subst, length, map}
 use Rattle.rw_vt.specs.declared.event.Event.{Event}
 use Rattle.rw_vt.specs.Limits.{end_of_time}
 use Rattle.rw_vt.specs.System.{System, IsOutcome, Meets}
@@ -8,6 +8,7 @@ use Rattle.rw_photo.specs.declared.config.Config.{Config}
 use Rattle.rw_photo.specs.Cache.{Cache, is_exhausted}
 use Rattle.rw_photo.specs.Simulation.{simulation}
 use Rattle.rw_sweep.specs.Table.{sweep_lines}
+use Rattle.rw_sweep.specs.Working.{text_of_lines}
 use Rattle.rw_sweep.proofs.Serial.{length-states, ready-at, refused, simulates}
 use Rattle.rw_sweep.proofs.running.run_one.Goals as goal
 
@@ -41,8 +42,12 @@ returns c =
     let same = simulates config c.new.result rows c.in_ok-starts.starts.items c.in_ok-starts.initial.items c.new.ensures c.in_ok-starts.ensures.starts c.in_ok-starts.ensures.initial in
     let journals : List (List (Event Body)) = c.in_ok-states.ensures.outcome.0 in
     record {
-      journals = journals;
-      states = states;
-      outcome = subst (λ (y : System Cache Body). IsOutcome y end_of_time journals states) same c.in_ok-states.ensures.outcome.1;
-      told = c.in_ok-text.ensures ∙ ap (λ ss. sweep_lines config c.args.point.now.choice (map (λ s. s.counters) ss)) c.as_slice.ensures.value;
+      lines = sweep_lines config c.args.point.now.choice (map (λ s. s.counters) states);
+      tell = record {
+        journals = journals;
+        states = states;
+        outcome = subst (λ (y : System Cache Body). IsOutcome y end_of_time journals states) same c.in_ok-states.ensures.outcome.1;
+        told = refl;
+      };
+      told = c.in_ok-text.ensures ∙ ap (λ ss. text_of_lines c.args.point.now.place (sweep_lines config c.args.point.now.choice (map (λ s. s.counters) ss))) c.as_slice.ensures.value;
     }

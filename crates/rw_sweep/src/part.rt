@@ -1,0 +1,61 @@
+ghost use Rattle.std.specs.Prelude.{◌≡◌, ◌<◌, ◌↔◌, IsSome, IfOk, IfSome};
+ghost use Rattle.rw_sweep.specs.Parts.{is_in_part};
+ghost use Rattle.rw_sweep.specs.Points.{points_of_part};
+
+use crate::point::Point;
+use rw_photo::NoMemory;
+use std::alloc::Global;
+
+/// One of the parts of a sweep: the configurations whose place in the grid, from 0, is `index` modulo `count`.
+///
+/// Part 0 of 1 has them all.
+#[derive(Clone, Copy)]
+pub struct Part {
+    /// Which of the parts, below `count`.
+    pub index: u32,
+    /// How many parts there are, from 1.
+    pub count: u32,
+    ghost within: { index < count },
+}
+
+impl Part {
+    /// Part `index` of `count`, if that is below it. Takes no memory.
+    pub fn new(index: u32, count: u32) -> Option<Part>
+        ensures within { IsSome result ↔ (index < count) }
+        ensures part { IfSome result (λ part. (part.index ≡ index) × (part.count ≡ count)) }
+    {
+        if index < count {
+            Some(Part { index, count })
+        } else {
+            None
+        }
+    }
+
+    /// Whether the configuration at a place is in the part.
+    pub(crate) fn has(self, place: usize) -> bool
+        ensures { result ≡ is_in_part self.index self.count place }
+    {
+        place as u64 % u64::from(self.count) == u64::from(self.index)
+    }
+}
+
+/// The configurations of a part, in order, told with their places.
+pub(crate) fn points_of_part(
+    alloc: Global,
+    points: &[Point],
+    part: Part,
+) -> Result<Vec<Point>, NoMemory>
+    ensures { IfOk result (λ own.
+        own.items ≡ points_of_part part.index part.count points.now) }
+{
+    let mut own = Vec::new(alloc);
+    for (place, point) in points.iter().enumerate() {
+        if part.has(place) {
+            own.push(Point {
+                place: Some(place as u64),
+                ..*point
+            })?;
+        }
+    }
+    Ok(own)
+}
