@@ -1,6 +1,6 @@
 // What commands take, as `clap` knows it.
 use clap::{Arg, ArgAction, value_parser};
-use std::alloc::Global;
+use std::alloc::{AllocError, Global};
 
 /// What a command takes.
 pub(crate) enum Argument {
@@ -10,8 +10,27 @@ pub(crate) enum Argument {
         value: &'static str,
         help: &'static str,
     },
+    /// What it reads, which has to be given unless this flag is.
+    FileUnless {
+        name: &'static str,
+        value: &'static str,
+        flag: &'static str,
+        help: &'static str,
+    },
+    /// What it reads: one file or more, or `-` for standard input.
+    Files {
+        name: &'static str,
+        value: &'static str,
+        help: &'static str,
+    },
     /// A text that has to be given.
     Required {
+        name: &'static str,
+        value: &'static str,
+        help: &'static str,
+    },
+    /// A text that need not be given.
+    OptionalText {
         name: &'static str,
         value: &'static str,
         help: &'static str,
@@ -72,17 +91,35 @@ pub(crate) enum Kind {
 
 impl Argument {
     /// The argument as `clap` knows it.
-    pub(crate) fn arg<'a>(&self, alloc: Global) -> Arg<'a> {
+    pub(crate) fn arg<'a>(&self, alloc: Global) -> Result<Arg<'a>, AllocError> {
         match *self {
-            Argument::File { name, value, help } => {
-                Arg::new(alloc, name)
-                    .value_name(value)
-                    .required(true)
-                    .help(help)
+            Argument::FileUnless {
+                name,
+                value,
+                flag,
+                help,
+            } => file(alloc, name, value, help).required_unless_present(flag),
+            _ => Ok(self.plain(alloc)),
+        }
+    }
+
+    /// The argument, if it stands in no relation to others.
+    fn plain<'a>(&self, alloc: Global) -> Arg<'a> {
+        match *self {
+            Argument::File { name, value, help }
+            | Argument::FileUnless {
+                name,
+                value,
+                flag: _,
+                help,
+            } => file(alloc, name, value, help).required(true),
+            Argument::Files { name, value, help } => {
+                file(alloc, name, value, help).required(true).num_args(1..)
             }
             Argument::Required { name, value, help } => {
                 text(alloc, name, value, help).required(true)
             }
+            Argument::OptionalText { name, value, help } => text(alloc, name, value, help),
             Argument::Text {
                 name,
                 value,
@@ -120,6 +157,11 @@ impl Argument {
                 .help(help),
         }
     }
+}
+
+/// What is named without an option.
+fn file<'a>(alloc: Global, name: &'static str, value: &'static str, help: &'static str) -> Arg<'a> {
+    Arg::new(alloc, name).value_name(value).help(help)
 }
 
 /// An option that takes a text.

@@ -33,6 +33,9 @@ pub enum Fault {
     /// A delimiter is none.
     #[error("error: --delimiter: neither one ASCII character nor tab")]
     Delimiter,
+    /// The part of a sweep is none.
+    #[error("error: --part: not I/N with I below N; see ripqwarp sweep --help")]
+    Part,
     /// The lists have too many combinations.
     #[error("error: more than {0} combinations")]
     Combinations(u64),
@@ -52,6 +55,7 @@ impl Fault {
             | Fault::Plan
             | Fault::List(_)
             | Fault::Delimiter
+            | Fault::Part
             | Fault::Combinations(_)
             | Fault::Schedule(ScheduleFault::Word(_))
             | Fault::Run(SimFault::Plan) => 2,

@@ -89,7 +89,7 @@ fn with_arguments<'a>(
 ) -> Result<Command<'a>, AllocError> {
     let mut command = command;
     for argument in arguments {
-        command = command.arg(argument.arg(alloc))?;
+        command = command.arg(argument.arg(alloc)?)?;
     }
     Ok(command)
 }
@@ -98,8 +98,12 @@ fn with_arguments<'a>(
 const TRACE: Argument = Argument::File {
     name: "trace",
     value: "TRACE",
-    help: "The trace: CSV under time,edge,object,size and, for purges, kind; - is standard input",
+    help: TRACE_HELP,
 };
+
+/// What the help says of the trace.
+const TRACE_HELP: &str =
+    "The trace: CSV under time,edge,object,size and, for purges, kind; - is standard input";
 
 /// The steps by which a trace is run.
 const SCHEDULE: Argument = Argument::Required {
@@ -314,8 +318,13 @@ const LOG: [Argument; 12] = [
 ];
 
 /// What a sweep varies, as lists, and what all its runs have in common.
-const GRID: [Argument; 12] = [
-    TRACE,
+const GRID: [Argument; 15] = [
+    Argument::FileUnless {
+        name: "trace",
+        value: "TRACE",
+        flag: "list",
+        help: TRACE_HELP,
+    },
     Argument::Text {
         name: "policy",
         value: "LIST",
@@ -346,11 +355,24 @@ const GRID: [Argument; 12] = [
         default: "64",
         help: "Full blocks on each origin's flash, 1 to 65536",
     },
+    Argument::OptionalText {
+        name: "part",
+        value: "I/N",
+        help: "Only the combinations whose place, from 0, is I modulo N; join puts parts together",
+    },
+    Argument::Flag {
+        name: "list",
+        help: "Print the combinations with their places instead, and run nothing",
+    },
     Argument::OptionalNumber {
         name: "workers",
         kind: Kind::Count,
         most: 64,
         help: "Runs side by side, 1 to 64; by default as many as there are processors",
+    },
+    Argument::Flag {
+        name: "quiet",
+        help: "Do not show on a terminal how many runs are done",
     },
     Argument::Number {
         name: "edges",

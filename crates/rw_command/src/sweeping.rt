@@ -1,5 +1,5 @@
 // One trace through many configurations.
-use crate::command_line::read;
+use crate::command_line::{read, write};
 use crate::fault::Fault;
 use crate::lines::write_over;
 use crate::lists::{ListFault, numbers, policies};
@@ -7,13 +7,15 @@ use crate::source::Source;
 use clap::ArgMatches;
 use rw_photo::Shape;
 use rw_ripqwarp::Out;
-use rw_sweep::{Axes, Grid, GridFault, MAX_CONFIGURATIONS, MAX_WORKERS, Progress};
+use rw_sweep::{
+    Axes, Grid, GridFault, MAX_CONFIGURATIONS, MAX_WORKERS, Part, Progress, list, sweep_part,
+};
 use std::alloc::Global;
 use std::io::Write;
 use std::thread::{Threads, available_parallelism};
 
-/// Runs the trace that the options name through every combination of what they list, and writes the table. On a terminal
-/// one line of `err` shows how many are done.
+/// Runs the trace that the options name through every combination of what they list, or through those of a part, and writes
+/// the table; or only lists them. On a terminal one line of `err` shows how many are done, unless the options ask for quiet.
 pub(crate) fn sweep<S: Source, W: Write, E: Write, R: Threads + Sync>(
     rt: &R,
     alloc: Global,
@@ -23,13 +25,47 @@ pub(crate) fn sweep<S: Source, W: Write, E: Write, R: Threads + Sync>(
     err: &mut E,
     terminal: bool,
 ) -> Result<(), Fault> {
+    let part = part(options)?;
     let grid = Grid::new(alloc, axes(alloc, options)?).map_err(fault_of_grid)?;
+    if options.get_flag("list") {
+        return write_list(alloc, &grid, part.unwrap_or(Part::whole()), out);
+    }
     let workers = workers(rt, options);
     let trace = read(alloc, options, "trace", source)?;
+    let terminal = terminal && !options.get_flag("quiet");
     let mut shown = Shown { err, terminal };
-    let swept = rw_sweep::sweep(rt, alloc, trace.as_slice(), &grid, workers, &mut shown, out);
+    let bytes = trace.as_slice();
+    let swept = match part {
+        Some(part) => sweep_part(rt, alloc, bytes, &grid, part, workers, &mut shown, out),
+        None => rw_sweep::sweep(rt, alloc, bytes, &grid, workers, &mut shown, out),
+    };
     shown.clear();
     swept.map_err(Fault::Run)
+}
+
+/// Writes the configurations of a part as a list.
+fn write_list<W: Write>(
+    alloc: Global,
+    grid: &Grid,
+    part: Part,
+    out: &mut Out<W>,
+) -> Result<(), Fault> {
+    let text = list(alloc, grid, part).map_err(|_| Fault::Memory)?;
+    write(text.as_slice(), out)
+}
+
+/// The part that the options ask for, if they do.
+fn part(options: &ArgMatches<'_>) -> Result<Option<Part>, Fault> {
+    match options.get_str("part") {
+        Some(text) => Ok(Some(part_of(text).ok_or(Fault::Part)?)),
+        None => Ok(None),
+    }
+}
+
+/// The part that a text says, as `I/N`.
+fn part_of(text: &str) -> Option<Part> {
+    let (index, count) = text.split_once('/')?;
+    Part::new(index.parse().ok()?, count.parse().ok()?)
 }
 
 /// What the options list, and what all runs have in common.
