@@ -1,5 +1,6 @@
 pub mod Dealt
 pub mod InRange
+pub mod Joining
 pub mod Lists
 pub mod Serial
 pub mod Slots

@@ -3,6 +3,7 @@ pub mod Grids
 pub mod Table
 pub mod Sweep
 pub mod Parts
+pub mod Joining
 pub mod Lists
 pub mod Points
 pub mod Widening

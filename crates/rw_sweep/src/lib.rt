@@ -26,6 +26,7 @@ pub use axes::Axes;
 pub use choice::Choice;
 pub use grid::{Grid, GridFault, MAX_CONFIGURATIONS};
 pub use listing::list;
-pub use part::Part;
+pub use part::{Part, parts_make_the_sweep};
 pub use progress::{Progress, Silent};
 pub use sweeping::{MAX_WORKERS, every_limit, sweep, sweep_part};
+pub use table::header_text;

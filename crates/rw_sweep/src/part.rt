@@ -1,4 +1,5 @@
 ghost use Rattle.std.specs.Prelude.{◌≡◌, ◌<◌, ◌↔◌, IsSome, IfOk, IfSome};
+ghost use Rattle.rw_sweep.specs.Joining.{PartsMakeTheSweep};
 ghost use Rattle.rw_sweep.specs.Parts.{is_in_part};
 ghost use Rattle.rw_sweep.specs.Points.{points_of_part};
 
@@ -31,6 +32,13 @@ impl Part {
         }
     }
 
+    /// All of a sweep. Takes no memory.
+    pub fn whole() -> Part
+        ensures { (result.index ≡ 0) × (result.count ≡ 1) }
+    {
+        Part { index: 0, count: 1 }
+    }
+
     /// Whether the configuration at a place is in the part.
     pub(crate) fn has(self, place: usize) -> bool
         ensures { result ≡ is_in_part self.index self.count place }
@@ -59,3 +67,9 @@ pub(crate) fn points_of_part(
     }
     Ok(own)
 }
+
+/// The lines of the parts of a sweep, put in the order of their places and without them, are those of the sweep, byte for byte, in
+/// whatever order the parts come. This is a law of the definitions; the call itself does nothing.
+pub fn parts_make_the_sweep()
+    ensures { PartsMakeTheSweep }
+{}

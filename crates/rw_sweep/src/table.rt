@@ -16,6 +16,13 @@ use std::alloc::Global;
 const HEADER: &[u8] =
     b"policy,sections,block,edge_blocks,origin_blocks,caches,requests,hits,misses,coalesced,late,bypassed,inserted,evicted,reinserted,promoted,writes,splits,merges,hit_bytes,request_bytes,hit_ratio,byte_hit_ratio,flash_bytes,written_bytes,backend_requests\n";
 
+/// The line with the names of a table's columns. Takes no memory.
+pub fn header_text() -> &'static [u8]
+    ensures { result.now ≡ header_line }
+{
+    HEADER
+}
+
 /// The name of the column before those of a part.
 const PLACE: &[u8] = b"place,";
 
