@@ -1,0 +1,3 @@
+pub mod Lines
+pub mod Join
+pub mod Slots
