@@ -1,5 +1,6 @@
 use crate::fault::Fault;
 use crate::importing::import;
+use crate::joining::join;
 use crate::lines::write_line;
 use crate::options::program;
 use crate::plotting::plot;
@@ -24,7 +25,7 @@ use std::thread::Threads;
 /// |---|---|
 /// | 0 | done, also after help |
 /// | 2 | the command line, or the schedule |
-/// | 3 | the trace, log or sweep was refused |
+/// | 3 | the trace, log, sweep or its parts were refused |
 /// | 4 | its file cannot be read |
 /// | 5 | memory |
 /// | 6 | all rounds of the plan are used, or the start of a thread was refused |
@@ -93,6 +94,7 @@ fn carry_out<S: Source, W: Write, E: Write, R: Threads + Wait + Sync>(
     match name {
         "import" => import(alloc, options, source, out, err),
         "sweep" => sweep(rt, alloc, options, source, out, err, terminal),
+        "join" => join(alloc, options, source, out),
         "plot" => plot(alloc, options, source, out),
         _ => simulation(rt, alloc, name, options, source, out, err),
     }

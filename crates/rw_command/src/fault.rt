@@ -1,6 +1,7 @@
 use crate::lines::write_line;
 use crate::source::SourceFault;
 use rw_import::ImportFault;
+use rw_join::JoinFault;
 use rw_plot::PlotFault;
 use rw_ripqwarp::{ScheduleFault, SimFault};
 use std::alloc::AllocError;
@@ -45,6 +46,9 @@ pub enum Fault {
     /// The sweep was refused.
     #[error("{0}")]
     Plot(PlotFault),
+    /// The parts of a sweep were refused.
+    #[error("{0}")]
+    Join(JoinFault),
 }
 
 impl Fault {
@@ -64,8 +68,10 @@ impl Fault {
             | Fault::Source(SourceFault::Memory)
             | Fault::Import(ImportFault::Memory)
             | Fault::Plot(PlotFault::Memory)
+            | Fault::Join(JoinFault::Memory)
             | Fault::Run(SimFault::Memory) => 5,
-            Fault::Run(SimFault::Trace(_)) | Fault::Import(_) | Fault::Plot(_) => 3,
+            Fault::Run(SimFault::Trace(_)) | Fault::Import(_) | Fault::Plot(_) | Fault::Join(_) =>
+                3,
             Fault::Source(SourceFault::Read) => 4,
             Fault::Run(SimFault::Rounds | SimFault::NoThread) => 6,
             Fault::Run(SimFault::Exhausted) => 7,

@@ -7,6 +7,7 @@ mod arguments;
 mod command_line;
 mod fault;
 mod importing;
+mod joining;
 mod lines;
 mod lists;
 mod options;

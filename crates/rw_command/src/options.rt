@@ -3,6 +3,7 @@ use crate::arguments::{Argument, Kind};
 use clap::Command;
 use rw_import::MAX_TICKS;
 use rw_photo::{Config, Shape};
+use rw_sweep::MAX_CONFIGURATIONS;
 use rw_vt::END;
 use std::alloc::{AllocError, Global};
 
@@ -17,6 +18,7 @@ pub(crate) fn program<'a>(alloc: Global) -> Result<Command<'a>, AllocError> {
     let program = with_command(program, journal(alloc))?;
     let program = with_command(program, import(alloc))?;
     let program = with_command(program, sweep(alloc))?;
+    let program = with_command(program, join(alloc))?;
     with_command(program, plot(alloc))
 }
 
@@ -61,6 +63,12 @@ fn sweep<'a>(alloc: Global) -> Result<Command<'a>, AllocError> {
     let about =
         "Runs a trace through every combination of some settings and prints a table, as CSV";
     command(alloc, "sweep", about, &GRID)
+}
+
+/// The command that puts the parts of a sweep together.
+fn join<'a>(alloc: Global) -> Result<Command<'a>, AllocError> {
+    let about = "Puts the parts of a sweep together and prints the table that sweep prints";
+    command(alloc, "join", about, &PARTS)
 }
 
 /// The command that draws what a sweep printed.
@@ -408,6 +416,21 @@ const GRID: [Argument; 15] = [
         most: Config::MAX_DELAY as i64,
         default: "10",
         help: "Ticks from an origin to the backend and back, 1 to 1048576",
+    },
+];
+
+/// The parts of a sweep.
+const PARTS: [Argument; 2] = [
+    Argument::Files {
+        name: "parts",
+        value: "PART",
+        help: "What sweep --part printed, every part once, in any order; - is standard input",
+    },
+    Argument::OptionalNumber {
+        name: "of",
+        kind: Kind::Count,
+        most: MAX_CONFIGURATIONS as i64,
+        help: "Combinations that there have to be, as sweep --list counts them, 1 to 65536",
     },
 ];
 
