@@ -1,8 +1,13 @@
 -- What becomes of some parts.
-use Rattle.std.specs.Prelude.{◌≡◌, ◌<◌, ℕ, List, All, Option, IfSome, length}
+use Rattle.std.specs.Prelude.{◌≡◌, ◌<◌, ◌≤◌, ℕ, List, All, Option, IfSome, length}
 use Rattle.std.specs.List.{AllZip}
 use Rattle.rw_vt.specs.Words.{Count, Position}
-use Rattle.rw_sweep.specs.Joining.{PlacedLine, in_order_of_place, lines_of_all, lines_of_place}
+use Rattle.rw_sweep.specs.declared.axes.Axes.{Axes}
+use Rattle.rw_sweep.specs.Grids.{combinations}
+use Rattle.rw_sweep.specs.Limits.{most_configurations}
+use Rattle.rw_sweep.specs.Parts.{IsPartSweepOf}
+use Rattle.rw_sweep.specs.Sweep.{IsSweepOf}
+use Rattle.rw_sweep.specs.Joining.{HasEachOnce, PlacedLine, in_order_of_place, lines_of_all, lines_of_place}
 use Rattle.rw_join.specs.Lines.{IsPartWith}
 
 -- the text is the table of so many configurations that these parts make: each text is a part, each place is that of one of so many,
@@ -17,3 +22,10 @@ pub record IsJoinOf (texts : List (List ℕ)) (count : Count) (text : List ℕ) 
 -- the same, of as many configurations as are asked for
 abbrev pub HasJoined : List (List ℕ) → Option Count → List ℕ → Type 0
 HasJoined texts asked text = (count : Count) × IsJoinOf texts count text × IfSome asked (λ n. count ≡ n)
+
+-- what the parts of a sweep make, in whatever order, each there once, is the sweep, if its grid is not too large
+abbrev pub JoinOfPartsIsTheSweep : Type 0
+JoinOfPartsIsTheSweep =
+    (a : Axes) (bytes : List ℕ) (parts : Count) (indices : List ℕ) (texts : List (List ℕ)) (count : Count) (text : List ℕ)
+    → 0 < parts → HasEachOnce parts indices → AllZip (λ index t. IsPartSweepOf a index parts bytes t) indices texts
+    → length (combinations a) ≤ most_configurations → IsJoinOf texts count text → IsSweepOf a bytes text

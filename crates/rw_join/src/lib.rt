@@ -8,7 +8,7 @@
 //! Worked examples: `rw_tests/src/joins.rt`.
 
 ghost use Rattle.std.specs.Prelude.{◌≡◌, IfOk, map};
-ghost use Rattle.rw_join.specs.Join.{HasJoined};
+ghost use Rattle.rw_join.specs.Join.{HasJoined, JoinOfPartsIsTheSweep};
 
 mod columns;
 mod join_fault;
@@ -37,3 +37,9 @@ pub fn join(alloc: Global, texts: &[Vec<u8>], count: Option<u64>) -> Result<Vec<
     check_count(slots.as_slice(), count)?;
     put_together(alloc, slots.as_slice())
 }
+
+/// What the parts of a sweep make is the sweep. This is a law of the definitions, for whatever [`join`] answers; the call itself
+/// does nothing.
+pub fn join_of_parts()
+    ensures { JoinOfPartsIsTheSweep }
+{}

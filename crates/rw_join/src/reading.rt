@@ -1,7 +1,8 @@
 ghost use Rattle.std.specs.Prelude.{◌≡◌, ◌+◌, ◌<◌, ◌≤◌, ◌++◌, ◌∷◌, [], ℕ, List, codes, decimal, IfOk, IfSome, OnOk, length, map};
 ghost use Rattle.std.specs.Bool.{OnTrue};
 ghost use Rattle.rw_sweep.specs.Parts.{part_header, placed_line};
-ghost use Rattle.rw_join.specs.Lines.{IsLine};
+ghost use Rattle.rw_sweep.specs.Joining.{IsLine};
+ghost use Rattle.rw_sweep.specs.Limits.{most_configurations};
 ghost use Rattle.rw_join.specs.Slots.{HasReadPart, HasReadTo, HaveRead};
 
 use crate::columns::{COLUMNS, columns, first_misfit};
@@ -72,6 +73,7 @@ fn read_lines(
 fn next(file: u64, row: u64, text: &[u8]) -> Result<(u64, &[u8], &[u8]), JoinFault>
     ensures told { IfOk result (λ r.
         text.now ≡ placed_line r.0 r.1.now ++ r.2.now) }
+    ensures place { IfOk result (λ r. r.0 < most_configurations) }
     ensures line { IfOk result (λ r. IsLine r.1.now) }
 {
     let Some((line, _)) = first_line(text) else {
@@ -103,7 +105,8 @@ fn first_line(text: &[u8]) -> Option<(&[u8], &[u8])>
 
 /// The place before the first comma, as a table writes it, and what stands behind that comma; None where there is none.
 fn place(text: &[u8]) -> Option<(u64, &[u8])>
-    ensures { IfSome result (λ r. text.now ≡ decimal r.0 ++ codes "," ++ r.1.now) }
+    ensures told { IfSome result (λ r. text.now ≡ decimal r.0 ++ codes "," ++ r.1.now) }
+    ensures place { IfSome result (λ r. r.0 < most_configurations) }
 {
     let comma = text.iter().position(|byte| *byte == b',')?;
     let (field, rest) = text.split_at(comma);

@@ -4,7 +4,7 @@ use Rattle.std.specs.List.{AllZip, concat, enumerate_from, filter, flat_map, ran
 use Rattle.std.proofs.lemmas.Bool.{eqb-false, eqb-true, ne_eqb}
 use Rattle.std.proofs.lemmas.Grind.{flat_map-append}
 use Rattle.std.proofs.lemmas.List.{map-append}
-use Rattle.std.proofs.lemmas.List.Elements.{All-append, All-cons, All-filter, All-head, All-nil, All-tail, All-weaker, filter-append, filter_passes}
+use Rattle.std.proofs.lemmas.List.Elements.{All-append, All-cons, All-filter, All-head, All-map, All-nil, All-tail, All-weaker, filter-append, filter_passes}
 use Rattle.rw_vt.specs.Words.{Position}
 use Rattle.rw_trace.specs.declared.Row.{Row}
 use Rattle.rw_trace.specs.Limits.{most_rows}
@@ -14,7 +14,8 @@ use Rattle.rw_ripq.specs.declared.Policy.TheVariants.{Off}
 use Rattle.rw_sweep.specs.declared.axes.Axes.{Axes}
 use Rattle.rw_sweep.specs.declared.choice.Choice.{Choice}
 use Rattle.rw_sweep.specs.Grids.{combinations}
-use Rattle.rw_sweep.specs.Joining.{HasEachOnce, MakeTheSweep, PartsMakeTheSweep, PlacedLine, in_order_of_place, lines_of_all, lines_of_place, part_with}
+use Rattle.rw_sweep.proofs.WholeLines.{whole-lines}
+use Rattle.rw_sweep.specs.Joining.{HasEachOnce, IsLine, MakeTheSweep, PartsMakeTheSweep, PlacedLine, in_order_of_place, lines_of_all, lines_of_place, part_with}
 use Rattle.rw_sweep.specs.Parts.{AreLinesOfPlaced, IsPartSweepOf, LinesAt, dealt, is_in_part, part_header, placed_line}
 use Rattle.rw_sweep.specs.Sweep.{AreLinesOfChoice}
 use Rattle.rw_sweep.specs.Table.{header_line}
@@ -207,6 +208,21 @@ module _ (a : Axes) (rows : List Row) where
         (placed-below n (dealt x count (combinations a)) y each.0 (All-filter (λ at. is_in_part x count at.0) (λ at. at.0 < n) (enumerate_from 0 (combinations a)) within))
         (all-below xs ys each.1)
 
+    placed-whole : (ats : List (Position × Choice)) (ls : List LinesAt) → Each ats ls → All (λ l. IsLine l.line) (all_placed ls)
+    placed-whole [] [] each = All-nil (λ l. IsLine l.line)
+    placed-whole [] (y ∷ ys) each = absurd each
+    placed-whole (x ∷ xs) [] each = absurd each
+    placed-whole (x ∷ xs) (y ∷ ys) each =
+        let tell = each.0.tell in
+        All-append (λ l. IsLine l.line) (each_placed y.place y.lines) (all_placed ys)
+        (All-map (λ l. IsLine l.line) (λ line. record { place = y.place; line = line }) y.lines (whole-lines tell.config x.1 rows y.lines tell.tells)) (placed-whole xs ys each.1)
+
+    all-whole : (indices : List ℕ) (parts : List (List LinesAt)) → EachPart indices parts → All (λ l. IsLine l.line) (all_of parts)
+    all-whole [] [] each = All-nil (λ l. IsLine l.line)
+    all-whole [] (y ∷ ys) each = absurd each
+    all-whole (x ∷ xs) [] each = absurd each
+    all-whole (x ∷ xs) (y ∷ ys) each = All-append (λ l. IsLine l.line) (all_placed y) (all_of ys) (placed-whole (dealt x count (combinations a)) y each.0) (all-whole xs ys each.1)
+
     -- what the texts of parts say, of the rows of one of them
     record Read (bytes : List ℕ) (indices : List ℕ) (texts : List (List ℕ)) : Type 0 where
       parts : List (List LinesAt)
@@ -264,6 +280,7 @@ parts-make-the-sweep a bytes count (x ∷ xs) (y ∷ ys) some once each =
     record {
       parts = parts;
       have = read.have;
+      whole = all-whole a rows count (x ∷ xs) read.parts read.each;
       within = all-below a rows count (x ∷ xs) read.parts read.each;
       three = λ k l. ap length (tell k (record { policy = Off; sections = 0; block = 0; edge_blocks = 0; origin_blocks = 0 }) l).tells.told;
       are = record {

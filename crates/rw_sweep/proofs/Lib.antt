@@ -8,3 +8,4 @@ pub mod Tables
 pub mod ThreeLines
 pub mod Totals
 pub mod Widened
+pub mod WholeLines

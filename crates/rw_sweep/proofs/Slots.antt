@@ -21,7 +21,7 @@ use Rattle.rw_sweep.specs.declared.point.Point.{Point}
 use Rattle.rw_sweep.specs.declared.entry.Entry.{Entry}
 use Rattle.rw_sweep.specs.Points.{IsOfGrid}
 use Rattle.rw_sweep.specs.Sweep.{IsExhaustingSweep, IsSweepFault}
-use Rattle.rw_sweep.specs.Working.{AreSlots, HasLines, IsEntryOf, IsExhaustedAt, HasLinesAt, IsResultOf, IsTextOf}
+use Rattle.rw_sweep.specs.Working.{AreSlots, HasLines, IsEntryOf, IsExhaustedAt, HasLinesAt, IsResultOf, IsTextOfPoint}
 
 -- nothing stands in the slots yet
 pub empty-slots : (rows : List Row) (points : List Point) (slots : List (Option (Result (Vec ℕ) Refusal))) → slots ≡ replicate (length points) None → AreSlots rows points slots
@@ -53,8 +53,8 @@ placed rows points slots e are is =
         subst (λ s. IfSome s (IsResultOf rows (get_or points i p))) (sym (get_or-set_other slots e.index i (Some e.lines) d other)) (are.each i p d l)
 
 -- the texts of one configuration more
-pub texts-more : (rows : List Row) (points : List Point) (texts : List (List ℕ)) (p : Point) (text : List ℕ) → AllZip (IsTextOf rows) points texts
-    → IsTextOf rows p text → AllZip (IsTextOf rows) (points ++ p ∷ []) (texts ++ text ∷ [])
+pub texts-more : (rows : List Row) (points : List Point) (texts : List (List ℕ)) (p : Point) (text : List ℕ) → AllZip (IsTextOfPoint rows) points texts
+    → IsTextOfPoint rows p text → AllZip (IsTextOfPoint rows) (points ++ p ∷ []) (texts ++ text ∷ [])
 texts-more rows [] [] p text each is = (is, tt)
 texts-more rows [] (y ∷ ys) p text each is = absurd each
 texts-more rows (x ∷ xs) [] p text each is = absurd each
@@ -71,7 +71,7 @@ lines-more rows points n p header text new l here so_far more =
     let grown : take (n + 1) points ≡ take n points ++ p ∷ [] = take_more points n p l ∙ ap (λ x. take n points ++ x ∷ []) (sym here) in
     record {
       texts = so_far.texts ++ more.more ∷ [];
-      each = subst (λ xs. AllZip (IsTextOf rows) xs (so_far.texts ++ more.more ∷ [])) (sym grown)
+      each = subst (λ xs. AllZip (IsTextOfPoint rows) xs (so_far.texts ++ more.more ∷ [])) (sym grown)
           (texts-more rows (take n points) so_far.texts p more.more so_far.each more.tells);
       told = more.grown ∙ (ap (λ t. t ++ more.more) so_far.told ∙ (append_assoc header (concat so_far.texts) more.more ∙ ap (λ t. header ++ t) (concat-more so_far.texts more.more)));
     }

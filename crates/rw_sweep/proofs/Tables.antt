@@ -16,7 +16,7 @@ use Rattle.rw_sweep.specs.Parts.{AreLinesOfPlaced, IsPartSweepOf, LinesAt, dealt
 use Rattle.rw_sweep.specs.Points.{ArePoints, IsOfGrid, IsPoint, points_of_part, told_at}
 use Rattle.rw_sweep.specs.Sweep.{AreLinesOfChoice, IsSweepOf}
 use Rattle.rw_sweep.specs.Table.{header_line}
-use Rattle.rw_sweep.specs.Working.{HasLinesOfTrace, IsTextOf, text_of_lines}
+use Rattle.rw_sweep.specs.Working.{HasLinesOfTrace, IsTextOfPoint, text_of_lines}
 use Rattle.rw_sweep.proofs.Dealt.{all-dealt, filtered-map}
 
 -- the configurations of a grid are of it
@@ -53,7 +53,7 @@ record WholeLines (a : Axes) (rows : List Row) (points : List Point) (texts : Li
   each : AllZip (AreLinesOfChoice a rows) (map (λ p. p.choice) points) lines
   told : concat texts ≡ flat_map concat lines
 
-whole-lines : (a : Axes) (rows : List Row) (points : List Point) (texts : List (List ℕ)) → All (IsPoint a) points → All (λ p. p.place ≡ None) points → AllZip (IsTextOf rows) points texts
+whole-lines : (a : Axes) (rows : List Row) (points : List Point) (texts : List (List ℕ)) → All (IsPoint a) points → All (λ p. p.place ≡ None) points → AllZip (IsTextOfPoint rows) points texts
     → WholeLines a rows points texts
 whole-lines a rows [] [] are none each = record { lines = []; each = tt; told = refl }
 whole-lines a rows [] (t ∷ ts) are none each = absurd each
@@ -88,7 +88,7 @@ record PlacedLines (a : Axes) (rows : List Row) (ats : List (Position × Point))
   each : AllZip (AreLinesOfPlaced a rows) (map (λ at. (at.0, at.1.choice)) ats) lines
   told : concat texts ≡ flat_map (λ ls. flat_map (placed_line ls.place) ls.lines) lines
 
-placed-lines : (a : Axes) (rows : List Row) (ats : List (Position × Point)) (texts : List (List ℕ)) → All (λ at. IsPoint a at.1) ats → AllZip (IsTextOf rows) (map told_at ats) texts
+placed-lines : (a : Axes) (rows : List Row) (ats : List (Position × Point)) (texts : List (List ℕ)) → All (λ at. IsPoint a at.1) ats → AllZip (IsTextOfPoint rows) (map told_at ats) texts
     → PlacedLines a rows ats texts
 placed-lines a rows [] [] are each = record { lines = []; each = tt; told = refl }
 placed-lines a rows [] (t ∷ ts) are each = absurd each
@@ -108,7 +108,7 @@ pub part-table-of : (a : Axes) (bytes : List ℕ) (index count : ℕ) (points ow
     → IfOk r (λ text. HasLinesOfTrace a bytes own header text.items) → IfOk r (λ text. IsPartSweepOf a index count bytes text.items)
 part-table-of a bytes index count points own header (Err e) are dealt_out is h = tt
 part-table-of a bytes index count points own header (Ok text) are dealt_out is h =
-    let each : AllZip (IsTextOf h.rows) (points_of_part index count points) h.behind.texts = subst (λ ps. AllZip (IsTextOf h.rows) ps h.behind.texts) dealt_out h.behind.each in
+    let each : AllZip (IsTextOfPoint h.rows) (points_of_part index count points) h.behind.texts = subst (λ ps. AllZip (IsTextOfPoint h.rows) ps h.behind.texts) dealt_out h.behind.each in
     let all = placed-lines a h.rows (dealt index count points) h.behind.texts (all-dealt (IsPoint a) index count points are.each) each in
     let chosen : Point → Choice = λ q. q.choice in
     let same : map (λ at. (at.0, at.1.choice)) (dealt index count points) ≡ dealt index count (combinations a) =

@@ -1,5 +1,5 @@
 -- The parts of a sweep, put together again.
-use Rattle.std.specs.Prelude.{◌≡◌, ℕ, ◌<◌, ◌==◌, List, [], ◌∷◌, ◌++◌, All, length, map}
+use Rattle.std.specs.Prelude.{◌≡◌, ◌≢◌, ℕ, ◌<◌, ◌==◌, List, [], ◌∷◌, ◌++◌, All, length, map}
 use Rattle.std.specs.List.{AllZip, concat, filter, flat_map, range_with_len}
 use Rattle.rw_vt.specs.Words.{Count, Position}
 use Rattle.rw_sweep.specs.declared.axes.Axes.{Axes}
@@ -7,6 +7,16 @@ use Rattle.rw_sweep.specs.Grids.{combinations}
 use Rattle.rw_sweep.specs.Parts.{IsPartSweepOf, part_header, placed_line}
 use Rattle.rw_sweep.specs.Sweep.{IsSweepOf}
 use Rattle.rw_sweep.specs.Table.{header_line}
+
+-- the byte that ends a line
+abbrev pub newline : ℕ
+newline = 10
+
+-- the text is one line: it has an end, and nothing behind it
+pub record IsLine (text : List ℕ) : Type 0 where
+  pub body : List ℕ
+  pub ends : text ≡ body ++ newline ∷ []
+  pub one : All (λ b. b ≢ newline) body
 
 -- a line of a part, beside the place that stands before it
 pub record PlacedLine : Type 0 where
@@ -38,6 +48,7 @@ HasEachOnce count indices = (i : ℕ) → i < count → filter (λ j. j == i) in
 pub record MakeTheSweep (a : Axes) (bytes : List ℕ) (texts : List (List ℕ)) : Type 0 where
   pub parts : List (List PlacedLine)
   pub have : AllZip (λ text ls. text ≡ part_with ls) texts parts
+  pub whole : All (λ l. IsLine l.line) (lines_of_all parts)
   pub within : All (λ l. l.place < length (combinations a)) (lines_of_all parts)
   pub three : (place : Position) → place < length (combinations a) → length (lines_of_place (lines_of_all parts) place) ≡ 3
   pub are : IsSweepOf a bytes (in_order_of_place (length (combinations a)) (lines_of_all parts))

@@ -40,7 +40,7 @@ abbrev pub text_of_lines : Option Position → List (List ℕ) → List ℕ
 text_of_lines place lines = flat_map (λ line. before_line place ++ line) lines
 
 -- the text is the lines of a configuration at work on these rows
-pub record IsTextOf (rows : List Row) (p : Point) (text : List ℕ) : Type 0 where
+pub record IsTextOfPoint (rows : List Row) (p : Point) (text : List ℕ) : Type 0 where
   pub lines : List (List ℕ)
   pub tell : AreLinesOf p.config p.choice rows lines
   pub told : text ≡ text_of_lines p.place lines
@@ -48,7 +48,7 @@ pub record IsTextOf (rows : List Row) (p : Point) (text : List ℕ) : Type 0 whe
 -- what became of a configuration: its lines, or why there are none
 abbrev pub IsResultOf : List Row → Point → Result (Vec ℕ) Refusal → Type 0
 IsResultOf rows p r =
-    MatchResult r (λ text. IsTextOf rows p text.items)
+    MatchResult r (λ text. IsTextOfPoint rows p text.items)
     (λ refusal. refusal ≡ Exhausted → IsExhaustedAt rows p)
 
 -- the entry says what became of the configuration of its number
@@ -64,13 +64,13 @@ pub record AreSlots (rows : List Row) (points : List Point) (slots : List (Optio
 -- the text has grown by the lines of a configuration
 pub record HasLinesAt (rows : List Row) (p : Point) (old new : List ℕ) : Type 0 where
   pub more : List ℕ
-  pub tells : IsTextOf rows p more
+  pub tells : IsTextOfPoint rows p more
   pub grown : new ≡ old ++ more
 
 -- the text has the lines of these configurations behind a header, in order
 pub record HasLines (rows : List Row) (points : List Point) (header text : List ℕ) : Type 0 where
   pub texts : List (List ℕ)
-  pub each : AllZip (IsTextOf rows) points texts
+  pub each : AllZip (IsTextOfPoint rows) points texts
   pub told : text ≡ header ++ concat texts
 
 -- the text has the lines of these configurations behind a header: the trace in these bytes is accepted, and they were at work on

@@ -18,6 +18,8 @@ mod imports;
 #[cfg(test)]
 mod insertions;
 #[cfg(test)]
+mod joins;
+#[cfg(test)]
 mod notes;
 #[cfg(test)]
 mod parcels;
