@@ -13,7 +13,7 @@ use Rattle.rw_sweep.specs.Table.{header_line}
 use Rattle.rw_join.specs.declared.join_fault.JoinFault.{JoinFault}
 use Rattle.rw_join.specs.declared.slots.Slot.{Slot}
 use Rattle.rw_join.specs.Join.{HasJoined, IsJoinOf}
-use Rattle.rw_join.specs.Lines.{IsPartWith, IsPlaced}
+use Rattle.rw_join.specs.Lines.{IsPartWith, IsPartLine}
 use Rattle.rw_join.specs.Slots.{AreSlotsOf, HasReadPart, HasReadTo, HaveGained, HaveRead}
 use Rattle.rw_join.proofs.Gaining.{concat-more, gained-nothing, gained-then}
 
@@ -22,10 +22,10 @@ text_of ls = flat_map (λ l. placed_line l.place l.line) ls
 
 -- nothing has been read yet
 pub read-none : (text : List ℕ) (slots : List Slot) → HasReadTo text text slots slots
-read-none text slots = record { own = []; told = refl; lines = All-nil IsPlaced; gained = gained-nothing slots }
+read-none text slots = record { own = []; told = refl; lines = All-nil IsPartLine; gained = gained-nothing slots }
 
 -- a line more
-pub read-more : (text rest after : List ℕ) (place : Position) (line : List ℕ) (old mid new : List Slot) → HasReadTo text rest old mid → rest ≡ placed_line place line ++ after → IsPlaced (record { place = place; line = line })
+pub read-more : (text rest after : List ℕ) (place : Position) (line : List ℕ) (old mid new : List Slot) → HasReadTo text rest old mid → rest ≡ placed_line place line ++ after → IsPartLine (record { place = place; line = line })
     → HaveGained (record { place = place; line = line } ∷ []) mid new → HasReadTo text after old new
 unfolding text_of
 read-more text rest after place line old mid new so_far is whole more =
@@ -36,7 +36,7 @@ read-more text rest after place line old mid new so_far is whole more =
     record {
       own = so_far.own ++ one ∷ [];
       told = so_far.told ∙ (ap (λ t. text_of so_far.own ++ t) is ∙ (sym (append_assoc (text_of so_far.own) p after) ∙ ap (λ t. t ++ after) (sym all)));
-      lines = All-append IsPlaced so_far.own (one ∷ []) so_far.lines (All-cons IsPlaced one [] whole (All-nil IsPlaced));
+      lines = All-append IsPartLine so_far.own (one ∷ []) so_far.lines (All-cons IsPartLine one [] whole (All-nil IsPartLine));
       gained = gained-then so_far.own (one ∷ []) old mid new so_far.gained more;
     }
 

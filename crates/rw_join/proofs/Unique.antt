@@ -16,7 +16,7 @@ use Rattle.rw_sweep.specs.Sweep.{IsSweepOf}
 use Rattle.rw_sweep.proofs.Joining.{parts-make-the-sweep}
 use Rattle.rw_sweep.proofs.WholeLines.{digits-decimal}
 use Rattle.rw_join.specs.Join.{IsJoinOf, JoinOfPartsIsTheSweep}
-use Rattle.rw_join.specs.Lines.{IsPartWith, IsPlaced}
+use Rattle.rw_join.specs.Lines.{IsPartWith, IsPartLine}
 use Rattle.rw_join.proofs.Gaining.{none-above}
 
 -- the first of a byte tells what stands before it and behind it
@@ -44,7 +44,7 @@ record SameLine (x y : PlacedLine) (r s : List ℕ) : Type 0 where
   line : x ≡ y
   rest : r ≡ s
 
-one-line : (x y : PlacedLine) (r s : List ℕ) → IsPlaced x → IsPlaced y → placed_line x.place x.line ++ r ≡ placed_line y.place y.line ++ s → SameLine x y r s
+one-line : (x y : PlacedLine) (r s : List ℕ) → IsPartLine x → IsPartLine y → placed_line x.place x.line ++ r ≡ placed_line y.place y.line ++ s → SameLine x y r s
 one-line x y r s a b same =
     let numbers = first-at 44 (decimal x.place) (decimal y.place) (x.line ++ r) (y.line ++ s) (no-comma x.place) (no-comma y.place) (sym (taken-apart x.place x.line r) ∙ (same ∙ taken-apart y.place y.line s)) in
     let place : x.place ≡ y.place = decimal_injective x.place y.place (below x.place a.place) (below y.place b.place) numbers.front in
@@ -66,14 +66,14 @@ some p l r none =
     let more : length (44 ∷ (l ++ r)) ≡ suc (length (l ++ r)) = refl in
     omega (arith, long, more, length-append (decimal p) (44 ∷ (l ++ r)))
 
-same-lines : (xs ys : List PlacedLine) → All IsPlaced xs → All IsPlaced ys → text_of xs ≡ text_of ys → xs ≡ ys
+same-lines : (xs ys : List PlacedLine) → All IsPartLine xs → All IsPartLine ys → text_of xs ≡ text_of ys → xs ≡ ys
 unfolding text_of
 same-lines [] [] a b same = refl
 same-lines [] (y ∷ ys) a b same = absurd (some y.place y.line (text_of ys) (sym same))
 same-lines (x ∷ xs) [] a b same = absurd (some x.place x.line (text_of xs) same)
 same-lines (x ∷ xs) (y ∷ ys) a b same =
-    let one = one-line x y (text_of xs) (text_of ys) (All-head IsPlaced x xs a) (All-head IsPlaced y ys b) same in
-    let rest = same-lines xs ys (All-tail IsPlaced x xs a) (All-tail IsPlaced y ys b) one.rest in
+    let one = one-line x y (text_of xs) (text_of ys) (All-head IsPartLine x xs a) (All-head IsPartLine y ys b) same in
+    let rest = same-lines xs ys (All-tail IsPartLine x xs a) (All-tail IsPartLine y ys b) one.rest in
     λ i. one.line i ∷ rest i
 
 module _ {X : Type 0} (P : X → Type 0) where
@@ -86,7 +86,7 @@ module _ {X : Type 0} (P : X → Type 0) where
   back-of (x ∷ xs) ys all = back-of xs ys (All-tail P x (xs ++ ys) all)
 
 -- two readings of the same texts
-same-parts : (texts : List (List ℕ)) (ps qs : List (List PlacedLine)) → AllZip IsPartWith texts ps → AllZip (λ text ls. text ≡ part_with ls) texts qs → All IsPlaced (lines_of_all qs) → ps ≡ qs
+same-parts : (texts : List (List ℕ)) (ps qs : List (List PlacedLine)) → AllZip IsPartWith texts ps → AllZip (λ text ls. text ≡ part_with ls) texts qs → All IsPartLine (lines_of_all qs) → ps ≡ qs
 unfolding text_of
 same-parts [] [] [] a b placed = refl
 same-parts [] (p ∷ ps) qs a b placed = absurd a
@@ -95,8 +95,8 @@ same-parts (t ∷ ts) [] qs a b placed = absurd a
 same-parts (t ∷ ts) (p ∷ ps) [] a b placed = absurd b
 same-parts (t ∷ ts) (p ∷ ps) (q ∷ qs) a b placed =
     let texts : text_of p ≡ text_of q = append_cancel_left part_header (text_of p) (text_of q) (sym a.0.told ∙ b.0) in
-    let one = same-lines p q a.0.lines (front-of IsPlaced q (lines_of_all qs) placed) texts in
-    let rest = same-parts ts ps qs a.1 b.1 (back-of IsPlaced q (lines_of_all qs) placed) in
+    let one = same-lines p q a.0.lines (front-of IsPartLine q (lines_of_all qs) placed) texts in
+    let rest = same-parts ts ps qs a.1 b.1 (back-of IsPartLine q (lines_of_all qs) placed) in
     λ i. one i ∷ rest i
 
 -- as many places, by the same lines
@@ -115,7 +115,7 @@ pub join-of-parts : JoinOfPartsIsTheSweep
 join-of-parts a bytes parts indices texts count text many once each few joined =
     let made : MakeTheSweep a bytes texts = parts-make-the-sweep a bytes parts indices texts many once each in
     let n : ℕ = length (combinations a) in
-    let placed : All IsPlaced (lines_of_all made.parts) = λ k d l. record { whole = made.whole k d l; place = (let here = made.within k d l in omega (arith, here, few)) } in
+    let placed : All IsPartLine (lines_of_all made.parts) = λ k d l. record { whole = made.whole k d l; place = (let here = made.within k d l in omega (arith, here, few)) } in
     let same = same-parts texts joined.parts made.parts joined.have made.have placed in
     let lines : lines_of_all joined.parts ≡ lines_of_all made.parts = ap lines_of_all same in
     let within : All (λ l. l.place < count) (lines_of_all made.parts) = subst (All (λ l. l.place < count)) lines joined.within in

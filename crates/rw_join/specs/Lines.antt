@@ -4,11 +4,11 @@ use Rattle.rw_sweep.specs.Joining.{IsLine, PlacedLine, part_with}
 use Rattle.rw_sweep.specs.Limits.{most_configurations}
 
 -- one line, and a place that a configuration can have
-pub record IsPlaced (l : PlacedLine) : Type 0 where
+pub record IsPartLine (l : PlacedLine) : Type 0 where
   pub whole : IsLine l.line
   pub place : l.place < most_configurations
 
 -- the text is a part that has these lines
 pub record IsPartWith (text : List ℕ) (ls : List PlacedLine) : Type 0 where
   pub told : text ≡ part_with ls
-  pub lines : All IsPlaced ls
+  pub lines : All IsPartLine ls

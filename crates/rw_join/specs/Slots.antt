@@ -5,7 +5,7 @@ use Rattle.rw_vt.specs.Words.{Position}
 use Rattle.rw_sweep.specs.Joining.{PlacedLine, lines_of_all, lines_of_place}
 use Rattle.rw_sweep.specs.Parts.{placed_line}
 use Rattle.rw_join.specs.declared.slots.Slot.{Slot}
-use Rattle.rw_join.specs.Lines.{IsPartWith, IsPlaced}
+use Rattle.rw_join.specs.Lines.{IsPartWith, IsPartLine}
 
 -- a slot holds these lines
 pub record IsSlotOf (lines : List (List ℕ)) (slot : Slot) : Type 0 where
@@ -25,7 +25,7 @@ HaveGained own old new = (ls : List PlacedLine) → AreSlotsOf ls old → AreSlo
 pub record HasReadTo (text rest : List ℕ) (old new : List Slot) : Type 0 where
   pub own : List PlacedLine
   pub told : text ≡ flat_map (λ l. placed_line l.place l.line) own ++ rest
-  pub lines : All IsPlaced own
+  pub lines : All IsPartLine own
   pub gained : HaveGained own old new
 
 -- the part has been read: it has these lines, and the slots have gained them

@@ -1,11 +1,12 @@
 // Parts of a sweep: cut and joined again they are the sweep, and each fault of a part has its line.
 use crate::pipe::Pipe;
-use rw_join::join;
+use rw_join::{join, join_of_parts};
 use rw_photo::Policy;
 use rw_ripqwarp::Out;
 use rw_sweep::{Axes, Grid, Part, Silent, list, parts_make_the_sweep, sweep, sweep_part};
 use std::alloc::{AllocError, Global};
 use std::test::Fail;
+use std::thread::Threads;
 
 /// Two requests for two objects of 4 bytes.
 const TRACE: &[u8] = b"time,edge,object,size\n5,0,7,4\n100,0,8,4\n";
@@ -16,6 +17,7 @@ const HEADER: &[u8] =
 
 /// What stands behind the place and before the caches of a line, and behind those.
 const FRONT: &[u8] = b",lru,8,1,4,4,";
+
 const BACK: &[u8] = b",1,2,3,4,5,6,7,8,9,10,11,12,13,14,15,0.500000,1.000000,65536,77,99\n";
 
 /// Five configurations: one policy, with 1 to 5 blocks on the edge.
@@ -36,8 +38,7 @@ fn grid(alloc: Global) -> Result<Grid, Fail> {
 }
 
 /// The table of the grid, or of a part of it.
-fn swept(rt: &HostRuntime, part: Option<Part>) -> Result<Vec<u8>, Fail> {
-    let alloc = rt.alloc();
+fn swept<R: Threads + Sync>(rt: &R, alloc: Global, part: Option<Part>) -> Result<Vec<u8>, Fail> {
     let grid = grid(alloc)?;
     let mut out = Out::new(Pipe::new(alloc, 1000, 99, false));
     let done = match part {
@@ -51,13 +52,14 @@ fn swept(rt: &HostRuntime, part: Option<Part>) -> Result<Vec<u8>, Fail> {
 #[test]
 fn parts_make_the_table(rt: HostRuntime) -> Result<(), Fail> {
     parts_make_the_sweep();
+    join_of_parts();
     let alloc = rt.alloc();
-    let whole = swept(&rt, None)?;
+    let whole = swept(&rt, alloc, None)?;
     for count in [1, 2, 5, 7] {
         let mut parts = Vec::new(alloc);
         for index in (0..count).rev() {
             let part = Part::new(index, count).ok_or("part")?;
-            parts.push(swept(&rt, Some(part))?)?;
+            parts.push(swept(&rt, alloc, Some(part))?)?;
         }
         let joined = join(alloc, parts.as_slice(), Some(5)).ok().ok_or("join")?;
         assert!(rt; joined.as_slice() == whole.as_slice());
