@@ -24,6 +24,8 @@ mod notes;
 #[cfg(test)]
 mod parcels;
 #[cfg(test)]
+mod phold_runs;
+#[cfg(test)]
 mod photo_rounds;
 #[cfg(test)]
 mod pipe;

@@ -1,0 +1,127 @@
+ghost use Rattle.std.specs.Prelude.{◌≡◌, ◌↔◌, Err, IfErr, IfOk};
+ghost use Rattle.rw_vt.specs.Limits.{end_of_time};
+ghost use Rattle.rw_vt.specs.System.{IsReady, Meets, system};
+ghost use Rattle.rw_rounds.specs.Plans.{IsInRanges};
+ghost use Rattle.rw_world.specs.Calls.{MeetsAt};
+ghost use Rattle.rw_world.specs.WorldState.{opening_world};
+ghost use Rattle.rw_engine.specs.Runs.{IsByBadPlan, ComesToExhaustion, IsOfAnyRun, HasRun};
+
+use crate::how::{How, Ran};
+use rw_rounds::{Open, Plan, Stop, Traffic};
+use rw_serial::last_states;
+use rw_vt::{Event, Model as VtModel, Outcome};
+use rw_world::{Step, World};
+use std::alloc::Global;
+use std::sync::Wait;
+use std::thread::Threads;
+
+/// Runs a model from these states, one for each process, with these events from outside, in any order: in order of time, in
+/// rounds, or by steps. In order and in rounds what comes of it is the serial outcome: the states that executing all events in
+/// order of time leaves. By steps it is the world to which they lead, in which what is committed is that outcome's beginning.
+///
+/// # Errors
+///
+/// `BadPlan` exactly where a field of the plan is out of its range; `Exhausted` only where a process was to execute an event
+/// in a state that can take no further one; `RoundsUsed` and `NoThread` only in rounds; `Memory` where memory was refused.
+/// Nothing is handed back then.
+pub fn run_in<M, R>(
+    rt: &R,
+    alloc: Global,
+    model: M,
+    starts: Vec<M::State>,
+    initial: Vec<Event<M::Body>>,
+    how: How<'_>,
+) -> Result<Ran<M>, Stop>
+where
+    M: VtModel + Drop + Sync,
+    M::State: Send,
+    M::Body: Send,
+    M::Undo: Send,
+    R: Threads + Wait + Sync,
+    requires { IsReady M.Model model starts.items initial.items }
+    ensures ran { IfOk result
+        (HasRun M.Model M.Body.cmp model starts.items initial.items how.entry) }
+    ensures plan { (result ≡ Err Stop.BadPlan) ↔ IsByBadPlan how.entry }
+    ensures exhausted { result ≡ Err Stop.Exhausted
+        → ComesToExhaustion (system M.Model M.Body.cmp model starts.items initial.items)
+        (M.is_exhausted model) how.entry }
+{
+    match how {
+        How::InOrder => in_order(alloc, &model, starts, initial),
+        How::InRounds(plan) => in_rounds(rt, alloc, model, starts, initial, plan),
+        How::BySteps(steps) => by_steps(alloc, model, starts, initial, steps),
+    }
+}
+
+/// The states after all events, executed in order of time.
+fn in_order<M: VtModel>(
+    alloc: Global,
+    model: &M,
+    starts: Vec<M::State>,
+    initial: Vec<Event<M::Body>>,
+) -> Result<Ran<M>, Stop>
+    requires { IsReady M.Model model.now starts.items initial.items }
+    ensures ran { IfOk result
+        (HasRun M.Model M.Body.cmp model.now starts.items initial.items How.InOrder) }
+    ensures exhausted { result ≡ Err Stop.Exhausted
+        → Meets (system M.Model M.Body.cmp model.now starts.items initial.items) end_of_time
+        (M.is_exhausted model.now) }
+    ensures others { IfErr result IsOfAnyRun }
+{
+    let states = last_states(alloc, model, starts, initial)?;
+    Ok(Ran::Finished(states, Traffic::default()))
+}
+
+/// The states after all events, executed in rounds of workers.
+fn in_rounds<M, R>(
+    rt: &R,
+    alloc: Global,
+    model: M,
+    starts: Vec<M::State>,
+    initial: Vec<Event<M::Body>>,
+    plan: Plan,
+) -> Result<Ran<M>, Stop>
+where
+    M: VtModel + Drop + Sync,
+    M::State: Send,
+    M::Body: Send,
+    M::Undo: Send,
+    R: Threads + Wait + Sync,
+    requires { IsReady M.Model model starts.items initial.items }
+    ensures ran { IfOk result
+        (HasRun M.Model M.Body.cmp model starts.items initial.items (How.InRounds plan)) }
+    ensures plan { (result ≡ Err Stop.BadPlan) ↔ (IsInRanges plan → ⊥) }
+{
+    if !plan.is_valid() {
+        return Err(Stop::BadPlan);
+    }
+    let world = World::open(alloc, model, starts, initial)?;
+    let (outcome, traffic) = rw_rounds::run(rt, alloc, world, plan, &Open)?;
+    let Outcome {
+        journals: _,
+        states,
+    } = outcome;
+    Ok(Ran::Finished(states, traffic))
+}
+
+/// The world to which steps lead, and what each answered.
+fn by_steps<M: VtModel + Drop>(
+    alloc: Global,
+    model: M,
+    starts: Vec<M::State>,
+    initial: Vec<Event<M::Body>>,
+    steps: &[Step],
+) -> Result<Ran<M>, Stop>
+    requires { IsReady M.Model model starts.items initial.items }
+    ensures ran { IfOk result
+        (HasRun M.Model M.Body.cmp model starts.items initial.items (How.BySteps steps.entry)) }
+    ensures exhausted { result ≡ Err Stop.Exhausted
+        → MeetsAt (system M.Model M.Body.cmp model starts.items initial.items)
+        (opening_world (system M.Model M.Body.cmp model starts.items initial.items))
+        (M.is_exhausted model) steps.now }
+    ensures others { IfErr result IsOfAnyRun }
+{
+    let world = World::open(alloc, model, starts, initial)?;
+    let (world, answers) = world.run_steps(alloc, steps)?;
+    Ok(Ran::Stepped(world, answers))
+}

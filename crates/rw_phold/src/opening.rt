@@ -1,0 +1,64 @@
+ghost use Rattle.std.specs.Prelude.{◌≡◌, ◌≤◌, All, IfOk, length, true};
+ghost use Rattle.rw_vt.specs.System.{IsReady};
+ghost use Rattle.rw_phold.specs.Balls.{IsHolder, is_sound_ball};
+ghost use Rattle.rw_phold.specs.contracts.phold.PholdVtModel.TheImpl as model;
+
+use crate::phold::{Ball, Holder, Phold, draw};
+use rw_vt::{Event, NoMemory};
+use std::alloc::Global;
+
+/// What a run begins with: each process as it starts, and `population` balls, of which ball n comes to process n modulo
+/// the number of processes, at a time that is drawn below the spread. All that is drawn comes from `seed`.
+pub fn beginning(
+    alloc: Global,
+    phold: &Phold,
+    population: u32,
+    seed: u64,
+) -> Result<(Vec<Holder>, Vec<Event<Ball>>), NoMemory>
+    ensures { IfOk result (λ r. IsReady model.ghosts phold.now r.0.items r.1.items) }
+{
+    let starts = holders(alloc, phold, seed)?;
+    let initial = balls(alloc, phold, population, seed)?;
+    Ok((starts, initial))
+}
+
+/// Each process as it starts.
+fn holders(alloc: Global, phold: &Phold, seed: u64) -> Result<Vec<Holder>, NoMemory>
+    ensures count { IfOk result (λ v. length v.items ≡ phold.now.processes) }
+    ensures each { IfOk result (λ v. All IsHolder v.items) }
+{
+    let mut holders = Vec::new(alloc);
+    for process in 0..phold.processes {
+        holders.push(Holder {
+            random: draw(draw(seed ^ u64::from(process))),
+            sum: 0,
+            sends: 0,
+            events: 0,
+        })?;
+    }
+    Ok(holders)
+}
+
+/// The balls as they first come.
+fn balls(
+    alloc: Global,
+    phold: &Phold,
+    population: u32,
+    seed: u64,
+) -> Result<Vec<Event<Ball>>, NoMemory>
+    ensures { IfOk result (λ v. All (λ e. is_sound_ball phold.now e ≡ true) v.items) }
+{
+    let mut balls = Vec::new(alloc);
+    let mut random = seed;
+    for number in 0..population {
+        random = draw(random);
+        balls.push(Event {
+            time: (random >> 32) % phold.spread,
+            source: 0,
+            number: u64::from(number),
+            to: number % phold.processes,
+            body: Ball { number },
+        })?;
+    }
+    Ok(balls)
+}

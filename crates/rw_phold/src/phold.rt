@@ -1,0 +1,214 @@
+ghost use Rattle.std.specs.Prelude.{◌≡◌, ◌≤◌, ◌<◌, ◌^◌, IfSome};
+ghost use Rattle.rw_vt.specs.Limits.{end_of_time};
+ghost use Rattle.rw_phold.specs.Draws.{drawn, undrawn};
+
+use rw_vt::{END, Event, Model as VtModel, NoMemory, Refusal};
+use std::alloc::Global;
+
+/// The most processes.
+pub const MAX_PROCESSES: u32 = 1 << 16;
+
+/// The most ticks of the lookahead, and of the spread.
+pub const MAX_TICKS: u64 = 1 << 20;
+
+/// What a run of PHOLD is set up with.
+#[derive(Clone, Copy, Debug)]
+pub struct Phold {
+    /// How many processes there are, 1 to [`MAX_PROCESSES`].
+    pub processes: u32,
+    /// How many of 65536 balls go to a process that is drawn from all; the others stay.
+    pub remote: u32,
+    /// The least time for which a ball is held, in ticks, 1 to [`MAX_TICKS`].
+    pub lookahead: u64,
+    /// A ball is held for the lookahead and a time that is drawn below this, in ticks, 1 to [`MAX_TICKS`].
+    pub spread: u64,
+    /// No ball comes at this time or later, in ticks, up to [`END`].
+    pub until: u64,
+    ghost some_processes: { 1 ≤ processes },
+    ghost few_processes: { processes ≤ 2 ^ 16 },
+    ghost some_lookahead: { 1 ≤ lookahead },
+    ghost few_lookahead: { lookahead ≤ 2 ^ 20 },
+    ghost some_spread: { 1 ≤ spread },
+    ghost few_spread: { spread ≤ 2 ^ 20 },
+    ghost before_end: { until ≤ end_of_time },
+}
+
+impl Phold {
+    ghost use Rattle.rw_phold.specs.Balls.{place_by};
+
+    /// A setting; `None` exactly where a number is out of its range. Takes no memory.
+    pub fn new(
+        processes: u32,
+        remote: u32,
+        lookahead: u64,
+        spread: u64,
+        until: u64,
+    ) -> Option<Phold>
+        ensures processes { IfSome result (λ m. m.processes ≡ processes) }
+        ensures remote { IfSome result (λ m. m.remote ≡ remote) }
+        ensures lookahead { IfSome result (λ m. m.lookahead ≡ lookahead) }
+        ensures spread { IfSome result (λ m. m.spread ≡ spread) }
+        ensures until { IfSome result (λ m. m.until ≡ until) }
+    {
+        let counts = (1..=MAX_PROCESSES).contains(&processes);
+        let times = (1..=MAX_TICKS).contains(&lookahead) && (1..=MAX_TICKS).contains(&spread);
+        if !counts || !times || until > END {
+            return None;
+        }
+        Some(Phold {
+            processes,
+            remote,
+            lookahead,
+            spread,
+            until,
+        })
+    }
+
+    /// The process to which a ball of `process` goes, by what was drawn.
+    fn place(&self, process: u32, draw: u64) -> u32
+        ensures { result ≡ place_by self.now process draw }
+    {
+        if draw >> 48 < u64::from(self.remote) {
+            ((draw >> 16) % u64::from(self.processes)) as u32
+        } else {
+            process
+        }
+    }
+}
+
+/// What a process keeps.
+#[derive(Clone, Copy, Debug, Default, PartialEq, Eq)]
+pub struct Holder {
+    /// What was drawn last.
+    pub random: u64,
+    /// The times of its events, mixed in their order.
+    pub sum: u64,
+    /// How many balls it passed on, modulo 2^64.
+    pub sends: u64,
+    /// How many events it executed, modulo 2^64.
+    pub events: u64,
+}
+
+/// What comes to a process.
+#[derive(Clone, Copy, Debug, PartialEq, Eq, PartialOrd, Ord)]
+pub struct Ball {
+    /// Which ball it is.
+    pub number: u32,
+}
+
+/// Whether a ball was passed on.
+#[derive(Clone, Copy, Debug, PartialEq, Eq)]
+pub struct Passed(pub bool);
+
+/// The number that is drawn after another (Knuth's MMIX).
+pub(crate) fn draw(last: u64) -> u64
+    ensures { result ≡ drawn last }
+{
+    last.wrapping_mul(6_364_136_223_846_793_005)
+        .wrapping_add(1_442_695_040_888_963_407)
+}
+
+/// The number after which another is drawn.
+fn undraw(next: u64) -> u64
+    ensures { result ≡ undrawn next }
+{
+    next.wrapping_sub(1_442_695_040_888_963_407)
+        .wrapping_mul(13_877_824_140_714_322_085)
+}
+
+impl VtModel for Phold {
+    type State = Holder;
+
+    type Body = Ball;
+
+    type Undo = Passed;
+
+    ghost use Rattle.std.specs.Prelude.{ℕ, Bool, false};
+    ghost use Rattle.std.proofs.Common.{arith};
+    ghost use Rattle.rw_phold.specs.Balls.{IsHolder, IsPassed, ball_same, is_sound_ball, phold_future, phold_keeps, phold_ranges, phold_step};
+
+    ghost process_count = { λ m. m.processes };
+
+    ghost is_valid = { is_sound_ball };
+
+    ghost IsWellFormed = { λ _ _ s. IsHolder s };
+
+    ghost is_exhausted = { λ _ _. false };
+
+    ghost step = { phold_step };
+
+    ghost Links = { IsPassed };
+
+    ghost weight = { λ _. 1 };
+
+    ghost weight_bound = { λ _ _ _ _. 1 };
+
+    fn processes(&self) -> u32 {
+        self.processes
+    }
+
+    fn valid(&self, event: &Event<Ball>) -> bool {
+        let _number = event.number;
+        let _ball = event.body.number;
+        event.time < END && event.source <= self.processes && event.to < self.processes
+    }
+
+    fn exhausted(&self, _state: &Holder) -> bool {
+        false
+    }
+
+    fn execute(
+        &self,
+        _alloc: Global,
+        process: u32,
+        state: &mut Holder,
+        event: &Event<Ball>,
+        out: &mut Vec<Event<Ball>>,
+    ) -> Result<Passed, Refusal> {
+        let first = draw(state.random);
+        let second = draw(first);
+        let time = event.time + self.lookahead + (first >> 32) % self.spread;
+        let passed = time < self.until;
+        if passed {
+            out.push(Event {
+                time,
+                source: process + 1,
+                number: state.sends,
+                to: self.place(process, second),
+                body: event.body,
+            })?;
+            state.sends = state.sends.wrapping_add(1);
+        }
+        state.random = second;
+        state.sum = draw(state.sum.wrapping_add(event.time));
+        state.events = state.events.wrapping_add(1);
+        Ok(Passed(passed))
+    }
+
+    fn reverse(
+        &self,
+        _alloc: Global,
+        _process: u32,
+        state: &mut Holder,
+        event: &Event<Ball>,
+        undo: Passed,
+    ) -> Result<(), NoMemory> {
+        state.events = state.events.wrapping_sub(1);
+        state.sum = undraw(state.sum).wrapping_sub(event.time);
+        state.random = undraw(undraw(state.random));
+        if undo.0 {
+            state.sends = state.sends.wrapping_sub(1);
+        }
+        Ok(())
+    }
+
+    ghost ranges = { phold_ranges };
+
+    ghost keeps = { phold_keeps };
+
+    ghost future = { phold_future };
+
+    ghost same = { ball_same };
+
+    ghost light = { λ _ _ _ _ _ _ _. Prim.omega arith };
+}
