@@ -1,5 +1,7 @@
 // Imports: the trace of a log, what is counted as left out, and the line of each fault.
-use rw_import::{Dealing, ImportFault, Imported, Options, import_oracle};
+use rw_import::{
+    Column, Dealing, ImportFault, Imported, Layout, Options, import_csv, import_oracle,
+};
 use std::alloc::Global;
 use std::test::Fail;
 
@@ -79,4 +81,35 @@ fn options_have_ranges(rt: HostRuntime) {
     assert!(rt; Options::new(1, 0, Dealing::ByObject, false).is_none());
     assert!(rt; Options::new(1, 257, Dealing::ByObject, false).is_none());
     assert!(rt; Options::new(1_000_000_000, 256, Dealing::ByObject, false).is_some());
+}
+
+/// A column by its name.
+fn named(alloc: Global, name: &[u8]) -> Result<Column, Fail> {
+    Ok(Column::Named(Vec::from_slice(alloc, name)?))
+}
+
+#[test]
+fn fields_become_rows(rt: HostRuntime) -> Result<(), Fail> {
+    let layout = Layout {
+        delimiter: b';',
+        time: named(rt.alloc(), b"t")?,
+        object: named(rt.alloc(), b"o")?,
+        size: Column::At(0),
+        edge: Some(named(rt.alloc(), b"e")?),
+        kind: Some(named(rt.alloc(), b"k")?),
+    };
+    let options = Options::new(1000, 2, Dealing::ByRow, false).ok_or("options")?;
+    let log = b"size;t;o;k;e\n5;10.5;b;GET;255\n6;9;a;get;256\n7;9.0000000009;a;Purge;3\n0;9;a;get;1\n8;12.25;b;get;0\n3;x;b;get;0\n3;1;;get;0\n3;1;b;no;0\n3;1\n";
+    let answer = import_csv(rt.alloc(), log.as_slice(), &layout, &options)?;
+    assert_eq!(rt;
+        answer.text.as_slice(),
+        b"time,edge,object,size,kind\n1500,255,0,5,get\n0,3,1,7,purge\n3250,0,0,8,get\n".as_slice()
+    );
+    assert_eq!(rt; answer.left_out.length, 1);
+    assert_eq!(rt; answer.left_out.time, 1);
+    assert_eq!(rt; answer.left_out.edge, 1);
+    assert_eq!(rt; answer.left_out.object, 1);
+    assert_eq!(rt; answer.left_out.size, 1);
+    assert_eq!(rt; answer.left_out.kind, 1);
+    Ok(())
 }
