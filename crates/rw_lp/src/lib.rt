@@ -33,9 +33,9 @@ pub use places::put_back;
 pub use rw_vt::{Event, Letter, Model, Refusal};
 pub use step::{Answer, StepFault};
 
-/// Each step of a sound process keeps it sound. It changes what is done and pending, less what is owed, by exactly
-/// the letter that came, and what its done events sent by exactly the letters that it gives out. This is the law of the
-/// definitions that the calls of [`Lp`] meet, for every model; the call itself does nothing.
+/// Each step of a sound process that started well keeps it sound. It changes what is done and pending, less what is owed,
+/// by exactly the letter that came, and what its done events sent by exactly the letters that it gives out. This is the
+/// law of the definitions that the calls of [`Lp`] meet, for every model; the call itself does nothing.
 pub fn every_turn<M: Model>()
     ensures { StepsKeepAll M.Model M.Body.cmp }
 {}

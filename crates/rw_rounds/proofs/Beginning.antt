@@ -7,6 +7,7 @@ use Rattle.std.proofs.lemmas.List.{length-map}
 use Rattle.std.proofs.lemmas.Option.{slice_get-map}
 use Rattle.rw_vt.specs.declared.model.Model.{Ghosts}
 use Rattle.rw_vt.specs.System.{rules}
+use Rattle.rw_vt.proofs.Laws.{Laws}
 use Rattle.rw_lp.specs.Process.{ProcessState}
 use Rattle.rw_lp.specs.Calls.{LogicalProcess}
 use Rattle.rw_world.specs.declared.parts.Parts.{Parts}
@@ -18,7 +19,7 @@ use Rattle.rw_rounds.specs.Deeds.{IsFair}
 use Rattle.rw_rounds.specs.Turns.{WorkerState, owner, is_own, process_at, IsInPlace, IsFit}
 use Rattle.rw_rounds.specs.Rounds.{role, Begins}
 use Rattle.rw_rounds.proofs.ByPlace.{get_within, place_of}
-use Rattle.rw_rounds.proofs.Governing.{Laws, Governs, StartsIn, governs}
+use Rattle.rw_rounds.proofs.Governing.{Governs, StartsIn, governs}
 use Rattle.rw_rounds.proofs.Going.{Well, fair_letters}
 use Rattle.rw_rounds.proofs.Fits.{there_is, collected_of}
 use Rattle.rw_rounds.proofs.Stepping.{number_of}

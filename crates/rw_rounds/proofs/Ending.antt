@@ -9,13 +9,12 @@ use Rattle.rw_vt.specs.Order.{Each}
 use Rattle.rw_vt.specs.System.{System, state_after, journal_below, map_from, IsOutcome, IsReady}
 use Rattle.rw_vt.proofs.Bags.{Each-append, filter_all, filter_none}
 use Rattle.rw_vt.proofs.Runs.{IsLawful}
-use Rattle.rw_vt.proofs.Laws.{lawful}
+use Rattle.rw_vt.proofs.Laws.{Laws, lawful}
 use Rattle.rw_lp.specs.Process.{ProcessState, done}
 use Rattle.rw_lp.specs.Sound.{Stands, SoundAt}
 use Rattle.rw_world.specs.WorldState.{WorldState, floor}
 use Rattle.rw_world.specs.Sound.{Sound, IsInOrder, list_at}
 use Rattle.rw_world.specs.Calls.{Simulation, system_of}
-use Rattle.rw_rounds.proofs.Governing.{Laws}
 
 -- a list that is at each place what g says of the place and the start there
 by_starts : {X S C : Type 0} (start : X → S) (f : X → C) (g : ℕ → S → C) (k : ℕ) (xs : List X) → ((i j : ℕ) (x : X) → slice_get xs i ≡ Some x → j ≡ k + i → f x ≡ g j (start x)) → map f xs ≡ map_from k g (map start xs)
@@ -62,5 +61,5 @@ module _ {M S B U : Type 0} {model : Ghosts M S B U} {order : B → B → Orderi
   -- the same for a world of a lawful model
   pub ending : Laws model order → (v : Simulation M S B) → IsReady model v.model v.starts v.initial → Sound (system_of model order v) v.world → IsInOrder (system_of model order v) v.world → 2 ^ 40 ≤ floor v.world → 2 ^ 40 ≤ v.world.collected → IsOutcome (system_of model order v) (2 ^ 40) (map (λ x. x.committed) v.world.processes) (map (λ x. x.state) v.world.processes)
   ending laws v ready =
-      let law : IsLawful (system_of model order v) (model.IsWellFormed v.model) = lawful model v.model v.starts v.initial laws.total laws.same (laws.keeps v.model) (laws.future v.model) (laws.ranges v.model) ready in
+      let law : IsLawful (system_of model order v) (model.IsWellFormed v.model) = lawful laws v.model v.starts v.initial ready in
       ended (system_of model order v) law v.world

@@ -7,6 +7,7 @@ use Rattle.rw_vt.specs.declared.event.Letter.{Letter}
 use Rattle.rw_vt.specs.declared.model.Model.{Ghosts}
 use Rattle.rw_vt.specs.Order.{event_cmp}
 use Rattle.rw_vt.specs.System.{rules}
+use Rattle.rw_vt.proofs.Laws.{Laws}
 use Rattle.rw_lp.specs.Process.{ProcessState}
 use Rattle.rw_lp.specs.Calls.{LogicalProcess}
 use Rattle.rw_lp.specs.Sound.{SoundAt, HasCollected, IsSoundOnceCollected, StartsWell}
@@ -17,7 +18,7 @@ use Rattle.rw_rounds.specs.Deeds.{IsFair, arrivals, way_of}
 use Rattle.rw_rounds.specs.Turns.{Role, WorkerState, owner, is_own, process_at, IsInPlace, IsFit}
 use Rattle.rw_rounds.specs.Working.{IsFitAndSound, Works}
 use Rattle.rw_rounds.proofs.ByPlace.{get_within, at_place, place_of, number_place}
-use Rattle.rw_rounds.proofs.Governing.{Laws, Governs, StartsIn, governs}
+use Rattle.rw_rounds.proofs.Governing.{Governs, StartsIn, governs}
 use Rattle.rw_rounds.proofs.Going.{Well, Gone, goes_gone, well_after}
 use Rattle.rw_rounds.proofs.Sums.{weigh_zero, every_zero}
 

@@ -9,6 +9,7 @@ use Rattle.std.proofs.lemmas.Option.{get_or_from_slice_get}
 use Rattle.rw_vt.specs.declared.event.Letter.{Letter}
 use Rattle.rw_vt.specs.declared.model.Model.{Ghosts}
 use Rattle.rw_vt.specs.System.{Rules, flatten, rules}
+use Rattle.rw_vt.proofs.Laws.{Laws}
 use Rattle.rw_lp.specs.Process.{ProcessState}
 use Rattle.rw_lp.specs.Arrival.{Way}
 use Rattle.rw_lp.specs.Calls.{LogicalProcess}
@@ -25,7 +26,6 @@ use Rattle.rw_rounds.specs.Turns.{WorkerState, process_at, processes_of, TookTur
 use Rattle.rw_rounds.specs.Rounds.{role, Begins, Closes, TookRound, noted_below}
 use Rattle.rw_rounds.specs.Seated.{IsSeated}
 use Rattle.rw_rounds.specs.Setting.{AreSetUp}
-use Rattle.rw_rounds.proofs.Governing.{Laws}
 use Rattle.rw_rounds.proofs.Sums.{total_add, weigh-append}
 use Rattle.rw_rounds.proofs.Beginning.{as_many, begins_fit}
 use Rattle.rw_rounds.proofs.Shares.{AreDealt, get_there, get_past}

@@ -8,11 +8,12 @@ use Rattle.rw_vt.proofs.Bags.{one_if-itself}
 use Rattle.rw_lp.specs.Process.{ProcessState, execute_next}
 use Rattle.rw_lp.specs.Arrival.{Way, undo_by}
 use Rattle.rw_lp.specs.Sound.{SoundAt, SoundLetters, Kept}
+use Rattle.rw_lp.proofs.Cited.{kept_more}
 use Rattle.rw_world.specs.Rounds.{KeptAt}
 use Rattle.rw_rounds.specs.Bags.{weigh, Every, sum_below}
 use Rattle.rw_rounds.specs.Deeds.{Deed, Arrival, Undoing, Execution, Stepped, IsFair, Did, Goes, arrivals}
 use Rattle.rw_rounds.proofs.Governing.{Governs}
-use Rattle.rw_rounds.proofs.Keeping.{kept_more, kept_none, kept_of, arrival_keeps}
+use Rattle.rw_rounds.proofs.Keeping.{kept_none, kept_of, arrival_keeps}
 use Rattle.rw_rounds.proofs.Sums.{total_same, total_add, total_zero, weigh-append, every_append, at_only, at_here, at_other, weigh_at}
 
 -- each process that is there is sound, and started so

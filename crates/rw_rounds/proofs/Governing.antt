@@ -12,19 +12,11 @@ use Rattle.rw_vt.specs.Valid.{IsInRange, IsSentBy}
 use Rattle.rw_vt.specs.System.{Rules, rules}
 use Rattle.rw_vt.proofs.Sorting.{IsExactOrder}
 use Rattle.rw_vt.proofs.Runs.{AreLawful}
-use Rattle.rw_vt.proofs.Laws.{rules_lawful}
+use Rattle.rw_vt.proofs.Laws.{Laws, rules_lawful}
 use Rattle.rw_lp.specs.Process.{ProcessState, execute_next, deliver}
 use Rattle.rw_lp.specs.Arrival.{Way, Cancelling, Holding, undo_by}
 use Rattle.rw_lp.specs.Sound.{Stands, SoundAt, Keeps}
 use Rattle.rw_lp.proofs.Cited.{execute_keeps, undo_keeps, undo_lazily_keeps, deliver_keeps}
-
--- what a trait bound gives of a model
-pub record Laws {M S B U : Type 0} (model : Ghosts M S B U) (order : B → B → Ordering) : Type 0 where
-  pub total : IsTotalOrder order
-  pub same : (a b : B) → order a b ≡ Equal → a ≡ b
-  pub keeps : (m : M) (p : ℕ) (s : S) (e : Event B) → model.IsWellFormed m p s → model.is_valid m e ≡ true → e.to ≡ p → model.IsWellFormed m p (model.step m p s e).0
-  pub future : (m : M) (p : ℕ) (s : S) (e : Event B) → model.IsWellFormed m p s → model.is_valid m e ≡ true → e.to ≡ p → All (λ f. IsSentBy p e f × (model.is_valid m f ≡ true)) (model.step m p s e).1
-  pub ranges : (m : M) (e : Event B) → model.is_valid m e ≡ true → IsInRange (model.process_count m) e
 
 -- of the processes that are started so, of which there are n: what each step keeps
 pub record Governs {S B : Type 0} (y : Rules S B) (Started : ℕ → S → Type 0) (g n : ℕ) : Type 0 where
@@ -41,7 +33,7 @@ StartsIn model m p s = (p < model.process_count m) × model.IsWellFormed m p s
 
 module _ {M S B U : Type 0} (model : Ghosts M S B U) (order : B → B → Ordering) (m : M) (laws : Laws model order) where
   law : AreLawful (rules model order m) (model.IsWellFormed m)
-  law = rules_lawful model m laws.total laws.same (laws.keeps m) (laws.future m)
+  law = rules_lawful laws m
 
   undoing_keeps : (g : ℕ) (way : Way) (p : ℕ) (x : ProcessState S B) → model.IsWellFormed m p x.start → SoundAt (rules model order m) g p x → Keeps (rules model order m) g p x [] (undo_by way (rules model order m) p x)
   undoing_keeps g Cancelling = undo_keeps (rules model order m) law g

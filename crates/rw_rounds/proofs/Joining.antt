@@ -9,6 +9,7 @@ use Rattle.rw_vt.specs.declared.event.Letter.{Letter}
 use Rattle.rw_vt.specs.declared.model.Model.{Ghosts}
 use Rattle.rw_vt.specs.Order.{event_cmp}
 use Rattle.rw_vt.specs.System.{Rules, rules}
+use Rattle.rw_vt.proofs.Laws.{Laws}
 use Rattle.rw_lp.specs.Calls.{LogicalProcess}
 use Rattle.rw_world.specs.declared.parts.Parts.{Parts}
 use Rattle.rw_world.specs.Calls.{system_of, simulation_of, world_of, IsWhole}
@@ -20,7 +21,7 @@ use Rattle.rw_rounds.specs.Bags.{weigh, only, Every, sum_below}
 use Rattle.rw_rounds.specs.Deeds.{IsFair}
 use Rattle.rw_rounds.specs.Turns.{Role, WorkerState, owner, is_own, is_accepted, process_at}
 use Rattle.rw_rounds.specs.Rounds.{role, Round}
-use Rattle.rw_rounds.proofs.Governing.{Laws, Governs, StartsIn, governs}
+use Rattle.rw_rounds.proofs.Governing.{Governs, StartsIn, governs}
 use Rattle.rw_rounds.proofs.Stepping.{number_of}
 use Rattle.rw_rounds.proofs.Sums.{total_same, total_add, total_zero, total_one, weigh-append, weigh_zero, every_front}
 use Rattle.rw_rounds.proofs.Totals.{total_swap, weigh_by, weigh_joined, weightless, every_both, message, anti, messages_weigh, antis_weigh, every_counted}

@@ -1,27 +1,14 @@
 -- An arrival, with the undoings that it needs, keeps a process sound.
-use Rattle.std.proofs.Common.{◌≡◌, ℕ, zero, suc, ◌≤◌, List, [], ◌∷◌, ◌++◌, refl, sym, ◌∙◌, subst, arith}
+use Rattle.std.proofs.Common.{◌≡◌, ℕ, zero, suc, ◌≤◌, List, [], ◌∷◌, ◌++◌, refl, sym, subst, arith}
 use Rattle.rw_vt.specs.declared.event.Letter.{Letter}
 use Rattle.rw_vt.specs.System.{Rules}
-use Rattle.rw_vt.proofs.Letters.{messages-append, antis-append}
 use Rattle.rw_lp.specs.Process.{ProcessState, Turn, Turned, Stays, deliver}
 use Rattle.rw_lp.specs.Arrival.{Way, undo_by, with_out, and_undo, undo_times, ArrivedBy}
 use Rattle.rw_lp.specs.Sound.{Stands, SoundAt, Kept, Keeps}
-use Rattle.rw_lp.proofs.Cited.{no_letters, letters_join}
+use Rattle.rw_lp.proofs.Cited.{kept_more, no_letters}
 use Rattle.rw_rounds.proofs.Governing.{Governs}
 
 module _ {S B : Type 0} (y : Rules S B) (g p : ℕ) where
-  -- one turn after another
-  pub kept_more : (x z u : ProcessState S B) (came out came' out' : List (Letter B)) → Kept y g p x z came out → Kept y g p z u came' out' → Kept y g p x u (came ++ came') (out ++ out')
-  kept_more x z u came out came' out' a b = record {
-    sound = b.sound;
-    change = record {
-      start = b.change.start ∙ a.change.start;
-      kept = λ e. omega (arith, a.change.kept e, b.change.kept e, messages-append y.order e came came', antis-append y.order e came came');
-      sent = λ e. omega (arith, a.change.sent e, b.change.sent e, messages-append y.order e out out', antis-append y.order e out out');
-    };
-    letters = letters_join y g out out' a.letters b.letters;
-  }
-
   pub kept_none : (x : ProcessState S B) → SoundAt y g p x → Kept y g p x x [] []
   kept_none x sound = record { sound = sound; change = record { start = refl; kept = λ e. refl; sent = λ e. refl }; letters = no_letters y g }
 
@@ -31,7 +18,7 @@ module _ {S B : Type 0} (y : Rules S B) (g p : ℕ) where
   module _ {Started : ℕ → S → Type 0} {n : ℕ} (rule : Governs y Started g n) where
     then_keeps : (x z : ProcessState S B) (out : List (Letter B)) → Kept y g p x z [] out → (t : Turn S B) → Keeps y g p z [] t → Keeps y g p x [] (with_out out t)
     then_keeps x z out a (Stays fault) k = tt
-    then_keeps x z out a (Turned u more) k = kept_more x z u [] out [] more a k
+    then_keeps x z out a (Turned u more) k = kept_more y g p x z u [] out [] more a k
 
     and_keeps : (way : Way) (x : ProcessState S B) → Started p x.start → (t : Turn S B) → Keeps y g p x [] t → Keeps y g p x [] (and_undo (undo_by way y p) t)
     and_keeps way x started (Stays fault) k = tt
@@ -45,4 +32,4 @@ module _ {S B : Type 0} (y : Rules S B) (g p : ℕ) where
     arrival_keeps way x z l given started sound stands from a =
         let first : Kept y g p x a.between [] a.unsent = kept_of x a.between [] a.unsent (undo_times (undo_by way y p) a.count x) a.undone (undoings_keep way a.count x started sound) in
         let then_ : Kept y g p a.between z (l ∷ []) a.rest = kept_of a.between z (l ∷ []) a.rest (deliver y.order l a.between) a.delivered (rule.delivers p a.between l (subst (Started p) (sym first.change.start) started) first.sound stands from) in
-        subst (Kept y g p x z (l ∷ [])) (sym a.all) (kept_more x a.between z [] a.unsent (l ∷ []) a.rest first then_)
+        subst (Kept y g p x z (l ∷ [])) (sym a.all) (kept_more y g p x a.between z [] a.unsent (l ∷ []) a.rest first then_)

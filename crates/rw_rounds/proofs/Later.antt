@@ -15,6 +15,7 @@ use Rattle.rw_vt.specs.System.{Rules, state_after, rules}
 use Rattle.rw_vt.proofs.EventOrder.{events_exact, time_at_most}
 use Rattle.rw_vt.proofs.Sorting.{IsExactOrder, at_most_itself, at_most_other, Has-cons, Has-head, Has-tail, Has-right}
 use Rattle.rw_vt.proofs.Bags.{Each-tail, Each-insert, Each-without, Has-test, IsAscending-back}
+use Rattle.rw_vt.proofs.Laws.{Laws}
 use Rattle.rw_lp.specs.declared.held.Held.{Held}
 use Rattle.rw_lp.specs.declared.step.StepFault.TheVariants.{Straggler, StillDone}
 use Rattle.rw_lp.specs.HeldMessages.{holds, held_without_first, unheld_sends, held_with, held_without}
@@ -23,7 +24,7 @@ use Rattle.rw_lp.specs.Arrival.{Way, Cancelling, Holding, undo_by, with_out, and
 use Rattle.rw_lp.specs.Sound.{Stands, IsHeldFor, SoundAt, Keeps}
 use Rattle.rw_lp.proofs.Cited.{with_bags, IsSplit, split_is, open_accepts}
 use Rattle.rw_rounds.specs.Bags.{Every}
-use Rattle.rw_rounds.proofs.Governing.{Laws, StartsIn, governs}
+use Rattle.rw_rounds.proofs.Governing.{StartsIn, governs}
 use Rattle.rw_rounds.proofs.Keeping.{undoings_keep, kept_of}
 use Rattle.rw_rounds.proofs.Sums.{every_append, every_front, every_back}
 

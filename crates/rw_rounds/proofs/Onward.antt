@@ -16,6 +16,7 @@ use Rattle.rw_vt.proofs.EventOrder.{events_exact}
 use Rattle.rw_vt.proofs.Sorting.{IsExactOrder}
 use Rattle.rw_vt.proofs.Bags.{one_if-itself}
 use Rattle.rw_vt.proofs.Letters.{count-letter}
+use Rattle.rw_vt.proofs.Laws.{Laws}
 use Rattle.rw_lp.specs.Process.{ProcessState}
 use Rattle.rw_lp.specs.Arrival.{Way}
 use Rattle.rw_lp.specs.Calls.{LogicalProcess}
@@ -33,7 +34,7 @@ use Rattle.rw_rounds.specs.Deeds.{Deed, Arrival, Undoing, Execution, Owned, Step
 use Rattle.rw_rounds.specs.Turns.{Role, WorkerState, is_own, is_accepted, process_at, weigh_all, if_own, if_other, if_passes, TookTurn, TookTurns}
 use Rattle.rw_rounds.specs.Rounds.{role, Round, closing_times, noted_below}
 use Rattle.rw_rounds.proofs.ByPlace.{at_place, number_place}
-use Rattle.rw_rounds.proofs.Governing.{Laws, StartsIn, governs}
+use Rattle.rw_rounds.proofs.Governing.{StartsIn, governs}
 use Rattle.rw_rounds.proofs.Going.{Well, did_gone, well_after, arrivals_more}
 use Rattle.rw_rounds.proofs.Later.{IsLate, executed_late, undone_late, arrived_late}
 use Rattle.rw_rounds.proofs.Least.{least_from, noted_all}

@@ -12,6 +12,7 @@ use Rattle.rw_vt.specs.System.{Rules, rules}
 use Rattle.rw_vt.proofs.EventOrder.{events_exact}
 use Rattle.rw_vt.proofs.Sorting.{IsExactOrder}
 use Rattle.rw_vt.proofs.Bags.{Each-cons, Each-append}
+use Rattle.rw_vt.proofs.Laws.{Laws}
 use Rattle.rw_lp.specs.declared.held.Held.{Held}
 use Rattle.rw_lp.specs.HeldMessages.{held_messages}
 use Rattle.rw_lp.specs.Process.{ProcessState}
@@ -26,7 +27,6 @@ use Rattle.rw_rounds.specs.Bags.{weigh, Every, sum_below}
 use Rattle.rw_rounds.specs.Turns.{WorkerState, process_at}
 use Rattle.rw_rounds.specs.Rounds.{role, Round, closing_times, noted_below}
 use Rattle.rw_rounds.proofs.ByPlace.{place_of}
-use Rattle.rw_rounds.proofs.Governing.{Laws}
 use Rattle.rw_rounds.proofs.Least.{least_end, every_from_least, noted_each, none_before}
 use Rattle.rw_rounds.proofs.Sums.{total_zero, weigh_zero, every_zero, every_back}
 use Rattle.rw_rounds.proofs.Totals.{every_counted}

@@ -8,6 +8,7 @@ use Rattle.std.proofs.lemmas.Option.{slice_get-map}
 use Rattle.rw_vt.specs.declared.event.Event.{Event}
 use Rattle.rw_vt.specs.declared.model.Model.{Ghosts}
 use Rattle.rw_vt.specs.System.{system, journal_below, IsReady}
+use Rattle.rw_vt.proofs.Laws.{Laws}
 use Rattle.rw_lp.specs.declared.step.Answer.TheVariants.{Done}
 use Rattle.rw_lp.specs.HeldMessages.{held_messages}
 use Rattle.rw_lp.specs.Process as process
@@ -25,7 +26,6 @@ use Rattle.rw_rounds.specs.declared.plan.Plan.{Plan}
 use Rattle.rw_rounds.specs.Plans.{IsInRanges}
 use Rattle.rw_rounds.specs.Turns.{IsInPlace}
 use Rattle.rw_rounds.specs.Rounds.{role, Round, SimState, Rounded}
-use Rattle.rw_rounds.proofs.Governing.{Laws}
 use Rattle.rw_rounds.proofs.Stepping.{number_of}
 use Rattle.rw_rounds.proofs.Joining.{owned, closed, workers_exchanged}
 use Rattle.rw_rounds.proofs.Outstanding.{floor_end, quiet_after}

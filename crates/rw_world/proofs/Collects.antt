@@ -8,6 +8,7 @@ use Rattle.std.proofs.lemmas.List.{length-map, length-take-le, take_all, drop_al
 use Rattle.std.proofs.lemmas.Option.{slice_get-map, slice_get_read}
 use Rattle.rw_vt.specs.declared.model.Model.{Ghosts}
 use Rattle.rw_vt.specs.Order.{event_cmp, Each}
+use Rattle.rw_vt.proofs.Laws.{Laws}
 use Rattle.rw_lp.specs.declared.step.Answer.TheVariants.{Done}
 use Rattle.rw_lp.specs.Process as process
 use Rattle.rw_lp.specs.Calls.{LogicalProcess}
@@ -17,7 +18,7 @@ use Rattle.rw_world.specs.WorldState.{WorldState, floor}
 use Rattle.rw_world.specs.Steps.{collect_to}
 use Rattle.rw_world.specs.Sound.{IsQuiet, list_at}
 use Rattle.rw_world.specs.Calls.{after_collecting, system_of, with_world, world_of, simulation_of, AreNumbered, IsWhole, Made}
-use Rattle.rw_world.proofs.Wholes.{Laws, law_of}
+use Rattle.rw_world.proofs.Wholes.{law_of}
 use Rattle.rw_world.proofs.Outstanding.{quiet_to_floor}
 
 -- the processes of which the first k have collected

@@ -3,6 +3,7 @@ use Rattle.std.proofs.Common.{◌≡◌, ap, sym, ◌∙◌, subst}
 use Rattle.std.specs.declared.cmp.Ordering.{Ordering}
 use Rattle.rw_vt.specs.declared.model.Model.{Ghosts}
 use Rattle.rw_vt.specs.System.{IsReady}
+use Rattle.rw_vt.proofs.Laws.{Laws}
 use Rattle.rw_lp.specs.declared.step.StepFault.{StepFault}
 use Rattle.rw_lp.specs.declared.step.Answer.{Answer}
 use Rattle.rw_lp.specs.declared.step.Answer.TheVariants.{Refused}
@@ -10,7 +11,7 @@ use Rattle.rw_world.specs.declared.parts.Parts.{Parts}
 use Rattle.rw_world.specs.declared.step.Step.{Step}
 use Rattle.rw_world.specs.Sound.{Sound}
 use Rattle.rw_world.specs.Calls.{Simulation, system_of, with_world, world_of, simulation_of, IsWhole, Made}
-use Rattle.rw_world.proofs.Wholes.{Laws, law_of}
+use Rattle.rw_world.proofs.Wholes.{law_of}
 use Rattle.rw_world.proofs.Schedules.{apply_sound}
 use Rattle.rw_world.proofs.Refusals.{refused_is_same}
 

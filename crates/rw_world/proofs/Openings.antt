@@ -6,6 +6,7 @@ use Rattle.std.specs.declared.cmp.Ordering.{Ordering}
 use Rattle.rw_vt.specs.declared.event.Event.{Event}
 use Rattle.rw_vt.specs.declared.model.Model.{Ghosts}
 use Rattle.rw_vt.specs.System.{System, system, map_from, IsReady}
+use Rattle.rw_vt.proofs.Laws.{Laws}
 use Rattle.rw_lp.specs.Calls.{LogicalProcess}
 use Rattle.rw_world.specs.declared.parts.Parts.{Parts}
 use Rattle.rw_world.specs.WorldState.{opening_process, opening_world}
@@ -13,7 +14,7 @@ use Rattle.rw_world.specs.Sound.{Sound}
 use Rattle.rw_world.specs.Calls.{Simulation, system_of, simulation_of, AreNumbered, IsWhole}
 use Rattle.rw_world.proofs.Lookups.{get-map_from}
 use Rattle.rw_world.proofs.Opened.{opened_sound}
-use Rattle.rw_world.proofs.Wholes.{Laws, law_of}
+use Rattle.rw_world.proofs.Wholes.{law_of}
 
 map-map_from : {A C D : Type 0} (f : C → D) (g : ℕ → A → C) (k : ℕ) (xs : List A) → map f (map_from k g xs) ≡ map_from k (λ q x. f (g q x)) xs
 map-map_from f g k [] = refl

@@ -1,4 +1,4 @@
--- What all processes do at once keeps a sound world sound; turns of a process add up.
+-- What all processes do at once keeps a sound world sound.
 use Rattle.std.proofs.Common.{◌≡◌, ℕ, zero, suc, ◌+◌, ◌<◌, ◌≤◌, true, List, [], ◌∷◌, ◌++◌, length, map, refl, sym, ap, ◌∙◌, subst, arith, inl, inr, Option, Some, None}
 use Rattle.std.specs.Prelude.{◌⊎◌, slice_get}
 use Rattle.std.specs.Option.{option_map}
@@ -8,7 +8,7 @@ use Rattle.rw_vt.specs.declared.event.Event.{Event}
 use Rattle.rw_vt.specs.declared.event.Letter.{Letter}
 use Rattle.rw_vt.specs.Order.{copies}
 use Rattle.rw_vt.specs.Letters.{messages, antis}
-use Rattle.rw_vt.specs.System.{Rules, System, sends_of, map_from, flatten, all_sent}
+use Rattle.rw_vt.specs.System.{System, sends_of, map_from, flatten, all_sent}
 use Rattle.rw_vt.proofs.Sorting.{copies-append}
 use Rattle.rw_vt.proofs.Bags.{none_if}
 use Rattle.rw_vt.proofs.Letters.{messages-append, antis-append}
@@ -16,25 +16,11 @@ use Rattle.rw_vt.proofs.Runs.{IsLawful}
 use Rattle.rw_lp.specs.HeldMessages.{held_messages}
 use Rattle.rw_lp.specs.Process.{ProcessState, done}
 use Rattle.rw_lp.specs.Sound.{SoundAt, Kept}
-use Rattle.rw_lp.proofs.Cited.{letters_join}
 use Rattle.rw_world.specs.WorldState.{WorldState}
 use Rattle.rw_world.specs.Sound.{held_in, Sound, Balanced, list_at, done_of, pending_of, debts_of}
 use Rattle.rw_world.specs.Rounds.{all_letters, KeptAt, Exchanged}
 use Rattle.rw_world.proofs.Lookups.{some_at}
 use Rattle.rw_world.proofs.Sums.{sum_only, sum_some}
-
-module _ {S B : Type 0} (y : Rules S B) where
-  -- one turn after another
-  pub kept_more : (g p : ℕ) (x z u : ProcessState S B) (came out came' out' : List (Letter B)) → Kept y g p x z came out → Kept y g p z u came' out' → Kept y g p x u (came ++ came') (out ++ out')
-  kept_more g p x z u came out came' out' a b = record {
-    sound = b.sound;
-    change = record {
-      start = b.change.start ∙ a.change.start;
-      kept = λ e. omega (arith, a.change.kept e, b.change.kept e, messages-append y.order e came came', antis-append y.order e came came');
-      sent = λ e. omega (arith, a.change.sent e, b.change.sent e, messages-append y.order e out out', antis-append y.order e out out');
-    };
-    letters = letters_join y g out out' a.letters b.letters;
-  }
 
 module _ {S B : Type 0} (y : System S B) where
   module _ {WellFormed : ℕ → S → Type 0} (law : IsLawful y WellFormed) (g : ℕ) (came out : ℕ → List (Letter B)) where

@@ -12,7 +12,7 @@ use Rattle.rw_vt.specs.declared.model.Model.{Ghosts}
 use Rattle.rw_vt.specs.Valid.{IsInRange, IsSentBy}
 use Rattle.rw_vt.specs.System.{IsReady, journal_below}
 use Rattle.rw_vt.proofs.Runs.{IsLawful}
-use Rattle.rw_vt.proofs.Laws.{lawful}
+use Rattle.rw_vt.proofs.Laws.{Laws, lawful}
 use Rattle.rw_world.specs.declared.parts.Parts.{Parts}
 use Rattle.rw_world.specs.Sound.{Sound, IsInOrder, list_at, committed_of}
 use Rattle.rw_world.specs.Calls.{Simulation, system_of, simulation_of, world_of, IsWhole}
@@ -21,17 +21,9 @@ use Rattle.rw_world.proofs.OnTheirWay.{letter_counts}
 use Rattle.rw_world.proofs.Outcomes.{in_order}
 use Rattle.rw_world.proofs.Made.{processes_count}
 
--- what a trait bound gives of a model
-pub record Laws {M S B U : Type 0} (model : Ghosts M S B U) (order : B → B → Ordering) : Type 0 where
-  pub total : IsTotalOrder order
-  pub same : (a b : B) → order a b ≡ Equal → a ≡ b
-  pub keeps : (m : M) (p : ℕ) (s : S) (e : Event B) → model.IsWellFormed m p s → model.is_valid m e ≡ true → e.to ≡ p → model.IsWellFormed m p (model.step m p s e).0
-  pub future : (m : M) (p : ℕ) (s : S) (e : Event B) → model.IsWellFormed m p s → model.is_valid m e ≡ true → e.to ≡ p → All (λ f. IsSentBy p e f × (model.is_valid m f ≡ true)) (model.step m p s e).1
-  pub ranges : (m : M) (e : Event B) → model.is_valid m e ≡ true → IsInRange (model.process_count m) e
-
 module _ {M S B U : Type 0} {model : Ghosts M S B U} {order : B → B → Ordering} (laws : Laws model order) where
   pub law_of : (x : Simulation M S B) → IsReady model x.model x.starts x.initial → IsLawful (system_of model order x) (model.IsWellFormed x.model)
-  law_of x ready = lawful model x.model x.starts x.initial laws.total laws.same (laws.keeps x.model) (laws.future x.model) (laws.ranges x.model) ready
+  law_of x ready = lawful laws x.model x.starts x.initial ready
 
   pub world_in_order : (x : Simulation M S B) → IsReady model x.model x.starts x.initial → Sound (system_of model order x) x.world → IsInOrder (system_of model order x) x.world
   world_in_order x ready sound = in_order (system_of model order x) (law_of x ready) x.world sound

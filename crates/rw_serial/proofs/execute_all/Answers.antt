@@ -2,16 +2,17 @@ use Rattle.std.proofs.Common.{rules, ◌<◌, ◌^◌, ◌-◌, ◌∙◌, sym, 
 use Rattle.std.specs.List.{slice_set}
 use Rattle.std.proofs.lemmas.Result.{err_from_is_err_and}
 use Rattle.rw_vt.specs.System.{system}
-use Rattle.rw_vt.proofs.Laws.{lawful}
+use Rattle.rw_vt.proofs.Laws.{lawful, laws_of}
 use Rattle.rw_serial.proofs.Left.{midrun_falls}
 use Rattle.rw_serial.proofs.Midrun.{length-states, midrun_start, next_valid, next_inside, next_well_formed, midrun_step_by, midrun_meets, midrun_done}
 use Rattle.rw_serial.proofs.execute_all.Goals as goal
 
 pub loop-event-init : goal.loop-event-init
 loop-event-init g c =
+    let laws = laws_of g.met.M.Model g.met.M.Body.Ord.total in
     let m = c.args.model.now in
     let starts = c.args.states.now.items in
-    let law = lawful g.M.Model m starts c.args.initial.items g.met.M.Body.Ord.total g.met.M.Model.same (g.met.M.Model.keeps m) (g.met.M.Model.future m) (g.met.M.Model.ranges m) c.requires.ready in
+    let law = lawful laws m starts c.args.initial.items c.requires.ready in
     (replicate (length starts) [], c.requires.none, midrun_start (system g.M.Model g.M.Body.Ord.cmp m starts c.args.initial.items) law (replicate (length starts) []) c.in_ok-pending.pending refl c.in_ok-pending.ensures)
 
 pub execute-requires-clause-process : goal.execute-requires-clause-process

@@ -1,4 +1,4 @@
-use Rattle.rw_world.proofs.Rounds.{kept_more}
+use Rattle.rw_lp.proofs.Cited.{kept_more}
 use Rattle.rw_world.proofs.every_way.Goals as goal
 
 pub returns : goal.returns

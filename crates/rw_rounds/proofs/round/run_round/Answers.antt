@@ -1,10 +1,10 @@
 use Rattle.std.proofs.Common.{refl, sym, ap, ◌∙◌, subst, IfErr}
 use Rattle.std.proofs.lemmas.Result.{err_from_is_err_and}
+use Rattle.rw_vt.proofs.Laws.{Laws}
 use Rattle.rw_world.specs.declared.step.Step.TheVariants.{Collect}
 use Rattle.rw_world.specs.Steps.{apply}
 use Rattle.rw_world.specs.Calls.{system_of, with_world}
 use Rattle.rw_rounds.specs.Stops.{EndsRound}
-use Rattle.rw_rounds.proofs.Governing.{Laws}
 use Rattle.rw_rounds.proofs.Rounding.{WorldLaws, round_keeps, rounded}
 use Rattle.rw_rounds.proofs.round.run_round.Given as given
 use Rattle.rw_rounds.proofs.round.run_round.Goals as goal

@@ -2,16 +2,16 @@ use Rattle.std.proofs.Common.{◌≤◌, ◌^◌, map, sym, ◌∙◌, subst}
 use Rattle.std.proofs.lemmas.Result.{IfOk-weaker}
 use Rattle.std.proofs.lemmas.Simd.{map-map}
 use Rattle.rw_vt.specs.System.{IsOutcome}
+use Rattle.rw_vt.proofs.Laws.{laws_of}
 use Rattle.rw_world.specs.WorldState.{floor}
 use Rattle.rw_world.specs.Calls.{system_of, simulation_of}
-use Rattle.rw_rounds.proofs.Governing.{Laws}
 use Rattle.rw_rounds.proofs.Ending.{ending}
 use Rattle.rw_rounds.proofs.Onward.{setting_of}
 use Rattle.rw_rounds.proofs.running.outcome.Goals as goal
 
 pub returns : goal.returns
 returns g c =
-    let laws : Laws g.M.Model g.M.Body.Ord.cmp = record { total = g.met.M.Body.Ord.total; same = g.met.M.Model.same; keeps = g.met.M.Model.keeps; future = g.met.M.Model.future; ranges = g.met.M.Model.ranges } in
+    let laws = laws_of g.met.M.Model g.met.M.Body.Ord.total in
     let x = c.take-parts.result in
     let whole = c.take-parts.ensures.whole in
     let ordered = c.every_sound_world.ensures (setting_of x whole.ready) (simulation_of x).world whole.sound in

@@ -1,10 +1,10 @@
 use Rattle.std.proofs.Common.{◌≡◌, ◌+◌, cond, [], ◌++◌, length, refl, sym, ap, ◌∙◌, subst, arith}
 use Rattle.std.proofs.lemmas.Option.{slice_get_read}
 use Rattle.rw_vt.specs.System.{rules}
+use Rattle.rw_vt.proofs.Laws.{laws_of}
 use Rattle.rw_rounds.specs.Bags.{Every}
 use Rattle.rw_rounds.specs.Deeds.{IsFair, way_of}
 use Rattle.rw_rounds.specs.Working.{role_of, desk_of, Works, Moved}
-use Rattle.rw_rounds.proofs.Governing.{Laws}
 use Rattle.rw_rounds.proofs.Adding.{works_then}
 use Rattle.rw_rounds.proofs.Fits.{fit_after}
 use Rattle.rw_rounds.proofs.Stepping.{there_model, there_collected, next_pending, works_moved, moved_fair, executed_dones, undone_dones}
@@ -33,7 +33,7 @@ execute_or_undo-requires-clause-undoable g c =
 
 pub deal-requires-clause-ready : goal.deal-requires-clause-ready
 deal-requires-clause-ready g c =
-    let laws : Laws g.M.Model g.M.Body.Ord.cmp = record { total = g.met.M.Body.Ord.total; same = g.met.M.Model.same; keeps = g.met.M.Model.keeps; future = g.met.M.Model.future; ranges = g.met.M.Model.ranges } in
+    let laws = laws_of g.met.M.Model g.met.M.Body.Ord.total in
     let x = c.args.self.now in
     let next = c.requires.next in
     let there = slice_get_read x.processes.items (length x.processes.items) c.args.place c.swap_remove-process.result refl next.1.within c.swap_remove-process.ensures.value in
@@ -47,7 +47,7 @@ deal-requires-clause-ready g c =
 
 pub deal-requires-clause-fair : goal.deal-requires-clause-fair
 deal-requires-clause-fair g c =
-    let laws : Laws g.M.Model g.M.Body.Ord.cmp = record { total = g.met.M.Body.Ord.total; same = g.met.M.Model.same; keeps = g.met.M.Model.keeps; future = g.met.M.Model.future; ranges = g.met.M.Model.ranges } in
+    let laws = laws_of g.met.M.Model g.met.M.Body.Ord.total in
     let x = c.args.self.now in
     let next = c.requires.next in
     let there = slice_get_read x.processes.items (length x.processes.items) c.args.place c.swap_remove-process.result refl next.1.within c.swap_remove-process.ensures.value in
@@ -58,7 +58,7 @@ deal-requires-clause-fair g c =
 
 pub returns-clause-works : goal.returns-clause-works
 returns-clause-works g c =
-    let laws : Laws g.M.Model g.M.Body.Ord.cmp = record { total = g.met.M.Body.Ord.total; same = g.met.M.Model.same; keeps = g.met.M.Model.keeps; future = g.met.M.Model.future; ranges = g.met.M.Model.ranges } in
+    let laws = laws_of g.met.M.Model g.met.M.Body.Ord.total in
     let x = c.args.self.now in
     let next = c.requires.next in
     let there = slice_get_read x.processes.items (length x.processes.items) c.args.place c.swap_remove-process.result refl next.1.within c.swap_remove-process.ensures.value in
@@ -76,7 +76,7 @@ returns-clause-works g c =
 
 pub returns-clause-executed : goal.returns-clause-executed
 returns-clause-executed g c =
-    let laws : Laws g.M.Model g.M.Body.Ord.cmp = record { total = g.met.M.Body.Ord.total; same = g.met.M.Model.same; keeps = g.met.M.Model.keeps; future = g.met.M.Model.future; ranges = g.met.M.Model.ranges } in
+    let laws = laws_of g.met.M.Model g.met.M.Body.Ord.total in
     let x = c.args.self.now in
     let next = c.requires.next in
     let there = slice_get_read x.processes.items (length x.processes.items) c.args.place c.swap_remove-process.result refl next.1.within c.swap_remove-process.ensures.value in
@@ -89,7 +89,7 @@ returns-clause-executed g c =
 
 pub returns-clause-undone : goal.returns-clause-undone
 returns-clause-undone g c =
-    let laws : Laws g.M.Model g.M.Body.Ord.cmp = record { total = g.met.M.Body.Ord.total; same = g.met.M.Model.same; keeps = g.met.M.Model.keeps; future = g.met.M.Model.future; ranges = g.met.M.Model.ranges } in
+    let laws = laws_of g.met.M.Model g.met.M.Body.Ord.total in
     let x = c.args.self.now in
     let next = c.requires.next in
     let there = slice_get_read x.processes.items (length x.processes.items) c.args.place c.swap_remove-process.result refl next.1.within c.swap_remove-process.ensures.value in

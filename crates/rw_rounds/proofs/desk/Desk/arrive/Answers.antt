@@ -2,10 +2,10 @@ use Rattle.std.proofs.Common.{◌≡◌, true, [], ◌∷◌, ◌++◌, length, 
 use Rattle.std.specs.Prelude.{◌/◌}
 use Rattle.std.proofs.lemmas.Option.{slice_get_read}
 use Rattle.rw_vt.specs.System.{rules}
+use Rattle.rw_vt.proofs.Laws.{laws_of}
 use Rattle.rw_rounds.specs.Bags.{Every}
 use Rattle.rw_rounds.specs.Deeds.{IsFair}
 use Rattle.rw_rounds.specs.Working.{role_of, desk_of}
-use Rattle.rw_rounds.proofs.Governing.{Laws}
 use Rattle.rw_rounds.proofs.Fits.{fit_after}
 use Rattle.rw_rounds.proofs.Stepping.{place_within, its_process, works_arrival, arrival_fair, arrival_sizes, arrival_dones}
 use Rattle.rw_rounds.proofs.Sums.{every_append}
@@ -13,7 +13,7 @@ use Rattle.rw_rounds.proofs.desk.Desk.arrive.Goals as goal
 
 pub arrive_by-requires-clause-model : goal.arrive_by-requires-clause-model
 arrive_by-requires-clause-model g c =
-    let laws : Laws g.M.Model g.M.Body.Ord.cmp = record { total = g.met.M.Body.Ord.total; same = g.met.M.Model.same; keeps = g.met.M.Model.keeps; future = g.met.M.Model.future; ranges = g.met.M.Model.ranges } in
+    let laws = laws_of g.met.M.Model g.met.M.Body.Ord.total in
     let x = c.args.self.now in
     let within = place_within laws c.args.bench.now.model.now (desk_of c.args.self.now) c.requires.ready.worker.fit c.args.letter c.requires.fair c.requires.own in
     let there = slice_get_read x.processes.items (length x.processes.items) (c.args.letter.event.to / x.plan.workers) c.swap_remove-process.result refl within c.swap_remove-process.ensures.value in
@@ -22,7 +22,7 @@ arrive_by-requires-clause-model g c =
 
 pub arrive_by-requires-clause-valid : goal.arrive_by-requires-clause-valid
 arrive_by-requires-clause-valid g c =
-    let laws : Laws g.M.Model g.M.Body.Ord.cmp = record { total = g.met.M.Body.Ord.total; same = g.met.M.Model.same; keeps = g.met.M.Model.keeps; future = g.met.M.Model.future; ranges = g.met.M.Model.ranges } in
+    let laws = laws_of g.met.M.Model g.met.M.Body.Ord.total in
     let x = c.args.self.now in
     let within = place_within laws c.args.bench.now.model.now (desk_of c.args.self.now) c.requires.ready.worker.fit c.args.letter c.requires.fair c.requires.own in
     let there = slice_get_read x.processes.items (length x.processes.items) (c.args.letter.event.to / x.plan.workers) c.swap_remove-process.result refl within c.swap_remove-process.ensures.value in
@@ -31,7 +31,7 @@ arrive_by-requires-clause-valid g c =
 
 pub arrive_by-requires-clause-here : goal.arrive_by-requires-clause-here
 arrive_by-requires-clause-here g c =
-    let laws : Laws g.M.Model g.M.Body.Ord.cmp = record { total = g.met.M.Body.Ord.total; same = g.met.M.Model.same; keeps = g.met.M.Model.keeps; future = g.met.M.Model.future; ranges = g.met.M.Model.ranges } in
+    let laws = laws_of g.met.M.Model g.met.M.Body.Ord.total in
     let x = c.args.self.now in
     let within = place_within laws c.args.bench.now.model.now (desk_of c.args.self.now) c.requires.ready.worker.fit c.args.letter c.requires.fair c.requires.own in
     let there = slice_get_read x.processes.items (length x.processes.items) (c.args.letter.event.to / x.plan.workers) c.swap_remove-process.result refl within c.swap_remove-process.ensures.value in
@@ -40,14 +40,14 @@ arrive_by-requires-clause-here g c =
 
 pub put_back-requires : goal.put_back-requires
 put_back-requires g c =
-    let laws : Laws g.M.Model g.M.Body.Ord.cmp = record { total = g.met.M.Body.Ord.total; same = g.met.M.Model.same; keeps = g.met.M.Model.keeps; future = g.met.M.Model.future; ranges = g.met.M.Model.ranges } in
+    let laws = laws_of g.met.M.Model g.met.M.Body.Ord.total in
     let x = c.args.self.now in
     let within = place_within laws c.args.bench.now.model.now (desk_of c.args.self.now) c.requires.ready.worker.fit c.args.letter c.requires.fair c.requires.own in
     record { place = omega (arith, c.swap_remove-process.ensures.len) }
 
 pub returns-clause-works : goal.returns-clause-works
 returns-clause-works g c =
-    let laws : Laws g.M.Model g.M.Body.Ord.cmp = record { total = g.met.M.Body.Ord.total; same = g.met.M.Model.same; keeps = g.met.M.Model.keeps; future = g.met.M.Model.future; ranges = g.met.M.Model.ranges } in
+    let laws = laws_of g.met.M.Model g.met.M.Body.Ord.total in
     let x = c.args.self.now in
     let within = place_within laws c.args.bench.now.model.now (desk_of c.args.self.now) c.requires.ready.worker.fit c.args.letter c.requires.fair c.requires.own in
     let there = slice_get_read x.processes.items (length x.processes.items) (c.args.letter.event.to / x.plan.workers) c.swap_remove-process.result refl within c.swap_remove-process.ensures.value in
@@ -58,7 +58,7 @@ returns-clause-works g c =
 
 pub returns-clause-ready : goal.returns-clause-ready
 returns-clause-ready g c =
-    let laws : Laws g.M.Model g.M.Body.Ord.cmp = record { total = g.met.M.Body.Ord.total; same = g.met.M.Model.same; keeps = g.met.M.Model.keeps; future = g.met.M.Model.future; ranges = g.met.M.Model.ranges } in
+    let laws = laws_of g.met.M.Model g.met.M.Body.Ord.total in
     let x = c.args.self.now in
     let within = place_within laws c.args.bench.now.model.now (desk_of c.args.self.now) c.requires.ready.worker.fit c.args.letter c.requires.fair c.requires.own in
     let there = slice_get_read x.processes.items (length x.processes.items) (c.args.letter.event.to / x.plan.workers) c.swap_remove-process.result refl within c.swap_remove-process.ensures.value in
@@ -72,7 +72,7 @@ returns-clause-ready g c =
 
 pub returns-clause-fair : goal.returns-clause-fair
 returns-clause-fair g c =
-    let laws : Laws g.M.Model g.M.Body.Ord.cmp = record { total = g.met.M.Body.Ord.total; same = g.met.M.Model.same; keeps = g.met.M.Model.keeps; future = g.met.M.Model.future; ranges = g.met.M.Model.ranges } in
+    let laws = laws_of g.met.M.Model g.met.M.Body.Ord.total in
     let x = c.args.self.now in
     let within = place_within laws c.args.bench.now.model.now (desk_of c.args.self.now) c.requires.ready.worker.fit c.args.letter c.requires.fair c.requires.own in
     let there = slice_get_read x.processes.items (length x.processes.items) (c.args.letter.event.to / x.plan.workers) c.swap_remove-process.result refl within c.swap_remove-process.ensures.value in
@@ -83,7 +83,7 @@ returns-clause-fair g c =
 
 pub returns-clause-falls : goal.returns-clause-falls
 returns-clause-falls g c =
-    let laws : Laws g.M.Model g.M.Body.Ord.cmp = record { total = g.met.M.Body.Ord.total; same = g.met.M.Model.same; keeps = g.met.M.Model.keeps; future = g.met.M.Model.future; ranges = g.met.M.Model.ranges } in
+    let laws = laws_of g.met.M.Model g.met.M.Body.Ord.total in
     let x = c.args.self.now in
     let within = place_within laws c.args.bench.now.model.now (desk_of c.args.self.now) c.requires.ready.worker.fit c.args.letter c.requires.fair c.requires.own in
     let there = slice_get_read x.processes.items (length x.processes.items) (c.args.letter.event.to / x.plan.workers) c.swap_remove-process.result refl within c.swap_remove-process.ensures.value in
@@ -94,7 +94,7 @@ returns-clause-falls g c =
 
 pub returns-clause-fewer : goal.returns-clause-fewer
 returns-clause-fewer g c =
-    let laws : Laws g.M.Model g.M.Body.Ord.cmp = record { total = g.met.M.Body.Ord.total; same = g.met.M.Model.same; keeps = g.met.M.Model.keeps; future = g.met.M.Model.future; ranges = g.met.M.Model.ranges } in
+    let laws = laws_of g.met.M.Model g.met.M.Body.Ord.total in
     let x = c.args.self.now in
     let within = place_within laws c.args.bench.now.model.now (desk_of c.args.self.now) c.requires.ready.worker.fit c.args.letter c.requires.fair c.requires.own in
     let there = slice_get_read x.processes.items (length x.processes.items) (c.args.letter.event.to / x.plan.workers) c.swap_remove-process.result refl within c.swap_remove-process.ensures.value in

@@ -1,7 +1,7 @@
 use Rattle.std.proofs.Common.{◌≡◌, ℕ, Bool, ◌+◌, cond, [], refl, ap, ◌∙◌, subst, arith}
 use Rattle.rw_vt.specs.System.{rules}
+use Rattle.rw_vt.proofs.Laws.{laws_of}
 use Rattle.rw_rounds.specs.Working.{role_of, desk_of, DealsWithAll, Works, HeldBack}
-use Rattle.rw_rounds.proofs.Governing.{Laws}
 use Rattle.rw_rounds.proofs.Adding.{works_then, works_read}
 use Rattle.rw_rounds.proofs.Dealt.{dealt_none, dealt_then}
 use Rattle.rw_rounds.proofs.Fits.{fit_with_seat}
@@ -51,7 +51,7 @@ overflow_add-bound g c = omega (arith, c.floor.ensures.end, c.loop-executed.inva
 
 pub advance-requires-clause-ready : goal.advance-requires-clause-ready
 advance-requires-clause-ready g c =
-    let laws : Laws g.M.Model g.M.Body.Ord.cmp = record { total = g.met.M.Body.Ord.total; same = g.met.M.Model.same; keeps = g.met.M.Model.keeps; future = g.met.M.Model.future; ranges = g.met.M.Model.ranges } in
+    let laws = laws_of g.met.M.Model g.met.M.Body.Ord.total in
     let ready = c.loop-executed.invariant.dealt.can_work in
     record {
       worker = fit_with_seat laws c.args.bench.now.model.now (desk_of c.loop-executed.self) c.floor.new.seat ready.worker;
@@ -66,7 +66,7 @@ loop-executed-smaller g c = omega (arith, c.in_ok-done.ensures.undone c.if-done.
 
 pub returns-in_default-clause-works : goal.returns-in_default-clause-works
 returns-in_default-clause-works g c =
-    let laws : Laws g.M.Model g.M.Body.Ord.cmp = record { total = g.met.M.Body.Ord.total; same = g.met.M.Model.same; keeps = g.met.M.Model.keeps; future = g.met.M.Model.future; ranges = g.met.M.Model.ranges } in
+    let laws = laws_of g.met.M.Model g.met.M.Body.Ord.total in
     let y = rules g.M.Model g.M.Body.Ord.cmp c.args.bench.now.model.now in
     let known = c.loop-executed.invariant.dealt in
     let before = c.loop-executed.self in

@@ -1,9 +1,9 @@
 use Rattle.std.proofs.Common.{◌≡◌, List, ◌∷◌, [], length, refl, sym, ap, ◌∙◌, subst, arith}
 use Rattle.rw_vt.specs.System.{rules}
+use Rattle.rw_vt.proofs.Laws.{laws_of}
 use Rattle.rw_rounds.specs.Bags.{Every}
 use Rattle.rw_rounds.specs.Turns.{owner}
 use Rattle.rw_rounds.specs.Working.{role_of, desk_of, IsFitAndSound, Works}
-use Rattle.rw_rounds.proofs.Governing.{Laws}
 use Rattle.rw_rounds.proofs.Adding.{works_none, works_then, works_beside, works_offered}
 use Rattle.rw_rounds.proofs.Fits.{fit_after, fit_without_kept}
 use Rattle.rw_rounds.proofs.desk.Desk.offer_kept.Goals as goal
@@ -14,7 +14,7 @@ none_left (x ∷ xs) h = absurd (omega arith)
 
 pub loop-letter-init : goal.loop-letter-init
 loop-letter-init g c =
-    let laws : Laws g.M.Model g.M.Body.Ord.cmp = record { total = g.met.M.Body.Ord.total; same = g.met.M.Model.same; keeps = g.met.M.Model.keeps; future = g.met.M.Model.future; ranges = g.met.M.Model.ranges } in
+    let laws = laws_of g.met.M.Model g.met.M.Body.Ord.total in
     let x = c.args.self.now in
     let none : c.replace-kept.new.dest.items ≡ [] = ap (λ v. v.items) c.replace-kept.ensures.after ∙ c.new.ensures.items in
     let all : c.into_iter-letter-iterator.result.rest.items ≡ x.kept.items = c.into_iter-letter-iterator.ensures.into_iter_gives.0 ∙ ap (λ v. v.items) c.replace-kept.ensures.value in
@@ -32,7 +32,7 @@ loop-letter-init g c =
 
 pub loop-letter-preserved : goal.loop-letter-preserved
 loop-letter-preserved g c =
-    let laws : Laws g.M.Model g.M.Body.Ord.cmp = record { total = g.met.M.Body.Ord.total; same = g.met.M.Model.same; keeps = g.met.M.Model.keeps; future = g.met.M.Model.future; ranges = g.met.M.Model.ranges } in
+    let laws = laws_of g.met.M.Model g.met.M.Body.Ord.total in
     let x = c.args.self.now in
     let before = c.loop-letter.self in
     let known = c.loop-letter.invariant in

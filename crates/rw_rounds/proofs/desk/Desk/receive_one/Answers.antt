@@ -1,10 +1,10 @@
 use Rattle.std.proofs.Common.{◌≡◌, ◌∷◌, ◌++◌, [], true, false, refl, sym, ap, ◌∙◌, subst}
 use Rattle.rw_vt.specs.System.{rules}
+use Rattle.rw_vt.proofs.Laws.{laws_of}
 use Rattle.rw_rounds.specs.Bags.{Every}
 use Rattle.rw_rounds.specs.Deeds.{IsFair}
 use Rattle.rw_rounds.specs.Turns.{is_accepted}
 use Rattle.rw_rounds.specs.Working.{role_of, desk_of, IsFitAndSound, Works}
-use Rattle.rw_rounds.proofs.Governing.{Laws}
 use Rattle.rw_rounds.proofs.Adding.{works_none, works_then, works_received, works_set_aside}
 use Rattle.rw_rounds.proofs.Fits.{fit_with_port}
 use Rattle.rw_rounds.proofs.Passing.{passes_own, passes_fair}
@@ -21,7 +21,7 @@ returns-in_default g c = record {
 
 pub deal-requires-clause-ready : goal.deal-requires-clause-ready
 deal-requires-clause-ready g c =
-    let laws : Laws g.M.Model g.M.Body.Ord.cmp = record { total = g.met.M.Body.Ord.total; same = g.met.M.Model.same; keeps = g.met.M.Model.keeps; future = g.met.M.Model.future; ranges = g.met.M.Model.ranges } in
+    let laws = laws_of g.met.M.Model g.met.M.Body.Ord.total in
     let x = c.args.self.now in
     record { worker = fit_with_port laws c.args.bench.now.model.now (desk_of x) c.receive.new.self x.aside.items c.in-Some.ensures.same c.requires.ready.worker; board = c.requires.ready.board }
 
@@ -49,7 +49,7 @@ returns-in_ok-deal g c =
 
 pub returns-in_ok-push-2 : goal.returns-in_ok-push-2
 returns-in_ok-push-2 g c =
-    let laws : Laws g.M.Model g.M.Body.Ord.cmp = record { total = g.met.M.Body.Ord.total; same = g.met.M.Model.same; keeps = g.met.M.Model.keeps; future = g.met.M.Model.future; ranges = g.met.M.Model.ranges } in
+    let laws = laws_of g.met.M.Model g.met.M.Body.Ord.total in
     let x = c.args.self.now in
     let fails : is_accepted (rules g.M.Model g.M.Body.Ord.cmp c.args.bench.now.model.now) (role_of x) c.in-Some.letter ≡ false = sym c.passes.ensures.passes ∙ c.if-passes.false in
     record {

@@ -1,16 +1,16 @@
 use Rattle.std.proofs.Common.{◌≡◌, sym, ap, ◌∙◌, subst}
 use Rattle.std.specs.Prelude.{slice_get}
 use Rattle.rw_vt.specs.System.{rules}
+use Rattle.rw_vt.proofs.Laws.{laws_of}
 use Rattle.rw_rounds.specs.Turns.{IsFit, TookTurn}
 use Rattle.rw_rounds.specs.Working.{desk_of}
-use Rattle.rw_rounds.proofs.Governing.{Laws}
 use Rattle.rw_rounds.proofs.Fits.{fit_without_inbox, fit_and_sound}
 use Rattle.rw_rounds.proofs.Taking.{turn_taken}
 use Rattle.rw_rounds.proofs.worker.Worker.turn.Goals as goal
 
 pub turn-requires-clause-ready : goal.turn-requires-clause-ready
 turn-requires-clause-ready g c =
-    let laws : Laws g.M.Model g.M.Body.Ord.cmp = record { total = g.met.M.Body.Ord.total; same = g.met.M.Model.same; keeps = g.met.M.Model.keeps; future = g.met.M.Model.future; ranges = g.met.M.Model.ranges } in
+    let laws = laws_of g.met.M.Model g.met.M.Body.Ord.total in
     let x = c.self.inside in
     let own = subst (IsFit g.M.Model g.M.Body.Ord.cmp c.args.model.now) (sym c.self.view_is) c.requires.fit in
     record {

@@ -1,11 +1,11 @@
 use Rattle.std.proofs.Common.{refl, arith}
-use Rattle.rw_world.proofs.Wholes.{Laws}
+use Rattle.rw_vt.proofs.Laws.{laws_of}
 use Rattle.rw_world.proofs.Collects.{none_early, made_collect}
 use Rattle.rw_world.proofs.parts.Parts.collect.Goals as goal
 
 pub collect_all-requires : goal.collect_all-requires
 collect_all-requires g c =
-    let laws : Laws g.M.Model g.M.Body.Ord.cmp = record { total = g.met.M.Body.Ord.total; same = g.met.M.Model.same; keeps = g.met.M.Model.keeps; future = g.met.M.Model.future; ranges = g.met.M.Model.ranges } in
+    let laws = laws_of g.met.M.Model g.met.M.Body.Ord.total in
     record { quiet = λ q x at. none_early c.args.self.now c.requires.whole c.args.time laws (omega arith) q x at }
 
 pub returns-clause-made : goal.returns-clause-made

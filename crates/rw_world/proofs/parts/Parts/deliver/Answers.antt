@@ -1,12 +1,13 @@
 use Rattle.std.proofs.Common.{◌≡◌, true, length, refl, sym, subst, arith}
 use Rattle.std.proofs.lemmas.Option.{slice_get_read}
+use Rattle.rw_vt.proofs.Laws.{laws_of}
 use Rattle.rw_world.proofs.Made.{made_deliver, made_no_delivery}
-use Rattle.rw_world.proofs.Wholes.{Laws, letter_inside}
+use Rattle.rw_world.proofs.Wholes.{letter_inside}
 use Rattle.rw_world.proofs.parts.Parts.deliver.Goals as goal
 
 pub overflow_cast-place : goal.overflow_cast-place
 overflow_cast-place g c =
-    let laws : Laws g.M.Model g.M.Body.Ord.cmp = record { total = g.met.M.Body.Ord.total; same = g.met.M.Model.same; keeps = g.met.M.Model.keeps; future = g.met.M.Model.future; ranges = g.met.M.Model.ranges } in
+    let laws = laws_of g.met.M.Model g.met.M.Body.Ord.total in
     let x = c.args.self.now in
     let letter = c.index-letter.result.now in
     let found = slice_get_read x.letters.items (length x.letters.items) c.args.number letter refl (omega arith) c.index-letter.ensures in
@@ -15,7 +16,7 @@ overflow_cast-place g c =
 
 pub swap_remove-process-requires : goal.swap_remove-process-requires
 swap_remove-process-requires g c =
-    let laws : Laws g.M.Model g.M.Body.Ord.cmp = record { total = g.met.M.Body.Ord.total; same = g.met.M.Model.same; keeps = g.met.M.Model.keeps; future = g.met.M.Model.future; ranges = g.met.M.Model.ranges } in
+    let laws = laws_of g.met.M.Model g.met.M.Body.Ord.total in
     let x = c.args.self.now in
     let letter = c.index-letter.result.now in
     let found = slice_get_read x.letters.items (length x.letters.items) c.args.number letter refl (omega arith) c.index-letter.ensures in
@@ -24,7 +25,7 @@ swap_remove-process-requires g c =
 
 pub deliver-requires-clause-valid : goal.deliver-requires-clause-valid
 deliver-requires-clause-valid g c =
-    let laws : Laws g.M.Model g.M.Body.Ord.cmp = record { total = g.met.M.Body.Ord.total; same = g.met.M.Model.same; keeps = g.met.M.Model.keeps; future = g.met.M.Model.future; ranges = g.met.M.Model.ranges } in
+    let laws = laws_of g.met.M.Model g.met.M.Body.Ord.total in
     let x = c.args.self.now in
     let letter = c.index-letter.result.now in
     let found = slice_get_read x.letters.items (length x.letters.items) c.args.number letter refl (omega arith) c.index-letter.ensures in
@@ -35,7 +36,7 @@ deliver-requires-clause-valid g c =
 
 pub deliver-requires-clause-here : goal.deliver-requires-clause-here
 deliver-requires-clause-here g c =
-    let laws : Laws g.M.Model g.M.Body.Ord.cmp = record { total = g.met.M.Body.Ord.total; same = g.met.M.Model.same; keeps = g.met.M.Model.keeps; future = g.met.M.Model.future; ranges = g.met.M.Model.ranges } in
+    let laws = laws_of g.met.M.Model g.met.M.Body.Ord.total in
     let x = c.args.self.now in
     let letter = c.index-letter.result.now in
     let found = slice_get_read x.letters.items (length x.letters.items) c.args.number letter refl (omega arith) c.index-letter.ensures in
@@ -46,7 +47,7 @@ deliver-requires-clause-here g c =
 
 pub put_back-requires : goal.put_back-requires
 put_back-requires g c =
-    let laws : Laws g.M.Model g.M.Body.Ord.cmp = record { total = g.met.M.Body.Ord.total; same = g.met.M.Model.same; keeps = g.met.M.Model.keeps; future = g.met.M.Model.future; ranges = g.met.M.Model.ranges } in
+    let laws = laws_of g.met.M.Model g.met.M.Body.Ord.total in
     let x = c.args.self.now in
     let letter = c.index-letter.result.now in
     let found = slice_get_read x.letters.items (length x.letters.items) c.args.number letter refl (omega arith) c.index-letter.ensures in
@@ -55,7 +56,7 @@ put_back-requires g c =
 
 pub returns-in-Done-clause-made : goal.returns-in-Done-clause-made
 returns-in-Done-clause-made g c =
-    let laws : Laws g.M.Model g.M.Body.Ord.cmp = record { total = g.met.M.Body.Ord.total; same = g.met.M.Model.same; keeps = g.met.M.Model.keeps; future = g.met.M.Model.future; ranges = g.met.M.Model.ranges } in
+    let laws = laws_of g.met.M.Model g.met.M.Body.Ord.total in
     let x = c.args.self.now in
     let letter = c.index-letter.result.now in
     let found = slice_get_read x.letters.items (length x.letters.items) c.args.number letter refl (omega arith) c.index-letter.ensures in
@@ -70,7 +71,7 @@ returns-in-Done-clause-made g c =
 
 pub returns-in_default-clause-made : goal.returns-in_default-clause-made
 returns-in_default-clause-made g c =
-    let laws : Laws g.M.Model g.M.Body.Ord.cmp = record { total = g.met.M.Body.Ord.total; same = g.met.M.Model.same; keeps = g.met.M.Model.keeps; future = g.met.M.Model.future; ranges = g.met.M.Model.ranges } in
+    let laws = laws_of g.met.M.Model g.met.M.Body.Ord.total in
     let x = c.args.self.now in
     let letter = c.index-letter.result.now in
     let found = slice_get_read x.letters.items (length x.letters.items) c.args.number letter refl (omega arith) c.index-letter.ensures in

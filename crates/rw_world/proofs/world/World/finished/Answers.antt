@@ -1,15 +1,16 @@
 use Rattle.std.proofs.Common.{◌≡◌, eqb, map, sym, ap, ◌∙◌, subst}
 use Rattle.rw_vt.specs.System.{IsOutcome}
+use Rattle.rw_vt.proofs.Laws.{laws_of}
 use Rattle.rw_lp.specs.Process.{done}
 use Rattle.rw_world.specs.WorldState.{is_finished}
 use Rattle.rw_world.specs.Calls.{Simulation, system_of, simulation_of, world_of}
 use Rattle.rw_world.proofs.Floors.{finished_is}
-use Rattle.rw_world.proofs.Wholes.{Laws, law_of, world_in_order}
+use Rattle.rw_world.proofs.Wholes.{law_of, world_in_order}
 use Rattle.rw_world.proofs.world.World.finished.Goals as goal
 
 pub returns : goal.returns
 returns g c =
-    let laws : Laws g.M.Model g.M.Body.Ord.cmp = record { total = g.met.M.Body.Ord.total; same = g.met.M.Model.same; keeps = g.met.M.Model.keeps; future = g.met.M.Model.future; ranges = g.met.M.Model.ranges } in
+    let laws = laws_of g.met.M.Model g.met.M.Body.Ord.total in
     let x = c.self.inside.parts in
     let whole = c.self.invariant in
     let y = system_of g.M.Model g.M.Body.Ord.cmp (simulation_of x) in

@@ -2,15 +2,16 @@ use Rattle.std.proofs.Common.{◌≡◌, ◌<◌, length, refl, sym, ap, ◌∙�
 use Rattle.std.specs.Option.{option_map}
 use Rattle.std.proofs.lemmas.Option.{slice_get-map, slice_get_read}
 use Rattle.rw_vt.specs.System.{journal_below}
+use Rattle.rw_vt.proofs.Laws.{laws_of}
 use Rattle.rw_world.specs.Sound.{list_at, committed_of}
 use Rattle.rw_world.specs.Calls.{Simulation, system_of, world_of}
 use Rattle.rw_world.proofs.Made.{processes_count}
-use Rattle.rw_world.proofs.Wholes.{Laws, committed_is}
+use Rattle.rw_world.proofs.Wholes.{committed_is}
 use Rattle.rw_world.proofs.world.World.journal.Goals as goal
 
 pub returns-clause-in_order : goal.returns-clause-in_order
 returns-clause-in_order g c =
-    let laws : Laws g.M.Model g.M.Body.Ord.cmp = record { total = g.met.M.Body.Ord.total; same = g.met.M.Model.same; keeps = g.met.M.Model.keeps; future = g.met.M.Model.future; ranges = g.met.M.Model.ranges } in
+    let laws = laws_of g.met.M.Model g.met.M.Body.Ord.total in
     let x = c.self.inside.parts in
     let whole = c.self.invariant in
     let same = ap (λ v. g.M.Model.process_count v.model) c.self.view_is in

@@ -2,11 +2,12 @@ use Rattle.std.proofs.Common.{◌≡◌, ◌+◌, ◌∷◌, [], ◌++◌, take,
 use Rattle.std.proofs.lemmas.Result.{err_from_is_err_and}
 use Rattle.std.proofs.lemmas.List.{get_or_default}
 use Rattle.rw_vt.specs.declared.refusal.Refusal.TheVariants.{Exhausted}
+use Rattle.rw_vt.proofs.Laws.{laws_of}
 use Rattle.rw_world.specs.declared.step.Step.{Step}
 use Rattle.rw_world.specs.declared.step.Step.TheVariants.{Execute}
 use Rattle.rw_world.specs.Steps.{apply, answers}
 use Rattle.rw_world.specs.Calls.{Simulation, system_of, with_world, simulation_of, world_of, ExecutesAt, MeetsAt}
-use Rattle.rw_world.proofs.Wholes.{Laws, world_in_order}
+use Rattle.rw_world.proofs.Wholes.{world_in_order}
 use Rattle.rw_world.proofs.Kept.{whole_after}
 use Rattle.rw_world.proofs.Runs.{run_more, answers_more, parted_at}
 use Rattle.rw_world.proofs.world.World.run_steps.Goals as goal
@@ -29,7 +30,7 @@ returns-in_err-make-clause-exhausted g c = λ e.
 
 pub loop-step-preserved : goal.loop-step-preserved
 loop-step-preserved g c =
-    let laws : Laws g.M.Model g.M.Body.Ord.cmp = record { total = g.met.M.Body.Ord.total; same = g.met.M.Model.same; keeps = g.met.M.Model.keeps; future = g.met.M.Model.future; ranges = g.met.M.Model.ranges } in
+    let laws = laws_of g.met.M.Model g.met.M.Body.Ord.total in
     let x = c.self.inside.parts in
     let now = c.loop-step.parts in
     let steps = c.args.steps.now in
@@ -53,6 +54,6 @@ loop-step-preserved g c =
 
 pub returns-clause-in_order : goal.returns-clause-in_order
 returns-clause-in_order g c =
-    let laws : Laws g.M.Model g.M.Body.Ord.cmp = record { total = g.met.M.Body.Ord.total; same = g.met.M.Model.same; keeps = g.met.M.Model.keeps; future = g.met.M.Model.future; ranges = g.met.M.Model.ranges } in
+    let laws = laws_of g.met.M.Model g.met.M.Body.Ord.total in
     let whole = c.loop-step.invariant.whole in
     world_in_order laws (simulation_of c.loop-step.parts) whole.ready whole.sound
