@@ -4,9 +4,7 @@ use crate::fault::Fault;
 use crate::lines::write_line;
 use crate::source::Source;
 use clap::ArgMatches;
-use rw_import::{
-    Column, Dealing, Imported, Layout, LeftOut, Options, import_csv, import_oracle,
-};
+use rw_import::{Column, Dealing, Imported, Layout, LeftOut, Options, import_csv, import_oracle};
 use rw_ripqwarp::Out;
 use std::alloc::Global;
 use std::io::Write;

@@ -99,7 +99,8 @@ fn fields_become_rows(rt: HostRuntime) -> Result<(), Fail> {
         kind: Some(named(rt.alloc(), b"k")?),
     };
     let options = Options::new(1000, 2, Dealing::ByRow, false).ok_or("options")?;
-    let log = b"size;t;o;k;e\n5;10.5;b;GET;255\n6;9;a;get;256\n7;9.0000000009;a;Purge;3\n0;9;a;get;1\n8;12.25;b;get;0\n3;x;b;get;0\n3;1;;get;0\n3;1;b;no;0\n3;1\n";
+    let log =
+        b"size;t;o;k;e\n5;10.5;b;GET;255\n6;9;a;get;256\n7;9.0000000009;a;Purge;3\n0;9;a;get;1\n8;12.25;b;get;0\n3;x;b;get;0\n3;1;;get;0\n3;1;b;no;0\n3;1\n";
     let answer = import_csv(rt.alloc(), log.as_slice(), &layout, &options)?;
     assert_eq!(rt;
         answer.text.as_slice(),
