@@ -4,7 +4,7 @@ ghost use Rattle.rw_vt.specs.System.{IsReady, Meets, system};
 ghost use Rattle.rw_rounds.specs.Plans.{IsInRanges};
 ghost use Rattle.rw_world.specs.Calls.{MeetsAt};
 ghost use Rattle.rw_world.specs.WorldState.{opening_world};
-ghost use Rattle.rw_engine.specs.Runs.{IsByBadPlan, ComesToExhaustion, IsOfAnyRun, HasRun};
+ghost use Rattle.rw_engine.specs.Runs.{IsByBadPlan, ComesToExhaustion, IsOfAnyRun, MayStopFor, HasRun};
 
 use crate::how::{How, Ran};
 use rw_rounds::{Open, Plan, Stop, Traffic};
@@ -45,6 +45,7 @@ where
     ensures exhausted { result ≡ Err Stop.Exhausted
         → ComesToExhaustion (system M.Model M.Body.cmp model starts.items initial.items)
         (M.is_exhausted model) how.entry }
+    ensures only { IfErr result (MayStopFor how.entry) }
 {
     match how {
         How::InOrder => in_order(alloc, &model, starts, initial),

@@ -3,4 +3,4 @@ pub mod Runs
 pub mod Written
 pub mod Words
 pub mod Journals
-pub mod Schedules
+pub mod Ways

@@ -1,7 +1,7 @@
 -- What a run asks and gives, at the caches of a configuration.
-use Rattle.std.proofs.Common.{◌≡◌, ℕ, zero, suc, ◌+◌, List, [], ◌∷◌, ◌++◌, Some, Result, Ok, Err, true, refl, sym, ◌∙◌, ap, subst, length}
+use Rattle.std.proofs.Common.{◌≡◌, ℕ, zero, suc, ◌+◌, List, [], ◌∷◌, ◌++◌, Some, true, refl, sym, ◌∙◌, ap, subst, length}
 use Rattle.std.proofs.lemmas.List.FromFn.{length-map-range_with_len}
-use Rattle.std.specs.Prelude.{◌↔◌, All, slice_get}
+use Rattle.std.specs.Prelude.{All, slice_get}
 use Rattle.rw_vt.specs.declared.event.Event.{Event}
 use Rattle.rw_vt.specs.System.{System, IsOutcome, IsReady, state_after, journal_below, map_from, system}
 use Rattle.rw_photo.specs.declared.body.Body.{Body}
@@ -12,18 +12,7 @@ use Rattle.rw_photo.specs.contracts.body.BodyOrd.TheImpl as order
 use Rattle.rw_photo.specs.Cache.{Cache, IsWellFormed, start}
 use Rattle.rw_photo.specs.Events.{is_valid}
 use Rattle.rw_photo.specs.Simulation.{simulation, starts_of}
-use Rattle.rw_vt.specs.declared.refusal.Refusal.{Refusal}
-use Rattle.rw_vt.specs.declared.refusal.Refusal.TheVariants.{Memory, Exhausted}
-use Rattle.rw_rounds.specs.Plans.{IsInRanges}
-use Rattle.rw_rounds.specs.declared.plan.Plan.{Plan}
-use Rattle.rw_rounds.specs.declared.stop.Stop.{Stop}
-use Rattle.rw_rounds.specs.declared.stop.Stop.TheVariants as stop
-use Rattle.std.specs.Result.{IfErr, IsErrAnd}
-use Rattle.rw_ripqwarp.specs.declared.sim_fault.SimFault.{SimFault}
-use Rattle.rw_ripqwarp.specs.declared.mode.Mode.{Mode}
-use Rattle.rw_ripqwarp.specs.declared.mode.Mode.TheVariants.{Warp}
-use Rattle.rw_ripqwarp.specs.Faults.{sim_refusal_of, sim_stop_of}
-use Rattle.rw_ripqwarp.specs.Simulate.{HasGoodPlan, IsAccepted, IsBeginningOf, IsExhausting, IsRunFault}
+use Rattle.rw_ripqwarp.specs.Simulate.{IsBeginningOf}
 
 -- what is said of each place, with one more
 pub pushed : {X : Type 0} (P : ℕ → X → Type 0) (xs : List X) (x : X) → ((p : ℕ) (s : X) → slice_get xs p ≡ Some s → P p s) → P (length xs) x
@@ -61,23 +50,3 @@ simulates c m bytes starts initial config b i =
 -- a state for each process
 pub length-states : {S B : Type 0} (y : System S B) (t : ℕ) (journals : List (List (Event B))) (states : List S) → IsOutcome y t journals states → length states ≡ length y.starts
 length-states y t journals states o = ap length o.states_are ∙ length-map_from 0 (λ q s. state_after (y.rules.step q) s (journal_below y t q)) y.starts
-
--- a refusal is a fault of the run: want of memory always, and a cache that can take no further event where one was met
-pub refusal-is-fault : {T : Type 0} (r : Result T SimFault) (e : Refusal) (mode : Mode) (c : Config) (bytes : List ℕ) → IsErrAnd r (λ f. f ≡ sim_refusal_of e)
-    → (e ≡ Exhausted → IsExhausting mode c bytes × HasGoodPlan mode) → IfErr r (IsRunFault mode c bytes)
-refusal-is-fault (Ok t) e mode c bytes is h = tt
-refusal-is-fault (Err f) Memory mode c bytes is h = subst (IsRunFault mode c bytes) (sym is) tt
-refusal-is-fault (Err f) Exhausted mode c bytes is h = subst (IsRunFault mode c bytes) (sym is) (h refl)
-
--- a stop of rounds is a fault of the run: the plan's exactly where the plan is bad
-stopped : (s : Stop) (plan : Plan) (c : Config) (bytes : List ℕ) → IsAccepted c bytes → (s ≡ stop.BadPlan) ↔ (IsInRanges plan → ⊥) → IsRunFault (Warp plan) c bytes (sim_stop_of s)
-stopped stop.Memory plan c bytes accepted h = tt
-stopped stop.Exhausted plan c bytes accepted h = (accepted, λ bad. let same = h.1 bad in cc)
-stopped stop.RoundsUsed plan c bytes accepted h = (tt, accepted, λ bad. let same = h.1 bad in cc)
-stopped stop.BadPlan plan c bytes accepted h = (tt, accepted, h.0 refl)
-stopped stop.NoThread plan c bytes accepted h = (tt, accepted, λ bad. let same = h.1 bad in cc)
-
-pub stop-is-fault : {T : Type 0} (r : Result T SimFault) (s : Stop) (plan : Plan) (c : Config) (bytes : List ℕ) → IsErrAnd r (λ f. f ≡ sim_stop_of s)
-    → IsAccepted c bytes → (s ≡ stop.BadPlan) ↔ (IsInRanges plan → ⊥) → IfErr r (IsRunFault (Warp plan) c bytes)
-stop-is-fault (Ok t) s plan c bytes is accepted h = tt
-stop-is-fault (Err f) s plan c bytes is accepted h = subst (IsRunFault (Warp plan) c bytes) (sym is) (stopped s plan c bytes accepted h)

@@ -7,7 +7,6 @@ use Rattle.rw_vt.specs.declared.event.Event.{Event}
 use Rattle.rw_vt.specs.System.{Setting, system_in}
 use Rattle.rw_photo.specs.declared.body.Body.{Body}
 use Rattle.rw_photo.specs.declared.config.Config.{Config}
-use Rattle.rw_photo.specs.declared.photo.Photo.{Photo}
 use Rattle.rw_photo.specs.declared.undo.Undo.{Undo}
 use Rattle.rw_photo.specs.contracts.body.BodyOrd.TheImpl as order
 use Rattle.rw_photo.specs.contracts.photo.PhotoVtModel.TheImpl as model
@@ -18,7 +17,6 @@ use Rattle.rw_rounds.specs.declared.plan.Plan.{Plan}
 use Rattle.rw_world.specs.declared.step.Step.{Step}
 use Rattle.rw_world.specs.WorldState.{opening_world}
 use Rattle.rw_world.specs.Steps.{run}
-use Rattle.rw_world.specs.Calls.{Simulation, system_of}
 use Rattle.rw_world.specs.Sound.{IsInOrder}
 use Rattle.rw_ripqwarp.specs.Sink.{AppendsBeginning}
 use Rattle.rw_ripqwarp.specs.Simulate.{IsTextOf}
@@ -57,10 +55,6 @@ abbrev pub ThreadsWriteTheReport : Type 0
 ThreadsWriteTheReport = (plan : Plan) (c : Config) (bytes threads one : List ℕ) → IsTextOf (Warp plan) c bytes threads → IsTextOf Serial c bytes one → threads ≡ one
 
 -- What calls say
-
--- in this world the committed events and the states that they leave are those of executing all events in order of time
-abbrev pub IsAsInOrderOfTime : Simulation Photo Cache Body → Type 0
-IsAsInOrderOfTime x = IsInOrder (system_of model.ghosts order.ghosts.cmp x) x.world
 
 -- a finished run of the trace in these bytes has written, between what the writer held before and what it holds after, the text of its
 -- mode

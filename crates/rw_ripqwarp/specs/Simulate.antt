@@ -1,5 +1,5 @@
 -- From the bytes of a trace to the bytes of its report, or of its journal.
-use Rattle.std.specs.Prelude.{◌≡◌, ℕ, ◌^◌, List, map, Ok, Err}
+use Rattle.std.specs.Prelude.{◌≡◌, ℕ, List, map, Ok, Err}
 use Rattle.rw_vt.specs.declared.event.Event.{Event}
 use Rattle.rw_vt.specs.System.{IsOutcome, IsReady, Meets}
 use Rattle.rw_trace.specs.declared.Row.{Row}
@@ -14,8 +14,9 @@ use Rattle.rw_world.specs.declared.step.Step.{Step}
 use Rattle.rw_world.specs.WorldState.{opening_world}
 use Rattle.rw_world.specs.Steps.{answers, run}
 use Rattle.rw_world.specs.Calls.{MeetsAt}
-use Rattle.rw_rounds.specs.declared.sim.Traffic.{Traffic}
 use Rattle.rw_rounds.specs.Plans.{IsInRanges}
+use Rattle.rw_engine.specs.declared.how.How.{How}
+use Rattle.rw_engine.specs.declared.how.How.TheVariants.{InOrder, InRounds, BySteps}
 use Rattle.rw_ripqwarp.specs.Report.{report_text}
 use Rattle.rw_ripqwarp.specs.Journal.{journal_text}
 use Rattle.rw_ripqwarp.specs.declared.sim_fault.SimFault.{SimFault}
@@ -72,6 +73,13 @@ IsExhausting Serial c bytes = IsExhaustingInOrder c bytes
 IsExhausting (Warp plan) c bytes = IsAccepted c bytes
 IsExhausting (Journal steps) c bytes = IsExhaustingBySteps steps.items c bytes
 
+-- the way in which the engine runs a trace in this mode
+abbrev pub IsWayOf : Mode → How → Type 0
+IsWayOf Serial InOrder = Unit {0}
+IsWayOf (Warp plan) (InRounds by) = by ≡ plan
+IsWayOf (Journal steps) (BySteps by) = by.now ≡ steps.items
+IsWayOf _ _ = ⊥
+
 -- the trace is run in rounds
 abbrev pub IsWarp : Mode → Type 0
 IsWarp (Warp plan) = Unit {0}
@@ -102,10 +110,6 @@ IsRunFault mode c bytes sim.Rounds = IsWarp mode × IsAccepted c bytes × HasGoo
 IsRunFault mode c bytes sim.NoThread = IsWarp mode × IsAccepted c bytes × HasGoodPlan mode
 IsRunFault mode c bytes sim.Output = HasGoodPlan mode
 IsRunFault mode c bytes sim.Memory = Unit {0}
-
--- no round was run
-abbrev pub no_traffic : Traffic
-no_traffic = record { rounds = 0; executed = 0; undone = 0; ring = 0; kept = 0 }
 
 -- a run of the trace in these bytes begins with these caches and events: the trace is accepted, the caches and the requests are
 -- those of its simulation, and a model of the configuration may run them

@@ -2,7 +2,7 @@
 //! The program as a library: from the bytes of a trace to the bytes of a report, or of a journal under a schedule.
 //!
 //! What is proved of the whole stands in `specs/Headline.antt`, a closed statement for each sentence; [`every_reverse`],
-//! [`any_schedule`] and [`one_report`] carry them. [`run_schedule`] and [`simulate`] do what they speak of.
+//! [`any_schedule`] and [`one_report`] carry them, and [`simulate`] does what they speak of, by the engine, [`rw_engine::run_in`].
 //!
 //! Worked examples: `rw_tests/src/reports.rt`, and the cases of `rw_cases`.
 
@@ -15,14 +15,13 @@ mod sim_fault;
 mod simulation;
 mod text;
 
-pub use headline::{any_schedule, every_reverse, one_report, run_schedule};
+pub use headline::{any_schedule, every_reverse, one_report};
 pub use mode::Mode;
 pub use output::Out;
+pub use rw_engine::{Answer, Plan, Step, Traffic, World};
 pub use rw_photo::{Body, CacheState, Config, Levels, Photo, Policy, Shape};
-pub use rw_rounds::{Plan, Traffic};
 pub use rw_trace::TraceFault;
 pub use rw_vt::{Event, NoMemory, Outcome, Refusal};
-pub use rw_world::{Answer, Step, World};
 pub use schedule_text::{ScheduleFault, schedule};
 pub use sim_fault::SimFault;
 pub use simulation::{beginning, beginning_of_rows, simulate};

@@ -5,22 +5,20 @@ ghost use Rattle.rw_photo.specs.Simulation.{simulation, starts_of};
 ghost use Rattle.rw_photo.specs.contracts.photo.PhotoVtModel.TheImpl as model;
 ghost use Rattle.rw_trace.specs.Laws.{IsRow};
 ghost use Rattle.rw_vt.specs.System.{IsReady};
+ghost use Rattle.rw_engine.specs.Runs.{no_traffic};
 ghost use Rattle.rw_ripqwarp.specs.Sink.{AppendsBeginning};
-ghost use Rattle.rw_ripqwarp.specs.Simulate.{IsBeginningOf, IsTextOf, IsWarp, no_traffic, HasGoodPlan, IsRunFault, IsBeginningFault};
+ghost use Rattle.rw_ripqwarp.specs.Simulate.{IsBeginningOf, IsTextOf, IsWarp, HasGoodPlan, IsRunFault, IsBeginningFault};
 ghost use Rattle.rw_ripqwarp.specs.Headline.{HasWritten, HasWrittenBeginning};
 
-use crate::headline::run_schedule;
 use crate::journal_text::journal;
 use crate::mode::Mode;
 use crate::output::Out;
 use crate::sim_fault::SimFault;
-use crate::text::{report, report_of_states};
+use crate::text::report_of_states;
+use rw_engine::{Ran, Traffic, run_in};
 use rw_photo::{Body, CacheState, Config, Photo, requests};
-use rw_rounds::{Open, Traffic};
-use rw_serial::last_states;
 use rw_trace::{Row, read};
 use rw_vt::{Event, Model as VtModel, NoMemory};
-use rw_world::World;
 use std::alloc::Global;
 use std::io::Write;
 use std::sync::Wait;
@@ -77,20 +75,12 @@ fn text_of<R: Threads + Wait + Sync>(
 {
     let (starts, initial) = beginning(alloc, bytes, config)?;
     let photo = Photo::new(*config);
-    match mode {
-        Mode::Serial => {
-            let states = last_states(alloc, &photo, starts, initial)?;
+    match run_in(rt, alloc, photo, starts, initial, mode.way())? {
+        Ran::Finished(states, traffic) => {
             let text = report_of_states(alloc, config, states.as_slice())?;
-            Ok((text, Traffic::default()))
+            Ok((text, traffic))
         }
-        Mode::Warp(plan) => {
-            let world = World::open(alloc, photo, starts, initial)?;
-            let (outcome, traffic) = rw_rounds::run(rt, alloc, world, plan, &Open)?;
-            Ok((report(alloc, config, &outcome)?, traffic))
-        }
-        Mode::Journal(steps) => {
-            let world = World::open(alloc, photo, starts, initial)?;
-            let (world, answers) = run_schedule(alloc, world, steps.as_slice())?;
+        Ran::Stepped(world, answers) => {
             let text = journal(alloc, answers.as_slice(), &world, photo.processes())?;
             Ok((text, Traffic::default()))
         }

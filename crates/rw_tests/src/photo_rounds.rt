@@ -1,6 +1,6 @@
 // Runs of photo caches in rounds, with gates that hold workers back.
 use rw_photo::{CacheState, Config, Photo, Policy, Shape};
-use rw_ripqwarp::{beginning, run_schedule};
+use rw_ripqwarp::beginning;
 use rw_rounds::{Gate, Open, Plan, Traffic, run};
 use rw_vt::{END, Outcome};
 use rw_world::Step::{Collect, Deliver, Execute, Undo};
@@ -194,7 +194,7 @@ fn a_schedule_takes_a_straggler_back_and_commits_all(rt: HostRuntime) -> Result<
         Execute(0),
         Collect(END),
     ];
-    let (world, answers) = run_schedule(alloc, opened(alloc, &config)?, &steps)?;
+    let (world, answers) = opened(alloc, &config)?.run_steps(alloc, &steps)?;
     for (number, answer) in answers.iter().enumerate() {
         let want = match number {
             5 => Answer::Refused(StepFault::Straggler),

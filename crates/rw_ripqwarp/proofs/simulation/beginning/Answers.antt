@@ -1,12 +1,9 @@
-use Rattle.std.proofs.Common.{◌≡◌, ◌^◌, List, Ok, sym, ◌∙◌, ap, subst}
-use Rattle.std.specs.Prelude.{All}
+use Rattle.std.proofs.Common.{◌≡◌, ◌^◌, List, Ok, ◌∙◌, ap, subst}
 use Rattle.rw_trace.specs.declared.Row.{Row}
-use Rattle.rw_trace.specs.Laws.{IsRow}
 use Rattle.rw_trace.specs.Trace.{trace_of}
 use Rattle.rw_trace.specs.Unread.{records_of}
 use Rattle.rw_photo.specs.declared.config.Config.{Config}
 use Rattle.rw_photo.specs.Simulation.{simulation}
-use Rattle.rw_vt.specs.System.{System}
 use Rattle.rw_ripqwarp.proofs.simulation.beginning.Goals as goal
 
 pub returns-clause-beginning : goal.returns-clause-beginning

@@ -1,0 +1,175 @@
+-- What the engine's run comes to in each mode.
+use Rattle.std.proofs.Common.{◌≡◌, ℕ, ◌+◌, List, Vec, Result, Ok, Err, refl, sym, ◌∙◌, ap, subst, length, map}
+use Rattle.std.proofs.lemmas.List.FromFn.{length-map-range_with_len}
+use Rattle.std.specs.Prelude.{◌↔◌}
+use Rattle.std.specs.declared.alloc.Global.{Global}
+use Rattle.std.specs.Result.{IfErr, IsErrAnd}
+use Rattle.rw_vt.specs.declared.event.Event.{Event}
+use Rattle.rw_vt.specs.System.{IsOutcome, Meets, System, system}
+use Rattle.rw_photo.specs.declared.body.Body.{Body}
+use Rattle.rw_photo.specs.declared.config.Config.{Config}
+use Rattle.rw_photo.specs.declared.photo.Photo.{Photo}
+use Rattle.rw_photo.specs.contracts.photo.PhotoVtModel.TheImpl as model
+use Rattle.rw_photo.specs.contracts.body.BodyOrd.TheImpl as order
+use Rattle.rw_photo.specs.Cache.{Cache, is_exhausted, start}
+use Rattle.rw_lp.specs.declared.step.Answer.{Answer}
+use Rattle.rw_world.specs.declared.step.Step.{Step}
+use Rattle.rw_world.specs.WorldState.{opening_world}
+use Rattle.rw_world.specs.Steps.{answers, run}
+use Rattle.rw_world.specs.Calls.{MeetsAt, Simulation}
+use Rattle.rw_vt.specs.Limits.{end_of_time}
+use Rattle.rw_rounds.specs.Plans.{IsInRanges}
+use Rattle.rw_rounds.specs.declared.sim.Traffic.{Traffic}
+use Rattle.rw_rounds.specs.declared.stop.Stop.{Stop}
+use Rattle.rw_rounds.specs.declared.stop.Stop.TheVariants as stop
+use Rattle.rw_engine.specs.declared.how.How.{How}
+use Rattle.rw_engine.specs.declared.how.How.TheVariants.{InOrder, InRounds, BySteps}
+use Rattle.rw_engine.specs.declared.how.Ran.TheVariants.{Finished, Stepped}
+use Rattle.rw_engine.specs.Runs.{AreLastStates, ComesToExhaustion, HasRun, IsByBadPlan, IsOfAnyRun, IsSteppedTo, MayStopFor}
+use Rattle.rw_ripqwarp.specs.declared.mode.Mode.{Mode}
+use Rattle.rw_ripqwarp.specs.declared.mode.Mode.TheVariants.{Serial, Warp, Journal}
+use Rattle.rw_ripqwarp.specs.declared.sim_fault.SimFault.{SimFault}
+use Rattle.rw_ripqwarp.specs.Faults.{sim_stop_of}
+use Rattle.rw_ripqwarp.specs.Journal.{journal_text}
+use Rattle.rw_ripqwarp.specs.Report.{report_text}
+use Rattle.rw_ripqwarp.specs.Simulate.{HasBadPlan, HasGoodPlan, IsBeginningOf, IsExhausting, IsJournalOf, IsReportOf, IsRunFault, IsTextOf, IsWarp, IsWayOf}
+use Rattle.rw_ripqwarp.proofs.Runs.{length-states, simulates}
+
+-- the caches at work
+abbrev pub caches : Photo → List Cache → List (Event Body) → System Cache Body
+caches m starts initial = system model.ghosts order.ghosts.cmp m starts initial
+
+-- A finished run
+
+-- the states are those that executing all events in order of time leaves, whichever way
+pub last-states : (m : Photo) (starts : List Cache) (initial : List (Event Body)) (way : How) (states : Vec Cache Global) (traffic : Traffic)
+    → HasRun model.ghosts order.ghosts.cmp m starts initial way (Finished states traffic) → AreLastStates (caches m starts initial) states.items
+last-states m starts initial InOrder states traffic ran = ran.0
+last-states m starts initial (InRounds plan) states traffic ran = ran
+last-states m starts initial (BySteps steps) states traffic ran = absurd ran
+
+-- there is one for each cache
+pub length-last : (c : Config) (m : Photo) (bytes : List ℕ) (starts : List Cache) (initial : List (Event Body)) (states : List Cache)
+    → IsBeginningOf c bytes starts initial → AreLastStates (caches m starts initial) states → length states ≡ c.edges + c.origins
+length-last c m bytes starts initial states b last =
+    length-states (caches m starts initial) end_of_time last.0 states last.1 ∙ ap length b.starts_are ∙ length-map-range_with_len (start c) 0 (c.edges + c.origins)
+
+-- and what they have counted is the report
+reports : (c : Config) (m : Photo) (bytes text : List ℕ) (starts : List Cache) (initial : List (Event Body)) (states : List Cache) → m.config ≡ c
+    → IsBeginningOf c bytes starts initial → AreLastStates (caches m starts initial) states → text ≡ report_text c (map (λ s. s.counters) states) → IsReportOf c bytes text
+reports c m bytes text starts initial states config b last told =
+    record {
+      rows = b.rows;
+      journals = last.0;
+      states = states;
+      accepted = b.accepted;
+      outcome = subst (λ (y : System Cache Body). IsOutcome y end_of_time last.0 states) (simulates c m bytes starts initial config b) last.1;
+      told = told;
+    }
+
+pub reported : (c : Config) (m : Photo) (bytes text : List ℕ) (starts : List Cache) (initial : List (Event Body)) (mode : Mode) (way : How) (states : Vec Cache Global) (traffic : Traffic)
+    → m.config ≡ c → IsBeginningOf c bytes starts initial → IsWayOf mode way → HasRun model.ghosts order.ghosts.cmp m starts initial way (Finished states traffic)
+    → text ≡ report_text c (map (λ s. s.counters) states.items) → IsTextOf mode c bytes text
+reported c m bytes text starts initial Serial way states traffic config b by ran told =
+    reports c m bytes text starts initial states.items config b (last-states m starts initial way states traffic ran) told
+reported c m bytes text starts initial (Warp plan) way states traffic config b by ran told =
+    reports c m bytes text starts initial states.items config b (last-states m starts initial way states traffic ran) told
+reported c m bytes text starts initial (Journal steps) InOrder states traffic config b by ran told = absurd by
+reported c m bytes text starts initial (Journal steps) (InRounds plan) states traffic config b by ran told = absurd by
+reported c m bytes text starts initial (Journal steps) (BySteps same) states traffic config b by ran told = absurd ran
+
+-- A run by steps
+
+-- the steps are those of a journal
+pub stepped : (m : Photo) (starts : List Cache) (initial : List (Event Body)) (mode : Mode) (way : How) (x : Simulation Photo Cache Body) (given : Vec Answer Global)
+    → IsWayOf mode way → HasRun model.ghosts order.ghosts.cmp m starts initial way (Stepped x given)
+    → (steps : Vec Step Global) × (mode ≡ Journal steps) × IsSteppedTo model.ghosts order.ghosts.cmp m starts initial steps.items x given.items
+stepped m starts initial Serial InOrder x given by ran = absurd ran
+stepped m starts initial Serial (InRounds plan) x given by ran = absurd by
+stepped m starts initial Serial (BySteps steps) x given by ran = absurd by
+stepped m starts initial (Warp plan) InOrder x given by ran = absurd by
+stepped m starts initial (Warp plan) (InRounds same) x given by ran = absurd ran
+stepped m starts initial (Warp plan) (BySteps steps) x given by ran = absurd by
+stepped m starts initial (Journal steps) InOrder x given by ran = absurd by
+stepped m starts initial (Journal steps) (InRounds plan) x given by ran = absurd by
+stepped m starts initial (Journal steps) (BySteps same) x given by ran =
+    (steps, refl, subst (λ ss. IsSteppedTo model.ghosts order.ghosts.cmp m starts initial ss x given.items) by ran)
+
+-- the journal tells where they lead, and what they answer
+pub journaled : (c : Config) (m : Photo) (bytes text : List ℕ) (starts : List Cache) (initial : List (Event Body)) (steps : List Step) (x : Simulation Photo Cache Body) (given : List Answer)
+    → m.config ≡ c → IsBeginningOf c bytes starts initial → IsSteppedTo model.ghosts order.ghosts.cmp m starts initial steps x given → text ≡ journal_text given x.world
+    → IsJournalOf steps c bytes text
+journaled c m bytes text starts initial steps x given config b to told =
+    let same = simulates c m bytes starts initial config b in
+    let is : text ≡ journal_text (answers (caches m starts initial) (opening_world (caches m starts initial)) steps) (run (caches m starts initial) (opening_world (caches m starts initial)) steps) =
+    told ∙ (ap (λ told. journal_text told x.world) to.answers_are
+    ∙ ap (λ (o : Simulation Photo Cache Body). journal_text (answers (caches m starts initial) (opening_world (caches m starts initial)) steps) o.world) to.world_is) in
+    record {
+      rows = b.rows;
+      accepted = b.accepted;
+      told = is ∙ ap (λ (y : System Cache Body). journal_text (answers y (opening_world y) steps) (run y (opening_world y) steps)) same;
+    }
+
+-- A run that stops
+
+-- past a plan that is not bad
+pub good : (mode : Mode) (way : How) → IsWayOf mode way → (IsByBadPlan way → ⊥) → HasGoodPlan mode
+good Serial way by never = λ bad. bad
+good (Warp plan) InOrder by never = absurd by
+good (Warp plan) (InRounds same) by never = λ bad. never (subst (λ p. IsInRanges p → ⊥) (sym by) bad)
+good (Warp plan) (BySteps steps) by never = absurd by
+good (Journal steps) way by never = λ bad. bad
+
+bad-plan : (mode : Mode) (way : How) → IsWayOf mode way → IsByBadPlan way → IsWarp mode × HasBadPlan mode
+bad-plan mode InOrder by bad = absurd bad
+bad-plan Serial (InRounds plan) by bad = absurd by
+bad-plan (Warp plan) (InRounds same) by bad = (tt, subst (λ p. IsInRanges p → ⊥) by bad)
+bad-plan (Journal steps) (InRounds plan) by bad = absurd by
+bad-plan mode (BySteps steps) by bad = absurd bad
+
+-- for what comes in rounds alone
+warps : (mode : Mode) (way : How) (s : Stop) → IsWayOf mode way → MayStopFor way s → (IsOfAnyRun s → ⊥) → IsWarp mode
+warps mode InOrder s by may never = absurd (never may)
+warps Serial (InRounds plan) s by may never = absurd by
+warps (Warp plan) (InRounds same) s by may never = tt
+warps (Journal steps) (InRounds plan) s by may never = absurd by
+warps mode (BySteps steps) s by may never = absurd (never may)
+
+-- at a cache that can take no further event
+exhausts : (c : Config) (m : Photo) (bytes : List ℕ) (starts : List Cache) (initial : List (Event Body)) (mode : Mode) (way : How) → m.config ≡ c
+    → IsBeginningOf c bytes starts initial → IsWayOf mode way → ComesToExhaustion (caches m starts initial) is_exhausted way → IsExhausting mode c bytes
+exhausts c m bytes starts initial Serial InOrder config b by comes =
+    record { rows = b.rows; accepted = b.accepted; met = subst (λ (y : System Cache Body). Meets y end_of_time is_exhausted) (simulates c m bytes starts initial config b) comes }
+exhausts c m bytes starts initial Serial (InRounds plan) config b by comes = absurd by
+exhausts c m bytes starts initial Serial (BySteps steps) config b by comes = absurd by
+exhausts c m bytes starts initial (Warp plan) way config b by comes = record { rows = b.rows; accepted = b.accepted }
+exhausts c m bytes starts initial (Journal steps) InOrder config b by comes = absurd by
+exhausts c m bytes starts initial (Journal steps) (InRounds plan) config b by comes = absurd by
+exhausts c m bytes starts initial (Journal steps) (BySteps same) config b by comes =
+    record {
+      rows = b.rows;
+      accepted = b.accepted;
+      met = subst (λ (y : System Cache Body). MeetsAt y (opening_world y) is_exhausted steps.items) (simulates c m bytes starts initial config b)
+          (subst (λ ss. MeetsAt (caches m starts initial) (opening_world (caches m starts initial)) is_exhausted ss) by comes);
+    }
+
+-- each stop is a fault of the run, that of the plan exactly where the plan is bad
+stops : (c : Config) (m : Photo) (bytes : List ℕ) (starts : List Cache) (initial : List (Event Body)) (mode : Mode) (way : How) (s : Stop) → m.config ≡ c
+    → IsBeginningOf c bytes starts initial → IsWayOf mode way → MayStopFor way s → (s ≡ stop.BadPlan) ↔ IsByBadPlan way
+    → (s ≡ stop.Exhausted → ComesToExhaustion (caches m starts initial) is_exhausted way) → IsRunFault mode c bytes (sim_stop_of s)
+stops c m bytes starts initial mode way stop.Memory config b by may plan comes = tt
+stops c m bytes starts initial mode way stop.Exhausted config b by may plan comes =
+    (exhausts c m bytes starts initial mode way config b by (comes refl), good mode way by (λ bad. let same = plan.1 bad in cc))
+stops c m bytes starts initial mode way stop.RoundsUsed config b by may plan comes =
+    (warps mode way stop.RoundsUsed by may (λ none. none), record { rows = b.rows; accepted = b.accepted }, good mode way by (λ bad. let same = plan.1 bad in cc))
+stops c m bytes starts initial mode way stop.BadPlan config b by may plan comes =
+    let bad = bad-plan mode way by (plan.0 refl) in (bad.0, record { rows = b.rows; accepted = b.accepted }, bad.1)
+stops c m bytes starts initial mode way stop.NoThread config b by may plan comes =
+    (warps mode way stop.NoThread by may (λ none. none), record { rows = b.rows; accepted = b.accepted }, good mode way by (λ bad. let same = plan.1 bad in cc))
+
+pub stop-is-fault : {T : Type 0} (r : Result T SimFault) (c : Config) (m : Photo) (bytes : List ℕ) (starts : List Cache) (initial : List (Event Body)) (mode : Mode) (way : How) (s : Stop)
+    → m.config ≡ c → IsBeginningOf c bytes starts initial → IsWayOf mode way → MayStopFor way s → (s ≡ stop.BadPlan) ↔ IsByBadPlan way
+    → (s ≡ stop.Exhausted → ComesToExhaustion (caches m starts initial) is_exhausted way) → IsErrAnd r (λ f. f ≡ sim_stop_of s) → IfErr r (IsRunFault mode c bytes)
+stop-is-fault (Ok t) c m bytes starts initial mode way s config b by may plan comes is = tt
+stop-is-fault (Err f) c m bytes starts initial mode way s config b by may plan comes is =
+    subst (IsRunFault mode c bytes) (sym is) (stops c m bytes starts initial mode way s config b by may plan comes)
