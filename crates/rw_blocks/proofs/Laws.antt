@@ -1,18 +1,18 @@
 -- Each primitive's mark undoes it.
-use Rattle.std.proofs.Common.{◌≡◌, ℕ, zero, suc, nat_eq, ◌+◌, ◌≤◌, ◌<◌, List, [], ◌∷◌, ◌++◌, refl, sym, ap, subst, ◌∙◌, arith, Bool, true, false, length, set, get_or, take, drop, get_or-set_same, set-set, length-set}
+use Rattle.std.proofs.Common.{◌≡◌, ℕ, zero, suc, ◌+◌, ◌≤◌, ◌<◌, List, [], ◌∷◌, ◌++◌, refl, sym, ap, subst, ◌∙◌, arith, Bool, true, false, length, set, get_or, take, drop, get_or-set_same, set-set, length-set}
 use Rattle.std.proofs.lemmas.List.{set-get_or, take-append-drop, drop_at, take_at, length-append}
 use Rattle.std.proofs.lemmas.List.Edits.{length-remove, length-insert, get_or-insert_below, get_or-insert_at, get_or-remove_below}
 use Rattle.std.specs.Prelude.{Some, None, insert, remove, slice_get}
 use Rattle.rw_blocks.specs.declared.Kind.{Kind}
 use Rattle.rw_blocks.specs.declared.Kind.TheVariants.{Device, Virtual}
 use Rattle.rw_blocks.specs.declared.Place.{Place}
+use Rattle.rw_blocks.specs.declared.Vanished.{Vanished}
 use Rattle.rw_blocks.specs.declared.Mark.{Mark}
 use Rattle.rw_blocks.specs.declared.Mark.TheVariants.{Add, Remove, Rehome, Replace, Seal, TakeOut, Split, Merge}
 use Rattle.rw_blocks.specs.State.{QueueState, SectionState, no_section, section_at, row_at}
-use Rattle.rw_blocks.specs.Sums.{bytes_held}
 use Rattle.rw_blocks.specs.Loose.{IsLoose}
-use Rattle.rw_blocks.specs.Primitives.{with_row, after_add, after_remove, after_rehome, after_replace, after_seal, after_take_out, after_split, after_merge, section_joining, block_unless, upper_of}
-use Rattle.rw_blocks.specs.Undo.{undo_of, lower_of, section_unsealing, Matches, Undoes}
+use Rattle.rw_blocks.specs.Primitives.{with_row, after_add, after_remove, after_rehome, after_replace, after_seal, after_take_out, after_split, after_merge, section_joining, block_unless, upper_of, empty_actives}
+use Rattle.rw_blocks.specs.Undo.{undo_of, lower_of, rest_unless, seam_of, seam_below, section_unsealing, IsJoined, Matches, Undoes}
 use Rattle.rw_vt.proofs.Entries.{lookup-insert_entry, lookup-remove_entry, remove_entry-insert_entry, insert_entry-insert_entry, insert_entry-same, insert_entry-remove_entry}
 
 -- between two loose states a mark that fits and leads back undoes
@@ -91,11 +91,13 @@ Undoes-after_split q i keep loose within kept =
     (rw (get_or-insert_below xs (i + 1) lower no_section i (omega arith) room, get_or-insert_at xs (i + 1) lower no_section room, remove-insert xs (i + 1) lower room)
     (same_state q _ _ (set_back q.sections i upper (λ s. record s { sealed = s.sealed ++ drop keep (section_at q i).sealed }) within (ap (λ bs. record (section_at q i) { sealed = bs }) (take-append-drop keep (section_at q i).sealed))) (omega arith)))
 
-lower_of-section_joining : (m n : Bool) (u l : SectionState) → lower_of (length u.sealed) l.active_device l.active_virtual m n (section_joining m n u l) ≡ l
-lower_of-section_joining true true u l = rw (drop_at u.sealed _ _ refl) refl
-lower_of-section_joining true false u l = rw (drop_at u.sealed _ _ refl) refl
-lower_of-section_joining false true u l = rw (drop_at u.sealed _ _ refl) refl
-lower_of-section_joining false false u l = rw (drop_at u.sealed _ _ refl) refl
+rest_unless-block_unless : (t : Bool) (e : ℕ × Kind) (es : List (ℕ × Kind)) → rest_unless t (block_unless t e ++ es) ≡ es
+rest_unless-block_unless true e es = refl
+rest_unless-block_unless false e es = refl
+
+lower_of-section_joining : (v : Vanished) (u l : SectionState) → lower_of (seam_of v u l) (section_joining v u l) ≡ l
+lower_of-section_joining v u l =
+    rw (drop_at u.sealed _ _ refl, rest_unless-block_unless v.device (l.active_device, Device), rest_unless-block_unless v.virtual_block (l.active_virtual, Virtual)) refl
 
 pub got : {X : Type 0} (xs : List X) (i : ℕ) (d : X) → i < length xs → slice_get xs i ≡ Some (get_or xs i d)
 got [] i d within = absurd (omega arith)
@@ -103,51 +105,33 @@ got (x ∷ xs) zero d within = refl
 got (x ∷ xs) (suc i) d within = got xs i d (omega arith)
 
 -- a section takes back the one below, which was joined to it
-parted : (xs : List SectionState) (i : ℕ) (m n : Bool) (u l : SectionState) → i + 1 < length xs → u ≡ get_or xs i no_section → l ≡ get_or xs (i + 1) no_section
-    → insert (set (remove xs (i + 1)) i (record (section_joining m n u l) { sealed = take (length u.sealed) (section_joining m n u l).sealed })) (i + 1) (lower_of (length u.sealed) l.active_device l.active_virtual m n (section_joining m n u l)) ≡ xs
-parted xs i m n u l within is-u is-l =
+parted : (xs : List SectionState) (i : ℕ) (v : Vanished) (u l : SectionState) → i + 1 < length xs → u ≡ get_or xs i no_section → l ≡ get_or xs (i + 1) no_section
+    → insert (set (remove xs (i + 1)) i (upper_of (length u.sealed) (section_joining v u l))) (i + 1) (lower_of (seam_of v u l) (section_joining v u l)) ≡ xs
+parted xs i v u l within is-u is-l =
     let long : length (remove xs (i + 1)) + 1 ≡ length xs = length-remove xs (i + 1) within in
     let below : get_or (remove xs (i + 1)) i no_section ≡ u = get_or-remove_below xs (i + 1) no_section i (omega arith) within ∙ sym is-u in
     let lower : slice_get xs (i + 1) ≡ Some l = got xs (i + 1) no_section within ∙ ap Some (sym is-l) in
-    rw (take_at u.sealed _ _ refl, lower_of-section_joining m n u l, ← below, set-get_or)
+    rw (take_at u.sealed _ _ refl, lower_of-section_joining v u l, ← below, set-get_or)
     (insert-remove xs (i + 1) l lower)
 
-abbrev pub merge_mark : QueueState → ℕ → Mark
-merge_mark q i =
-    let l = section_at q (i + 1) in
-    Merge i (length (section_at q i).sealed) l.active_device l.active_virtual (nat_eq (bytes_held Device q l.active_device) 0) (nat_eq (bytes_held Virtual q l.active_virtual) 0)
-
 -- the two sections of a merge, joined again
-joined_again : (m n : Bool) (u l : SectionState) → section_joining m n (upper_of (length u.sealed) (section_joining m n u l)) (lower_of (length u.sealed) l.active_device l.active_virtual m n (section_joining m n u l)) ≡ section_joining m n u l
-joined_again true true u l = rw (take_at u.sealed _ _ refl, drop_at u.sealed _ _ refl) refl
-joined_again true false u l = rw (take_at u.sealed _ _ refl, drop_at u.sealed _ _ refl) refl
-joined_again false true u l = rw (take_at u.sealed _ _ refl, drop_at u.sealed _ _ refl) refl
-joined_again false false u l = rw (take_at u.sealed _ _ refl, drop_at u.sealed _ _ refl) refl
+joined_again : (v : Vanished) (u l : SectionState) → IsJoined (seam_of v u l) (section_joining v u l)
+joined_again v u l =
+    ap (section_joining v (upper_of (length u.sealed) (section_joining v u l))) (lower_of-section_joining v u l) ∙ rw (take_at u.sealed _ _ refl) refl
 
-merge_undone : (q : QueueState) (i : ℕ) → IsLoose q → i + 1 < length q.sections → IsLoose (after_merge q i) → Undoes (merge_mark q i) q (after_merge q i)
-merge_undone q i loose within kept =
+pub Undoes-after_merge : (q : QueueState) (i : ℕ) → IsLoose q → i + 1 < length q.sections → IsLoose (after_merge q i) → Undoes (Merge i (seam_below q i)) q (after_merge q i)
+Undoes-after_merge q i loose within kept =
     let l : SectionState = section_at q (i + 1) in
-    let m : Bool = nat_eq (bytes_held Device q l.active_device) 0 in
-    let n : Bool = nat_eq (bytes_held Virtual q l.active_virtual) 0 in
     let u : SectionState = section_at q i in
+    let v : Vanished = empty_actives q (i + 1) in
     let xs : List SectionState = remove q.sections (i + 1) in
     let long : length xs + 1 ≡ length q.sections = length-remove q.sections (i + 1) within in
     let room : i < length xs = omega arith in
-    let there : get_or (set xs i (section_joining m n u l)) i no_section ≡ section_joining m n u l = get_or-set_same xs i (section_joining m n u l) no_section room in
-    undoing (merge_mark q i) q (after_merge q i) loose kept (
+    let there : get_or (set xs i (section_joining v u l)) i no_section ≡ section_joining v u l = get_or-set_same xs i (section_joining v u l) no_section room in
+    undoing (Merge i (seam_below q i)) q (after_merge q i) loose kept (
       omega (arith, length-set {A = SectionState}),
-      rw there (omega (arith, length-append u.sealed (block_unless m (l.active_device, Device) ++ (block_unless n (l.active_virtual, Virtual) ++ l.sealed)))),
-      rw there (joined_again m n u l),
+      rw there (omega (arith, length-append u.sealed (block_unless v.device (l.active_device, Device) ++ (block_unless v.virtual_block (l.active_virtual, Virtual) ++ l.sealed)))),
+      rw there (joined_again v u l),
     )
-    (rw (get_or-set_same xs i (section_joining m n u l) no_section room, set-set)
-    (ap (λ ss. record q { sections = ss }) (parted q.sections i m n u l within refl refl)))
-
-pub Undoes-after_merge : (q : QueueState) (i n d v : ℕ) (device_vanished virtual_vanished : Bool) → IsLoose q → i + 1 < length q.sections
-    → n ≡ length (section_at q i).sealed
-    → d ≡ (section_at q (i + 1)).active_device
-    → v ≡ (section_at q (i + 1)).active_virtual
-    → device_vanished ≡ nat_eq (bytes_held Device q d) 0
-    → virtual_vanished ≡ nat_eq (bytes_held Virtual q v) 0
-    → IsLoose (after_merge q i)
-    → Undoes (Merge i n d v device_vanished virtual_vanished) q (after_merge q i)
-Undoes-after_merge q i n d v m w loose within is-n is-d is-v is-m is-w kept = rw (is-m, is-w, is-n, is-d, is-v) (merge_undone q i loose within kept)
+    (rw (get_or-set_same xs i (section_joining v u l) no_section room, set-set)
+    (ap (λ ss. record q { sections = ss }) (parted q.sections i v u l within refl refl)))

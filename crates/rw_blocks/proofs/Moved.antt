@@ -1,5 +1,5 @@
 -- A split, a merge and a block that is taken out leave a loose queue.
-use Rattle.std.proofs.Common.{◌≡◌, ℕ, ◌+◌, ◌≤◌, ◌<◌, List, ◌∷◌, refl, sym, ap, subst, arith, Bool, true, false, cond, length, set, get_or, nat_eq, ◌⊎◌, inl, inr, take, drop, length-set}
+use Rattle.std.proofs.Common.{◌≡◌, ℕ, ◌+◌, ◌≤◌, ◌<◌, List, [], ◌++◌, refl, sym, ap, subst, arith, Bool, true, false, cond, length, set, get_or, nat_eq, ◌⊎◌, inl, inr, take, drop, length-set}
 use Rattle.std.specs.Prelude.{sum_by, All, ◌&&◌, insert, remove}
 use Rattle.std.specs.Map.{values_of}
 use Rattle.std.proofs.lemmas.List.Edits.{length-insert, length-remove, get_or-remove_below}
@@ -8,10 +8,11 @@ use Rattle.std.proofs.lemmas.Bool.{eq-eqb, eqb-true, and_right, cases_eq}
 use Rattle.rw_blocks.specs.declared.Kind.{Kind}
 use Rattle.rw_blocks.specs.declared.Kind.TheVariants.{Device, Virtual}
 use Rattle.rw_blocks.specs.declared.Place.{Place}
+use Rattle.rw_blocks.specs.declared.Vanished.{Vanished}
 use Rattle.rw_blocks.specs.State.{QueueState, SectionState, no_section, section_at}
 use Rattle.rw_blocks.specs.Sums.{bytes_held, is_kind}
 use Rattle.rw_blocks.specs.Loose.{IsLoose, IsFree, count, count_in, IsHomed, IsPlaced}
-use Rattle.rw_blocks.specs.Primitives.{after_take_out, after_split, after_merge, section_joining}
+use Rattle.rw_blocks.specs.Primitives.{after_take_out, after_split, after_merge, section_joining, block_unless, empty_actives}
 use Rattle.rw_blocks.proofs.Kept.{bytes_held-is, held_by, weight}
 use Rattle.rw_blocks.proofs.Grown.{one, one-other, one-both, at_block, count_in-cons, bytes_held-blocks, IsLoose-grown}
 
@@ -110,31 +111,41 @@ IsLoose-after_take_out q i p loose within inside free =
       | inr v ↦ inr (omega (arith, count-after_take_out q i p Virtual r.place within inside, v, one-other e.1 e.0 Virtual r.place (λ f. (free k d lt).1 (sym f))))
     ])
 
-abbrev pub vanished : Bool → Bool → SectionState → Kind → ℕ → ℕ
-vanished m n l kind b = cond m (one Device l.active_device kind b) 0 + cond n (one Virtual l.active_virtual kind b) 0
+-- how often the block is an active one of the lower section that vanishes
+abbrev pub left_out : Vanished → SectionState → Kind → ℕ → ℕ
+left_out v l kind b = cond v.device (one Device l.active_device kind b) 0 + cond v.virtual_block (one Virtual l.active_virtual kind b) 0
 
-pub count_in-section_joining : (m n : Bool) (u l : SectionState) (kind : Kind) (b : ℕ) → count_in kind b (section_joining m n u l) + vanished m n l kind b ≡ count_in kind b u + count_in kind b l
-count_in-section_joining true true u l kind b =
-    omega (arith, count_in-cons kind b u, count_in-cons kind b l, count_in-cons kind b (section_joining true true u l), sum_by-append (at_block kind b) u.sealed l.sealed)
-count_in-section_joining true false u l kind b =
-    omega (arith, count_in-cons kind b u, count_in-cons kind b l, count_in-cons kind b (section_joining true false u l), sum_by-append (at_block kind b) u.sealed ((l.active_virtual, Virtual) ∷ l.sealed), sum_by-cons (at_block kind b) (l.active_virtual, Virtual) l.sealed)
-count_in-section_joining false true u l kind b =
-    omega (arith, count_in-cons kind b u, count_in-cons kind b l, count_in-cons kind b (section_joining false true u l), sum_by-append (at_block kind b) u.sealed ((l.active_device, Device) ∷ l.sealed), sum_by-cons (at_block kind b) (l.active_device, Device) l.sealed)
-count_in-section_joining false false u l kind b =
-    omega (arith, count_in-cons kind b u, count_in-cons kind b l, count_in-cons kind b (section_joining false false u l), sum_by-append (at_block kind b) u.sealed ((l.active_device, Device) ∷ ((l.active_virtual, Virtual) ∷ l.sealed)), sum_by-cons (at_block kind b) (l.active_device, Device) ((l.active_virtual, Virtual) ∷ l.sealed), sum_by-cons (at_block kind b) (l.active_virtual, Virtual) l.sealed)
+sum-unless : (kind : Kind) (b : ℕ) (t : Bool) (e : ℕ × Kind) → sum_by (at_block kind b) (block_unless t e) + cond t (at_block kind b e) 0 ≡ at_block kind b e
+sum-unless kind b true e = omega arith
+sum-unless kind b false e = omega (arith, sum_by-cons (at_block kind b) e [])
+
+pub count_in-section_joining : (v : Vanished) (u l : SectionState) (kind : Kind) (b : ℕ) → count_in kind b (section_joining v u l) + left_out v l kind b ≡ count_in kind b u + count_in kind b l
+count_in-section_joining v u l kind b =
+    let device : List (ℕ × Kind) = block_unless v.device (l.active_device, Device) in
+    let virtual_block : List (ℕ × Kind) = block_unless v.virtual_block (l.active_virtual, Virtual) in
+    omega (
+      arith,
+      count_in-cons kind b u,
+      count_in-cons kind b l,
+      count_in-cons kind b (section_joining v u l),
+      sum_by-append (at_block kind b) u.sealed (device ++ (virtual_block ++ l.sealed)),
+      sum_by-append (at_block kind b) device (virtual_block ++ l.sealed),
+      sum_by-append (at_block kind b) virtual_block l.sealed,
+      sum-unless kind b v.device (l.active_device, Device),
+      sum-unless kind b v.virtual_block (l.active_virtual, Virtual),
+    )
 
 pub count-after_merge : (q : QueueState) (i : ℕ) (kind : Kind) (b : ℕ) → i + 1 < length q.sections
-    → count kind (after_merge q i) b + vanished (nat_eq (bytes_held Device q (section_at q (i + 1)).active_device) 0) (nat_eq (bytes_held Virtual q (section_at q (i + 1)).active_virtual) 0) (section_at q (i + 1)) kind b ≡ count kind q b
+    → count kind (after_merge q i) b + left_out (empty_actives q (i + 1)) (section_at q (i + 1)) kind b ≡ count kind q b
 count-after_merge q i kind b within =
     let u : SectionState = section_at q i in
     let l : SectionState = section_at q (i + 1) in
-    let m : Bool = nat_eq (bytes_held Device q l.active_device) 0 in
-    let n : Bool = nat_eq (bytes_held Virtual q l.active_virtual) 0 in
+    let v : Vanished = empty_actives q (i + 1) in
     let xs : List SectionState = remove q.sections (i + 1) in
     let long : length xs + 1 ≡ length q.sections = length-remove q.sections (i + 1) within in
     let first : get_or xs i no_section ≡ u = get_or-remove_below q.sections (i + 1) no_section i (omega arith) within in
     let f : count_in kind b (get_or xs i no_section) ≡ count_in kind b u = ap (count_in kind b) first in
-    omega (arith, f, sum_by-remove (count_in kind b) q.sections (i + 1) no_section within, sum_by-set (count_in kind b) xs i (section_joining m n u l) no_section (omega arith), count_in-section_joining m n u l kind b)
+    omega (arith, f, sum_by-remove (count_in kind b) q.sections (i + 1) no_section within, sum_by-set (count_in kind b) xs i (section_joining v u l) no_section (omega arith), count_in-section_joining v u l kind b)
 
 -- where nothing is held, no row refers to the block
 not-bytes_held : (q : QueueState) (kind : Kind) (b k : ℕ) (d : Place) → IsLoose q → k < length (values_of q.rows) → bytes_held kind q b ≡ 0 → held_by kind (get_or (values_of q.rows) k d) ≡ b → ⊥
@@ -153,28 +164,27 @@ pub IsLoose-after_merge : (q : QueueState) (i : ℕ) → IsLoose q → i + 1 < l
 IsLoose-after_merge q i loose within =
     let u : SectionState = section_at q i in
     let l : SectionState = section_at q (i + 1) in
-    let m : Bool = nat_eq (bytes_held Device q l.active_device) 0 in
-    let n : Bool = nat_eq (bytes_held Virtual q l.active_virtual) 0 in
+    let v : Vanished = empty_actives q (i + 1) in
     let xs : List SectionState = remove q.sections (i + 1) in
     let long : length xs + 1 ≡ length q.sections = length-remove q.sections (i + 1) within in
-    let same : length (set xs i (section_joining m n u l)) ≡ length xs = length-set xs i (section_joining m n u l) in
-    IsLoose-shrunk q (set xs i (section_joining m n u l)) loose (omega arith) (omega arith)
+    let same : length (set xs i (section_joining v u l)) ≡ length xs = length-set xs i (section_joining v u l) in
+    IsLoose-shrunk q (set xs i (section_joining v u l)) loose (omega arith) (omega arith)
     (λ kind b. omega (arith, count-after_merge q i kind b within))
     (λ k d lt.
     let r : Place = get_or (values_of q.rows) k d in
     let h : count Device q r.home ≡ 1 = loose.homes k d lt in
-    let a : cond m (one Device l.active_device Device r.home) 0 ≡ 0 =
-    cond_zero m _ (λ t. one-other Device l.active_device Device r.home (λ e. not-bytes_held q Device l.active_device k d loose lt (eqb-true _ _ t) (sym e))) in
-    let b : cond n (one Virtual l.active_virtual Device r.home) 0 ≡ 0 = cond_zero n _ (λ t. (one-kind l.active_virtual r.home).1) in
+    let a : cond v.device (one Device l.active_device Device r.home) 0 ≡ 0 =
+    cond_zero v.device _ (λ t. one-other Device l.active_device Device r.home (λ e. not-bytes_held q Device l.active_device k d loose lt (eqb-true _ _ t) (sym e))) in
+    let b : cond v.virtual_block (one Virtual l.active_virtual Device r.home) 0 ≡ 0 = cond_zero v.virtual_block _ (λ t. (one-kind l.active_virtual r.home).1) in
     omega (arith, count-after_merge q i Device r.home within, h, a, b))
     (λ k d lt.
     let r : Place = get_or (values_of q.rows) k d in
     let h : (r.place ≡ r.home) ⊎ (count Virtual q r.place ≡ 1) = loose.places k d lt in
     elim h [
       | inl f ↦ inl f
-      | inr v ↦
-          let a : cond m (one Device l.active_device Virtual r.place) 0 ≡ 0 = cond_zero m _ (λ t. (one-kind l.active_device r.place).0) in
-          let b : cond n (one Virtual l.active_virtual Virtual r.place) 0 ≡ 0 =
-          cond_zero n _ (λ t. one-other Virtual l.active_virtual Virtual r.place (λ e. not-bytes_held q Virtual l.active_virtual k d loose lt (eqb-true _ _ t) (sym e))) in
-          inr (omega (arith, count-after_merge q i Virtual r.place within, v, a, b))
+      | inr w ↦
+          let a : cond v.device (one Device l.active_device Virtual r.place) 0 ≡ 0 = cond_zero v.device _ (λ t. (one-kind l.active_device r.place).0) in
+          let b : cond v.virtual_block (one Virtual l.active_virtual Virtual r.place) 0 ≡ 0 =
+          cond_zero v.virtual_block _ (λ t. one-other Virtual l.active_virtual Virtual r.place (λ e. not-bytes_held q Virtual l.active_virtual k d loose lt (eqb-true _ _ t) (sym e))) in
+          inr (omega (arith, count-after_merge q i Virtual r.place within, w, a, b))
     ])

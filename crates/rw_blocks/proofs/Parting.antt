@@ -12,17 +12,19 @@ use Rattle.std.proofs.lemmas.List.Sums.{sum_by-cons, get_or-le-sum_by, sum_by-se
 use Rattle.rw_blocks.specs.declared.Kind.{Kind}
 use Rattle.rw_blocks.specs.declared.Kind.TheVariants.{Device, Virtual}
 use Rattle.rw_blocks.specs.declared.Place.{Place}
+use Rattle.rw_blocks.specs.declared.Vanished.{Vanished}
+use Rattle.rw_blocks.specs.declared.Seam.{Seam}
 use Rattle.rw_blocks.specs.State.{QueueState, SectionState, no_section, blocks_of, section_in}
 use Rattle.rw_blocks.specs.Sums.{has_block, has_serial}
 use Rattle.rw_blocks.specs.Loose.{IsLoose, count, count_in}
 use Rattle.rw_blocks.specs.Primitives.{section_joining, block_unless, upper_of, joined_at}
-use Rattle.rw_blocks.specs.Undo.{lower_of, parted_at}
+use Rattle.rw_blocks.specs.Undo.{lower_of, parted_at, IsJoined}
 use Rattle.rw_blocks.specs.Index.{bytes_of, place_of}
 use Rattle.rw_blocks.specs.Tags.{IsAbsent, Parts, ComesFrom, Joins, is_vanishing}
 use Rattle.rw_blocks.specs.Weights.{bytes_where, weight_in, with_sections, IsWeighed}
 use Rattle.rw_blocks.proofs.Serials.{serials, serials-cons, kinds, either_kind}
 use Rattle.rw_blocks.proofs.Laws.{got}
-use Rattle.rw_blocks.proofs.Moved.{vanished, count-after_take_out}
+use Rattle.rw_blocks.proofs.Moved.{left_out, count-after_take_out}
 use Rattle.rw_blocks.proofs.Grown.{at_block, count_in-cons}
 use Rattle.rw_blocks.specs.Primitives.{after_take_out, sections_changing}
 use Rattle.rw_blocks.specs.Undo.{section_gaining}
@@ -43,21 +45,22 @@ unused q x loose none k d lt =
     omega (arith, there, none, dev, vir))
 
 -- ---- the sections of a queue that is parted or joined
-parted-count : (q : QueueState) (i n d v : ℕ) (m w : Bool) (next : ℕ) (kind : Kind) (b : ℕ) → i < length q.sections
-    → count kind (with_sections q (parted_at q.sections i n d v m w) next) b + count_in kind b (section_in q.sections i)
-    ≡ count kind q b + count_in kind b (upper_of n (section_in q.sections i)) + count_in kind b (lower_of n d v m w (section_in q.sections i))
-parted-count q i n d v m w next kind b lt =
+parted-count : (q : QueueState) (i : ℕ) (seam : Seam) (next : ℕ) (kind : Kind) (b : ℕ) → i < length q.sections
+    → count kind (with_sections q (parted_at q.sections i seam) next) b + count_in kind b (section_in q.sections i)
+    ≡ count kind q b + count_in kind b (upper_of seam.upper_sealed (section_in q.sections i)) + count_in kind b (lower_of seam (section_in q.sections i))
+parted-count q i seam next kind b lt =
     let s : SectionState = section_in q.sections i in
+    let u : SectionState = upper_of seam.upper_sealed s in
     omega (
       arith,
-      sum_by-insert (count_in kind b) (set q.sections i (upper_of n s)) (i + 1) (lower_of n d v m w s),
-      sum_by-set (count_in kind b) q.sections i (upper_of n s) no_section lt,
+      sum_by-insert (count_in kind b) (set q.sections i u) (i + 1) (lower_of seam s),
+      sum_by-set (count_in kind b) q.sections i u no_section lt,
     )
 
-joined-count : (q : QueueState) (i : ℕ) (m w : Bool) (next : ℕ) (kind : Kind) (b : ℕ) → i + 1 < length q.sections
-    → count kind (with_sections q (joined_at q.sections i m w) next) b + count_in kind b (section_in q.sections i) + count_in kind b (section_in q.sections (i + 1))
-    ≡ count kind q b + count_in kind b (section_joining m w (section_in q.sections i) (section_in q.sections (i + 1)))
-joined-count q i m w next kind b lt =
+joined-count : (q : QueueState) (i : ℕ) (v : Vanished) (next : ℕ) (kind : Kind) (b : ℕ) → i + 1 < length q.sections
+    → count kind (with_sections q (joined_at q.sections i v) next) b + count_in kind b (section_in q.sections i) + count_in kind b (section_in q.sections (i + 1))
+    ≡ count kind q b + count_in kind b (section_joining v (section_in q.sections i) (section_in q.sections (i + 1)))
+joined-count q i v next kind b lt =
     let u : SectionState = section_in q.sections i in
     let l : SectionState = section_in q.sections (i + 1) in
     let xs : List SectionState = remove q.sections (i + 1) in
@@ -68,7 +71,7 @@ joined-count q i m w next kind b lt =
       arith,
       f,
       sum_by-remove (count_in kind b) q.sections (i + 1) no_section lt,
-      sum_by-set (count_in kind b) xs i (section_joining m w u l) no_section (omega arith),
+      sum_by-set (count_in kind b) xs i (section_joining v u l) no_section (omega arith),
     )
 
 -- in a section, a block is there at most as often as in the queue
@@ -90,145 +93,139 @@ once-beside q i b loose lt = omega (arith, two Device, two Virtual, loose.distin
         let f : count_in kind b (get_or xs i no_section) ≡ count_in kind b (section_in q.sections i) = ap (count_in kind b) first in
         omega (arith, f, sum_by-remove (count_in kind b) q.sections (i + 1) no_section lt, get_or-le-sum_by (count_in kind b) xs i no_section (omega arith))
 
-module _ (q : QueueState) (i : ℕ) (m w : Bool) (next : ℕ) (loose : IsLoose q) (lt : i + 1 < length q.sections) (after : IsLoose (with_sections q (joined_at q.sections i m w) next)) where
-  pub joins-at : Joins (section_in q.sections i) (section_in q.sections (i + 1)) (is_vanishing m w (section_in q.sections (i + 1))) (section_joining m w (section_in q.sections i) (section_in q.sections (i + 1)))
-  joins-at = Joins-once m w (section_in q.sections i) (section_in q.sections (i + 1)) (λ b. once-beside q i b loose lt)
+either : (j a b : ℕ) → j ≡ a + b → nat_lt 0 j ≡ (nat_lt 0 a || nat_lt 0 b)
+either j a b e = grind (arith, nat_tests)
 
-  -- no row's place is_vanishing
-  stays : (p : ℕ) → 1 ≤ count Device (with_sections q (joined_at q.sections i m w) next) p + count Virtual (with_sections q (joined_at q.sections i m w) next) p
-      → vanished m w (section_in q.sections (i + 1)) Device p + vanished m w (section_in q.sections (i + 1)) Virtual p ≡ 0
+never : (a b : ℕ) → a + b ≤ 1 → (nat_lt 0 a && nat_lt 0 b) ≡ false
+never a b e = grind (arith, nat_tests)
+
+module _ (q : QueueState) (i : ℕ) (v : Vanished) (next : ℕ) (loose : IsLoose q) (lt : i + 1 < length q.sections) (after : IsLoose (with_sections q (joined_at q.sections i v) next)) where
+  abbrev upper : SectionState
+  upper = section_in q.sections i
+
+  abbrev lower : SectionState
+  lower = section_in q.sections (i + 1)
+
+  abbrev both : SectionState
+  both = section_joining v upper lower
+
+  pub joins-at : Joins upper lower (is_vanishing v lower) both
+  joins-at = Joins-once v upper lower (λ b. once-beside q i b loose lt)
+
+  -- no row's place vanishes
+  stays : (p : ℕ) → 1 ≤ count Device (with_sections q (joined_at q.sections i v) next) p + count Virtual (with_sections q (joined_at q.sections i v) next) p
+      → left_out v lower Device p + left_out v lower Virtual p ≡ 0
   stays p there =
       omega (
         arith,
         there,
         loose.distinct p,
-        joined-count q i m w next Device p lt,
-        joined-count q i m w next Virtual p lt,
-        times-joining m w (section_in q.sections i) (section_in q.sections (i + 1)) p,
+        joined-count q i v next Device p lt,
+        joined-count q i v next Virtual p lt,
+        times-joining v upper lower p,
       )
 
-  pub weight-joined : weight_in q.rows (section_joining m w (section_in q.sections i) (section_in q.sections (i + 1))) ≡ weight_in q.rows (section_in q.sections i) + weight_in q.rows (section_in q.sections (i + 1))
+  pub weight-joined : weight_in q.rows both ≡ weight_in q.rows upper + weight_in q.rows lower
   weight-joined =
-      bytes_where-two q.rows (λ b. has_block b (section_joining m w u l)) (λ b. has_block b u) (λ b. has_block b l)
+      bytes_where-two q.rows (λ b. has_block b both) (λ b. has_block b upper) (λ b. has_block b lower)
       (λ k d lt'.
       let p : ℕ = (get_or (values_of q.rows) k d).place in
       let none = stays p (all-places _ after k d lt') in
-      rw (has-times p (section_joining m w u l), has-times p u, has-times p l)
-      (either (times p (section_joining m w u l)) (times p u) (times p l) (let sum = times-joining m w u l p in omega (arith, sum, none))))
+      rw (has-times p both, has-times p upper, has-times p lower)
+      (either (times p both) (times p upper) (times p lower) (let sum = times-joining v upper lower p in omega (arith, sum, none))))
       (λ k d lt'.
       let p : ℕ = (get_or (values_of q.rows) k d).place in
-      rw (has-times p u, has-times p l) (never (times p u) (times p l) (once-beside q i p loose lt)))
-    where
-      u : SectionState
-      u = section_in q.sections i
+      rw (has-times p upper, has-times p lower) (never (times p upper) (times p lower) (once-beside q i p loose lt)))
 
-      l : SectionState
-      l = section_in q.sections (i + 1)
+module _ (q : QueueState) (i : ℕ) (seam : Seam) (next : ℕ) (loose : IsLoose q) (lt : i < length q.sections) (after : IsLoose (with_sections q (parted_at q.sections i seam) next))
+    (inside : seam.upper_sealed ≤ length (section_in q.sections i).sealed)
+    (joins : IsJoined seam (section_in q.sections i)) where
+  abbrev whole : SectionState
+  whole = section_in q.sections i
 
-      either : (j a b : ℕ) → j ≡ a + b → nat_lt 0 j ≡ (nat_lt 0 a || nat_lt 0 b)
-      either j a b e = grind (arith, nat_tests)
+  abbrev above : SectionState
+  above = upper_of seam.upper_sealed whole
 
-      never : (a b : ℕ) → a + b ≤ 1 → (nat_lt 0 a && nat_lt 0 b) ≡ false
-      never a b e = grind (arith, nat_tests)
+  abbrev below : SectionState
+  below = lower_of seam whole
 
-module _ (q : QueueState) (i n d v : ℕ) (m w : Bool) (next : ℕ) (loose : IsLoose q) (lt : i < length q.sections) (after : IsLoose (with_sections q (parted_at q.sections i n d v m w) next))
-    (inside : n ≤ length (section_in q.sections i).sealed)
-    (joins : section_joining m w (upper_of n (section_in q.sections i)) (lower_of n d v m w (section_in q.sections i)) ≡ section_in q.sections i) where
-  up : SectionState
-  up = upper_of n (section_in q.sections i)
-
-  once-parted : (b : ℕ) → times b (upper_of n (section_in q.sections i)) + times b (lower_of n d v m w (section_in q.sections i)) ≤ 1
+  once-parted : (b : ℕ) → times b above + times b below ≤ 1
   once-parted b =
       omega (
         arith,
         after.distinct b,
-        parted-count q i n d v m w next Device b lt,
-        parted-count q i n d v m w next Virtual b lt,
+        parted-count q i seam next Device b lt,
+        parted-count q i seam next Virtual b lt,
         in_queue q i Device b lt,
         in_queue q i Virtual b lt,
       )
 
-  pub parts-at : Parts (section_in q.sections i) (upper_of n (section_in q.sections i)) (lower_of n d v m w (section_in q.sections i))
-  parts-at =
-      let u : SectionState = upper_of n (section_in q.sections i) in
-      let l : SectionState = lower_of n d v m w (section_in q.sections i) in
-      subst (λ s. Parts s u l) joins (Parts-once m w u l once-parted)
+  pub parts-at : Parts whole above below
+  parts-at = subst (λ s. Parts s above below) joins (Parts-once seam.vanished above below once-parted)
 
   -- how often a block is in the section
-  times-whole : (b : ℕ) → times b (section_in q.sections i) + (vanished m w (lower_of n d v m w (section_in q.sections i)) Device b + vanished m w (lower_of n d v m w (section_in q.sections i)) Virtual b)
-      ≡ times b (upper_of n (section_in q.sections i)) + times b (lower_of n d v m w (section_in q.sections i))
+  times-whole : (b : ℕ) → times b whole + (left_out seam.vanished below Device b + left_out seam.vanished below Virtual b) ≡ times b above + times b below
   times-whole b =
-      let u : SectionState = upper_of n (section_in q.sections i) in
-      let l : SectionState = lower_of n d v m w (section_in q.sections i) in
-      subst (λ s. times b s + (vanished m w l Device b + vanished m w l Virtual b) ≡ times b u + times b l) joins (times-joining m w u l b)
+      subst (λ s. times b s + (left_out seam.vanished below Device b + left_out seam.vanished below Virtual b) ≡ times b above + times b below) joins
+      (times-joining seam.vanished above below b)
 
-  counts : (b : ℕ) → (count Device q b + count Virtual q b) + (times b (upper_of n (section_in q.sections i)) + times b (lower_of n d v m w (section_in q.sections i))) ≤ times b (section_in q.sections i) + 1
+  counts : (b : ℕ) → (count Device q b + count Virtual q b) + (times b above + times b below) ≤ times b whole + 1
   counts b =
       omega (
         arith,
         after.distinct b,
-        parted-count q i n d v m w next Device b lt,
-        parted-count q i n d v m w next Virtual b lt,
+        parted-count q i seam next Device b lt,
+        parted-count q i seam next Virtual b lt,
       )
 
-  pub from-at : ComesFrom (lower_of n d v m w (section_in q.sections i)) (section_in q.sections i) q.sections
+  pub from-at : ComesFrom below whole q.sections
   from-at b has =
-      let s : SectionState = section_in q.sections i in
-      let l : SectionState = lower_of n d v m w s in
-      let some : 0 < times b l = ltb-true 0 (times b l) (sym (has-times b l) ∙ has) in
-      elim (cases_lt 0 (times b s)) [
-        | inl here ↦ inl (has-times b s ∙ lt-ltb 0 (times b s) here)
+      let some : 0 < times b below = ltb-true 0 (times b below) (sym (has-times b below) ∙ has) in
+      elim (cases_lt 0 (times b whole)) [
+        | inl here ↦ inl (has-times b whole ∙ lt-ltb 0 (times b whole) here)
         | inr le ↦ inr (absent-none q b (omega (arith, counts b)))
       ]
 
   -- no row's place is one that vanished
-  remains : (p : ℕ) → 1 ≤ count Device q p + count Virtual q p
-      → vanished m w (lower_of n d v m w (section_in q.sections i)) Device p + vanished m w (lower_of n d v m w (section_in q.sections i)) Virtual p ≡ 0
+  remains : (p : ℕ) → 1 ≤ count Device q p + count Virtual q p → left_out seam.vanished below Device p + left_out seam.vanished below Virtual p ≡ 0
   remains p there = omega (arith, there, counts p, times-whole p, once-parted p)
 
-  pub weight-parted : weight_in q.rows (section_in q.sections i) ≡ weight_in q.rows (upper_of n (section_in q.sections i)) + weight_in q.rows (lower_of n d v m w (section_in q.sections i))
+  pub weight-parted : weight_in q.rows whole ≡ weight_in q.rows above + weight_in q.rows below
   weight-parted =
-      bytes_where-two q.rows (λ b. has_block b (section_in q.sections i)) (λ b. has_block b (upper_of n (section_in q.sections i))) (λ b. has_block b (lower_of n d v m w (section_in q.sections i)))
+      bytes_where-two q.rows (λ b. has_block b whole) (λ b. has_block b above) (λ b. has_block b below)
       (λ k e lt'.
       let p : ℕ = (get_or (values_of q.rows) k e).place in
       let none = remains p (all-places q loose k e lt') in
       let sum = times-whole p in
-      rw (has-times p (section_in q.sections i), has-times p (upper_of n (section_in q.sections i)), has-times p (lower_of n d v m w (section_in q.sections i)))
-      (either (times p (section_in q.sections i)) (times p (upper_of n (section_in q.sections i))) (times p (lower_of n d v m w (section_in q.sections i))) (omega (arith, sum, none))))
+      rw (has-times p whole, has-times p above, has-times p below)
+      (either (times p whole) (times p above) (times p below) (omega (arith, sum, none))))
       (λ k e lt'.
       let p : ℕ = (get_or (values_of q.rows) k e).place in
-      rw (has-times p (upper_of n (section_in q.sections i)), has-times p (lower_of n d v m w (section_in q.sections i)))
-      (never (times p (upper_of n (section_in q.sections i))) (times p (lower_of n d v m w (section_in q.sections i))) (once-parted p)))
-    where
-      either : (j a b : ℕ) → j ≡ a + b → nat_lt 0 j ≡ (nat_lt 0 a || nat_lt 0 b)
-      either j a b e = grind (arith, nat_tests)
-
-      never : (a b : ℕ) → a + b ≤ 1 → (nat_lt 0 a && nat_lt 0 b) ≡ false
-      never a b e = grind (arith, nat_tests)
+      rw (has-times p above, has-times p below)
+      (never (times p above) (times p below) (once-parted p)))
 
   -- the lower section holds the rows of the sealed blocks that it takes
-  pub weight-lower : bytes_where q.rows (λ b. list_any (has_serial b) (drop n (section_in q.sections i).sealed)) ≡ weight_in q.rows (lower_of n d v m w (section_in q.sections i))
+  pub weight-lower : bytes_where q.rows (λ b. list_any (has_serial b) (drop seam.upper_sealed whole.sealed)) ≡ weight_in q.rows below
   weight-lower =
-      bytes_where-same q.rows (λ b. list_any (has_serial b) (drop n (section_in q.sections i).sealed)) (λ b. has_block b (lower_of n d v m w (section_in q.sections i)))
+      bytes_where-same q.rows (λ b. list_any (has_serial b) (drop seam.upper_sealed whole.sealed)) (λ b. has_block b below)
       (λ k e lt'.
       let p : ℕ = (get_or (values_of q.rows) k e).place in
-      let l : SectionState = lower_of n d v m w (section_in q.sections i) in
       let none = remains p (all-places q loose k e lt') in
-      let gone : is_vanishing m w l p ≡ false = gone-times m w l p ∙ (ap (nat_lt 0) none ∙ le-ltb 0 0 (omega arith)) in
-      ap (λ (es : List (ℕ × Kind)). list_any (has_serial p) es) tail ∙ whole m w l.active_device l.active_virtual l.sealed p gone)
+      let gone : is_vanishing seam.vanished below p ≡ false = gone-times seam.vanished below p ∙ (ap (nat_lt 0) none ∙ le-ltb 0 0 (omega arith)) in
+      ap (λ (es : List (ℕ × Kind)). list_any (has_serial p) es) tail ∙ all_blocks seam.vanished.device seam.vanished.virtual_block below.active_device below.active_virtual below.sealed p gone)
     where
       -- what is behind the upper part
-      tail : drop n (section_in q.sections i).sealed ≡ block_unless m ((lower_of n d v m w (section_in q.sections i)).active_device, Device) ++ (block_unless w ((lower_of n d v m w (section_in q.sections i)).active_virtual, Virtual) ++ (lower_of n d v m w (section_in q.sections i)).sealed)
+      tail : drop seam.upper_sealed whole.sealed ≡ block_unless seam.vanished.device (below.active_device, Device) ++ (block_unless seam.vanished.virtual_block (below.active_virtual, Virtual) ++ below.sealed)
       tail =
-          let long : length (take n (section_in q.sections i).sealed) ≡ n = length-take-le n (section_in q.sections i).sealed inside in
-          ap (λ (s : SectionState). drop n s.sealed) (sym joins) ∙ drop_at (take n (section_in q.sections i).sealed) _ n long
+          let long : length (take seam.upper_sealed whole.sealed) ≡ seam.upper_sealed = length-take-le seam.upper_sealed whole.sealed inside in
+          ap (λ (s : SectionState). drop seam.upper_sealed s.sealed) (sym joins) ∙ drop_at (take seam.upper_sealed whole.sealed) _ seam.upper_sealed long
 
-      whole : (c f : Bool) (x y : ℕ) (es : List (ℕ × Kind)) (p : ℕ) → ((c && nat_eq x p) || (f && nat_eq y p)) ≡ false
+      all_blocks : (c f : Bool) (x y : ℕ) (es : List (ℕ × Kind)) (p : ℕ) → ((c && nat_eq x p) || (f && nat_eq y p)) ≡ false
           → list_any (has_serial p) (block_unless c (x, Device) ++ (block_unless f (y, Virtual) ++ es)) ≡ (nat_eq x p || (nat_eq y p || list_any (has_serial p) es))
-      whole true true x y es p h = let o = or_parts (nat_eq x p) (nat_eq y p) h in rw (o.0, o.1) refl
-      whole true false x y es p h = let o = or_parts (nat_eq x p) false h in rw o.0 refl
-      whole false true x y es p h = rw h refl
-      whole false false x y es p h = refl
+      all_blocks true true x y es p h = let o = or_parts (nat_eq x p) (nat_eq y p) h in rw (o.0, o.1) refl
+      all_blocks true false x y es p h = let o = or_parts (nat_eq x p) false h in rw o.0 refl
+      all_blocks false true x y es p h = rw h refl
+      all_blocks false false x y es p h = refl
 
 -- ---- the bytes beside the sections
 pub IsWeighed-part : (rows : List (ℕ × Place)) (ss : List SectionState) (bs : List ℕ) (i x y : ℕ) (u l : SectionState) → IsWeighed rows ss bs → i < length ss

@@ -8,6 +8,7 @@ use Rattle.std.proofs.lemmas.Bool.Decides.{nat_tests}
 use Rattle.std.proofs.lemmas.List.Sums.{sum_by-cons, get_or-le-sum_by, sum_by-le}
 use Rattle.rw_blocks.specs.declared.Kind.TheVariants.{Device, Virtual}
 use Rattle.rw_blocks.specs.declared.Place.{Place}
+use Rattle.rw_blocks.specs.declared.Vanished.{Vanished}
 use Rattle.rw_blocks.specs.State.{QueueState, SectionState, no_section, blocks_of, row_at, section_in}
 use Rattle.rw_blocks.specs.Sums.{has_block, has_serial}
 use Rattle.rw_blocks.specs.Loose.{IsLoose, count, count_in}
@@ -16,8 +17,8 @@ use Rattle.rw_blocks.specs.Tags.{IsAbsent, Parts, Joins, is_vanishing}
 use Rattle.rw_blocks.proofs.Serials.{kinds}
 use Rattle.rw_blocks.proofs.Kept.{of_row}
 use Rattle.std.proofs.lemmas.List.{get_or_default}
-use Rattle.rw_blocks.proofs.Grown.{count_in-cons}
-use Rattle.rw_blocks.proofs.Moved.{vanished, count_in-section_joining}
+use Rattle.rw_blocks.proofs.Grown.{count_in-cons, one}
+use Rattle.rw_blocks.proofs.Moved.{left_out, count_in-section_joining}
 use Rattle.rw_blocks.proofs.Filed.{by_test}
 
 pub any-count : {X : Type 0} (p : X → Bool) (xs : List X) → list_any p xs ≡ nat_lt 0 (count_by p xs)
@@ -74,34 +75,40 @@ pub all-places : (q : QueueState) → IsLoose q → All (λ r. 1 ≤ count Devic
 all-places q loose k d lt = place-there q (get_or (values_of q.rows) k d) (loose.places k d lt) (loose.homes k d lt)
 
 -- ---- a section that is joined of two
-pub times-joining : (m n : Bool) (u l : SectionState) (b : ℕ) → times b (section_joining m n u l) + (vanished m n l Device b + vanished m n l Virtual b) ≡ times b u + times b l
-times-joining m n u l b = omega (arith, count_in-section_joining m n u l Device b, count_in-section_joining m n u l Virtual b)
+pub times-joining : (v : Vanished) (u l : SectionState) (b : ℕ) → times b (section_joining v u l) + (left_out v l Device b + left_out v l Virtual b) ≡ times b u + times b l
+times-joining v u l b = omega (arith, count_in-section_joining v u l Device b, count_in-section_joining v u l Virtual b)
 
-pub gone-times : (m n : Bool) (l : SectionState) (b : ℕ) → is_vanishing m n l b ≡ nat_lt 0 (vanished m n l Device b + vanished m n l Virtual b)
-gone-times true true l b = pair (nat_eq l.active_device b) (nat_eq l.active_virtual b)
-  where
-    pair : (c d : Bool) → (c || d) ≡ nat_lt 0 ((cond {A = ℕ} (c && true) 1 0 + cond {A = ℕ} (d && false) 1 0) + (cond {A = ℕ} (c && false) 1 0 + cond {A = ℕ} (d && true) 1 0))
-    pair true true = refl
-    pair true false = refl
-    pair false true = refl
-    pair false false = refl
-gone-times true false l b = single (nat_eq l.active_device b)
-  where
-    single : (c : Bool) → ((c || false)) ≡ nat_lt 0 ((cond {A = ℕ} (c && true) 1 0 + 0) + (cond {A = ℕ} (c && false) 1 0 + 0))
-    single true = refl
-    single false = refl
-gone-times false true l b = single (nat_eq l.active_virtual b)
-  where
-    single : (d : Bool) → d ≡ nat_lt 0 ((0 + cond {A = ℕ} (d && false) 1 0) + (0 + cond {A = ℕ} (d && true) 1 0))
-    single true = refl
-    single false = refl
-gone-times false false l b = refl
+-- a block counts as one of its kind alone
+both_kinds : (m n c d : Bool)
+    → ((m && c) || (n && d)) ≡ nat_lt 0 ((cond m (cond {A = ℕ} (c && true) 1 0) 0 + cond n (cond {A = ℕ} (d && false) 1 0) 0) + (cond m (cond {A = ℕ} (c && false) 1 0) 0 + cond n (cond {A = ℕ} (d && true) 1 0) 0))
+both_kinds true true true true = refl
+both_kinds true true true false = refl
+both_kinds true true false true = refl
+both_kinds true true false false = refl
+both_kinds true false true d = refl
+both_kinds true false false d = refl
+both_kinds false true c true = refl
+both_kinds false true c false = refl
+both_kinds false false c d = refl
 
-pub gone-le : (m n : Bool) (l : SectionState) (b : ℕ) → vanished m n l Device b + vanished m n l Virtual b ≤ times b l
-gone-le true true l b = omega (arith, count_in-cons Device b l, count_in-cons Virtual b l)
-gone-le true false l b = omega (arith, count_in-cons Device b l, count_in-cons Virtual b l)
-gone-le false true l b = omega (arith, count_in-cons Device b l, count_in-cons Virtual b l)
-gone-le false false l b = omega arith
+pub gone-times : (v : Vanished) (l : SectionState) (b : ℕ) → is_vanishing v l b ≡ nat_lt 0 (left_out v l Device b + left_out v l Virtual b)
+gone-times v l b = both_kinds v.device v.virtual_block (nat_eq l.active_device b) (nat_eq l.active_virtual b)
+
+cond-le : (t : Bool) (n : ℕ) → cond t n 0 ≤ n
+cond-le true n = omega arith
+cond-le false n = omega arith
+
+pub gone-le : (v : Vanished) (l : SectionState) (b : ℕ) → left_out v l Device b + left_out v l Virtual b ≤ times b l
+gone-le v l b =
+    omega (
+      arith,
+      count_in-cons Device b l,
+      count_in-cons Virtual b l,
+      cond-le v.device (one Device l.active_device Device b),
+      cond-le v.device (one Device l.active_device Virtual b),
+      cond-le v.virtual_block (one Virtual l.active_virtual Device b),
+      cond-le v.virtual_block (one Virtual l.active_virtual Virtual b),
+    )
 
 joins-by : (j v u l : ℕ) → j + v ≡ u + l → u + l ≤ 1 → v ≤ l → nat_lt 0 j ≡ (nat_lt 0 u || (nat_lt 0 l && not (nat_lt 0 v)))
 joins-by j v u l sum once le = grind (arith, nat_tests)
@@ -109,17 +116,17 @@ joins-by j v u l sum once le = grind (arith, nat_tests)
 parts-by : (s v u l : ℕ) → s + v ≡ u + l → u + l ≤ 1 → v ≤ l → nat_lt 0 u ≡ (nat_lt 0 s && not (nat_lt 0 l))
 parts-by s v u l sum once le = grind (arith, nat_tests)
 
-pub Joins-once : (m n : Bool) (u l : SectionState) → ((b : ℕ) → times b u + times b l ≤ 1) → Joins u l (is_vanishing m n l) (section_joining m n u l)
-Joins-once m n u l once b =
-    let v : ℕ = vanished m n l Device b + vanished m n l Virtual b in
-    rw (has-times b (section_joining m n u l), has-times b u, has-times b l, gone-times m n l b)
-    (joins-by (times b (section_joining m n u l)) v (times b u) (times b l) (times-joining m n u l b) (once b) (gone-le m n l b))
+pub Joins-once : (v : Vanished) (u l : SectionState) → ((b : ℕ) → times b u + times b l ≤ 1) → Joins u l (is_vanishing v l) (section_joining v u l)
+Joins-once v u l once b =
+    let gone : ℕ = left_out v l Device b + left_out v l Virtual b in
+    rw (has-times b (section_joining v u l), has-times b u, has-times b l, gone-times v l b)
+    (joins-by (times b (section_joining v u l)) gone (times b u) (times b l) (times-joining v u l b) (once b) (gone-le v l b))
 
-pub Parts-once : (m n : Bool) (u l : SectionState) → ((b : ℕ) → times b u + times b l ≤ 1) → Parts (section_joining m n u l) u l
-Parts-once m n u l once b =
-    let v : ℕ = vanished m n l Device b + vanished m n l Virtual b in
-    rw (has-times b (section_joining m n u l), has-times b u, has-times b l)
-    (parts-by (times b (section_joining m n u l)) v (times b u) (times b l) (times-joining m n u l b) (once b) (gone-le m n l b))
+pub Parts-once : (v : Vanished) (u l : SectionState) → ((b : ℕ) → times b u + times b l ≤ 1) → Parts (section_joining v u l) u l
+Parts-once v u l once b =
+    let gone : ℕ = left_out v l Device b + left_out v l Virtual b in
+    rw (has-times b (section_joining v u l), has-times b u, has-times b l)
+    (parts-by (times b (section_joining v u l)) gone (times b u) (times b l) (times-joining v u l b) (once b) (gone-le v l b))
 
 -- the place of a row is in some section
 pub row-there : (q : QueueState) (o : ℕ) (r : Place) (at : Option ℕ) → IsLoose q → row_at q o ≡ Some r → (IsNone at → IsAbsent r.place q.sections) → IsSome at

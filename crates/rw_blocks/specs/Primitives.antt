@@ -5,6 +5,7 @@ use Rattle.rw_blocks.specs.Words.{Object, Section, Serial, Size}
 use Rattle.rw_blocks.specs.declared.Kind.{Kind}
 use Rattle.rw_blocks.specs.declared.Kind.TheVariants.{Device, Virtual}
 use Rattle.rw_blocks.specs.declared.Place.{Place}
+use Rattle.rw_blocks.specs.declared.Vanished.{Vanished}
 use Rattle.rw_blocks.specs.State.{QueueState, SectionState, section_in, section_at, active_of, row_or, rows_with, rows_without}
 use Rattle.rw_blocks.specs.Sums.{bytes_held}
 
@@ -92,32 +93,33 @@ block_unless true e = []
 block_unless false e = e ∷ []
 
 -- the upper section takes over the lower one's blocks; an active one that vanishes is left out
-abbrev pub section_joining : Bool → Bool → SectionState → SectionState → SectionState
-section_joining device_vanishes virtual_vanishes upper lower =
+abbrev pub section_joining : Vanished → SectionState → SectionState → SectionState
+section_joining vanished upper lower =
     section_appending
-    (block_unless device_vanishes (lower.active_device, Device)
-    ++ (block_unless virtual_vanishes (lower.active_virtual, Virtual) ++ lower.sealed))
+    (block_unless vanished.device (lower.active_device, Device)
+    ++ (block_unless vanished.virtual_block (lower.active_virtual, Virtual) ++ lower.sealed))
     upper
 
 -- the sections, of which the one with the number has taken over the next one's blocks
-abbrev pub joined_at : List SectionState → Section → Bool → Bool → List SectionState
-joined_at ss i device_vanishes virtual_vanishes =
+abbrev pub joined_at : List SectionState → Section → Vanished → List SectionState
+joined_at ss i vanished =
     slice_set
     (remove ss (i + 1))
     i
-    (section_joining device_vanishes virtual_vanishes (section_in ss i) (section_in ss (i + 1)))
+    (section_joining vanished (section_in ss i) (section_in ss (i + 1)))
 
 -- whether the section's active block of the kind holds nothing
 abbrev pub is_active_empty : Kind → QueueState → Section → Bool
 is_active_empty kind q i = nat_eq (bytes_held kind q (active_of kind (section_at q i))) 0
 
+-- the section's active blocks that hold nothing
+abbrev pub empty_actives : QueueState → Section → Vanished
+empty_actives q i =
+    record {
+      device = is_active_empty Device q i;
+      virtual_block = is_active_empty Virtual q i;
+    }
+
 -- an active block of the lower section vanishes where it holds nothing
 abbrev pub after_merge : QueueState → Section → QueueState
-after_merge q i =
-    record q {
-      sections = joined_at
-          q.sections
-          i
-          (is_active_empty Device q (i + 1))
-          (is_active_empty Virtual q (i + 1));
-    }
+after_merge q i = record q { sections = joined_at q.sections i (empty_actives q (i + 1)) }

@@ -6,6 +6,7 @@ use Rattle.std.specs.declared.hash.BuildHasherDefault.{BuildHasherDefault}
 use Rattle.rw_vt.specs.Words.{Position}
 use Rattle.rw_blocks.specs.Words.{Section, Serial, Tag}
 use Rattle.rw_blocks.specs.declared.Kind.{Kind}
+use Rattle.rw_blocks.specs.declared.Vanished.{Vanished}
 use Rattle.rw_blocks.specs.State.{SectionState, section_in, sealed_in, active_of}
 use Rattle.rw_blocks.specs.Sums.{has_block}
 use Rattle.rw_blocks.specs.Primitives.{section_losing, section_joining}
@@ -68,9 +69,10 @@ ComesFrom lower whole ss =
     (b : Serial) → has_block b lower ≡ true → (has_block b whole ≡ true) ⊎ IsAbsent b ss
 
 -- whether the block is an active one of the section that vanishes
-abbrev pub is_vanishing : Bool → Bool → SectionState → Serial → Bool
-is_vanishing device virtual_block s b =
-    (device && nat_eq s.active_device b) || (virtual_block && nat_eq s.active_virtual b)
+abbrev pub is_vanishing : Vanished → SectionState → Serial → Bool
+is_vanishing vanished s b =
+    (vanished.device && nat_eq s.active_device b)
+    || (vanished.virtual_block && nat_eq s.active_virtual b)
 
 -- the joined section has the blocks of the upper one, and those of the lower but for the ones that are gone
 abbrev pub Joins : SectionState → SectionState → (Serial → Bool) → SectionState → Type 0
@@ -79,15 +81,11 @@ Joins upper lower gone joined =
     → has_block b joined ≡ (has_block b upper || (has_block b lower && not (gone b)))
 
 -- the section that takes over the next one's blocks has them, but for the ones that vanish
-abbrev pub JoinsNext : List SectionState → Section → Bool → Bool → Type 0
-JoinsNext ss i device_vanishes virtual_vanishes =
+abbrev pub JoinsNext : List SectionState → Section → Vanished → Type 0
+JoinsNext ss i vanished =
     let upper = section_in ss i in
     let lower = section_in ss (i + 1) in
-    Joins
-    upper
-    lower
-    (is_vanishing device_vanishes virtual_vanishes lower)
-    (section_joining device_vanishes virtual_vanishes upper lower)
+    Joins upper lower (is_vanishing vanished lower) (section_joining vanished upper lower)
 
 -- the active block of the kind is none of the section's once the front one is active again
 abbrev pub IsGoneOnceUnsealed : Kind → SectionState → Type 0

@@ -1,12 +1,14 @@
 -- Undoing a primitive by its mark.
 use Rattle.std.specs.Prelude.{◌≡◌, ◌+◌, ◌-◌, ◌≤◌, ◌<◌, Bool, true, false, List, [], ◌∷◌, length, drop, slice_get, slice_set, insert, remove, None, IsSome, IsSomeAnd}
-use Rattle.rw_vt.specs.Words.{Count, Position}
+use Rattle.rw_vt.specs.Words.{Position}
 use Rattle.rw_blocks.specs.Words.{Section, Serial}
 use Rattle.rw_blocks.specs.declared.Kind.{Kind}
+use Rattle.rw_blocks.specs.declared.Vanished.{Vanished}
+use Rattle.rw_blocks.specs.declared.Seam.{Seam}
 use Rattle.rw_blocks.specs.declared.Mark.{Mark}
 use Rattle.rw_blocks.specs.declared.Mark.TheVariants.{Add, Remove, Rehome, Replace, Seal, TakeOut, Split, Merge}
 use Rattle.rw_blocks.specs.State.{QueueState, SectionState, section_in, section_at, active_of, row_at, row_or}
-use Rattle.rw_blocks.specs.Primitives.{with_row, with_active, sections_changing, section_appending, section_joining, upper_of, after_remove}
+use Rattle.rw_blocks.specs.Primitives.{with_row, with_active, sections_changing, section_appending, section_joining, upper_of, empty_actives, after_remove}
 use Rattle.rw_blocks.specs.Loose.{IsLoose}
 
 -- ---- sections
@@ -28,33 +30,43 @@ abbrev pub rest_unless : Bool → List (Serial × Kind) → List (Serial × Kind
 rest_unless true es = es
 rest_unless false es = drop 1 es
 
--- the lower one of two sections that were merged; the upper one had `count` sealed blocks
-abbrev pub lower_of : Count → Serial → Serial → Bool → Bool → SectionState → SectionState
-lower_of count device virtual_block device_vanished virtual_vanished s =
+-- the lower one of the two sections that were joined at the seam
+abbrev pub lower_of : Seam → SectionState → SectionState
+lower_of seam s =
     record {
-      active_device = device;
-      active_virtual = virtual_block;
-      sealed = rest_unless virtual_vanished (rest_unless device_vanished (drop count s.sealed));
+      active_device = seam.device;
+      active_virtual = seam.virtual_block;
+      sealed = rest_unless
+          seam.vanished.virtual_block
+          (rest_unless seam.vanished.device (drop seam.upper_sealed s.sealed));
     }
 
 -- the sections, of which the one with the number is parted in two
-abbrev pub parted_at :
-    List SectionState → Section → Count → Serial → Serial → Bool → Bool → List SectionState
-parted_at ss i count device virtual_block device_vanished virtual_vanished =
+abbrev pub parted_at : List SectionState → Section → Seam → List SectionState
+parted_at ss i seam =
     insert
-    (sections_changing ss i (upper_of count))
+    (sections_changing ss i (upper_of seam.upper_sealed))
     (i + 1)
-    (lower_of count device virtual_block device_vanished virtual_vanished (section_in ss i))
+    (lower_of seam (section_in ss i))
 
 -- the section is the two that it is parted in, joined
-abbrev pub IsJoined : Count → Serial → Serial → Bool → Bool → SectionState → Type 0
-IsJoined count device virtual_block device_vanished virtual_vanished s =
-    section_joining
-    device_vanished
-    virtual_vanished
-    (upper_of count s)
-    (lower_of count device virtual_block device_vanished virtual_vanished s)
-    ≡ s
+abbrev pub IsJoined : Seam → SectionState → Type 0
+IsJoined seam s =
+    section_joining seam.vanished (upper_of seam.upper_sealed s) (lower_of seam s) ≡ s
+
+-- the seam of two sections that are joined
+abbrev pub seam_of : Vanished → SectionState → SectionState → Seam
+seam_of vanished upper lower =
+    record {
+      upper_sealed = length upper.sealed;
+      device = lower.active_device;
+      virtual_block = lower.active_virtual;
+      vanished = vanished;
+    }
+
+-- where a merge joins the section with the next one
+abbrev pub seam_below : QueueState → Section → Seam
+seam_below q i = seam_of (empty_actives q (i + 1)) (section_at q i) (section_at q (i + 1))
 
 -- ---- the queue before the primitive that gave the mark, from the one after it
 abbrev pub undo_of : Mark → QueueState → QueueState
@@ -79,11 +91,7 @@ undo_of (Split i) q =
           (section_appending lower.sealed (section_at q i));
       next = q.next - 2;
     }
-undo_of (Merge i count device virtual_block device_vanished virtual_vanished) q =
-    record q {
-      sections =
-          parted_at q.sections i count device virtual_block device_vanished virtual_vanished;
-    }
+undo_of (Merge i seam) q = record q { sections = parted_at q.sections i seam }
 
 -- what the mark speaks of is there
 abbrev pub Matches : Mark → QueueState → Type 0
@@ -100,10 +108,10 @@ Matches (Split i) q =
     (i + 1 < length q.sections)
     × ((section_at q (i + 1)).active_device + 2 ≡ q.next)
     × ((section_at q (i + 1)).active_virtual + 1 ≡ q.next)
-Matches (Merge i count device virtual_block device_vanished virtual_vanished) q =
+Matches (Merge i seam) q =
     (i < length q.sections)
-    × (count ≤ length (section_at q i).sealed)
-    × IsJoined count device virtual_block device_vanished virtual_vanished (section_at q i)
+    × (seam.upper_sealed ≤ length (section_at q i).sealed)
+    × IsJoined seam (section_at q i)
 
 -- the mark can be undone on this state: it is loose, and so is the state before
 pub record IsUndoable (m : Mark) (q : QueueState) : Type 0 where

@@ -13,6 +13,7 @@ mod primitives;
 mod queue;
 mod row_map;
 mod rows;
+mod sealed_blocks;
 mod section;
 mod sections;
 mod shape;
@@ -40,6 +41,36 @@ pub struct Place {
     pub home: u64,
     /// The serial of the block that gives its priority: its home, or a virtual block.
     pub place: u64,
+}
+
+/// Which of a section's two active blocks vanish where the section above takes over its blocks: those that hold nothing.
+#[derive(Clone, Copy, Debug, PartialEq, Eq)]
+pub struct Vanished {
+    /// Whether the device block vanishes.
+    pub device: bool,
+    /// Whether the virtual block vanishes.
+    pub virtual_block: bool,
+}
+
+impl Vanished {
+    /// Both vanish: so it is where a split is undone.
+    pub const BOTH: Vanished = Vanished {
+        device: true,
+        virtual_block: true,
+    };
+}
+
+/// Where two sections were joined: by this they are parted again.
+#[derive(Clone, Copy, Debug, PartialEq, Eq)]
+pub struct Seam {
+    /// How many sealed blocks the upper section had.
+    pub upper_sealed: usize,
+    /// The serial of the lower section's active device block.
+    pub device: u64,
+    /// The serial of the lower section's active virtual block.
+    pub virtual_block: u64,
+    /// Which of these two vanished. One that did not is sealed behind the upper section's blocks.
+    pub vanished: Vanished,
 }
 
 /// What undoes one primitive: only what the undoing of its change needs and the state after does not say.
@@ -81,14 +112,9 @@ pub enum Mark {
     Split {
         section: usize,
     },
-    /// Of `merge`: the upper section, how many sealed blocks it had, and of the lower section the active blocks and
-    /// whether each of them vanished.
+    /// Of `merge`: the upper section, and where the lower one was joined to it.
     Merge {
         section: usize,
-        upper_sealed: usize,
-        lower_device: u64,
-        lower_virtual: u64,
-        device_vanished: bool,
-        virtual_vanished: bool,
+        seam: Seam,
     },
 }

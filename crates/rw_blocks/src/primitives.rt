@@ -5,9 +5,9 @@ ghost use Rattle.rw_blocks.specs.State.{row_at, row_or, section_at, sealed_block
 ghost use Rattle.rw_blocks.specs.Sums.{total};
 ghost use Rattle.rw_blocks.specs.Loose.{IsLoose, IsFree};
 ghost use Rattle.rw_blocks.specs.Primitives.{HasRoom, after_add, after_remove, after_rehome, after_replace, after_seal, after_take_out, after_split, after_merge};
-ghost use Rattle.rw_blocks.specs.Undo.{Undoes};
+ghost use Rattle.rw_blocks.specs.Undo.{Undoes, seam_below};
 
-use crate::{Kind, Mark, Place, Queue};
+use crate::{Kind, Mark, Place, Queue, Seam, Vanished};
 use rw_vt::NoMemory;
 
 /// Primitives. Each changes only what it says, on every loose queue, leaves a loose queue, and gives the mark that
@@ -195,7 +195,13 @@ impl Queue {
         ensures undoes { IfOk result (λ mark. Undoes mark self.old self.new) }
         ensures kept { OnOk result (IsLoose self.new) }
     {
-        self.part(section, keep, self.next, self.next + 1, true, true)?;
+        let seam = Seam {
+            upper_sealed: keep,
+            device: self.next,
+            virtual_block: self.next + 1,
+            vanished: Vanished::BOTH,
+        };
+        self.part(section, seam)?;
         self.next += 2;
         Ok(Mark::Split { section })
     }
@@ -214,19 +220,27 @@ impl Queue {
         ensures undoes { IfOk result (λ mark. Undoes mark self.old self.new) }
         ensures kept { OnOk result (IsLoose self.new) }
     {
-        let upper_sealed = self.sealed(section);
-        let lower_device = self.active(section + 1, Kind::Device);
-        let lower_virtual = self.active(section + 1, Kind::Virtual);
-        let device_vanished = self.home_bytes(lower_device) == 0;
-        let virtual_vanished = self.place_bytes(lower_virtual) == 0;
-        self.join(section, device_vanished, virtual_vanished)?;
-        Ok(Mark::Merge {
-            section,
-            upper_sealed,
-            lower_device,
-            lower_virtual,
-            device_vanished,
-            virtual_vanished,
-        })
+        let seam = self.seam_below(section);
+        self.join(section, seam.vanished)?;
+        Ok(Mark::Merge { section, seam })
+    }
+
+    /// Where the section below is joined to the section by a merge.
+    fn seam_below(&self, section: usize) -> Seam
+        requires loose { IsLoose self.now }
+        requires there { section + 1 < length self.now.sections }
+        ensures { result ≡ seam_below self.now section }
+    {
+        let device = self.active(section + 1, Kind::Device);
+        let virtual_block = self.active(section + 1, Kind::Virtual);
+        Seam {
+            upper_sealed: self.sealed(section),
+            device,
+            virtual_block,
+            vanished: Vanished {
+                device: self.home_bytes(device) == 0,
+                virtual_block: self.place_bytes(virtual_block) == 0,
+            },
+        }
     }
 }

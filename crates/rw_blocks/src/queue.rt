@@ -12,7 +12,7 @@ ghost use Rattle.rw_blocks.specs.Questions.{first_home, first_place, section_of,
 
 use crate::rows::Rows;
 use crate::sections::Sections;
-use crate::{Kind, Place, Shape};
+use crate::{Kind, Place, Seam, Shape, Vanished};
 use rw_vt::NoMemory;
 use std::alloc::Global;
 use std::marker::Model;
@@ -308,62 +308,34 @@ impl Queue {
         bytes
     }
 
-    /// Parts a section in two: the upper one keeps its active blocks and its first `upper_sealed` sealed blocks. The
-    /// lower one has `device` and `virtual_block` as active blocks, and the other sealed ones, of which the first is
-    /// dropped for each of the active ones that did not vanish.
-    pub(crate) fn part(
-        &mut self,
-        section: usize,
-        upper_sealed: usize,
-        device: u64,
-        virtual_block: u64,
-        device_vanished: bool,
-        virtual_vanished: bool,
-    ) -> Result<(), NoMemory>
+    /// Parts a section at the seam: the upper one of the two keeps its active blocks and its first `upper_sealed` sealed
+    /// blocks. The lower one has the seam's active blocks, and the other sealed ones, of which the first is dropped for
+    /// each of the active ones that did not vanish.
+    pub(crate) fn part(&mut self, section: usize, seam: Seam) -> Result<(), NoMemory>
         requires loose { IsLoose self.old }
         requires there { section < length self.old.sections }
-        requires within { upper_sealed ≤ length (section_at self.old section).sealed }
-        requires joins { IsJoined upper_sealed device virtual_block device_vanished virtual_vanished
-            (section_at self.old section) }
-        requires after { CanHave self.old (parted_at self.old.sections section
-            upper_sealed device virtual_block device_vanished virtual_vanished) }
+        requires within { seam.upper_sealed ≤ length (section_at self.old section).sealed }
+        requires joins { IsJoined seam (section_at self.old section) }
+        requires after { CanHave self.old (parted_at self.old.sections section seam) }
         ensures parted { OnOk result (self.new ≡ with_sections self.old
-            (parted_at self.old.sections section
-            upper_sealed device virtual_block device_vanished virtual_vanished)
-            self.old.next) }
+            (parted_at self.old.sections section seam) self.old.next) }
     {
-        let lower = self.weight_from(section, upper_sealed);
+        let lower = self.weight_from(section, seam.upper_sealed);
         self.bytes.insert(section + 1, lower)?;
         self.bytes[section] -= lower;
-        self.sections.part(
-            section,
-            upper_sealed,
-            device,
-            virtual_block,
-            device_vanished,
-            virtual_vanished,
-        )?;
+        self.sections.part(section, seam)?;
         Ok(())
     }
 
-    /// Joins a section with the next one, of whose active blocks the device block vanishes where `device_vanishes`, and
-    /// the virtual one where `virtual_vanishes`.
-    pub(crate) fn join(
-        &mut self,
-        section: usize,
-        device_vanishes: bool,
-        virtual_vanishes: bool,
-    ) -> Result<(), NoMemory>
+    /// Joins a section with the next one, but for those active blocks of the next one that vanish.
+    pub(crate) fn join(&mut self, section: usize, vanished: Vanished) -> Result<(), NoMemory>
         requires loose { IsLoose self.old }
         requires there { section + 1 < length self.old.sections }
-        requires after { CanHave self.old
-            (joined_at self.old.sections section device_vanishes virtual_vanishes) }
+        requires after { CanHave self.old (joined_at self.old.sections section vanished) }
         ensures joined { OnOk result (self.new ≡ with_sections self.old
-            (joined_at self.old.sections section device_vanishes virtual_vanishes)
-            self.old.next) }
+            (joined_at self.old.sections section vanished) self.old.next) }
     {
-        self.sections
-            .join(section, device_vanishes, virtual_vanishes)?;
+        self.sections.join(section, vanished)?;
         let lower = self.bytes.remove(section + 1);
         self.bytes[section] += lower;
         Ok(())

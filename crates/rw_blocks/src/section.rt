@@ -1,51 +1,35 @@
 // One section of a queue: its two active blocks, and its sealed blocks from front to back.
-ghost use Rattle.std.specs.Prelude.{◌≡◌, ◌<◌, ◌≤◌, [], ◌∷◌, length, OnOk, IfOk, drop, slice_get, Some};
+ghost use Rattle.std.specs.Prelude.{◌≡◌, ◌<◌, ◌≤◌, length, OnOk, IfOk, slice_get, Some};
 ghost use Rattle.rw_blocks.specs.State.{active_of, new_section};
-ghost use Rattle.rw_blocks.specs.Loose.{devices_in, device_count_of};
-ghost use Rattle.rw_blocks.specs.Primitives.{with_active, section_sealing, section_losing, section_appending, section_joining, upper_of, rest_of};
+ghost use Rattle.rw_blocks.specs.Loose.{devices_in};
+ghost use Rattle.rw_blocks.specs.Primitives.{with_active, section_sealing, section_losing, section_joining, upper_of};
 ghost use Rattle.rw_blocks.specs.Undo.{section_unsealing, section_gaining, lower_of};
 
-use crate::Kind;
+use crate::sealed_blocks::SealedBlocks;
+use crate::{Kind, Seam, Vanished};
 use rw_vt::NoMemory;
 use std::alloc::Global;
-use std::collections::VecDeque;
 use std::marker::Model;
 
 /// One section. Contracts see the serials of its active blocks, and its sealed blocks from front to back, each with its
-/// kind. Beside them stands how many of the sealed ones are device blocks.
+/// kind.
 #[derive(Drop)]
 pub struct Section {
     active_device: u64,
     active_virtual: u64,
-    sealed: VecDeque<(u64, Kind)>,
-    devices: usize,
+    sealed: SealedBlocks,
 }
 
 impl Model for Section {
-    ghost use Rattle.std.specs.Prelude.{◌≡◌};
     ghost use Rattle.rw_blocks.specs.State.{SectionState};
-    ghost use Rattle.rw_blocks.specs.Loose.{device_count_of};
 
     ghost Value = { SectionState };
 
     ghost view = { λ s. record {
       active_device = s.active_device;
       active_virtual = s.active_virtual;
-      sealed = s.sealed.items;
+      sealed = s.sealed;
     } };
-
-    // how many of the sealed blocks are device blocks
-    ghost invariant = { λ s. s.devices ≡ device_count_of s.sealed.items };
-}
-
-/// How many of the blocks are device blocks.
-fn device_count(sealed: &VecDeque<(u64, Kind)>) -> usize
-    ensures { result ≡ device_count_of sealed.now.items }
-{
-    sealed
-        .iter()
-        .filter(|block| block.1 == Kind::Device)
-        .count()
 }
 
 impl Section {
@@ -56,8 +40,7 @@ impl Section {
         Section {
             active_device,
             active_virtual,
-            sealed: VecDeque::new(alloc),
-            devices: 0,
+            sealed: SealedBlocks::new(alloc),
         }
     }
 
@@ -83,14 +66,14 @@ impl Section {
         requires { position < length self.now.sealed }
         ensures { slice_get self.now.sealed position ≡ Some result }
     {
-        self.sealed[position]
+        self.sealed.at(position)
     }
 
     /// How many device blocks are sealed.
     pub fn sealed_devices(&self) -> usize
         ensures { result ≡ devices_in self.now }
     {
-        self.devices
+        self.sealed.devices()
     }
 
     /// Moves the active block of the kind to the front of the sealed list, and makes the fresh one active.
@@ -102,10 +85,7 @@ impl Section {
         ensures { OnOk result (self.new ≡ section_sealing kind fresh self.old) }
     {
         let active = self.active(kind);
-        self.sealed.push_front((active, kind))?;
-        if kind == Kind::Device {
-            self.devices += 1;
-        }
+        self.sealed.push_front(active, kind)?;
         self.set_active(kind, fresh);
         Ok(())
     }
@@ -115,10 +95,7 @@ impl Section {
         requires { 0 < length self.old.sealed }
         ensures { self.new ≡ section_unsealing kind self.old }
     {
-        let (serial, front) = self.sealed.pop_front().unwrap();
-        if front == Kind::Device {
-            self.devices -= 1;
-        }
+        let (serial, _) = self.sealed.pop_front().unwrap();
         self.set_active(kind, serial);
     }
 
@@ -138,11 +115,7 @@ impl Section {
         ensures block { slice_get self.old.sealed position ≡ Some result }
         ensures rest { self.new ≡ section_losing position self.old }
     {
-        let (serial, kind) = self.sealed.remove(position).unwrap();
-        if kind == Kind::Device {
-            self.devices -= 1;
-        }
-        (serial, kind)
+        self.sealed.remove(position)
     }
 
     /// Puts a block into the sealed list, at the position.
@@ -150,110 +123,40 @@ impl Section {
         requires { position ≤ length self.old.sealed }
         ensures { OnOk result (self.new ≡ section_gaining position (serial, kind) self.old) }
     {
-        self.sealed.insert(position, (serial, kind))?;
-        if kind == Kind::Device {
-            self.devices += 1;
-        }
-        Ok(())
-    }
-
-    /// Keeps the first `keep` sealed blocks, and gives the others to a new section, whose active blocks are
-    /// `active_device` and `active_virtual`.
-    pub fn split(
-        &mut self,
-        keep: usize,
-        active_device: u64,
-        active_virtual: u64,
-    ) -> Result<Section, NoMemory>
-        requires { keep ≤ length self.old.sealed }
-        ensures upper { OnOk result (self.new ≡ upper_of keep self.old) }
-        ensures lower { IfOk result (λ s. s ≡ rest_of keep active_device active_virtual self.old) }
-    {
-        let sealed = self.sealed.split_off(keep)?;
-        let devices = device_count(&sealed);
-        self.devices -= devices;
-        Ok(Section {
-            active_device,
-            active_virtual,
-            sealed,
-            devices,
-        })
-    }
-
-    /// Takes over the sealed blocks of the section below.
-    pub fn append(&mut self, lower: Section) -> Result<(), NoMemory>
-        ensures { OnOk result (self.new ≡ section_appending lower.sealed self.old) }
-    {
-        let mut sealed = lower.sealed;
-        self.sealed.append(&mut sealed)?;
-        self.devices += lower.devices;
-        Ok(())
+        self.sealed.insert(position, serial, kind)
     }
 
     /// Takes over the blocks of the section below, but for the active ones that vanish.
-    pub fn join(
-        &mut self,
-        lower: Section,
-        device_vanishes: bool,
-        virtual_vanishes: bool,
-    ) -> Result<(), NoMemory>
-        ensures { OnOk result
-            (self.new ≡ section_joining device_vanishes virtual_vanishes self.old lower) }
+    pub fn join(&mut self, lower: Section, vanished: Vanished) -> Result<(), NoMemory>
+        ensures { OnOk result (self.new ≡ section_joining vanished self.old lower) }
     {
-        if !device_vanishes {
-            self.push(lower.active_device, Kind::Device)?;
+        if !vanished.device {
+            self.sealed.push_back(lower.active_device, Kind::Device)?;
         }
-        if !virtual_vanishes {
-            self.push(lower.active_virtual, Kind::Virtual)?;
+        if !vanished.virtual_block {
+            self.sealed.push_back(lower.active_virtual, Kind::Virtual)?;
         }
-        self.append(lower)
+        self.sealed.append(lower.sealed)
     }
 
-    /// Puts a block behind the sealed ones.
-    fn push(&mut self, serial: u64, kind: Kind) -> Result<(), NoMemory>
-        ensures { OnOk result (self.new ≡ section_appending ((serial, kind) ∷ []) self.old) }
+    /// Undoes `join`: keeps the sealed blocks that the upper section had, and gives the section below back. Those of its
+    /// active blocks that did not vanish stand first among the other sealed ones.
+    pub fn part(&mut self, seam: Seam) -> Result<Section, NoMemory>
+        requires { seam.upper_sealed ≤ length self.old.sealed }
+        ensures upper { OnOk result (self.new ≡ upper_of seam.upper_sealed self.old) }
+        ensures lower { IfOk result (λ s. s ≡ lower_of seam self.old) }
     {
-        self.sealed.push_back((serial, kind))?;
-        if kind == Kind::Device {
-            self.devices += 1;
+        let mut sealed = self.sealed.split_off(seam.upper_sealed)?;
+        if !seam.vanished.device {
+            sealed.pop_front();
         }
-        Ok(())
-    }
-
-    /// Undoes `join`: keeps the first `upper_sealed` sealed blocks, and gives the section below back, whose active
-    /// blocks were `active_device` and `active_virtual`. Those that did not vanish stand first among the other sealed
-    /// ones.
-    pub fn part(
-        &mut self,
-        upper_sealed: usize,
-        active_device: u64,
-        active_virtual: u64,
-        device_vanished: bool,
-        virtual_vanished: bool,
-    ) -> Result<Section, NoMemory>
-        requires { upper_sealed ≤ length self.old.sealed }
-        ensures upper { OnOk result (self.new ≡ upper_of upper_sealed self.old) }
-        ensures lower { IfOk result (λ s. s ≡ lower_of upper_sealed
-            active_device active_virtual device_vanished virtual_vanished self.old) }
-    {
-        let mut lower = self.split(upper_sealed, active_device, active_virtual)?;
-        if !device_vanished {
-            lower.drop_first();
+        if !seam.vanished.virtual_block {
+            sealed.pop_front();
         }
-        if !virtual_vanished {
-            lower.drop_first();
-        }
-        Ok(lower)
-    }
-
-    /// Takes the front sealed block out, if there is one.
-    fn drop_first(&mut self)
-        ensures { self.new ≡ record self.old { sealed = drop 1 self.old.sealed } }
-    {
-        if let Some((_, kind)) = self.sealed.pop_front() {
-            if kind == Kind::Device {
-                self.devices -= 1;
-            }
-        }
+        Ok(Section {
+            active_device: seam.device,
+            active_virtual: seam.virtual_block,
+            sealed,
+        })
     }
 }

@@ -9,8 +9,8 @@ ghost use Rattle.rw_blocks.specs.Undo.{section_unsealing, section_gaining, lower
 ghost use Rattle.rw_blocks.specs.Questions.{NoneSealed, NoneSealedBehind};
 ghost use Rattle.rw_blocks.specs.Tags.{IsAbsent, IsOnlyIn, Retags, Parts, ComesFrom, JoinsNext, is_vanishing, IsGoneOnceUnsealed, IsOnceIn};
 
-use crate::Kind;
 use crate::section::Section;
+use crate::{Kind, Seam, Vanished};
 use rw_vt::NoMemory;
 use std::alloc::Global;
 use std::collections::HashMap;
@@ -101,17 +101,19 @@ fn retag(
     owners: &mut HashMap<u64, u64>,
     section: &Section,
     tag: u64,
-    device_vanishes: bool,
-    virtual_vanishes: bool,
+    vanished: Vanished,
 ) -> Result<(), NoMemory>
     ensures { OnOk result (Retags owners.old owners.new
         (λ b. has_block b section.now)
-        (λ b. if is_vanishing device_vanishes virtual_vanishes section.now b then None
-        else Some tag)) }
+        (λ b. if is_vanishing vanished section.now b then None else Some tag)) }
 {
     tag_all(owners, section, tag)?;
-    untag(owners, section.active(Kind::Device), device_vanishes);
-    untag(owners, section.active(Kind::Virtual), virtual_vanishes);
+    untag(owners, section.active(Kind::Device), vanished.device);
+    untag(
+        owners,
+        section.active(Kind::Virtual),
+        vanished.virtual_block,
+    );
     Ok(())
 }
 
@@ -283,40 +285,22 @@ impl Sections {
         Ok(())
     }
 
-    /// Parts a section in two: the upper one keeps its active blocks and its first `upper_sealed` sealed blocks. The
-    /// lower one has `device` and `virtual_block` as active blocks, and the other sealed ones, of which the first is
-    /// dropped for each of the active ones that did not vanish.
-    pub fn part(
-        &mut self,
-        section: usize,
-        upper_sealed: usize,
-        device: u64,
-        virtual_block: u64,
-        device_vanished: bool,
-        virtual_vanished: bool,
-    ) -> Result<(), NoMemory>
+    /// Parts a section at the seam: the upper one of the two keeps its active blocks and its first `upper_sealed` sealed
+    /// blocks. The lower one has the seam's active blocks, and the other sealed ones, of which the first is dropped for
+    /// each of the active ones that did not vanish.
+    pub fn part(&mut self, section: usize, seam: Seam) -> Result<(), NoMemory>
         requires there { section < length self.old }
-        requires within { upper_sealed ≤ length (section_in self.old section).sealed }
+        requires within { seam.upper_sealed ≤ length (section_in self.old section).sealed }
         requires parts { Parts (section_in self.old section)
-            (upper_of upper_sealed (section_in self.old section))
-            (lower_of upper_sealed device virtual_block device_vanished virtual_vanished
-            (section_in self.old section)) }
-        requires from { ComesFrom
-            (lower_of upper_sealed device virtual_block device_vanished virtual_vanished
-            (section_in self.old section))
+            (upper_of seam.upper_sealed (section_in self.old section))
+            (lower_of seam (section_in self.old section)) }
+        requires from { ComesFrom (lower_of seam (section_in self.old section))
             (section_in self.old section) self.old }
-        ensures parted { OnOk result (self.new ≡ parted_at self.old section
-            upper_sealed device virtual_block device_vanished virtual_vanished) }
+        ensures parted { OnOk result (self.new ≡ parted_at self.old section seam) }
         ensures refused { OnErr result (self.new ≡ []) }
     {
         let mut list = mem::replace(&mut self.list, Vec::new(self.alloc));
-        let lower = list[section].part(
-            upper_sealed,
-            device,
-            virtual_block,
-            device_vanished,
-            virtual_vanished,
-        )?;
+        let lower = list[section].part(seam)?;
         let tag = free_tag(&self.tags);
         tag_all(&mut self.owners, &lower, tag)?;
         list.insert(section + 1, lower)?;
@@ -325,32 +309,19 @@ impl Sections {
         Ok(())
     }
 
-    /// Joins a section with the next one, of whose active blocks the device block vanishes where `device_vanishes`, and
-    /// the virtual one where `virtual_vanishes`.
-    pub fn join(
-        &mut self,
-        section: usize,
-        device_vanishes: bool,
-        virtual_vanishes: bool,
-    ) -> Result<(), NoMemory>
+    /// Joins a section with the next one, but for those active blocks of the next one that vanish.
+    pub fn join(&mut self, section: usize, vanished: Vanished) -> Result<(), NoMemory>
         requires there { section + 1 < length self.old }
-        requires joins { JoinsNext self.old section device_vanishes virtual_vanishes }
-        ensures joined { OnOk result
-            (self.new ≡ joined_at self.old section device_vanishes virtual_vanishes) }
+        requires joins { JoinsNext self.old section vanished }
+        ensures joined { OnOk result (self.new ≡ joined_at self.old section vanished) }
         ensures refused { OnErr result (self.new ≡ []) }
     {
         let mut list = mem::replace(&mut self.list, Vec::new(self.alloc));
         let lower = list.remove(section + 1);
         let tag = self.tags[section];
         self.tags.remove(section + 1);
-        retag(
-            &mut self.owners,
-            &lower,
-            tag,
-            device_vanishes,
-            virtual_vanishes,
-        )?;
-        list[section].join(lower, device_vanishes, virtual_vanishes)?;
+        retag(&mut self.owners, &lower, tag, vanished)?;
+        list[section].join(lower, vanished)?;
         self.list = list;
         Ok(())
     }

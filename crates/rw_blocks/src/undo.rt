@@ -6,7 +6,7 @@ ghost use Rattle.rw_blocks.specs.Primitives.{with_row};
 ghost use Rattle.rw_blocks.specs.Undo.{undo_of, IsUndoable, IsWhatWasBefore};
 ghost use Rattle.rw_blocks.specs.declared.Mark.TheVariants.{Rehome, Seal, TakeOut, Split, Merge};
 
-use crate::{Kind, Mark, Place, Queue};
+use crate::{Kind, Mark, Place, Queue, Seam, Vanished};
 use rw_vt::NoMemory;
 
 /// Undoing.
@@ -45,21 +45,7 @@ impl Queue {
                 kind,
             } => self.put_back(section, position, serial, kind)?,
             Mark::Split { section } => self.unsplit(section)?,
-            Mark::Merge {
-                section,
-                upper_sealed,
-                lower_device,
-                lower_virtual,
-                device_vanished,
-                virtual_vanished,
-            } => self.unmerge(
-                section,
-                upper_sealed,
-                lower_device,
-                lower_virtual,
-                device_vanished,
-                virtual_vanished,
-            )?,
+            Mark::Merge { section, seam } => self.unmerge(section, seam)?,
         }
         Ok(())
     }
@@ -117,36 +103,17 @@ impl Queue {
         requires { IsUndoable (Split section) self.old }
         ensures { OnOk result (self.new ≡ undo_of (Split section) self.old) }
     {
-        self.join(section, true, true)?;
+        self.join(section, Vanished::BOTH)?;
         self.next -= 2;
         Ok(())
     }
 
     /// Makes two sections that were merged two again.
-    fn unmerge(
-        &mut self,
-        section: usize,
-        upper_sealed: usize,
-        lower_device: u64,
-        lower_virtual: u64,
-        device_vanished: bool,
-        virtual_vanished: bool,
-    ) -> Result<(), NoMemory>
-        requires { IsUndoable
-            (Merge section upper_sealed lower_device lower_virtual device_vanished virtual_vanished)
-            self.old }
-        ensures { OnOk result (self.new ≡ undo_of
-            (Merge section upper_sealed lower_device lower_virtual device_vanished virtual_vanished)
-            self.old) }
+    fn unmerge(&mut self, section: usize, seam: Seam) -> Result<(), NoMemory>
+        requires { IsUndoable (Merge section seam) self.old }
+        ensures { OnOk result (self.new ≡ undo_of (Merge section seam) self.old) }
     {
-        self.part(
-            section,
-            upper_sealed,
-            lower_device,
-            lower_virtual,
-            device_vanished,
-            virtual_vanished,
-        )?;
+        self.part(section, seam)?;
         Ok(())
     }
 }

@@ -12,6 +12,7 @@ use Rattle.rw_blocks.specs.Questions.{last_from, last_or}
 use Rattle.rw_blocks.specs.State.{QueueState, SectionState, blocks_of, no_section}
 use Rattle.rw_blocks.specs.Sums.{has_block, has_serial}
 use Rattle.rw_blocks.specs.declared.Kind.{Kind}
+use Rattle.rw_blocks.specs.declared.Vanished.{Vanished}
 use Rattle.rw_blocks.specs.declared.Kind.TheVariants.{Device, Virtual}
 use Rattle.rw_ripq.proofs.Basics.{some_is, true_not_false}
 use Rattle.rw_ripq.proofs.Behinds.{any-cases, any-left, any-right, before-cases, before-cross, before-left, before-right, behind_in-has, has-cases, has-device, has-inside, has-shadow, or-left, or-right}
@@ -25,127 +26,122 @@ use Rattle.rw_ripq.specs.Victim.{in_sealed}
 -- ---- merge
 module _ (x c : ℕ) where
   -- the block is not one that vanishes
-  pub record Stays (m n : Bool) (l : SectionState) : Type 0 where
-    pub active_device : m ≡ true → l.active_device ≡ x → ⊥
-    pub active_virtual : n ≡ true → l.active_virtual ≡ x → ⊥
+  pub record Stays (v : Vanished) (l : SectionState) : Type 0 where
+    pub active_device : v.device ≡ true → l.active_device ≡ x → ⊥
+    pub active_virtual : v.virtual_block ≡ true → l.active_virtual ≡ x → ⊥
 
-abbrev pub tail_of : Bool → Bool → SectionState → List (ℕ × Kind)
-tail_of m n l = block_unless m (l.active_device, Device) ++ (block_unless n (l.active_virtual, Virtual) ++ l.sealed)
+abbrev pub shadow_of : Vanished → SectionState → List (ℕ × Kind)
+shadow_of v l = block_unless v.virtual_block (l.active_virtual, Virtual) ++ l.sealed
 
-tail-sealed : (c : ℕ) (m n : Bool) (l : SectionState) → has_sealed c l ≡ true → list_any (has_serial c) (tail_of m n l) ≡ true
-tail-sealed c m n l h =
-    any-right (has_serial c) (block_unless m (l.active_device, Device)) (block_unless n (l.active_virtual, Virtual) ++ l.sealed) (any-right (has_serial c) (block_unless n (l.active_virtual, Virtual)) l.sealed h)
+abbrev pub tail_of : Vanished → SectionState → List (ℕ × Kind)
+tail_of v l = block_unless v.device (l.active_device, Device) ++ shadow_of v l
 
-tail-device : (x : ℕ) (m n : Bool) (l : SectionState) → (m ≡ true → l.active_device ≡ x → ⊥) → l.active_device ≡ x → list_any (has_serial x) (tail_of m n l) ≡ true
-tail-device x true n l stays e = absurd (stays refl e)
-tail-device x false n l stays e = or-left (nat_eq l.active_device x) (list_any (has_serial x) (block_unless n (l.active_virtual, Virtual) ++ l.sealed)) (eq-eqb l.active_device x e)
+tail-sealed : (c : ℕ) (v : Vanished) (l : SectionState) → has_sealed c l ≡ true → list_any (has_serial c) (tail_of v l) ≡ true
+tail-sealed c v l h =
+    any-right (has_serial c) (block_unless v.device (l.active_device, Device)) (shadow_of v l) (any-right (has_serial c) (block_unless v.virtual_block (l.active_virtual, Virtual)) l.sealed h)
 
-shadow-first : (x : ℕ) (n : Bool) (l : SectionState) → (n ≡ true → l.active_virtual ≡ x → ⊥) → l.active_virtual ≡ x → list_any (has_serial x) (block_unless n (l.active_virtual, Virtual) ++ l.sealed) ≡ true
-shadow-first x true l stays e = absurd (stays refl e)
-shadow-first x false l stays e = or-left (nat_eq l.active_virtual x) (list_any (has_serial x) l.sealed) (eq-eqb l.active_virtual x e)
+first-has : (x : ℕ) (m : Bool) (e : ℕ × Kind) (es : List (ℕ × Kind)) → (m ≡ true → e.0 ≡ x → ⊥) → e.0 ≡ x → list_any (has_serial x) (block_unless m e ++ es) ≡ true
+first-has x true e es stays is = absurd (stays refl is)
+first-has x false e es stays is = or-left (nat_eq e.0 x) (list_any (has_serial x) es) (eq-eqb e.0 x is)
 
-tail-has : (x c : ℕ) (m n : Bool) (l : SectionState) → Stays x c m n l → has_block x l ≡ true → list_any (has_serial x) (tail_of m n l) ≡ true
-tail-has x c m n l stays h = elim (has-cases x l h) [
-  | inl e ↦ tail-device x m n l stays.active_device e
+tail-has : (x c : ℕ) (v : Vanished) (l : SectionState) → Stays x c v l → has_block x l ≡ true → list_any (has_serial x) (tail_of v l) ≡ true
+tail-has x c v l stays h = elim (has-cases x l h) [
+  | inl e ↦ first-has x v.device (l.active_device, Device) (shadow_of v l) stays.active_device e
   | inr r ↦ elim r [
-    | inl e ↦ any-right (has_serial x) (block_unless m (l.active_device, Device)) (block_unless n (l.active_virtual, Virtual) ++ l.sealed) (shadow-first x n l stays.active_virtual e)
-    | inr k ↦ tail-sealed x m n l k
+    | inl e ↦ any-right (has_serial x) (block_unless v.device (l.active_device, Device)) (shadow_of v l) (first-has x v.virtual_block (l.active_virtual, Virtual) l.sealed stays.active_virtual e)
+    | inr k ↦ tail-sealed x v l k
   ]
 ]
 
-before-device : (x c : ℕ) (m n : Bool) (l : SectionState) → (m ≡ true → l.active_device ≡ x → ⊥) → l.active_device ≡ x → has_sealed c l ≡ true → Before x c (tail_of m n l)
-before-device x c true n l stays e h = absurd (stays refl e)
-before-device x c false n l stays e h = inl (e, any-right (has_serial c) (block_unless n (l.active_virtual, Virtual)) l.sealed h)
+before-first : (x c : ℕ) (m : Bool) (e : ℕ × Kind) (es : List (ℕ × Kind)) → (m ≡ true → e.0 ≡ x → ⊥) → e.0 ≡ x → list_any (has_serial c) es ≡ true → Before x c (block_unless m e ++ es)
+before-first x c true e es stays is h = absurd (stays refl is)
+before-first x c false e es stays is h = inl (is, h)
 
-before-shadow : (x c : ℕ) (n : Bool) (l : SectionState) → (n ≡ true → l.active_virtual ≡ x → ⊥) → l.active_virtual ≡ x → has_sealed c l ≡ true → Before x c (block_unless n (l.active_virtual, Virtual) ++ l.sealed)
-before-shadow x c true l stays e h = absurd (stays refl e)
-before-shadow x c false l stays e h = inl (e, h)
-
-before-tail : (x c : ℕ) (m n : Bool) (l : SectionState) → Stays x c m n l → BehindIn x c l → Before x c (tail_of m n l)
-before-tail x c m n l stays b = elim b [
+before-tail : (x c : ℕ) (v : Vanished) (l : SectionState) → Stays x c v l → BehindIn x c l → Before x c (tail_of v l)
+before-tail x c v l stays b = elim b [
   | inl h ↦ elim h.0 [
-    | inl e ↦ before-device x c m n l stays.active_device e h.1
-    | inr e ↦ before-right x c (block_unless m (l.active_device, Device)) (block_unless n (l.active_virtual, Virtual) ++ l.sealed) (before-shadow x c n l stays.active_virtual e h.1)
+    | inl e ↦ before-first x c v.device (l.active_device, Device) (shadow_of v l) stays.active_device e (any-right (has_serial c) (block_unless v.virtual_block (l.active_virtual, Virtual)) l.sealed h.1)
+    | inr e ↦ before-right x c (block_unless v.device (l.active_device, Device)) (shadow_of v l) (before-first x c v.virtual_block (l.active_virtual, Virtual) l.sealed stays.active_virtual e h.1)
   ]
-  | inr r ↦ before-right x c (block_unless m (l.active_device, Device)) (block_unless n (l.active_virtual, Virtual) ++ l.sealed) (before-right x c (block_unless n (l.active_virtual, Virtual)) l.sealed r)
+  | inr r ↦ before-right x c (block_unless v.device (l.active_device, Device)) (shadow_of v l) (before-right x c (block_unless v.virtual_block (l.active_virtual, Virtual)) l.sealed r)
 ]
 
-section_joining-upper : (x c : ℕ) (m n : Bool) (u l : SectionState) → BehindIn x c u → BehindIn x c (section_joining m n u l)
-section_joining-upper x c m n u l b = elim b [
-  | inl h ↦ inl (h.0, any-left (has_serial c) u.sealed (tail_of m n l) h.1)
-  | inr r ↦ inr (before-left x c u.sealed (tail_of m n l) r)
+section_joining-upper : (x c : ℕ) (v : Vanished) (u l : SectionState) → BehindIn x c u → BehindIn x c (section_joining v u l)
+section_joining-upper x c v u l b = elim b [
+  | inl h ↦ inl (h.0, any-left (has_serial c) u.sealed (tail_of v l) h.1)
+  | inr r ↦ inr (before-left x c u.sealed (tail_of v l) r)
 ]
 
-section_joining-cross : (x c : ℕ) (m n : Bool) (u l : SectionState) → has_block x u ≡ true → has_sealed c l ≡ true → BehindIn x c (section_joining m n u l)
-section_joining-cross x c m n u l h k = elim (has-cases x u h) [
-  | inl e ↦ inl (inl e, any-right (has_serial c) u.sealed (tail_of m n l) (tail-sealed c m n l k))
+section_joining-cross : (x c : ℕ) (v : Vanished) (u l : SectionState) → has_block x u ≡ true → has_sealed c l ≡ true → BehindIn x c (section_joining v u l)
+section_joining-cross x c v u l h k = elim (has-cases x u h) [
+  | inl e ↦ inl (inl e, any-right (has_serial c) u.sealed (tail_of v l) (tail-sealed c v l k))
   | inr r ↦ elim r [
-    | inl e ↦ inl (inr e, any-right (has_serial c) u.sealed (tail_of m n l) (tail-sealed c m n l k))
-    | inr s ↦ inr (before-cross x c u.sealed (tail_of m n l) s (tail-sealed c m n l k))
+    | inl e ↦ inl (inr e, any-right (has_serial c) u.sealed (tail_of v l) (tail-sealed c v l k))
+    | inr s ↦ inr (before-cross x c u.sealed (tail_of v l) s (tail-sealed c v l k))
   ]
 ]
 
-section_joining-lower : (x c : ℕ) (m n : Bool) (u l : SectionState) → Stays x c m n l → BehindIn x c l → BehindIn x c (section_joining m n u l)
-section_joining-lower x c m n u l stays b = inr (before-right x c u.sealed (tail_of m n l) (before-tail x c m n l stays b))
+section_joining-lower : (x c : ℕ) (v : Vanished) (u l : SectionState) → Stays x c v l → BehindIn x c l → BehindIn x c (section_joining v u l)
+section_joining-lower x c v u l stays b = inr (before-right x c u.sealed (tail_of v l) (before-tail x c v l stays b))
 
-section_joining-has : (x : ℕ) (m n : Bool) (u l : SectionState) → has_block x u ≡ true → has_block x (section_joining m n u l) ≡ true
-section_joining-has x m n u l h =
-    let t : SectionState = section_joining m n u l in
+section_joining-has : (x : ℕ) (v : Vanished) (u l : SectionState) → has_block x u ≡ true → has_block x (section_joining v u l) ≡ true
+section_joining-has x v u l h =
+    let t : SectionState = section_joining v u l in
     elim (has-cases x u h) [
       | inl e ↦ has-device x t e
       | inr r ↦ elim r [
         | inl e ↦ has-shadow x t e
-        | inr s ↦ has-inside x t (any-left (has_serial x) u.sealed (tail_of m n l) s)
+        | inr s ↦ has-inside x t (any-left (has_serial x) u.sealed (tail_of v l) s)
       ]
     ]
 
-any-section_joining : (c : ℕ) (m n : Bool) (u l : SectionState) (ss : List SectionState) → list_any (has_sealed c) (u ∷ l ∷ ss) ≡ true → list_any (has_sealed c) (section_joining m n u l ∷ ss) ≡ true
-any-section_joining c m n u l ss h =
-    let t : SectionState = section_joining m n u l in
+any-section_joining : (c : ℕ) (v : Vanished) (u l : SectionState) (ss : List SectionState) → list_any (has_sealed c) (u ∷ l ∷ ss) ≡ true → list_any (has_sealed c) (section_joining v u l ∷ ss) ≡ true
+any-section_joining c v u l ss h =
+    let t : SectionState = section_joining v u l in
     elim (or_cases (has_sealed c u) (list_any (has_sealed c) (l ∷ ss)) h) [
-      | inl k ↦ or-left (has_sealed c t) (list_any (has_sealed c) ss) (any-left (has_serial c) u.sealed (tail_of m n l) k)
+      | inl k ↦ or-left (has_sealed c t) (list_any (has_sealed c) ss) (any-left (has_serial c) u.sealed (tail_of v l) k)
       | inr k ↦ elim (or_cases (has_sealed c l) (list_any (has_sealed c) ss) k) [
-        | inl j ↦ or-left (has_sealed c t) (list_any (has_sealed c) ss) (any-right (has_serial c) u.sealed (tail_of m n l) (tail-sealed c m n l j))
+        | inl j ↦ or-left (has_sealed c t) (list_any (has_sealed c) ss) (any-right (has_serial c) u.sealed (tail_of v l) (tail-sealed c v l j))
         | inr j ↦ or-right (has_sealed c t) (list_any (has_sealed c) ss) j
       ]
     ]
 
-abbrev pub join_at : Bool → Bool → List SectionState → ℕ → List SectionState
-join_at m n ss i = set (remove ss (suc i)) i (section_joining m n (get_or ss i no_section) (get_or ss (suc i) no_section))
+abbrev pub join_at : Vanished → List SectionState → ℕ → List SectionState
+join_at v ss i = set (remove ss (suc i)) i (section_joining v (get_or ss i no_section) (get_or ss (suc i) no_section))
 
-any-join : (c : ℕ) (m n : Bool) (ss : List SectionState) (i : ℕ) → suc i < length ss → list_any (has_sealed c) ss ≡ true → list_any (has_sealed c) (join_at m n ss i) ≡ true
-any-join c m n [] i lt h = true_not_false false h refl
-any-join c m n (s ∷ []) zero lt h = absurd (omega (arith, lt))
-any-join c m n (u ∷ l ∷ ss) zero lt h = any-section_joining c m n u l ss h
-any-join c m n (s ∷ ss) (suc i) lt h = elim (or_cases (has_sealed c s) (list_any (has_sealed c) ss) h) [
-  | inl k ↦ or-left (has_sealed c s) (list_any (has_sealed c) (join_at m n ss i)) k
-  | inr k ↦ or-right (has_sealed c s) (list_any (has_sealed c) (join_at m n ss i)) (any-join c m n ss i (omega (arith, lt)) k)
+any-join : (c : ℕ) (v : Vanished) (ss : List SectionState) (i : ℕ) → suc i < length ss → list_any (has_sealed c) ss ≡ true → list_any (has_sealed c) (join_at v ss i) ≡ true
+any-join c v [] i lt h = true_not_false false h refl
+any-join c v (s ∷ []) zero lt h = absurd (omega (arith, lt))
+any-join c v (u ∷ l ∷ ss) zero lt h = any-section_joining c v u l ss h
+any-join c v (s ∷ ss) (suc i) lt h = elim (or_cases (has_sealed c s) (list_any (has_sealed c) ss) h) [
+  | inl k ↦ or-left (has_sealed c s) (list_any (has_sealed c) (join_at v ss i)) k
+  | inr k ↦ or-right (has_sealed c s) (list_any (has_sealed c) (join_at v ss i)) (any-join c v ss i (omega (arith, lt)) k)
 ]
 
-pub behind-join : (x c : ℕ) (m n : Bool) (ss : List SectionState) (i : ℕ) → suc i < length ss → Stays x c m n (get_or ss (suc i) no_section) → Behind x c ss → Behind x c (join_at m n ss i)
-behind-join x c m n [] i lt stays b = absurd b
-behind-join x c m n (s ∷ []) zero lt stays b = absurd (omega (arith, lt))
-behind-join x c m n (u ∷ l ∷ ss) zero lt stays b = elim b [
-  | inl h ↦ inl (section_joining-upper x c m n u l h)
+pub behind-join : (x c : ℕ) (v : Vanished) (ss : List SectionState) (i : ℕ) → suc i < length ss → Stays x c v (get_or ss (suc i) no_section) → Behind x c ss → Behind x c (join_at v ss i)
+behind-join x c v [] i lt stays b = absurd b
+behind-join x c v (s ∷ []) zero lt stays b = absurd (omega (arith, lt))
+behind-join x c v (u ∷ l ∷ ss) zero lt stays b = elim b [
+  | inl h ↦ inl (section_joining-upper x c v u l h)
   | inr r ↦ elim r [
     | inl h ↦ elim (or_cases (has_sealed c l) (list_any (has_sealed c) ss) h.1) [
-      | inl k ↦ inl (section_joining-cross x c m n u l h.0 k)
-      | inr k ↦ inr (inl (section_joining-has x m n u l h.0, k))
+      | inl k ↦ inl (section_joining-cross x c v u l h.0 k)
+      | inr k ↦ inr (inl (section_joining-has x v u l h.0, k))
     ]
-    | inr v ↦ elim v [
-      | inl h ↦ inl (section_joining-lower x c m n u l stays h)
+    | inr k ↦ elim k [
+      | inl h ↦ inl (section_joining-lower x c v u l stays h)
       | inr w ↦ elim w [
-        | inl h ↦ inr (inl (has-inside x (section_joining m n u l) (any-right (has_serial x) u.sealed (tail_of m n l) (tail-has x c m n l stays h.0)), h.1))
+        | inl h ↦ inr (inl (has-inside x (section_joining v u l) (any-right (has_serial x) u.sealed (tail_of v l) (tail-has x c v l stays h.0)), h.1))
         | inr h ↦ inr (inr h)
       ]
     ]
   ]
 ]
-behind-join x c m n (s ∷ ss) (suc i) lt stays b = elim b [
+behind-join x c v (s ∷ ss) (suc i) lt stays b = elim b [
   | inl h ↦ inl h
   | inr r ↦ elim r [
-    | inl h ↦ inr (inl (h.0, any-join c m n ss i (omega (arith, lt)) h.1))
-    | inr h ↦ inr (inr (behind-join x c m n ss i (omega (arith, lt)) stays h))
+    | inl h ↦ inr (inl (h.0, any-join c v ss i (omega (arith, lt)) h.1))
+    | inr h ↦ inr (inr (behind-join x c v ss i (omega (arith, lt)) stays h))
   ]
 ]
 

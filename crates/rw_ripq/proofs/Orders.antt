@@ -5,7 +5,7 @@ use Rattle.std.specs.List.{list_any}
 use Rattle.std.proofs.lemmas.Bool.{eq-eqb, eqb-true, eqb-false, and_parts, cases_lt}
 use Rattle.rw_blocks.proofs.Cited.{at_block, count-after_merge, count-after_seal, count-after_split, count-after_take_out, one, one-other}
 use Rattle.rw_blocks.specs.Loose.{IsLoose, count, count_in, is_sealed_virtual}
-use Rattle.rw_blocks.specs.Primitives.{after_merge, after_seal, after_split, after_take_out, section_joining, section_sealing}
+use Rattle.rw_blocks.specs.Primitives.{after_merge, after_seal, after_split, after_take_out, empty_actives, section_joining, section_sealing}
 use Rattle.rw_blocks.specs.State.{QueueState, SectionState, no_section, section_at}
 use Rattle.rw_blocks.specs.Sums.{bytes_held, has_block, has_serial, rows_placed}
 use Rattle.rw_blocks.specs.declared.Kind.{Kind}
@@ -172,13 +172,10 @@ shadow-stays q i x loose within =
     clash e = cc
 
 abbrev merged_at : QueueState → ℕ → ℕ → List SectionState
-merged_at q i j =
-    let l = get_or q.sections j no_section in
-    set (remove q.sections j) i (section_joining (nat_eq (bytes_held Device q l.active_device) 0) (nat_eq (bytes_held Virtual q l.active_virtual) 0) (get_or q.sections i no_section) l)
+merged_at q i j = set (remove q.sections j) i (section_joining (empty_actives q j) (get_or q.sections i no_section) (get_or q.sections j no_section))
 
 abbrev stays_at : QueueState → ℕ → ℕ → ℕ → Type 0
-stays_at q x c j =
-    Stays x c (nat_eq (bytes_held Device q (get_or q.sections j no_section).active_device) 0) (nat_eq (bytes_held Virtual q (get_or q.sections j no_section).active_virtual) 0) (get_or q.sections j no_section)
+stays_at q x c j = Stays x c (empty_actives q j) (get_or q.sections j no_section)
 
 pub kept-after_merge : (q : QueueState) (i x c : ℕ) → IsLoose q → i + 1 < length q.sections → Kept x c q → Kept x c (after_merge q i)
 kept-after_merge q i x c loose within k = elim k [
@@ -193,7 +190,7 @@ kept-after_merge q i x c loose within k = elim k [
             let e : i + 1 ≡ suc i = omega arith in
             let stays : stays_at q x c (i + 1) = record { active_device = d; active_virtual = v } in
             subst (λ j. Behind x c (merged_at q i j)) (sym e)
-            (behind-join x c (nat_eq (bytes_held Device q (get_or q.sections (suc i) no_section).active_device) 0) (nat_eq (bytes_held Virtual q (get_or q.sections (suc i) no_section).active_virtual) 0) q.sections i (omega (arith, within)) (subst (stays_at q x c) e stays) b)))
+            (behind-join x c (empty_actives q (suc i)) q.sections i (omega (arith, within)) (subst (stays_at q x c) e stays) b)))
       ]
     ]
   ]

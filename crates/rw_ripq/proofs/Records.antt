@@ -1,17 +1,17 @@
 -- How a trail grows with the work.
-use Rattle.std.proofs.Common.{◌≡◌, ℕ, ◌+◌, ◌≤◌, ◌<◌, List, [], ◌∷◌, ◌++◌, sym, ap, subst, arith, length, length-append, set, get_or, take, drop, Bool, true, false, nat_eq}
+use Rattle.std.proofs.Common.{◌≡◌, ℕ, ◌+◌, ◌≤◌, ◌<◌, List, [], ◌∷◌, ◌++◌, sym, ap, subst, arith, length, length-append, set, get_or, take, drop, Bool, true, false}
 use Rattle.std.specs.Prelude.{remove}
 use Rattle.std.proofs.Math.ListN.{take-append-drop}
 use Rattle.std.proofs.lemmas.List.Edits.{length-remove, get_or-remove_below}
 use Rattle.std.proofs.lemmas.List.Sums.{sum_by-set, sum_by-insert, sum_by-remove}
 use Rattle.rw_blocks.specs.declared.Kind.TheVariants.{Device, Virtual}
-use Rattle.rw_blocks.specs.Sums.{bytes_held}
 use Rattle.rw_ripq.specs.Sealed.{sealed_blocks}
 use Rattle.rw_blocks.specs.declared.Kind.{Kind}
 use Rattle.rw_blocks.specs.declared.Mark.{Mark}
+use Rattle.rw_blocks.specs.declared.Vanished.{Vanished}
 use Rattle.rw_blocks.specs.State.{QueueState, SectionState, section_at, no_section}
 use Rattle.rw_blocks.specs.Undo.{Undoes}
-use Rattle.rw_blocks.specs.Primitives.{after_remove, after_rehome, after_seal, after_take_out, after_merge, after_split, section_joining}
+use Rattle.rw_blocks.specs.Primitives.{after_remove, after_rehome, after_seal, after_take_out, after_merge, after_split, block_unless, empty_actives, section_joining}
 use Rattle.rw_ripq.specs.declared.Tally.{Tally}
 use Rattle.rw_ripq.specs.Work.{Work, work_before, work_of}
 use Rattle.rw_ripq.specs.Weight.{income, savings}
@@ -81,24 +81,34 @@ sealed_blocks-after_split q i keep within =
       length-append (take keep s.sealed) (drop keep s.sealed),
     )
 
-length-joining : (m n : Bool) (u l : SectionState) → length (section_joining m n u l).sealed ≤ length u.sealed + length l.sealed + 2
-length-joining true true u l = omega (arith, length-append u.sealed l.sealed)
-length-joining true false u l = omega (arith, length-append u.sealed ((l.active_virtual, Virtual) ∷ l.sealed))
-length-joining false true u l = omega (arith, length-append u.sealed ((l.active_device, Device) ∷ l.sealed))
-length-joining false false u l = omega (arith, length-append u.sealed ((l.active_device, Device) ∷ (l.active_virtual, Virtual) ∷ l.sealed))
+length-unless : (t : Bool) (e : ℕ × Kind) → length (block_unless t e) ≤ 1
+length-unless true e = omega arith
+length-unless false e = omega arith
+
+length-joining : (v : Vanished) (u l : SectionState) → length (section_joining v u l).sealed ≤ length u.sealed + length l.sealed + 2
+length-joining v u l =
+    let first : List (ℕ × Kind) = block_unless v.device (l.active_device, Device) in
+    let second : List (ℕ × Kind) = block_unless v.virtual_block (l.active_virtual, Virtual) in
+    omega (
+      arith,
+      length-append u.sealed (first ++ (second ++ l.sealed)),
+      length-append first (second ++ l.sealed),
+      length-append second l.sealed,
+      length-unless v.device (l.active_device, Device),
+      length-unless v.virtual_block (l.active_virtual, Virtual),
+    )
 
 sealed_blocks-after_merge : (q : QueueState) (i : ℕ) → i + 1 < length q.sections → sealed_blocks (after_merge q i) ≤ sealed_blocks q + 2
 sealed_blocks-after_merge q i within =
     let u : SectionState = section_at q i in
     let l : SectionState = section_at q (i + 1) in
-    let m : Bool = nat_eq (bytes_held Device q l.active_device) 0 in
-    let n : Bool = nat_eq (bytes_held Virtual q l.active_virtual) 0 in
+    let v : Vanished = empty_actives q (i + 1) in
     let xs : List SectionState = remove q.sections (i + 1) in
     let size : SectionState → ℕ = λ s. length s.sealed in
     let long : length xs + 1 ≡ length q.sections = length-remove q.sections (i + 1) within in
     let first : get_or xs i no_section ≡ u = get_or-remove_below q.sections (i + 1) no_section i (omega arith) within in
     let f : size (get_or xs i no_section) ≡ size u = ap size first in
-    omega (arith, f, sum_by-remove size q.sections (i + 1) no_section within, sum_by-set size xs i (section_joining m n u l) no_section (omega arith), length-joining m n u l)
+    omega (arith, f, sum_by-remove size q.sections (i + 1) no_section within, sum_by-set size xs i (section_joining v u l) no_section (omega arith), length-joining v u l)
 
 pub Recorded-merge : (ms ns : List Mark) (m : Mark) (q q' : QueueState) (t : Tally) (i n : ℕ) → ns ≡ ms ++ m ∷ [] → Undoes m q q' → q' ≡ after_merge q i → i + 1 < length q.sections
     → Recorded ms (work_of q t) ns (work_of q' (record t { merges = t.merges + 1; writes = n }))

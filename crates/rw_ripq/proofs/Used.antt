@@ -12,10 +12,11 @@ use Rattle.std.proofs.lemmas.List.Sums.{sum_by-cons, sum_by-append, sum_by-set, 
 use Rattle.std.proofs.lemmas.Map.Entries.{sum_by-insert_entry, sum_by-remove_entry}
 use Rattle.rw_blocks.proofs.Cited.{at_block, count_in-cons, one, one-kind}
 use Rattle.rw_blocks.specs.Loose.{IsLoose, count, count_in, is_sealed_virtual}
-use Rattle.rw_blocks.specs.Primitives.{after_merge, after_remove, after_seal, after_split, block_unless, section_joining, section_sealing}
+use Rattle.rw_blocks.specs.Primitives.{after_merge, after_remove, after_seal, after_split, block_unless, empty_actives, is_active_empty, section_joining, section_sealing}
 use Rattle.rw_blocks.specs.State.{QueueState, SectionState, no_section, row_at, section_at}
 use Rattle.rw_blocks.specs.Sums.{bytes_held, is_block, rows_placed, size_of}
 use Rattle.rw_blocks.specs.declared.Kind.{Kind}
+use Rattle.rw_blocks.specs.declared.Vanished.{Vanished}
 use Rattle.rw_blocks.specs.declared.Kind.TheVariants.{Device, Virtual}
 use Rattle.rw_blocks.specs.declared.Place.{Place}
 use Rattle.rw_ripq.proofs.Cases.{seal_unless, without_block_if}
@@ -93,16 +94,18 @@ virtuals-after_split q i n c within =
     let lower : SectionState = record { active_device = q.next; active_virtual = q.next + 1; sealed = drop n s.sealed } in
     omega (arith, sum_by-insert (virtuals_in c) (set q.sections i upper) (i + 1) lower, sum_by-set (virtuals_in c) q.sections i upper no_section within, sum_by-take-drop (at_block Virtual c) s.sealed n)
 
-virtuals-joining : (m n : Bool) (u l : SectionState) (c : ℕ) → virtuals_in c (section_joining m n u l) ≤ virtuals_in c u + virtuals_in c l + cond n 0 (one Virtual l.active_virtual Virtual c)
-virtuals-joining m n u l c =
+virtuals-joining : (v : Vanished) (u l : SectionState) (c : ℕ) → virtuals_in c (section_joining v u l) ≤ virtuals_in c u + virtuals_in c l + cond v.virtual_block 0 (one Virtual l.active_virtual Virtual c)
+virtuals-joining v u l c =
     let f : ℕ × Kind → ℕ = at_block Virtual c in
+    let first : List (ℕ × Kind) = block_unless v.device (l.active_device, Device) in
+    let second : List (ℕ × Kind) = block_unless v.virtual_block (l.active_virtual, Virtual) in
     omega (
       arith,
-      sum_by-append f u.sealed (block_unless m (l.active_device, Device) ++ (block_unless n (l.active_virtual, Virtual) ++ l.sealed)),
-      sum_by-append f (block_unless m (l.active_device, Device)) (block_unless n (l.active_virtual, Virtual) ++ l.sealed),
-      sum_by-append f (block_unless n (l.active_virtual, Virtual)) l.sealed,
-      device m,
-      lone n,
+      sum_by-append f u.sealed (first ++ (second ++ l.sealed)),
+      sum_by-append f first (second ++ l.sealed),
+      sum_by-append f second l.sealed,
+      device v.device,
+      lone v.virtual_block,
     )
   where
     device : (m : Bool) → sum_by (at_block Virtual c) (block_unless m (l.active_device, Device)) ≡ 0
@@ -114,17 +117,16 @@ virtuals-joining m n u l c =
     lone false = omega (arith, sum_by-cons (at_block Virtual c) (l.active_virtual, Virtual) [])
 
 virtuals-after_merge : (q : QueueState) (i c : ℕ) → i + 1 < length q.sections
-    → virtuals c (after_merge q i) ≤ virtuals c q + cond (nat_eq (bytes_held Virtual q (section_at q (i + 1)).active_virtual) 0) 0 (one Virtual (section_at q (i + 1)).active_virtual Virtual c)
+    → virtuals c (after_merge q i) ≤ virtuals c q + cond (is_active_empty Virtual q (i + 1)) 0 (one Virtual (section_at q (i + 1)).active_virtual Virtual c)
 virtuals-after_merge q i c within =
     let u : SectionState = section_at q i in
     let l : SectionState = section_at q (i + 1) in
-    let m : Bool = nat_eq (bytes_held Device q l.active_device) 0 in
-    let n : Bool = nat_eq (bytes_held Virtual q l.active_virtual) 0 in
+    let v : Vanished = empty_actives q (i + 1) in
     let xs : List SectionState = remove q.sections (i + 1) in
     let long : length xs + 1 ≡ length q.sections = length-remove q.sections (i + 1) within in
     let first : get_or xs i no_section ≡ u = get_or-remove_below q.sections (i + 1) no_section i (omega arith) within in
     let f : virtuals_in c (get_or xs i no_section) ≡ virtuals_in c u = ap (virtuals_in c) first in
-    omega (arith, f, sum_by-remove (virtuals_in c) q.sections (i + 1) no_section within, sum_by-set (virtuals_in c) xs i (section_joining m n u l) no_section (omega (arith, long, within)), virtuals-joining m n u l c)
+    omega (arith, f, sum_by-remove (virtuals_in c) q.sections (i + 1) no_section within, sum_by-set (virtuals_in c) xs i (section_joining v u l) no_section (omega (arith, long, within)), virtuals-joining v u l c)
 
 one-same : (n c : ℕ) → 1 ≤ one Virtual n Virtual c → n ≡ c
 one-same n c some = elim (cases_eq n c) [

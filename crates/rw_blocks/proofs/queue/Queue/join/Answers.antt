@@ -1,76 +1,66 @@
-use Rattle.std.proofs.Common.{arith, sym, ap, subst, ◌≡◌, ◌∙◌, ◌<◌, ◌≤◌, ◌+◌, ◌^◌, ℕ, List, length, get_or}
+use Rattle.std.proofs.Common.{arith, sym, ap, subst, ◌≡◌, ◌∙◌, ◌<◌, ◌≤◌, ◌+◌, ◌^◌, ℕ, List, length, get_or, set}
 use Rattle.std.specs.Prelude.{remove}
 use Rattle.std.specs.Map.{values_of}
 use Rattle.std.proofs.lemmas.List.{get_or_default}
 use Rattle.std.proofs.lemmas.List.Edits.{length-remove, get_or-remove_below}
+use Rattle.rw_blocks.specs.declared.Vanished.{Vanished}
 use Rattle.rw_blocks.specs.State.{QueueState, SectionState, section_in}
 use Rattle.rw_blocks.specs.Sums.{has_block, size_of}
 use Rattle.rw_blocks.specs.Loose.{IsLoose}
 use Rattle.rw_blocks.specs.Primitives.{section_joining, joined_at}
-use Rattle.rw_blocks.specs.Weights.{IsWeighed, weight_in, with_sections}
+use Rattle.rw_blocks.specs.Tags.{JoinsNext}
+use Rattle.rw_blocks.specs.Weights.{IsWeighed, CanHave, weight_in}
 use Rattle.rw_blocks.proofs.Weighed.{bytes_where-le}
 use Rattle.rw_blocks.proofs.Parting.{joins-at, weight-joined, IsWeighed-join}
 use Rattle.rw_blocks.proofs.queue.Queue.join.Goals as goal
 
 pub join-requires-clause-joins : goal.join-requires-clause-joins
 join-requires-clause-joins c =
-    let q : QueueState = record { shape = c.self.inside.shape; sections = c.self.inside.sections; rows = c.self.inside.rows; next = c.self.inside.next } in
-    let loose : IsLoose q = subst IsLoose (sym c.self.view_is) c.requires.loose in
-    let there = c.requires.there in
-    let within : c.args.section + 1 < length q.sections = omega (arith, ap (λ (z : QueueState). length z.sections) c.self.view_is) in
-    let after : IsLoose (with_sections q (joined_at q.sections c.args.section c.args.device_vanishes c.args.virtual_vanishes) c.requires.after.0) =
-    subst (λ (z : QueueState). IsLoose (with_sections z (joined_at z.sections c.args.section c.args.device_vanishes c.args.virtual_vanishes) c.requires.after.0)) (sym c.self.view_is) c.requires.after.1 in
-    joins-at q c.args.section c.args.device_vanishes c.args.virtual_vanishes c.requires.after.0 loose within after
+    subst (λ (z : QueueState). JoinsNext z.sections c.args.section c.args.vanished) (sym c.self.view_is)
+    (joins-at c.args.self.now c.args.section c.args.vanished c.requires.after.0 c.requires.loose c.requires.there c.requires.after.1)
+
+-- the bytes of the lower section become the upper one's
+weighs : (q : QueueState) (i : ℕ) (v : Vanished) (bs zs : List ℕ) (x r : ℕ) → IsLoose q → i + 1 < length q.sections → CanHave q (joined_at q.sections i v)
+    → (0 < length q.sections → IsWeighed q.rows q.sections bs)
+    → x ≡ get_or bs (i + 1) x
+    → zs ≡ remove bs (i + 1)
+    → r ≡ get_or zs i r
+    → (r + x < 2 ^ 64) × IsWeighed q.rows (joined_at q.sections i v) (set zs i (r + x))
+weighs q i v bs zs x r loose lt after weighed taken items read =
+    let u : SectionState = section_in q.sections i in
+    let l : SectionState = section_in q.sections (i + 1) in
+    let s : SectionState = section_joining v u l in
+    let old : IsWeighed q.rows q.sections bs = weighed (omega arith) in
+    let long : length bs ≡ length q.sections = old.long in
+    let less : length (remove bs (i + 1)) + 1 ≡ length bs = length-remove bs (i + 1) (omega arith) in
+    let lower : x ≡ get_or bs (i + 1) 0 = taken ∙ get_or_default bs (i + 1) x 0 (omega arith) in
+    let upper : r ≡ get_or bs i 0 =
+    read ∙ (ap (λ ys. get_or ys i r) items ∙ (get_or-remove_below bs (i + 1) r i (omega arith) (omega arith) ∙ get_or_default bs i r 0 (omega arith))) in
+    let of_upper : get_or bs i 0 ≡ weight_in q.rows u = old.each i (omega arith) in
+    let of_lower : get_or bs (i + 1) 0 ≡ weight_in q.rows l = old.each (i + 1) lt in
+    let sum : weight_in q.rows s ≡ weight_in q.rows u + weight_in q.rows l = weight-joined q i v after.0 loose lt after.1 in
+    let le : weight_in q.rows s ≤ size_of (values_of q.rows) = bytes_where-le q.rows (λ b. has_block b s) in
+    let few : size_of (values_of q.rows) ≤ 2 ^ 48 = loose.within in
+    (omega (arith, upper, lower, of_upper, of_lower, sum, le, few), rw items (IsWeighed-join q.rows q.sections bs i (r + x) s old lt (omega (arith, upper, lower, of_upper, of_lower, sum))))
 
 pub overflow_add-index_mut : goal.overflow_add-index_mut
 overflow_add-index_mut c =
-    let q : QueueState = record { shape = c.self.inside.shape; sections = c.self.inside.sections; rows = c.self.inside.rows; next = c.self.inside.next } in
-    let i : ℕ = c.args.section in
     let bs : List ℕ = c.self.inside.bytes.items in
-    let loose : IsLoose q = subst IsLoose (sym c.self.view_is) c.requires.loose in
-    let there = c.requires.there in
-    let within : i + 1 < length q.sections = omega (arith, ap (λ (z : QueueState). length z.sections) c.self.view_is) in
-    let after : IsLoose (with_sections q (joined_at q.sections i c.args.device_vanishes c.args.virtual_vanishes) c.requires.after.0) =
-    subst (λ (z : QueueState). IsLoose (with_sections z (joined_at z.sections i c.args.device_vanishes c.args.virtual_vanishes) c.requires.after.0)) (sym c.self.view_is) c.requires.after.1 in
-    let w : IsWeighed q.rows q.sections bs = c.self.invariant.1 (omega arith) in
-    let long : length bs ≡ length q.sections = w.long in
-    let less : length (remove bs (i + 1)) + 1 ≡ length bs = length-remove bs (i + 1) (omega arith) in
-    let items : c.remove-lower.new.self.items ≡ remove bs (i + 1) = c.remove-lower.ensures.items in
-    let lower : c.remove-lower.result ≡ get_or bs (i + 1) 0 = c.remove-lower.ensures.value ∙ get_or_default bs (i + 1) c.remove-lower.result 0 (omega arith) in
-    let upper : c.index_mut.result.now ≡ get_or bs i 0 =
-    c.index_mut.ensures.value ∙ (ap (λ (zs : List ℕ). get_or zs i c.index_mut.result.now) items ∙ (get_or-remove_below bs (i + 1) c.index_mut.result.now i (omega arith) (omega arith) ∙ get_or_default bs i c.index_mut.result.now 0 (omega arith))) in
-    let u : get_or bs i 0 ≡ weight_in q.rows (section_in q.sections i) = w.each i (omega arith) in
-    let l : get_or bs (i + 1) 0 ≡ weight_in q.rows (section_in q.sections (i + 1)) = w.each (i + 1) within in
-    let s : SectionState = section_joining c.args.device_vanishes c.args.virtual_vanishes (section_in q.sections i) (section_in q.sections (i + 1)) in
-    let sum : weight_in q.rows s ≡ weight_in q.rows (section_in q.sections i) + weight_in q.rows (section_in q.sections (i + 1)) =
-    weight-joined q i c.args.device_vanishes c.args.virtual_vanishes c.requires.after.0 loose within after in
-    let le : weight_in q.rows s ≤ size_of (values_of q.rows) = bytes_where-le q.rows (λ b. has_block b s) in
-    let few : size_of (values_of q.rows) ≤ 2 ^ 48 = loose.within in
-    omega (arith, upper, lower, u, l, sum, le, few)
+    let fits =
+    (weighs c.args.self.now c.args.section c.args.vanished bs c.remove-lower.new.self.items c.remove-lower.result c.index_mut.result.now c.requires.loose c.requires.there c.requires.after
+    (subst (λ (z : QueueState). 0 < length z.sections → IsWeighed z.rows z.sections bs) c.self.view_is c.self.invariant.1)
+    c.remove-lower.ensures.value c.remove-lower.ensures.items c.index_mut.ensures.value).0 in
+    omega (arith, fits)
 
 pub invariant_of-self-2 : goal.invariant_of-self-2
 invariant_of-self-2 c =
-    let q : QueueState = record { shape = c.self.inside.shape; sections = c.self.inside.sections; rows = c.self.inside.rows; next = c.self.inside.next } in
-    let i : ℕ = c.args.section in
     let bs : List ℕ = c.self.inside.bytes.items in
-    let loose : IsLoose q = subst IsLoose (sym c.self.view_is) c.requires.loose in
-    let there = c.requires.there in
-    let within : i + 1 < length q.sections = omega (arith, ap (λ (z : QueueState). length z.sections) c.self.view_is) in
-    let after : IsLoose (with_sections q (joined_at q.sections i c.args.device_vanishes c.args.virtual_vanishes) c.requires.after.0) =
-    subst (λ (z : QueueState). IsLoose (with_sections z (joined_at z.sections i c.args.device_vanishes c.args.virtual_vanishes) c.requires.after.0)) (sym c.self.view_is) c.requires.after.1 in
-    let w : IsWeighed q.rows q.sections bs = c.self.invariant.1 (omega arith) in
-    let long : length bs ≡ length q.sections = w.long in
-    let less : length (remove bs (i + 1)) + 1 ≡ length bs = length-remove bs (i + 1) (omega arith) in
-    let items : c.remove-lower.new.self.items ≡ remove bs (i + 1) = c.remove-lower.ensures.items in
-    let lower : c.remove-lower.result ≡ get_or bs (i + 1) 0 = c.remove-lower.ensures.value ∙ get_or_default bs (i + 1) c.remove-lower.result 0 (omega arith) in
-    let upper : c.index_mut.result.now ≡ get_or bs i 0 =
-    c.index_mut.ensures.value ∙ (ap (λ (zs : List ℕ). get_or zs i c.index_mut.result.now) items ∙ (get_or-remove_below bs (i + 1) c.index_mut.result.now i (omega arith) (omega arith) ∙ get_or_default bs i c.index_mut.result.now 0 (omega arith))) in
-    let u : get_or bs i 0 ≡ weight_in q.rows (section_in q.sections i) = w.each i (omega arith) in
-    let l : get_or bs (i + 1) 0 ≡ weight_in q.rows (section_in q.sections (i + 1)) = w.each (i + 1) within in
-    let s : SectionState = section_joining c.args.device_vanishes c.args.virtual_vanishes (section_in q.sections i) (section_in q.sections (i + 1)) in
-    let sum : weight_in q.rows s ≡ weight_in q.rows (section_in q.sections i) + weight_in q.rows (section_in q.sections (i + 1)) =
-    weight-joined q i c.args.device_vanishes c.args.virtual_vanishes c.requires.after.0 loose within after in (
+    let sum : ℕ = c.index_mut.result.now + c.remove-lower.result in
+    let new =
+    (weighs c.args.self.now c.args.section c.args.vanished bs c.remove-lower.new.self.items c.remove-lower.result c.index_mut.result.now c.requires.loose c.requires.there c.requires.after
+    (subst (λ (z : QueueState). 0 < length z.sections → IsWeighed z.rows z.sections bs) c.self.view_is c.self.invariant.1)
+    c.remove-lower.ensures.value c.remove-lower.ensures.items c.index_mut.ensures.value).1 in (
       c.self.invariant.0,
-      λ some. rw (c.in_ok-join.ensures.joined, items)
-          (IsWeighed-join q.rows q.sections bs i (c.index_mut.result.now + c.remove-lower.result) s w within (omega (arith, upper, lower, u, l, sum))),
+      λ some. rw c.in_ok-join.ensures.joined
+          (subst (λ (z : QueueState). IsWeighed z.rows (joined_at z.sections c.args.section c.args.vanished) (set c.remove-lower.new.self.items c.args.section sum)) (sym c.self.view_is) new),
     )

@@ -8,7 +8,7 @@ use Rattle.rw_blocks.proofs.queue.Queue.split.Goals as goal
 pub part-requires-clause-after : goal.part-requires-clause-after
 part-requires-clause-after c =
     let q : QueueState = c.args.self.now in
-    let next : c.part.inside.next ≡ q.next = ap (λ (z : QueueState). z.next) c.part.view_is in
+    let next : c.self.inside.next ≡ q.next = ap (λ (z : QueueState). z.next) c.self.view_is in
     (q.next + 2, rw next (IsLoose-after_split q c.args.section c.args.keep c.requires.loose c.requires.there c.requires.few))
 
 pub returns-clause-effect : goal.returns-clause-effect

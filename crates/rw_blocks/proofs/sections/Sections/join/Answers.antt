@@ -22,7 +22,7 @@ invariant_of-self-2 c = λ some.
     let long = t.long in
     let u : SectionState = section_in ss i in
     let l : SectionState = section_in ss (i + 1) in
-    let gone : ℕ → Bool = is_vanishing c.args.device_vanishes c.args.virtual_vanishes l in
+    let gone : ℕ → Bool = is_vanishing c.args.vanished l in
     let items : c.replace-list.result.items ≡ ss = cc in
     let list : c.remove-lower.new.self.items ≡ remove ss (i + 1) = grind (arith, common_steps) in
     let lower : c.remove-lower.result ≡ l = grind (arith, common_steps, get_or_default {X = SectionState}) in
@@ -31,13 +31,13 @@ invariant_of-self-2 c = λ some.
     let d : SectionState = c.index_mut.result.now in
     let upper : c.index_mut.result.now ≡ u =
     c.index_mut.ensures.value ∙ (ap (λ (zs : List SectionState). get_or zs i d) list ∙ (get_or-remove_below ss (i + 1) d i (omega arith) within ∙ get_or_default ss i d no_section (omega arith))) in
-    let is : c.join.new.self ≡ section_joining c.args.device_vanishes c.args.virtual_vanishes u l =
-    c.in_ok-join.ensures ∙ (ap (λ (z : SectionState). section_joining c.args.device_vanishes c.args.virtual_vanishes z c.remove-lower.result) upper ∙ ap (λ (z : SectionState). section_joining c.args.device_vanishes c.args.virtual_vanishes u z) lower) in
-    let joins : Joins u l gone (section_joining c.args.device_vanishes c.args.virtual_vanishes u l) =
-    subst (λ (zs : List SectionState). Joins (section_in zs i) (section_in zs (i + 1)) (is_vanishing c.args.device_vanishes c.args.virtual_vanishes (section_in zs (i + 1))) (section_joining c.args.device_vanishes c.args.virtual_vanishes (section_in zs i) (section_in zs (i + 1)))) (sym view) c.requires.joins in
+    let is : c.join.new.self ≡ section_joining c.args.vanished u l =
+    c.in_ok-join.ensures ∙ (ap (λ (z : SectionState). section_joining c.args.vanished z c.remove-lower.result) upper ∙ ap (λ (z : SectionState). section_joining c.args.vanished u z) lower) in
+    let joins : Joins u l gone (section_joining c.args.vanished u l) =
+    subst (λ (zs : List SectionState). Joins (section_in zs i) (section_in zs (i + 1)) (is_vanishing c.args.vanished (section_in zs (i + 1))) (section_joining c.args.vanished (section_in zs i) (section_in zs (i + 1)))) (sym view) c.requires.joins in
     let owner : (b : ℕ) → get nat_eq c.retag.new.owners b ≡ cond (has_block b l) (cond (gone b) None (Some (tag_in tags i))) (get nat_eq c.self.inside.owners b) =
     λ b. c.in_ok-retag.ensures b
-    ∙ (ap (λ (z : SectionState). cond (has_block b z) (cond (is_vanishing c.args.device_vanishes c.args.virtual_vanishes z b) None (Some c.index-tag.result.now)) (get nat_eq c.self.inside.owners b)) lower
+    ∙ (ap (λ (z : SectionState). cond (has_block b z) (cond (is_vanishing c.args.vanished z b) None (Some c.index-tag.result.now)) (get nat_eq c.self.inside.owners b)) lower
     ∙ ap (λ (y : ℕ). cond (has_block b l) (cond (gone b) None (Some y)) (get nat_eq c.self.inside.owners b)) tag) in
     rw (list, is, new-tags)
-    (IsTagged-join ss tags (λ b. get nat_eq c.self.inside.owners b) (λ b. get nat_eq c.retag.new.owners b) gone i (section_joining c.args.device_vanishes c.args.virtual_vanishes u l) t within joins owner)
+    (IsTagged-join ss tags (λ b. get nat_eq c.self.inside.owners b) (λ b. get nat_eq c.retag.new.owners b) gone i (section_joining c.args.vanished u l) t within joins owner)
