@@ -92,6 +92,27 @@ impl Queue {
         self.shape.limits()
     }
 
+    /// How many sections there may be.
+    pub fn allowed_sections(&self) -> u64
+        ensures { result ≡ self.now.shape.sections }
+    {
+        self.shape().0
+    }
+
+    /// The bytes of a block.
+    pub fn block_size(&self) -> u64
+        ensures { result ≡ self.now.shape.block }
+    {
+        self.shape().1
+    }
+
+    /// How many device blocks may be sealed.
+    pub fn allowed_blocks(&self) -> u64
+        ensures { result ≡ self.now.shape.blocks }
+    {
+        self.shape().2
+    }
+
     /// The serial of the next fresh block. Since serials are given once, a loose queue has no more blocks than that.
     #[tactic(auto, using(crate::proofs::Serials::serial_laws))]
     pub fn next_serial(&self) -> u64

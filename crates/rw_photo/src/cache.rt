@@ -160,8 +160,7 @@ impl CacheState {
         if policy == Policy::Off {
             return Ok(Change::new(alloc, Counters::default()));
         }
-        let (_, block, _) = self.queue.shape();
-        if size > block {
+        if size > self.queue.block_size() {
             return Ok(Change::new(alloc, Counters::of_bypass()));
         }
         let inserted = rw_ripq::insert(alloc, &mut self.queue, policy, object, size, 1);

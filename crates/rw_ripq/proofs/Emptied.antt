@@ -1,6 +1,6 @@
 -- Where a sealed block is found, and whether it is an emptied virtual one.
 use Rattle.std.proofs.Common.{◌≡◌, ℕ, ◌≤◌, ◌<◌, refl, sym, ap, ◌∙◌, arith, Bool, true, false, length, get_or, nat_eq}
-use Rattle.std.specs.Prelude.{not, Some, ◌&&◌, sum_by, slice_get, is_none, is_some, None, Option}
+use Rattle.std.specs.Prelude.{Some, ◌&&◌, sum_by, slice_get, is_none, is_some, None, Option}
 use Rattle.std.specs.List.{list_any}
 use Rattle.std.proofs.lemmas.Bool.{eq-eqb, and_right}
 use Rattle.std.proofs.lemmas.List.Sums.{get_or-le-sum_by}
@@ -20,15 +20,9 @@ use Rattle.rw_blocks.specs.Questions.{first_place}
 and-false : (t u : Bool) → t ≡ false → (t && u) ≡ false
 and-false t u h = rw h refl
 
-pub flip : (t u : Bool) → not t ≡ u → t ≡ not u
-flip true u h = ap not h
-flip false u h = ap not h
-
-pub and-left : (t u : Bool) → t ≡ true → u ≡ (t && u)
-and-left t u h = rw h refl
-
-pub and-none : (t u : Bool) → t ≡ false → t ≡ (t && u)
-and-none t u h = rw h refl
+and-true : (t u : Bool) → u ≡ true → t ≡ (t && u)
+and-true true u h = sym h
+and-true false u h = refl
 
 -- a block that is not sealed is no emptied one
 pub gone-not-emptied : (q : QueueState) (b : ℕ) → is_sealed q b ≡ false → is_emptied q b ≡ false
@@ -52,15 +46,19 @@ same-kind : (K : Kind) → is_kind K K ≡ true
 same-kind Device = refl
 same-kind Virtual = refl
 
--- whether no row's place is the block, and its kind
-pub emptied-at : (q : QueueState) (b i p : ℕ) (e : ℕ × Kind) → IsLoose q → is_sealed q b ≡ true → i ≡ sealed_section q b → p ≡ sealed_position q b
-    → slice_get (section_at q i).sealed p ≡ Some e → (is_virtual e.1 && is_none (first_place q b)) ≡ is_emptied q b
-emptied-at q b i p e loose sealed at_section at_position is =
+not_some-none : {X : Type 0} (o : Option X) → is_some o ≡ false → is_none o ≡ true
+not_some-none None h = refl
+not_some-none (Some x) h = absurd (cc)
+
+-- a sealed block that is no row's place is an emptied one where its kind is virtual
+pub emptied-at : (q : QueueState) (b i p : ℕ) (e : ℕ × Kind) → IsLoose q → is_some (first_place q b) ≡ false → is_sealed q b ≡ true → i ≡ sealed_section q b → p ≡ sealed_position q b
+    → slice_get (section_at q i).sealed p ≡ Some e → is_virtual e.1 ≡ is_emptied q b
+emptied-at q b i p e loose none sealed at_section at_position is =
     let there = sealed-there q b sealed in
     let found = get-at (λ _. true) (section_at q i).sealed p (0, Device) e is in
     let serial : e.0 ≡ b = ap (λ x. x.0) (sym found.1) ∙ ap (λ i. (get_or (section_at q i).sealed p (0, Device)).0) at_section ∙ ap (λ p. (get_or (section_at q (sealed_section q b)).sealed p (0, Device)).0) at_position ∙ there.2 in
     let any : list_any (is_block e.1 b) (section_at q i).sealed ≡ true = any-at (is_block e.1 b) (section_at q i).sealed p e is (rw (eq-eqb e.0 b serial) (same-kind e.1)) in
-    ap (λ t. t && is_none (first_place q b)) (sym (virtual-there e.1 q b i e loose (omega (arith, there.0, at_section)) serial refl any)) ∙ ap (λ t. is_sealed_virtual q b && t) (empty-is q b)
+    sym (virtual-there e.1 q b i e loose (omega (arith, there.0, at_section)) serial refl any) ∙ and-true (is_sealed_virtual q b) _ (sym (empty-is q b) ∙ not_some-none (first_place q b) none)
 
 some_not-none : {X : Type 0} (o : Option X) → is_some o ≡ true → is_none o ≡ false
 some_not-none None h = absurd (cc)

@@ -18,8 +18,7 @@ fn is_light(queue: &Queue, section: usize) -> bool
     requires there { section + 1 < length queue.now.sections }
     ensures { result ≡ is_light queue.now section }
 {
-    let (sections, _, _) = queue.shape();
-    (queue.bytes(section) + queue.bytes(section + 1)) * sections < queue.total()
+    (queue.bytes(section) + queue.bytes(section + 1)) * queue.allowed_sections() < queue.total()
 }
 
 /// The first such pair, counted from the head, by its upper section.
@@ -36,8 +35,8 @@ fn is_heavy(queue: &Queue, section: usize) -> bool
     requires there { section < length queue.now.sections }
     ensures { result ≡ is_heavy queue.now section }
 {
-    let (sections, _, _) = queue.shape();
-    2 * queue.total() < queue.bytes(section) * sections && queue.sealed(section) >= 2
+    2 * queue.total() < queue.bytes(section) * queue.allowed_sections()
+        && queue.sealed(section) >= 2
 }
 
 /// The first such section, counted from the head.
@@ -80,8 +79,7 @@ fn split_once(queue: &mut Queue, change: &mut Change<Tally>) -> Result<(), NoMem
     ensures trail { OnOk result (Extends queue.old change.old queue.new change.new) }
     ensures kept { OnOk result (IsLoose queue.new) }
 {
-    let (sections, _, _) = queue.shape();
-    if queue.sections() as u64 >= sections {
+    if queue.sections() as u64 >= queue.allowed_sections() {
         return Ok(());
     }
     let Some(section) = heavy_section(queue) else {

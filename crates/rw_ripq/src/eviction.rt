@@ -90,8 +90,7 @@ fn victim(queue: &Queue) -> Option<u64>
         × (option_map (λ b. b.0) (last_block queue.now) ≡ Some block)) }
     ensures none { IsNone result → is_over queue.now ≡ false }
 {
-    let (_, _, blocks) = queue.shape();
-    if queue.sealed_devices() as u64 <= blocks {
+    if queue.sealed_devices() as u64 <= queue.allowed_blocks() {
         return None;
     }
     let (section, position) = queue.last_sealed()?;

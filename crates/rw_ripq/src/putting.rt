@@ -38,8 +38,7 @@ pub fn make_room(
     ensures marks { OnOk result (length trail.new ≤ length trail.old + 1) }
     ensures kept { OnOk result (IsLoose queue.new) }
 {
-    let (_, block, _) = queue.shape();
-    if queue.active_fill(section, kind) <= block - size {
+    if queue.active_fill(section, kind) <= queue.block_size() - size {
         return Ok(false);
     }
     let mark = queue.seal(section, kind)?;

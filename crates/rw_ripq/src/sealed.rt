@@ -150,7 +150,7 @@ fn is_emptied(queue: &Queue, block: u64) -> bool
         return false;
     };
     let (_, kind) = queue.sealed_at(section, position);
-    is_virtual(kind) && queue.first_place(block).is_none()
+    is_virtual(kind)
 }
 
 /// Takes the block out where it is a sealed virtual one that no row has as its place.

@@ -6,6 +6,6 @@ pub overflow_mul-bytes : goal.overflow_mul-bytes
 overflow_mul-bytes c =
     omega (
       arith,
-      times-fit c.bytes.result c.shape-sections.result.0
-          (let h = bytes-fit c.args.queue.now c.args.section c.requires.loose in omega arith) (let range = c.shape-sections.ensures.in_range in omega arith),
+      times-fit c.bytes.result c.allowed_sections.result
+          (let h = bytes-fit c.args.queue.now c.args.section c.requires.loose in omega arith) (let range = c.requires.loose.shaped in omega (arith, c.allowed_sections.ensures)),
     )

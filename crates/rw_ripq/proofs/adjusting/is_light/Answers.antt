@@ -10,7 +10,7 @@ pub overflow_mul-result : goal.overflow_mul-result
 overflow_mul-result c =
     omega (
       arith,
-      times-fit (c.bytes.result + c.bytes-2.result) c.shape-sections.result.0
+      times-fit (c.bytes.result + c.bytes-2.result) c.allowed_sections.result
           (omega (arith, bytes-fit c.args.queue.now c.args.section c.requires.loose, bytes-fit c.args.queue.now (c.args.section + 1) c.requires.loose))
-          (let range = c.shape-sections.ensures.in_range in omega arith),
+          (let range = c.requires.loose.shaped in omega (arith, c.allowed_sections.ensures)),
     )

@@ -1,7 +1,6 @@
-use Rattle.std.proofs.Common.{◌∙◌, refl, sym, ap}
-use Rattle.std.specs.Prelude.{is_none}
+use Rattle.std.proofs.Common.{◌∙◌, refl, sym}
 use Rattle.rw_ripq.proofs.Measures.{sealed-there}
-use Rattle.rw_ripq.proofs.Emptied.{gone-not-emptied, emptied-at, placed-not-emptied, flip, and-left, and-none}
+use Rattle.rw_ripq.proofs.Emptied.{gone-not-emptied, emptied-at, placed-not-emptied}
 use Rattle.rw_ripq.proofs.sealed.is_emptied.Goals as goal
 
 pub returns-in_default : goal.returns-in_default
@@ -14,15 +13,10 @@ pub sealed_at-kind-requires-clause-sealed : goal.sealed_at-kind-requires-clause-
 sealed_at-kind-requires-clause-sealed c =
     rw (c.in-Some.ensures.section, c.in-Some.ensures.position) ((sealed-there c.args.queue.now c.args.block c.in-Some.ensures.sealed).1)
 
-pub returns-then-is_virtual : goal.returns-then-is_virtual
-returns-then-is_virtual c =
-    flip _ _ (sym c.is_none.ensures) ∙ ap is_none c.first_place.ensures.first ∙ and-left _ _ (sym c.is_virtual.ensures ∙ c.if-is_virtual.true)
-    ∙ emptied-at c.args.queue.now c.args.block _ _ _ c.requires c.in-Some.ensures.sealed c.in-Some.ensures.section c.in-Some.ensures.position c.sealed_at-kind.ensures
-
-pub returns-else-is_virtual : goal.returns-else-is_virtual
-returns-else-is_virtual c =
-    c.is_virtual.ensures ∙ and-none _ _ (sym c.is_virtual.ensures ∙ c.if-is_virtual.false)
-    ∙ emptied-at c.args.queue.now c.args.block _ _ _ c.requires c.in-Some.ensures.sealed c.in-Some.ensures.section c.in-Some.ensures.position c.sealed_at-kind.ensures
+pub returns : goal.returns
+returns c =
+    c.is_virtual.ensures
+    ∙ emptied-at c.args.queue.now c.args.block _ _ _ c.requires (sym c.is_placed.ensures ∙ c.if-is_placed.false) c.in-Some.ensures.sealed c.in-Some.ensures.section c.in-Some.ensures.position c.sealed_at-kind.ensures
 
 pub returns-then-is_placed : goal.returns-then-is_placed
 returns-then-is_placed c = placed-not-emptied c.args.queue.now c.args.block (sym c.is_placed.ensures ∙ c.if-is_placed.true)
