@@ -1,5 +1,5 @@
 -- Held messages as they are kept: where the pairs of one event stand, where one message stands, and what stays true as they come and go.
-use Rattle.std.proofs.Common.{◌≡◌, ℕ, zero, suc, ◌+◌, ◌-◌, ◌<◌, ◌≤◌, Bool, true, false, cond, List, [], ◌∷◌, ◌++◌, length, get_or, take, drop, refl, sym, ap, ◌∙◌, subst, arith, true≢false, append_assoc, append-nil, min}
+use Rattle.std.proofs.Common.{◌≡◌, ℕ, zero, suc, ◌+◌, ◌-◌, ◌<◌, ◌≤◌, Bool, true, false, cond, List, [], ◌∷◌, ◌++◌, length, get_or, take, drop, refl, sym, ap, ◌∙◌, arith, true≢false, append_assoc, append-nil, min}
 use Rattle.std.specs.Prelude.{◌||◌, All, IsTrue, nat_eq}
 use Rattle.std.specs.List as lists
 use Rattle.std.specs.List.{AllWithin}
@@ -18,13 +18,11 @@ use Rattle.rw_vt.proofs.Bags.{one_if-itself, copies-without}
 use Rattle.rw_lp.specs.declared.held.Held.{Held}
 use Rattle.rw_lp.specs.HeldMessages.{held_messages, held_of, holds, held_without_first, unheld_sends, held_with, held_without}
 use Rattle.rw_lp.specs.HeldBack.{AreFalling, AreCounted, IsRunOf, letters_given, held_after, antis_unless, held_unless}
-use Rattle.rw_lp.proofs.Counting.{has_same, has_some}
+use Rattle.rw_bag.specs.Bags.{least_time}
+use Rattle.rw_bag.proofs.Cited.{has_some, has_same, least_below, least_each, least_both, ge_back, not_gt_back}
 use Rattle.rw_lp.proofs.Plain.{unheld_none}
-use Rattle.rw_lp.proofs.Orders.{least_each, least_both}
-use Rattle.rw_lp.specs.Calls.{least_time}
 use Rattle.rw_lp.specs.Sound.{IsHeldFor}
 use Rattle.rw_vt.specs.System.{Rules}
-use Rattle.rw_lp.proofs.Queues.{ge_back, not_gt_back}
 
 gt_not_eq : (r : Ordering) → is_gt r ≡ true → is_eq r ≡ false
 gt_not_eq Less h = absurd (true≢false (sym h))
@@ -247,13 +245,6 @@ holds_more cmp m (x ∷ hs) (suc i) d h none other =
     let both = neither cmp m (is_eq (cmp m x.message)) (holds cmp m (take i hs)) none in
     rw next (ap (λ b. b || holds cmp m (take (i + 1) hs)) both.0 ∙ holds_more cmp m hs i d (omega arith) both.1 other)
 
-pub holds_further : {B : Type 0} (cmp : Event B → Event B → Ordering) (m : Event B) (hs : List (Held B)) (i : ℕ) (d : Held B) → i < length hs → holds cmp m (drop (i + 1) hs) ≡ false → is_eq (cmp m (get_or hs i d).message) ≡ false → holds cmp m (drop i hs) ≡ false
-holds_further cmp m [] i d h none other = absurd (omega arith)
-holds_further cmp m (x ∷ hs) zero d h none other = ap (λ b. b || holds cmp m hs) other ∙ none
-holds_further cmp m (x ∷ hs) (suc i) d h none other =
-    let next : suc i + 1 ≡ suc (i + 1) = omega arith in
-    holds_further cmp m hs i d (omega arith) (subst (λ j. holds cmp m (drop j (x ∷ hs)) ≡ false) next none) other
-
 pub letters_push : {B : Type 0} (b : Bool) (es : List (Event B)) (e : Event B) → letters_of b (es ++ e ∷ []) ≡ letters_of b es ++ record { event = e; anti = b } ∷ []
 letters_push b [] e = refl
 letters_push b (x ∷ xs) e = ap (λ l. record { event = x; anti = b } ∷ l) (letters_push b xs e)
@@ -349,10 +340,6 @@ zero_if n h = eqb-true n 0 h
 
 -- no held message is before all pending events
 module _ {S B : Type 0} (y : Rules S B) (o : IsExactOrder y.order) (ps : List (Event B)) (m : ℕ) where
-  least_small : (es : List (Event B)) → least_time m es ≤ m
-  least_small [] = omega arith
-  least_small (e ∷ es) = omega (arith, least_small es)
-
   not_before : (k : ℕ) → k ≤ m → k ≤ least_time m ps → (hs : List (Held B)) → All (IsHeldFor y ps) hs → k ≤ least_time m (held_messages hs)
   not_before k end early [] all = end
   not_before k end early (h ∷ hs) all =
@@ -365,7 +352,7 @@ module _ {S B : Type 0} (y : Rules S B) (o : IsExactOrder y.order) (ps : List (E
   pub held_least : (ds : List (Event B)) (hs : List (Held B)) → All (IsHeldFor y ps) hs → least_time (least_time (least_time m (held_messages hs)) ds) ps ≡ min (least_time m ps) (least_time m ds)
   held_least ds hs all =
       let held : ℕ = least_time m (held_messages hs) in
-      let late = not_before (least_time m ps) (least_small ps) (omega arith) hs all in
+      let late = not_before (least_time m ps) (least_below m ps) (omega arith) hs all in
       omega (arith, late, least_both held ps ds, least_both m ps (held_messages hs), least_both m ds (held_messages hs))
 
 module _ {B : Type 0} (cmp : Event B → Event B → Ordering) (e : Event B) where

@@ -1,5 +1,5 @@
--- The last element of a list, the first one, and a list without elements.
-use Rattle.std.proofs.Common.{◌≡◌, List, [], ◌∷◌, ◌++◌, refl, sym, subst, ap, ◌∙◌, length, arith, Option, Some, None}
+-- The last element of a list, and the first one.
+use Rattle.std.proofs.Common.{◌≡◌, List, [], ◌∷◌, ◌++◌, sym, subst, ap, ◌∙◌, Option, Some, None}
 use denote.Bor.{Bor}
 use Rattle.std.specs.Option.{MatchOption, option_copied}
 use Rattle.rw_vt.specs.Order.{IsFirst, IsLeastOf}
@@ -7,10 +7,6 @@ use Rattle.std.specs.declared.cmp.Ordering.{Ordering}
 use Rattle.std.specs.Ordering.{is_gt}
 use Rattle.rw_lp.specs.Process.{is_less_than_last, split_last}
 use Rattle.rw_lp.proofs.Bridges.{split_push}
-
-pub nil_if : {A : Type 0} (xs : List A) → length xs ≡ 0 → xs ≡ []
-nil_if [] h = refl
-nil_if (x ∷ xs) h = absurd (omega arith)
 
 module _ {E : Type 0} (cmp : E → E → Ordering) (e : E) where
   pub last_is : (xs front : List E) (l : E) → xs ≡ front ++ l ∷ [] → is_less_than_last cmp e (split_last xs) ≡ is_gt (cmp l e)

@@ -4,9 +4,6 @@ pub mod GivenOut
 pub mod Turns
 pub mod Committing
 pub mod Plain
-mod Edits
-mod Counting
-mod Descending
 pub mod Bridges
 mod Chains
 mod Orders
@@ -18,7 +15,6 @@ pub mod WithBags
 mod PutBack
 pub mod Cited
 mod Filled
-mod Queues
 mod Searching
 mod Pasts
 mod HeldRuns

@@ -14,7 +14,7 @@ use Rattle.std.proofs.lemmas.List.Sums.{position_or_len_is}
 use Rattle.rw_vt.specs.declared.event.Event.{Event}
 use Rattle.rw_vt.specs.Order.{AtMost, IsAscending, has}
 use Rattle.rw_vt.proofs.Sorting.{IsExactOrder}
-use Rattle.rw_lp.proofs.Descending.{rises}
+use Rattle.rw_bag.proofs.Cited.{rises}
 
 not_below : (r : Ordering) → is_gt r ≡ false → is_lt (ordering_reverse r) ≡ false
 not_below Less h = refl

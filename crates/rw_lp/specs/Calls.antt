@@ -1,12 +1,13 @@
 -- What contracts see of a logical process, and what a call on it answers against the turn that it is to take.
-use Rattle.std.specs.Prelude.{◌≡◌, min, Bool, true, false, List, [], ◌∷◌, ◌++◌, Option, MatchOption}
+use Rattle.std.specs.Prelude.{◌≡◌, Bool, true, false, List, [], ◌∷◌, ◌++◌}
 use Rattle.std.specs.declared.cmp.Ordering.{Ordering}
 use Rattle.rw_vt.specs.Words.{Process, Time}
 use Rattle.rw_vt.specs.declared.event.Event.{Event}
 use Rattle.rw_vt.specs.declared.event.Letter.{Letter}
 use Rattle.rw_vt.specs.declared.model.Model.{Ghosts}
 use Rattle.rw_vt.specs.System.{rules}
-use Rattle.rw_vt.specs.Order.{IsFirst, IsLeastOf, in_order}
+use Rattle.rw_vt.specs.Order.{in_order}
+use Rattle.rw_bag.specs.Bags.{least_time}
 use Rattle.rw_lp.specs.declared.held.Held.{Held}
 use Rattle.rw_lp.specs.declared.step.Answer.{Answer}
 use Rattle.rw_lp.specs.declared.step.Answer.TheVariants.{Done, Refused}
@@ -70,10 +71,6 @@ pub record MeetsNext {S B : Type 0} (cmp : Event B → Event B → Ordering) (x 
   pub in_time : is_less_than_last cmp next (split_last (done x)) ≡ false
   pub passes : test x.state ≡ true
 
--- the least of the pending events, where there are any
-abbrev pub IsNextOf : {B : Type 0} → (Event B → Event B → Ordering) → List (Event B) → Option (Event B) → Type 0
-IsNextOf cmp pending next = MatchOption next (pending ≡ []) (λ e. IsFirst pending e × IsLeastOf cmp pending e)
-
 -- what a delivery takes up: the letter, unless it is refused
 abbrev pub letters_taken : {B : Type 0} → Answer → Letter B → List (Letter B)
 letters_taken Done l = l ∷ []
@@ -83,11 +80,6 @@ letters_taken (Refused fault) l = []
 abbrev pub IsTaken : {S B : Type 0} → Turn S B → Type 0
 IsTaken (Turned after out) = Unit {0}
 IsTaken (Stays fault) = ⊥
-
--- the least of m and the times of these events
-abbrev pub least_time : {B : Type 0} → Time → List (Event B) → Time
-least_time m [] = m
-least_time m (e ∷ es) = min e.time (least_time m es)
 
 -- the least of m and the times of all that is outstanding at a process: pending, owed or held
 abbrev pub least_outstanding : {S B : Type 0} → Time → ProcessState S B → Time

@@ -4,7 +4,6 @@ pub mod Sound
 pub mod Past
 pub mod Calls
 pub mod Arrival
-pub mod Bags
 pub mod Cut
 pub mod Runs
 pub mod Sends

@@ -7,10 +7,10 @@ ghost use Rattle.rw_lp.specs.declared.held.Held.{Held};
 ghost use Rattle.rw_lp.specs.HeldMessages.{held_messages, held_of, holds, held_without_first, unheld_sends, held_with, held_without};
 ghost use Rattle.rw_lp.specs.HeldBack.{AreFalling, AreCounted, IsRunOf, letters_given, held_after};
 
-use crate::counted::Counted;
 use crate::held::Held;
 use crate::letters::give;
 use crate::sends::{Kept, Sends};
+use rw_bag::CountedBag;
 use rw_vt::{Event, Letter, Model as VtModel};
 use std::alloc::{AllocError, Global};
 use std::marker::Model;
@@ -31,7 +31,7 @@ pub struct HeldBack<M: VtModel> {
 struct Pairs<M: VtModel> {
     pairs: Vec<Held<M::Body>>,
     /// Their messages.
-    messages: Counted<M>,
+    messages: CountedBag<M>,
 }
 
 impl<M: VtModel> Model for HeldBack<M> {
@@ -51,7 +51,7 @@ impl<M: VtModel> HeldBack<M> {
     {
         let kept = Pairs {
             pairs: Vec::new(alloc),
-            messages: Counted::new(alloc),
+            messages: CountedBag::new(alloc),
         };
         Ok(HeldBack {
             kept: Box::new(alloc, kept)?,
@@ -241,7 +241,7 @@ fn give_antis<B: Copy>(out: &mut Vec<Letter<B>>, pairs: &[Held<B>]) -> Result<()
 }
 
 /// Takes the messages of the pairs out, where all are in.
-fn forget<M: VtModel>(messages: &mut Counted<M>, pairs: &[Held<M::Body>])
+fn forget<M: VtModel>(messages: &mut CountedBag<M>, pairs: &[Held<M::Body>])
     requires there { (m : Event M.Body) →
         copies (event_cmp M.Body.cmp) m (held_messages pairs.now)
         ≤ copies (event_cmp M.Body.cmp) m messages.old }

@@ -85,10 +85,7 @@ impl<M: VtModel> History<M> {
         ensures { result ≡ is_less_than_last (event_cmp M.Body.cmp) event.now
             (split_last (done_in self.now)) }
     {
-        if let Some((last, _front)) = self.past.done.split_last() {
-            return last.cmp(event).is_gt();
-        }
-        false
+        ends_after(&self.past.done, event)
     }
 
     /// Executes an event that is not a straggler. Its sends are given out by [`HeldBack::resend`].
@@ -239,4 +236,14 @@ fn count_before<B>(events: &[Event<B>], time: u64) -> usize
     ensures within { result ≤ length events.now }
 {
     events.partition_point(|event| event.time < time)
+}
+
+/// Whether the last of the events is greater than this one.
+pub fn ends_after<B: Ord + Copy>(events: &[Event<B>], event: &Event<B>) -> bool
+    ensures { result ≡ is_less_than_last (event_cmp B.cmp) event.now (split_last events.now) }
+{
+    if let Some((last, _front)) = events.split_last() {
+        return last.cmp(event).is_gt();
+    }
+    false
 }

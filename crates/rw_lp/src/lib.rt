@@ -1,30 +1,24 @@
 #![tactic(auto)]
 //! A logical process of Time Warp (Jefferson 1985): it executes ahead of the others, and takes back what it did too early.
 //!
-//! [`Lp`] keeps what it did with the records that take it back, its pending events, its debts and what it holds back. Each
-//! call is one step of the relation that `specs/Process.antt` defines, or an arrival: the fewest undoings and a delivery. Nothing here
-//! knows what a model's events mean: all rests on the laws of [`rw_vt::Model`].
+//! [`Lp`] keeps what it did with the records that take it back, its pending events and its debts, each in a
+//! [`Bag`](rw_bag::Bag), and what it holds back. Each call is one step of the relation that `specs/Process.antt` defines, or
+//! an arrival: the fewest undoings and a delivery. Nothing here knows what a model's events mean: all rests on the laws of
+//! [`rw_vt::Model`].
 //!
 //! Worked examples: `rw_tests/src/edge_process.rt` and `station_process.rt`.
 
 ghost use Rattle.rw_lp.specs.Sound.{StepsKeepAll};
 
-mod bag;
-mod bags;
-mod counted;
 mod held;
 mod held_back;
 mod history;
-mod later;
 mod letters;
 mod lp;
 mod places;
-mod queue;
 mod runs;
 mod sends;
-mod sorted;
 mod step;
-mod stock;
 mod undo_record;
 
 pub use held::Held;

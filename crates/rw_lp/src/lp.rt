@@ -7,19 +7,18 @@ ghost use Rattle.rw_vt.specs.declared.event.Letter.{Letter};
 ghost use Rattle.rw_vt.specs.declared.refusal.Refusal.TheVariants.{Memory};
 ghost use Rattle.rw_lp.specs.HeldMessages.{held_messages};
 ghost use Rattle.rw_lp.specs.Process.{ProcessState, done, deliver, execute_next, undo_one, collect};
-ghost use Rattle.rw_lp.specs.Calls.{LogicalProcess, process_of, new_process, MeetsNext, Took, letters_taken, least_time, IsSameProcess, GivesOut, IsNextOf, execution_by, undoing_by, lazy_undoing_by, IsDelivered, least_outstanding};
+ghost use Rattle.rw_lp.specs.Calls.{LogicalProcess, process_of, new_process, MeetsNext, Took, letters_taken, IsSameProcess, GivesOut, execution_by, undoing_by, lazy_undoing_by, IsDelivered, least_outstanding};
 ghost use Rattle.rw_lp.specs.Past.{IsFor};
 ghost use Rattle.rw_lp.specs.Own.{AreFor};
 ghost use Rattle.rw_lp.specs.HeldBack.{antis_unless, held_unless};
 ghost use Rattle.rw_lp.specs.Sound.{Balance, IsSoundOnceCollected, KeepsBalance, StartsWell};
 ghost use Rattle.rw_lp.specs.Arrival.{Arrived, ArrivedLazily, is_barred};
 
-use crate::bag::Bag;
-use crate::bags::ends_after;
 use crate::held_back::HeldBack;
-use crate::history::History;
+use crate::history::{History, ends_after};
 use crate::step::{Answer, StepFault};
 use crate::undo_record::Undone;
+use rw_bag::Bag;
 use rw_vt::{Event, Letter, Model as VtModel, Refusal};
 use std::alloc::{AllocError, Global};
 use std::marker::Model;
@@ -362,7 +361,7 @@ impl<M: VtModel> Lp<M> {
             result ≤ e.time) self.now.process.pending }
         ensures debts { Each (event_cmp M.Body.cmp) (λ e. result ≤ e.time) self.now.process.debts }
     {
-        self.pending.least().min(self.debts.least())
+        self.pending.least_time().min(self.debts.least_time())
     }
 
     /// The least pending event, which `execute_next` would execute. Takes no memory.

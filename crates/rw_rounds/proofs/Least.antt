@@ -9,7 +9,8 @@ use Rattle.rw_vt.proofs.Sorting.{IsExactOrder}
 use Rattle.rw_vt.proofs.Bags.{Each-cons}
 use Rattle.rw_lp.specs.HeldMessages.{held_messages}
 use Rattle.rw_lp.specs.Process.{ProcessState}
-use Rattle.rw_lp.specs.Calls.{LogicalProcess, least_time}
+use Rattle.rw_bag.specs.Bags.{least_time}
+use Rattle.rw_lp.specs.Calls.{LogicalProcess}
 use Rattle.rw_world.specs.WorldState.{least_of_processes}
 use Rattle.rw_board.specs.Least as board
 use Rattle.rw_board.specs.Seats.{SeatState}

@@ -13,7 +13,7 @@ use Rattle.rw_lp.specs.declared.step.Answer.TheVariants.{Done}
 use Rattle.rw_lp.specs.HeldMessages.{held_messages}
 use Rattle.rw_lp.specs.Process as process
 use Rattle.rw_lp.specs.Process.{ProcessState}
-use Rattle.rw_lp.specs.Calls as lp
+use Rattle.rw_bag.specs.Bags.{least_time}
 use Rattle.rw_lp.specs.Calls.{LogicalProcess}
 use Rattle.rw_world.specs.declared.parts.Parts.{Parts}
 use Rattle.rw_world.specs.declared.step.Step.TheVariants.{Collect}
@@ -41,7 +41,7 @@ pub record WorldLaws {M S B U : Type 0} (model : Ghosts M S B U) (order : B → 
 -- what is outstanding is not collected
 least_collected : {S B : Type 0} (t end : ℕ) (ps : List (ProcessState S B)) → least_of_processes end (map (process.collect t) ps) ≡ least_of_processes end ps
 least_collected t end [] = refl
-least_collected t end (u ∷ ps) = ap (λ k. lp.least_time (lp.least_time (lp.least_time k (held_messages u.held)) u.debts) u.pending) (least_collected t end ps)
+least_collected t end (u ∷ ps) = ap (λ k. least_time (least_time (least_time k (held_messages u.held)) u.debts) u.pending) (least_collected t end ps)
 
 module _ {M S B U : Type 0} {model : Ghosts M S B U} {order : B → B → Ordering} (laws : Laws model order) (worlds : WorldLaws model order) (plan : Plan) (x z : Parts M S B U) (least : ℕ) (ranges : IsInRanges plan) (whole : IsWhole model order x) (round : Round model order plan x z least) where
   same_system : system_of model order (simulation_of z) ≡ system_of model order (simulation_of x)

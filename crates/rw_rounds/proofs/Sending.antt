@@ -22,8 +22,8 @@ use Rattle.rw_vt.specs.contracts.event.EventPartialOrd.TheImpl as EventPartialOr
 use Rattle.rw_vt.specs.contracts.event.Letter as Letter
 use Rattle.rw_board.specs.contracts.board.Seat as Seat
 use Rattle.rw_exchange.specs.contracts.port.Port as Port
-use Rattle.rw_lp.specs.contracts.counted.Counted as Counted
-use Rattle.rw_lp.specs.contracts.counted.Counted.TheInside as CountedInside
+use Rattle.rw_bag.specs.contracts.counted.CountedBag as CountedBag
+use Rattle.rw_bag.specs.contracts.counted.CountedBag.TheInside as CountedInside
 use Rattle.rw_lp.specs.contracts.lp.Lp as Lp
 use Rattle.rw_rounds.specs.contracts.plan.Plan as Plan
 use Rattle.rw_rounds.specs.contracts.sim.Traffic as Traffic
@@ -70,7 +70,7 @@ module _ (M S B U : RattleType) (g : Ghosts M.Denot S.Denot B.Denot U.Denot) (o 
   event_may_move : IsSend B → IsSend (Event.the_row B)
   event_may_move b = search sendable depth 40
 
-  counted_may_move : IsSend B → IsSend (Counted.the_row M S B U g o w e p)
+  counted_may_move : IsSend B → IsSend (CountedBag.the_row M S B U g o w e p)
   counted_may_move b =
       let T = CountedInside.the_type M S B U g o w e p in
       view_send _ _ _ _ _ (recorded_send (Struct (shape T)) T.D T.to T.to_one (struct_send (shape T) (BTreeMap-send _ _ _ _ (EventPartialEq.ghosts B e EventPartialEq.no_dict) (EventPartialOrd.ghosts B p EventPartialOrd.no_dict e EventPartialOrd.no_dict) _ (event_may_move b) time_may_move send frees, tt)))

@@ -11,7 +11,7 @@ use Rattle.rw_vt.proofs.Sorting.{Has-head}
 use Rattle.rw_vt.proofs.Runs.{IsLawful}
 use Rattle.rw_lp.specs.HeldMessages.{held_messages}
 use Rattle.rw_lp.specs.Process.{ProcessState}
-use Rattle.rw_lp.specs.Calls.{least_time}
+use Rattle.rw_bag.specs.Bags.{least_time}
 use Rattle.rw_lp.specs.Sound.{Stands, IsHeldFor, SoundAt}
 use Rattle.rw_lp.specs.declared.held.Held.{Held}
 use Rattle.rw_world.specs.WorldState.{WorldState, least_of_processes, least_of_letters, floor, is_empty, are_idle, is_finished}

@@ -12,7 +12,7 @@ use Rattle.rw_vt.proofs.Letters.{count-letter}
 use Rattle.rw_vt.proofs.Runs.{IsLawful}
 use Rattle.rw_lp.specs.HeldMessages.{held_messages}
 use Rattle.rw_lp.specs.Process.{ProcessState}
-use Rattle.rw_lp.specs.Calls.{least_time}
+use Rattle.rw_bag.specs.Bags.{least_time}
 use Rattle.rw_world.specs.WorldState.{WorldState, least_of_processes, least_of_letters, floor}
 use Rattle.rw_world.specs.Sound.{IsQuiet, pending_of, debts_of, held_in}
 use Rattle.rw_world.proofs.Outstanding.{quiet_to_floor}

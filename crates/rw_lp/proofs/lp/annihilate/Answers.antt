@@ -1,7 +1,7 @@
 use Rattle.std.proofs.Common.{◌≡◌, ◌++◌, true, false, sym, ap, ◌∙◌, append-nil}
 use Rattle.rw_vt.specs.Order.{event_cmp, has}
 use Rattle.rw_lp.specs.HeldBack.{antis_unless, held_unless}
-use Rattle.rw_lp.proofs.Counting.{onto}
+use Rattle.std.proofs.lemmas.Result.{on_ok_weaker}
 use Rattle.rw_lp.proofs.HeldRuns.{none_unless}
 use Rattle.rw_lp.proofs.lp.annihilate.Goals as goal
 
@@ -31,10 +31,10 @@ pub returns-clause-out : goal.returns-clause-out
 returns-clause-out g c =
     let cmp = event_cmp g.M.Body.Ord.cmp in
     let none : has cmp c.args.event c.args.pending.now ≡ false = sym c.holds.ensures ∙ c.if-holds.false in
-    onto c.cancel.result (λ is. is ∙ sym (ap (λ b. c.args.out.now.items ++ antis_unless b cmp c.args.event c.args.held.now) none)) c.cancel.ensures.out
+    on_ok_weaker c.cancel.result (λ is. is ∙ sym (ap (λ b. c.args.out.now.items ++ antis_unless b cmp c.args.event c.args.held.now) none)) c.cancel.ensures.out
 
 pub returns-clause-left : goal.returns-clause-left
 returns-clause-left g c =
     let cmp = event_cmp g.M.Body.Ord.cmp in
     let none : has cmp c.args.event c.args.pending.now ≡ false = sym c.holds.ensures ∙ c.if-holds.false in
-    onto c.cancel.result (λ is. is ∙ sym (ap (λ b. held_unless b cmp c.args.event c.args.held.now) none)) c.cancel.ensures.left
+    on_ok_weaker c.cancel.result (λ is. is ∙ sym (ap (λ b. held_unless b cmp c.args.event c.args.held.now) none)) c.cancel.ensures.left

@@ -5,16 +5,16 @@ use Rattle.rw_vt.specs.declared.event.Letter.{Letter}
 use Rattle.rw_vt.specs.Letters.{letters_of}
 use Rattle.rw_vt.specs.Order.{event_cmp}
 use Rattle.rw_lp.specs.HeldMessages.{holds, unheld_sends}
-use Rattle.rw_lp.proofs.Counting.{onto}
+use Rattle.std.proofs.lemmas.Result.{on_ok_weaker}
 use Rattle.rw_lp.proofs.HeldRuns.{none_held, more_sent, more_released}
 use Rattle.rw_lp.proofs.held_back.HeldBack.resend.Goals.{then-not-release+in_ok-push, else-not-release}
 use Rattle.rw_lp.proofs.held_back.HeldBack.resend.Goals as goal
 
 pub returns-then-is_empty-clause-out : goal.returns-then-is_empty-clause-out
-returns-then-is_empty-clause-out g c = onto c.give.result (λ is. is ∙ ap (λ l. c.args.out.now.items ++ l) (none_held (event_cmp g.M.Body.Ord.cmp) c.args.event c.args.sends.now c.args.self.now (c.is_empty.ensures c.if-is_empty.true)).0) c.give.ensures.given
+returns-then-is_empty-clause-out g c = on_ok_weaker c.give.result (λ is. is ∙ ap (λ l. c.args.out.now.items ++ l) (none_held (event_cmp g.M.Body.Ord.cmp) c.args.event c.args.sends.now c.args.self.now (c.is_empty.ensures c.if-is_empty.true)).0) c.give.ensures.given
 
 pub returns-then-is_empty-clause-left : goal.returns-then-is_empty-clause-left
-returns-then-is_empty-clause-left g c = onto c.give.result (λ is. (none_held (event_cmp g.M.Body.Ord.cmp) c.args.event c.args.sends.now c.args.self.now (c.is_empty.ensures c.if-is_empty.true)).1) c.give.ensures.given
+returns-then-is_empty-clause-left g c = on_ok_weaker c.give.result (λ is. (none_held (event_cmp g.M.Body.Ord.cmp) c.args.event c.args.sends.now c.args.self.now (c.is_empty.ensures c.if-is_empty.true)).1) c.give.ensures.given
 
 pub loop-send-preserved : goal.loop-send-preserved
 loop-send-preserved g c =

@@ -7,7 +7,7 @@ use Rattle.rw_vt.proofs.EventOrder.{events_exact}
 use Rattle.rw_vt.proofs.Sorting.{IsExactOrder}
 use Rattle.rw_lp.specs.declared.history.Past.{Past}
 use Rattle.rw_lp.specs.Past.{HistoryState, IsTakenBack}
-use Rattle.rw_lp.proofs.Lasts.{nil_if}
+use Rattle.std.proofs.lemmas.List.{nil_from_length}
 use Rattle.rw_lp.specs.Cut.{seen_of, IsKept}
 use Rattle.rw_lp.proofs.Pasts.{before_of, as_many, past_pop}
 use Rattle.rw_lp.proofs.history.History.undo.Goals as goal
@@ -20,7 +20,7 @@ returns-in_default-clause-back g c =
     let kept : IsKept g.M.Model (event_cmp g.M.Body.Ord.cmp) p = subst (λ (v : Past g.row.M.Denot g.row.M-State.Denot g.row.M-Body.Denot g.row.M-Undo.Denot). IsKept g.M.Model (event_cmp g.M.Body.Ord.cmp) v) (sym c.deref_mut-past.ensures.value) c.history.invariant in
     let none : length p.records ≡ 0 = ap length c.in_default.ensures.0 in
     let many = as_many g.M.Model o p kept in
-    let nothing : drop p.cut p.done.items ≡ [] = nil_if (drop p.cut p.done.items) (omega (arith, none, many)) in
+    let nothing : drop p.cut p.done.items ≡ [] = nil_from_length (drop p.cut p.done.items) (omega (arith, none, many)) in
     let empty : c.args.self.processed ≡ [] = sym (ap (λ (w : HistoryState g.row.M.Denot g.row.M-State.Denot g.row.M-Body.Denot). w.processed) seen) ∙ nothing in
     (empty, seen)
 

@@ -3,7 +3,7 @@ use Rattle.std.specs.Option.{option_to_list}
 use Rattle.rw_lp.specs.declared.runs.TheConstants.{RUN}
 use Rattle.rw_lp.specs.Runs.{AreFilled, values_of}
 use Rattle.rw_lp.proofs.Filled.{filled_last, pop_is, values_push}
-use Rattle.rw_lp.proofs.Lasts.{nil_if}
+use Rattle.std.proofs.lemmas.List.{nil_from_length}
 use Rattle.rw_lp.proofs.runs.Runs.pop.Goals as goal
 
 pub invariant_of-self-2 : goal.invariant_of-self-2
@@ -19,7 +19,7 @@ returns g c =
     let older = c.self.inside.older.items in
     let run = c.in_ok-self-inside.field-0 in
     let last = filled_last c.pop_back.new.self.items run (subst AreFilled c.in_ok-self-inside.ensures.items c.self.invariant.older_filled) in
-    let none : c.self.inside.last.items ≡ [] = nil_if c.self.inside.last.items (omega (arith, c.self.inside.last.ok, c.in_default.ensures.cases.0)) in
+    let none : c.self.inside.last.items ≡ [] = nil_from_length c.self.inside.last.items (omega (arith, c.self.inside.last.ok, c.in_default.ensures.cases.0)) in
     let joined : c.args.self.now ≡ values_of c.pop_back.new.self.items ++ run.items =
     sym c.self.view_is ∙ ap (λ l. values_of older ++ l) none ∙ append-nil (values_of older) ∙ ap values_of c.in_ok-self-inside.ensures.items ∙ values_push c.pop_back.new.self.items run in
     let some : 0 < length run.items = last.1 in
