@@ -10,8 +10,8 @@ use Rattle.rw_vt.specs.Letters.{letters_of}
 use Rattle.rw_vt.specs.System.{Rules}
 use Rattle.rw_vt.proofs.Sorting.{IsExactOrder, at_most_chain, Has-head, Has-right}
 use Rattle.rw_vt.proofs.Bags.{Each-nil, Each-cons}
-use Rattle.rw_lp.specs.declared.step.StepFault.TheVariants.{StillDone}
-use Rattle.rw_lp.specs.declared.step.Answer.{Answer}
+use Rattle.rw_lp.specs.declared.answer.StepFault.TheVariants.{StillDone}
+use Rattle.rw_lp.specs.declared.answer.Answer.{Answer}
 use Rattle.rw_lp.specs.HeldMessages.{held_of, held_with, held_without}
 use Rattle.rw_lp.specs.Process.{ProcessState, Turn, Turned, Stays, split_last, is_less_than_last, after_undoing, sends_of_last, undo_last, undo_one, undo_last_lazily, undo_lazily, annihilate, deliver_anti, deliver_message, deliver}
 use Rattle.rw_lp.proofs.WithBags.{with_bags}

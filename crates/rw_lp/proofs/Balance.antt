@@ -9,10 +9,10 @@ use Rattle.rw_vt.proofs.Sorting.{IsExactOrder, copies-append, copies-insert}
 use Rattle.rw_vt.proofs.Bags.{copies-without}
 use Rattle.rw_vt.proofs.Letters.{messages-append, antis-append, messages_sent, antis_sent, messages_unsent, antis_unsent}
 use Rattle.rw_vt.proofs.Runs.{outs-append}
-use Rattle.rw_lp.specs.declared.step.Answer.{Answer}
-use Rattle.rw_lp.specs.declared.step.Answer.TheVariants.{Done}
-use Rattle.rw_lp.specs.declared.step.StepFault.{StepFault}
-use Rattle.rw_lp.specs.declared.step.StepFault.TheVariants.{NothingToUndo}
+use Rattle.rw_lp.specs.declared.answer.Answer.{Answer}
+use Rattle.rw_lp.specs.declared.answer.Answer.TheVariants.{Done}
+use Rattle.rw_lp.specs.declared.answer.StepFault.{StepFault}
+use Rattle.rw_lp.specs.declared.answer.StepFault.TheVariants.{NothingToUndo}
 use Rattle.rw_lp.specs.declared.held.Held.{Held}
 use Rattle.rw_lp.specs.HeldBack.{letters_given, antis_unless, held_unless}
 use Rattle.rw_lp.specs.HeldMessages.{held_messages, held_of, held_with, held_without, unheld_sends}

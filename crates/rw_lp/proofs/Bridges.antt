@@ -4,8 +4,8 @@ use Rattle.rw_vt.specs.declared.event.Event.{Event}
 use Rattle.rw_vt.specs.declared.event.Letter.{Letter}
 use Rattle.rw_vt.specs.Letters.{letters_of}
 use Rattle.rw_vt.specs.System.{Rules}
-use Rattle.rw_lp.specs.declared.step.StepFault.TheVariants.{NothingPending, Straggler, NothingToUndo}
-use Rattle.rw_lp.specs.declared.step.Answer.TheVariants.{Done, Refused}
+use Rattle.rw_lp.specs.declared.answer.StepFault.TheVariants.{NothingPending, Straggler, NothingToUndo}
+use Rattle.rw_lp.specs.declared.answer.Answer.TheVariants.{Done, Refused}
 use Rattle.rw_lp.specs.HeldMessages.{held_of, unheld_sends}
 use Rattle.rw_lp.specs.HeldBack.{letters_given}
 use Rattle.rw_lp.specs.Process.{ProcessState, done, Stays, split_last, is_less_than_last, after_execution, execute_event, execute_least, execute_next, after_undoing, sends_of_last, undo_last, undo_one, undo_last_lazily, undo_lazily}

@@ -6,8 +6,8 @@ use Rattle.rw_vt.specs.declared.event.Letter.{Letter}
 use Rattle.rw_vt.specs.Letters.{letters_of}
 use Rattle.rw_vt.specs.Order.{insert_in_order, has, without}
 use Rattle.rw_lp.specs.declared.held.Held.{Held}
-use Rattle.rw_lp.specs.declared.step.StepFault.TheVariants.{StillDone}
-use Rattle.rw_lp.specs.declared.step.Answer.TheVariants.{Done, Refused}
+use Rattle.rw_lp.specs.declared.answer.StepFault.TheVariants.{StillDone}
+use Rattle.rw_lp.specs.declared.answer.Answer.TheVariants.{Done, Refused}
 use Rattle.rw_lp.specs.HeldMessages.{held_with, held_without}
 use Rattle.rw_lp.specs.HeldBack.{antis_unless, held_unless}
 use Rattle.rw_lp.specs.Process.{ProcessState, Turn, Turned, Stays, annihilate, deliver_anti, deliver_message, deliver}

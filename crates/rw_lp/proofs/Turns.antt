@@ -12,7 +12,7 @@ use Rattle.rw_vt.proofs.Bags.{one_if-itself, one_if-other, Each-nil, Each-cons, 
 use Rattle.rw_vt.proofs.Letters.{messages-append, antis-append, messages_sent, antis_sent, messages_unsent, antis_unsent}
 use Rattle.rw_vt.proofs.Runs.{AreLawful, after-append, outs-append, well_formed_after, each_sent}
 use Rattle.rw_lp.specs.declared.held.Held.{Held}
-use Rattle.rw_lp.specs.declared.step.StepFault.TheVariants.{Straggler, StillDone}
+use Rattle.rw_lp.specs.declared.answer.StepFault.TheVariants.{Straggler, StillDone}
 use Rattle.rw_lp.specs.HeldMessages.{held_messages, held_of, unheld_sends, held_with, held_without}
 use Rattle.rw_lp.specs.Process.{ProcessState, done, Turned, Stays, split_last, is_less_than_last, after_execution, execute_event, execute_least, execute_next, after_undoing, sends_of_last, undo_last, undo_one, undo_last_lazily, undo_lazily, deliver_message, annihilate, deliver_anti, deliver}
 use Rattle.rw_lp.proofs.WithBags.{with_bags}

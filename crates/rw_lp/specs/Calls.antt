@@ -9,8 +9,8 @@ use Rattle.rw_vt.specs.System.{rules}
 use Rattle.rw_vt.specs.Order.{in_order}
 use Rattle.rw_bag.specs.Bags.{least_time}
 use Rattle.rw_lp.specs.declared.held.Held.{Held}
-use Rattle.rw_lp.specs.declared.step.Answer.{Answer}
-use Rattle.rw_lp.specs.declared.step.Answer.TheVariants.{Done, Refused}
+use Rattle.rw_lp.specs.declared.answer.Answer.{Answer}
+use Rattle.rw_lp.specs.declared.answer.Answer.TheVariants.{Done, Refused}
 use Rattle.rw_lp.specs.Past.{HistoryState}
 use Rattle.rw_lp.specs.Process as process
 use Rattle.rw_lp.specs.Process.{ProcessState, done, Turn, Turned, Stays, is_less_than_last, split_last, execute_next, undo_one, undo_lazily}

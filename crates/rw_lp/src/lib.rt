@@ -10,6 +10,7 @@
 
 ghost use Rattle.rw_lp.specs.Sound.{StepsKeepAll};
 
+mod answer;
 mod held;
 mod held_back;
 mod history;
@@ -18,14 +19,13 @@ mod lp;
 mod places;
 mod runs;
 mod sends;
-mod step;
 mod undo_record;
 
+pub use answer::{Answer, StepFault};
 pub use held::Held;
 pub use lp::Lp;
 pub use places::put_back;
 pub use rw_vt::{Event, Letter, Model, Refusal};
-pub use step::{Answer, StepFault};
 
 /// Each step of a sound process that started well keeps it sound. It changes what is done and pending, less what is owed,
 /// by exactly the letter that came, and what its done events sent by exactly the letters that it gives out. This is the

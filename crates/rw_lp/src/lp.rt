@@ -14,9 +14,9 @@ ghost use Rattle.rw_lp.specs.HeldBack.{antis_unless, held_unless};
 ghost use Rattle.rw_lp.specs.Sound.{Balance, IsSoundOnceCollected, KeepsBalance, StartsWell};
 ghost use Rattle.rw_lp.specs.Arrival.{Arrived, ArrivedLazily, is_barred};
 
+use crate::answer::{Answer, StepFault};
 use crate::held_back::HeldBack;
 use crate::history::{History, ends_after};
-use crate::step::{Answer, StepFault};
 use crate::undo_record::Undone;
 use rw_bag::Bag;
 use rw_vt::{Event, Letter, Model as VtModel, Refusal};

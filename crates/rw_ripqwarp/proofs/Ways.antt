@@ -12,7 +12,7 @@ use Rattle.rw_photo.specs.declared.photo.Photo.{Photo}
 use Rattle.rw_photo.specs.contracts.photo.PhotoVtModel.TheImpl as model
 use Rattle.rw_photo.specs.contracts.body.BodyOrd.TheImpl as order
 use Rattle.rw_photo.specs.Cache.{Cache, is_exhausted, start}
-use Rattle.rw_lp.specs.declared.step.Answer.{Answer}
+use Rattle.rw_lp.specs.declared.answer.Answer.{Answer}
 use Rattle.rw_world.specs.declared.step.Step.{Step}
 use Rattle.rw_world.specs.WorldState.{opening_world}
 use Rattle.rw_world.specs.Steps.{answers, run}

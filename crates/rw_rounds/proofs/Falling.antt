@@ -11,7 +11,7 @@ use Rattle.rw_vt.specs.Letters.{letters_of}
 use Rattle.rw_vt.specs.System.{Rules, state_after, sends_of}
 use Rattle.rw_vt.proofs.Runs.{outs-append}
 use Rattle.rw_lp.specs.declared.held.Held.{Held}
-use Rattle.rw_lp.specs.declared.step.StepFault.TheVariants.{StillDone}
+use Rattle.rw_lp.specs.declared.answer.StepFault.TheVariants.{StillDone}
 use Rattle.rw_lp.specs.HeldMessages.{held_of, held_with, held_without}
 use Rattle.rw_lp.specs.Process.{ProcessState, done, Turn, Turned, Stays, split_last, after_undoing, sends_of_last, undo_last, undo_one, undo_last_lazily, undo_lazily, annihilate, deliver_message, deliver_anti, deliver, execute_next, execute_least, execute_event, after_execution, is_less_than_last}
 use Rattle.rw_lp.proofs.Cited.{with_bags, IsSplit, split_is}
@@ -130,7 +130,7 @@ module _ {S B : Type 0} (y : Rules S B) (p : ℕ) where
       more : (e : Event B) (rest : List (Event B)) (left : List (Held B)) → after_execution y p x e rest left ≡ z → length (done z) ≡ length (done x) + 1
       more e rest left q = ap (λ u. length (done u)) (sym q) ∙ ap length (sym (append_assoc x.committed x.processed (e ∷ []))) ∙ length-append (done x) (e ∷ [])
 
-      late : (b : Bool) (e : Event B) (rest : List (Event B)) (sends : List (Event B) × List (Held B)) → cond b (Stays Rattle.rw_lp.specs.declared.step.StepFault.TheVariants.Straggler) (execute_event y p x e rest sends) ≡ Turned z out → length (done z) ≡ length (done x) + 1
+      late : (b : Bool) (e : Event B) (rest : List (Event B)) (sends : List (Event B) × List (Held B)) → cond b (Stays Rattle.rw_lp.specs.declared.answer.StepFault.TheVariants.Straggler) (execute_event y p x e rest sends) ≡ Turned z out → length (done z) ≡ length (done x) + 1
       late true e rest sends k = cc
       late false e rest sends k = more e rest sends.1 (let q : after_execution y p x e rest sends.1 ≡ z = cc in q)
 

@@ -17,7 +17,7 @@ use Rattle.rw_vt.proofs.Sorting.{IsExactOrder, at_most_itself, at_most_other, Ha
 use Rattle.rw_vt.proofs.Bags.{Each-tail, Each-insert, Each-without, Has-test, IsAscending-back}
 use Rattle.rw_vt.proofs.Laws.{Laws}
 use Rattle.rw_lp.specs.declared.held.Held.{Held}
-use Rattle.rw_lp.specs.declared.step.StepFault.TheVariants.{Straggler, StillDone}
+use Rattle.rw_lp.specs.declared.answer.StepFault.TheVariants.{Straggler, StillDone}
 use Rattle.rw_lp.specs.HeldMessages.{holds, held_without_first, unheld_sends, held_with, held_without}
 use Rattle.rw_lp.specs.Process.{ProcessState, done, Turn, Turned, Stays, with_front, split_last, is_less_than_last, execute_event, execute_least, execute_next, sends_of_last, undo_last, undo_last_lazily, annihilate, deliver_message, deliver_anti, deliver}
 use Rattle.rw_lp.specs.Arrival.{Way, Cancelling, Holding, undo_by, with_out, and_undo, undo_times, is_barred, Accepts, ArrivedBy}

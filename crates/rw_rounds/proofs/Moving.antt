@@ -8,9 +8,9 @@ use Rattle.rw_vt.specs.Order.{event_cmp, Has, AtMost}
 use Rattle.rw_vt.proofs.EventOrder.{time_at_most}
 use Rattle.rw_vt.specs.System.{Rules, rules}
 use Rattle.rw_vt.proofs.Sorting.{IsExactOrder, Has-head, Has-right, at_most_other}
-use Rattle.rw_lp.specs.declared.step.Answer.{Answer}
-use Rattle.rw_lp.specs.declared.step.Answer.TheVariants.{Done, Refused}
-use Rattle.rw_lp.specs.declared.step.StepFault.TheVariants.{Straggler}
+use Rattle.rw_lp.specs.declared.answer.Answer.{Answer}
+use Rattle.rw_lp.specs.declared.answer.Answer.TheVariants.{Done, Refused}
+use Rattle.rw_lp.specs.declared.answer.StepFault.TheVariants.{Straggler}
 use Rattle.rw_lp.specs.HeldMessages.{unheld_sends}
 use Rattle.rw_lp.specs.Process.{ProcessState, Turn, Turned, Stays, done, split_last, is_less_than_last, execute_event, execute_least, execute_next, undo_last, undo_last_lazily}
 use Rattle.rw_lp.specs.Arrival.{Way, Cancelling, Holding, undo_by}

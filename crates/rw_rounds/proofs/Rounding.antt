@@ -9,7 +9,7 @@ use Rattle.rw_vt.specs.declared.event.Event.{Event}
 use Rattle.rw_vt.specs.declared.model.Model.{Ghosts}
 use Rattle.rw_vt.specs.System.{system, journal_below, IsReady}
 use Rattle.rw_vt.proofs.Laws.{Laws}
-use Rattle.rw_lp.specs.declared.step.Answer.TheVariants.{Done}
+use Rattle.rw_lp.specs.declared.answer.Answer.TheVariants.{Done}
 use Rattle.rw_lp.specs.HeldMessages.{held_messages}
 use Rattle.rw_lp.specs.Process as process
 use Rattle.rw_lp.specs.Process.{ProcessState}

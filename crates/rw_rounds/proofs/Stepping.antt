@@ -130,8 +130,8 @@ module _ {M S B U : Type 0} {model : Ghosts M S B U} {order : B → B → Orderi
     executed_by : Moved (rules model order l.model) (way_of a.role.plan.lazy) l.number l.process z.process true given → execute_next (rules model order m) l.number l.process ≡ Turned z.process given
     executed_by moved = subst (λ k. execute_next (rules model order k) l.number l.process ≡ Turned z.process given) stands.model_is moved
 
-    undone_by : Moved (rules model order l.model) (way_of a.role.plan.lazy) l.number l.process z.process false given → (undo_by (way_of a.role.plan.lazy) (rules model order m) l.number l.process ≡ Turned z.process given) × (execute_next (rules model order m) l.number l.process ≡ Stays Rattle.rw_lp.specs.declared.step.StepFault.TheVariants.Straggler)
-    undone_by moved = subst (λ k. (undo_by (way_of a.role.plan.lazy) (rules model order k) l.number l.process ≡ Turned z.process given) × (execute_next (rules model order k) l.number l.process ≡ Stays Rattle.rw_lp.specs.declared.step.StepFault.TheVariants.Straggler)) stands.model_is moved
+    undone_by : Moved (rules model order l.model) (way_of a.role.plan.lazy) l.number l.process z.process false given → (undo_by (way_of a.role.plan.lazy) (rules model order m) l.number l.process ≡ Turned z.process given) × (execute_next (rules model order m) l.number l.process ≡ Stays Rattle.rw_lp.specs.declared.answer.StepFault.TheVariants.Straggler)
+    undone_by moved = subst (λ k. (undo_by (way_of a.role.plan.lazy) (rules model order k) l.number l.process ≡ Turned z.process given) × (execute_next (rules model order k) l.number l.process ≡ Stays Rattle.rw_lp.specs.declared.answer.StepFault.TheVariants.Straggler)) stands.model_is moved
 
     pub works_moved : (executed : Bool) → Moved (rules model order l.model) (way_of a.role.plan.lazy) l.number l.process z.process executed given → Works (rules model order m) a.role a b [] given (cond executed 1 0)
     works_moved true moved =

@@ -7,7 +7,7 @@ use Rattle.rw_vt.specs.Order.{AtMost, Each}
 use Rattle.rw_vt.specs.System.{Rules}
 use Rattle.rw_lp.specs.Process.{ProcessState, Turned, Stays, execute_next}
 use Rattle.rw_lp.specs.Arrival.{Way, Cancelling, Holding, undo_by, ArrivedBy}
-use Rattle.rw_lp.specs.declared.step.StepFault.TheVariants.{Straggler}
+use Rattle.rw_lp.specs.declared.answer.StepFault.TheVariants.{Straggler}
 
 pub data Deed (B : Type 0) : Type 0 where
   -- a letter comes to its process, after the undoings that it needs

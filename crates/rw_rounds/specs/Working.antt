@@ -13,7 +13,7 @@ use Rattle.rw_lp.specs.Process.{ProcessState, done, Turned, Stays, execute_next}
 use Rattle.rw_lp.specs.Arrival.{Way, undo_by}
 use Rattle.rw_lp.specs.Calls.{LogicalProcess}
 use Rattle.rw_lp.specs.Sound.{SoundAt, StartsWell}
-use Rattle.rw_lp.specs.declared.step.StepFault.TheVariants.{Straggler}
+use Rattle.rw_lp.specs.declared.answer.StepFault.TheVariants.{Straggler}
 use Rattle.rw_exchange.specs.Ports.{SamePort, sent_to, received_from}
 use Rattle.rw_rounds.specs.declared.desk.Bench.{Bench}
 use Rattle.rw_rounds.specs.declared.desk.Desk.{Desk}

@@ -9,9 +9,9 @@ use Rattle.rw_vt.specs.Order.{copies, Each}
 use Rattle.rw_vt.specs.System.{System, sends_of, map_from, flatten}
 use Rattle.rw_vt.proofs.Sorting.{copies-append}
 use Rattle.rw_vt.proofs.Runs.{IsLawful, copies_joined}
-use Rattle.rw_lp.specs.declared.step.Answer.{Answer}
-use Rattle.rw_lp.specs.declared.step.Answer.TheVariants.{Done}
-use Rattle.rw_lp.specs.declared.step.StepFault.TheVariants.{AboveFloor}
+use Rattle.rw_lp.specs.declared.answer.Answer.{Answer}
+use Rattle.rw_lp.specs.declared.answer.Answer.TheVariants.{Done}
+use Rattle.rw_lp.specs.declared.answer.StepFault.TheVariants.{AboveFloor}
 use Rattle.rw_lp.specs.HeldMessages.{held_messages}
 use Rattle.rw_lp.specs.Process as process
 use Rattle.rw_lp.specs.Process.{ProcessState, done}

@@ -9,7 +9,7 @@ use Rattle.std.proofs.lemmas.Option.{slice_get-map, slice_get_read}
 use Rattle.rw_vt.specs.declared.model.Model.{Ghosts}
 use Rattle.rw_vt.specs.Order.{event_cmp, Each}
 use Rattle.rw_vt.proofs.Laws.{Laws}
-use Rattle.rw_lp.specs.declared.step.Answer.TheVariants.{Done}
+use Rattle.rw_lp.specs.declared.answer.Answer.TheVariants.{Done}
 use Rattle.rw_lp.specs.Process as process
 use Rattle.rw_lp.specs.Calls.{LogicalProcess}
 use Rattle.rw_world.specs.declared.parts.Parts.{Parts}

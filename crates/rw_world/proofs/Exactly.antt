@@ -10,10 +10,10 @@ use Rattle.rw_lp.specs.HeldMessages.{unheld_sends}
 use Rattle.rw_lp.specs.Process as process
 use Rattle.rw_lp.specs.Process.{ProcessState, Turn, Turned, Stays, done, is_less_than_last, split_last, execute_event, execute_least, execute_next, undo_last, undo_one, undo_last_lazily, undo_lazily, annihilate, deliver_anti, deliver_message}
 use Rattle.rw_lp.proofs.Cited.{with_bags}
-use Rattle.rw_lp.specs.declared.step.StepFault.{StepFault}
-use Rattle.rw_lp.specs.declared.step.StepFault.TheVariants.{NoSuchProcess, NoSuchLetter, NothingPending, Straggler, NothingToUndo, StillDone, AboveFloor}
-use Rattle.rw_lp.specs.declared.step.Answer.{Answer}
-use Rattle.rw_lp.specs.declared.step.Answer.TheVariants.{Done, Refused}
+use Rattle.rw_lp.specs.declared.answer.StepFault.{StepFault}
+use Rattle.rw_lp.specs.declared.answer.StepFault.TheVariants.{NoSuchProcess, NoSuchLetter, NothingPending, Straggler, NothingToUndo, StillDone, AboveFloor}
+use Rattle.rw_lp.specs.declared.answer.Answer.{Answer}
+use Rattle.rw_lp.specs.declared.answer.Answer.TheVariants.{Done, Refused}
 use Rattle.rw_world.specs.declared.step.Step.{Step}
 use Rattle.rw_world.specs.declared.step.Step.TheVariants.{Execute, Undo, UndoLazily, Deliver, Collect}
 use Rattle.rw_world.specs.WorldState.{WorldState, floor}

@@ -5,9 +5,9 @@ use Rattle.rw_vt.specs.declared.event.Event.{Event}
 use Rattle.rw_vt.specs.declared.event.Letter.{Letter}
 use Rattle.rw_vt.specs.System.{System, all_sent, slice, journal_below}
 use Rattle.rw_vt.proofs.Runs.{IsLawful}
-use Rattle.rw_lp.specs.declared.step.Answer.{Answer}
-use Rattle.rw_lp.specs.declared.step.Answer.TheVariants.{Done}
-use Rattle.rw_lp.specs.declared.step.StepFault.TheVariants.{AboveFloor}
+use Rattle.rw_lp.specs.declared.answer.Answer.{Answer}
+use Rattle.rw_lp.specs.declared.answer.Answer.TheVariants.{Done}
+use Rattle.rw_lp.specs.declared.answer.StepFault.TheVariants.{AboveFloor}
 use Rattle.rw_lp.specs.Process as process
 use Rattle.rw_lp.specs.Process.{ProcessState, Turn, Turned, Stays, execute_next, undo_one, undo_lazily}
 use Rattle.rw_world.specs.declared.step.Step.{Step}

@@ -4,9 +4,9 @@ use Rattle.std.specs.declared.cmp.Ordering.{Ordering}
 use Rattle.rw_vt.specs.declared.model.Model.{Ghosts}
 use Rattle.rw_vt.specs.System.{IsReady}
 use Rattle.rw_vt.proofs.Laws.{Laws}
-use Rattle.rw_lp.specs.declared.step.StepFault.{StepFault}
-use Rattle.rw_lp.specs.declared.step.Answer.{Answer}
-use Rattle.rw_lp.specs.declared.step.Answer.TheVariants.{Refused}
+use Rattle.rw_lp.specs.declared.answer.StepFault.{StepFault}
+use Rattle.rw_lp.specs.declared.answer.Answer.{Answer}
+use Rattle.rw_lp.specs.declared.answer.Answer.TheVariants.{Refused}
 use Rattle.rw_world.specs.declared.parts.Parts.{Parts}
 use Rattle.rw_world.specs.declared.step.Step.{Step}
 use Rattle.rw_world.specs.Sound.{Sound}

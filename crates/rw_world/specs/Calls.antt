@@ -8,7 +8,7 @@ use Rattle.rw_vt.specs.System.{System, system, IsReady}
 use Rattle.rw_lp.specs.Process as process
 use Rattle.rw_lp.specs.Process.{ProcessState}
 use Rattle.rw_lp.specs.Calls.{LogicalProcess, MeetsNext}
-use Rattle.rw_lp.specs.declared.step.Answer.{Answer}
+use Rattle.rw_lp.specs.declared.answer.Answer.{Answer}
 use Rattle.rw_world.specs.declared.parts.Parts.{Parts}
 use Rattle.rw_world.specs.declared.step.Step.{Step}
 use Rattle.rw_world.specs.declared.step.Step.TheVariants.{Execute}

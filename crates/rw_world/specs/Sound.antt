@@ -10,8 +10,8 @@ use Rattle.rw_vt.specs.System.{System, state_after, all_sent, journal_below, IsO
 use Rattle.rw_lp.specs.HeldMessages.{held_messages}
 use Rattle.rw_lp.specs.Process.{ProcessState, done}
 use Rattle.rw_lp.specs.Sound.{SoundAt, SoundLetters}
-use Rattle.rw_lp.specs.declared.step.StepFault.{StepFault}
-use Rattle.rw_lp.specs.declared.step.Answer.TheVariants.{Refused}
+use Rattle.rw_lp.specs.declared.answer.StepFault.{StepFault}
+use Rattle.rw_lp.specs.declared.answer.Answer.TheVariants.{Refused}
 use Rattle.rw_world.specs.declared.step.Step.{Step}
 use Rattle.rw_world.specs.WorldState.{WorldState, floor, is_finished}
 use Rattle.rw_world.specs.Steps.{apply}

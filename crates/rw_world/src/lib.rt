@@ -15,7 +15,6 @@ mod least;
 mod opening;
 mod parts;
 mod step;
-mod turns;
 mod world;
 
 pub use drawing::{draw, draw_mixed};

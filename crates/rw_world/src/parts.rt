@@ -1,5 +1,15 @@
-use rw_lp::Lp;
-use rw_vt::{Event, Letter, Model as VtModel};
+ghost use Rattle.std.specs.Prelude.{◌≡◌, ◌≤◌, ℕ, true, IfOk, IfErr, OnOk, map, slice_get, Some};
+ghost use Rattle.rw_vt.specs.Order.{event_cmp, Each};
+ghost use Rattle.rw_vt.specs.declared.refusal.Refusal.TheVariants.{Memory};
+ghost use Rattle.rw_lp.specs.Calls.{LogicalProcess};
+ghost use Rattle.rw_world.specs.WorldState.{floor};
+ghost use Rattle.rw_world.specs.Calls.{after_collecting, world_of, IsWhole, ExecutesAt, Made};
+
+use crate::least::{least_of_letters, least_of_processes};
+use crate::step::Step;
+use rw_lp::{Answer, Lp, StepFault, put_back};
+use rw_vt::{Event, Letter, Model as VtModel, Refusal};
+use std::alloc::Global;
 use std::snapshot::Snapshot;
 
 /// What a world consists of: see [`World::take`](crate::World::take).
@@ -17,4 +27,140 @@ pub struct Parts<M: VtModel> {
     pub starts: Snapshot<Vec<M::State>>,
     /// The initial events. For contracts alone.
     pub initial: Snapshot<Vec<Event<M::Body>>>,
+}
+
+impl<M: VtModel> Parts<M> {
+    /// Makes one step, or answers why it does not apply. On `Err` the parts are only good for dropping.
+    pub(crate) fn make(&mut self, alloc: Global, step: Step) -> Result<Answer, Refusal>
+        requires whole { IsWhole M.Model M.Body.cmp self.old }
+        ensures made { IfOk result (λ a. Made M.Model M.Body.cmp self.old self.new step a) }
+        ensures exhausted { result ≡ Err Refusal.Exhausted
+            → ExecutesAt (event_cmp M.Body.cmp) (world_of self.old)
+            (M.is_exhausted self.old.model) step }
+    {
+        match step {
+            Step::Execute(p) => self.execute(alloc, p),
+            Step::Undo(p) => self.undo(alloc, p),
+            Step::UndoLazily(p) => self.undo_lazily(alloc, p),
+            Step::Deliver(number) => self.deliver(number),
+            Step::Collect(time) => self.collect(time),
+        }
+    }
+
+    /// Process `p` executes its least pending event. On `Err` the parts are only good for dropping.
+    fn execute(&mut self, alloc: Global, p: u32) -> Result<Answer, Refusal>
+        requires whole { IsWhole M.Model M.Body.cmp self.old }
+        ensures made { IfOk result (λ a.
+            Made M.Model M.Body.cmp self.old self.new (Step.Execute p) a) }
+        ensures exhausted { result ≡ Err Refusal.Exhausted
+            → ExecutesAt (event_cmp M.Body.cmp) (world_of self.old) (M.is_exhausted self.old.model)
+            (Step.Execute p) }
+    {
+        let place = p as usize;
+        if self.processes.len() <= place {
+            return Ok(Answer::Refused(StepFault::NoSuchProcess));
+        }
+        let process = self.processes.swap_remove(place);
+        let (process, answer) = process.execute_next(alloc, &self.model, &mut self.letters)?;
+        put_back(&mut self.processes, place, process)?;
+        Ok(answer)
+    }
+
+    /// Process `p` takes its last processed event back. On `Err` the parts are only good for dropping.
+    fn undo(&mut self, alloc: Global, p: u32) -> Result<Answer, Refusal>
+        requires whole { IsWhole M.Model M.Body.cmp self.old }
+        ensures made { IfOk result (λ a.
+            Made M.Model M.Body.cmp self.old self.new (Step.Undo p) a) }
+        ensures memory { IfErr result (λ e. e ≡ Memory) }
+    {
+        let place = p as usize;
+        if self.processes.len() <= place {
+            return Ok(Answer::Refused(StepFault::NoSuchProcess));
+        }
+        let process = self.processes.swap_remove(place);
+        let (process, answer) = process.undo_one(alloc, &self.model, &mut self.letters)?;
+        put_back(&mut self.processes, place, process)?;
+        Ok(answer)
+    }
+
+    /// Process `p` takes its last processed event back, and holds what that had sent. On `Err` the parts are only good for
+    /// dropping.
+    fn undo_lazily(&mut self, alloc: Global, p: u32) -> Result<Answer, Refusal>
+        requires whole { IsWhole M.Model M.Body.cmp self.old }
+        ensures made { IfOk result (λ a.
+            Made M.Model M.Body.cmp self.old self.new (Step.UndoLazily p) a) }
+        ensures memory { IfErr result (λ e. e ≡ Memory) }
+    {
+        let place = p as usize;
+        if self.processes.len() <= place {
+            return Ok(Answer::Refused(StepFault::NoSuchProcess));
+        }
+        let process = self.processes.swap_remove(place);
+        let (process, answer) = process.undo_lazily(alloc, &self.model)?;
+        put_back(&mut self.processes, place, process)?;
+        Ok(answer)
+    }
+
+    /// Letter `number`, from 0, comes to its process, and what that gives out is appended. On `Err` the parts are only good for
+    /// dropping.
+    fn deliver(&mut self, number: u64) -> Result<Answer, Refusal>
+        requires whole { IsWhole M.Model M.Body.cmp self.old }
+        ensures made { IfOk result (λ a.
+            Made M.Model M.Body.cmp self.old self.new (Step.Deliver number) a) }
+        ensures memory { IfErr result (λ e. e ≡ Memory) }
+    {
+        if self.letters.len() as u64 <= number {
+            return Ok(Answer::Refused(StepFault::NoSuchLetter));
+        }
+        let letter = self.letters[number as usize];
+        let place = letter.event.to as usize;
+        let process = self.processes.swap_remove(place);
+        let (process, answer) = process.deliver(letter, &mut self.letters)?;
+        put_back(&mut self.processes, place, process)?;
+        if let Answer::Done = answer {
+            let _delivered = self.letters.remove(number as usize);
+        }
+        Ok(answer)
+    }
+
+    /// Commits what was done before `time`, in ticks, if nothing earlier is outstanding. On `Err` the parts are only good
+    /// for dropping.
+    fn collect(&mut self, time: u64) -> Result<Answer, Refusal>
+        requires whole { IsWhole M.Model M.Body.cmp self.old }
+        ensures made { IfOk result (λ a.
+            Made M.Model M.Body.cmp self.old self.new (Step.Collect time) a) }
+        ensures memory { IfErr result (λ e. e ≡ Memory) }
+    {
+        if self.floor() < time {
+            return Ok(Answer::Refused(StepFault::AboveFloor));
+        }
+        collect_all(&mut self.processes, time)?;
+        self.collected = self.collected.max(time);
+        Ok(Answer::Done)
+    }
+
+    /// The least time of all that is outstanding, or the end of time.
+    pub(crate) fn floor(&self) -> u64
+        ensures { result ≡ floor (world_of self.now) }
+    {
+        least_of_letters(least_of_processes(&self.processes), &self.letters)
+    }
+}
+
+/// Each process commits what it did before `time`, in ticks: nothing that is pending or owed is earlier. Refused only as
+/// `Memory`; the processes are then only good for dropping.
+fn collect_all<M: VtModel>(processes: &mut Vec<Lp<M>>, time: u64) -> Result<(), Refusal>
+    requires quiet { (q : ℕ) (x : LogicalProcess M M.State M.Body)
+        → slice_get processes.old.items q ≡ Some x
+        → Each (event_cmp M.Body.cmp) (λ e. time ≤ e.time) x.process.pending
+        × Each (event_cmp M.Body.cmp) (λ e. time ≤ e.time) x.process.debts }
+    ensures collected { OnOk result
+        (processes.new.items ≡ map (after_collecting time) processes.old.items) }
+    ensures memory { IfErr result (λ e. e ≡ Memory) }
+{
+    for place in 0..processes.len() {
+        let process = processes.swap_remove(place);
+        put_back(processes, place, process.collect(time)?)?;
+    }
+    Ok(())
 }

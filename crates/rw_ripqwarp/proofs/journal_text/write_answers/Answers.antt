@@ -1,7 +1,7 @@
 use Rattle.std.proofs.Common.{◌≡◌, ◌+◌, ◌<◌, ◌++◌, ◌∙◌, ℕ, suc, List, refl, sym, ap, arith, take, get_or, length, zero-add, append_assoc}
 use Rattle.rw_vt.specs.System.{flatten, map_from}
-use Rattle.rw_lp.specs.declared.step.Answer.{Answer}
-use Rattle.rw_lp.specs.declared.step.Answer.TheVariants.{Done}
+use Rattle.rw_lp.specs.declared.answer.Answer.{Answer}
+use Rattle.rw_lp.specs.declared.answer.Answer.TheVariants.{Done}
 use Rattle.rw_ripqwarp.specs.Journal.{answer_line}
 use Rattle.rw_ripqwarp.proofs.Journals.{numbered-more}
 use Rattle.rw_ripqwarp.proofs.journal_text.write_answers.Goals as goal

@@ -5,7 +5,7 @@ use Rattle.rw_vt.specs.System.{rules}
 use Rattle.rw_lp.specs.Process.{undo_lazily}
 use Rattle.rw_lp.specs.Calls.{LogicalProcess, GivesOut, Took}
 use Rattle.rw_lp.specs.Arrival.{undo_by}
-use Rattle.rw_lp.specs.declared.step.Answer.{Answer}
+use Rattle.rw_lp.specs.declared.answer.Answer.{Answer}
 use Rattle.rw_rounds.specs.Deeds.{way_of}
 use Rattle.rw_rounds.proofs.desk.undo_by.Goals as goal
 

@@ -6,8 +6,8 @@ use Rattle.rw_vt.specs.Order.{event_cmp, copies, without}
 use Rattle.rw_vt.proofs.EventOrder.{events_exact}
 use Rattle.rw_vt.proofs.Sorting.{IsExactOrder, Has-head}
 use Rattle.rw_vt.specs.System.{rules}
-use Rattle.rw_lp.specs.declared.step.StepFault.TheVariants.{NothingPending, Straggler}
-use Rattle.rw_lp.specs.declared.step.Answer.TheVariants.{Done, Refused}
+use Rattle.rw_lp.specs.declared.answer.StepFault.TheVariants.{NothingPending, Straggler}
+use Rattle.rw_lp.specs.declared.answer.Answer.TheVariants.{Done, Refused}
 use Rattle.rw_lp.specs.Past.{HistoryState, done_in}
 use Rattle.rw_lp.specs.HeldMessages.{unheld_sends}
 use Rattle.rw_lp.specs.HeldBack.{letters_given}

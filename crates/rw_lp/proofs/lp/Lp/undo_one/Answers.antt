@@ -5,8 +5,8 @@ use Rattle.rw_vt.specs.Order.{event_cmp, Has}
 use Rattle.rw_vt.specs.System.{state_after, rules}
 use Rattle.rw_vt.proofs.EventOrder.{events_exact}
 use Rattle.rw_vt.proofs.Sorting.{IsExactOrder}
-use Rattle.rw_lp.specs.declared.step.Answer.TheVariants.{Done, Refused}
-use Rattle.rw_lp.specs.declared.step.StepFault.TheVariants.{NothingToUndo}
+use Rattle.rw_lp.specs.declared.answer.Answer.TheVariants.{Done, Refused}
+use Rattle.rw_lp.specs.declared.answer.StepFault.TheVariants.{NothingToUndo}
 use Rattle.rw_lp.specs.Past.{HistoryState, TookBack, IsTakenBack, done_in}
 use Rattle.rw_lp.specs.Process.{ProcessState, after_undoing, undo_one}
 use Rattle.rw_lp.specs.Calls.{LogicalProcess, process_of, Took}

@@ -2,7 +2,7 @@ use Rattle.std.proofs.Common.{◌≡◌, sym, ◌∙◌, subst}
 use Rattle.std.specs.Prelude.{◌↔◌}
 use Rattle.rw_vt.specs.Order.{event_cmp}
 use Rattle.rw_vt.proofs.Laws.{laws_of}
-use Rattle.rw_lp.specs.declared.step.Answer.TheVariants.{Refused}
+use Rattle.rw_lp.specs.declared.answer.Answer.TheVariants.{Refused}
 use Rattle.rw_world.specs.Faults.{Applies}
 use Rattle.rw_world.specs.Calls.{Simulation, system_of, simulation_of, world_of}
 use Rattle.rw_world.proofs.Exactly.{exactly}

@@ -2,7 +2,7 @@ use Rattle.std.proofs.Common.{◌≡◌, ◌<◌, length, get_or, ap, ◌∙◌,
 use Rattle.std.proofs.lemmas.List.Edits.{map_over_more}
 use Rattle.rw_world.specs.Calls.{after_collecting}
 use Rattle.rw_world.proofs.Collects.{length-collected_to, next_is, collected_all}
-use Rattle.rw_world.proofs.turns.collect_all.Goals as goal
+use Rattle.rw_world.proofs.parts.collect_all.Goals as goal
 
 pub swap_remove-process-requires : goal.swap_remove-process-requires
 swap_remove-process-requires g c =
