@@ -53,7 +53,7 @@ fn make(
     ensures leads { IfOk result (λ done. IfSome done (λ d. Leads d.0 queue.old queue.new)) }
     ensures kept { OnOk result (IsWellFormedQueue queue.new) }
 {
-    let (_, block, _) = queue.shape();
+    let block = queue.block_size();
     match call {
         Call::Insert(object, size) if size >= 1 && size <= block && !resident(queue, object) => {
             let (trail, tally) = insert(alloc, queue, policy, object, size, 1)?;

@@ -32,7 +32,7 @@ fn fits(queue: &Queue, section: usize, kind: Kind, size: u64) -> bool
     if section >= queue.sections() {
         return false;
     }
-    let (_, block, _) = queue.shape();
+    let block = queue.block_size();
     let fill = queue.fill(queue.active(section, kind));
     size <= block && fill <= block - size
 }
@@ -107,8 +107,7 @@ fn split(queue: &mut Queue, section: usize, keep: usize) -> Result<Option<Mark>,
     ensures undoes { IfOk result (λ done. IfSome done (λ mark. Undoes mark queue.old queue.new)) }
     ensures kept { OnOk result (IsLoose queue.new) }
 {
-    let (sections, _, _) = queue.shape();
-    if section >= queue.sections() || queue.sections() as u64 >= sections {
+    if section >= queue.sections() || queue.sections() as u64 >= queue.allowed_sections() {
         return Ok(None);
     }
     if keep > queue.sealed(section) || queue.next_serial() >= (1 << 63) - 1 {
