@@ -3,7 +3,6 @@ ghost use Rattle.std.specs.Prelude.{◌≡◌, ◌+◌, IfOk, length};
 
 use crate::gate::Hold;
 use crate::outstanding::{has_anti, has_debt, has_straggler};
-use crate::tally::Tally;
 use anyhow::{Context, Result};
 use rw_photo::{CacheState, Config, Photo, Policy, Shape};
 use rw_ripqwarp::{SimFault, beginning, report};
@@ -68,16 +67,20 @@ const PLANS: [Plan; 4] = [
 /// What runs from drawn worlds came to, in counts.
 #[derive(Clone, Copy, Default)]
 pub struct Counts {
-    /// Drawn worlds, by whether what is committed in them is a beginning of what the run on one thread commits.
-    pub worlds: Tally,
+    /// Drawn worlds where what is committed is a beginning of what the run on one thread commits.
+    pub worlds: u64,
+    /// Drawn worlds where it is not.
+    pub other_worlds: u64,
     /// Drawn worlds where a process has executed ahead of an event that is pending.
     pub stragglers: u64,
     /// Drawn worlds where an anti-message came before its message.
     pub debts: u64,
     /// Drawn worlds where an anti-message is on its way.
     pub antis: u64,
-    /// Runs, by whether they leave what the run on one thread leaves.
-    pub runs: Tally,
+    /// Runs that leave what the run on one thread leaves.
+    pub runs: u64,
+    /// Runs that do not.
+    pub other_runs: u64,
     /// Events executed in runs.
     pub executed: u64,
     /// Events undone in runs.
@@ -91,6 +94,12 @@ pub struct Counts {
 }
 
 impl Counts {
+    /// Counts a drawn world.
+    fn count_world(&mut self, begins: bool) {
+        self.worlds = self.worlds.wrapping_add(u64::from(begins));
+        self.other_worlds = self.other_worlds.wrapping_add(u64::from(!begins));
+    }
+
     /// Counts what is outstanding in a drawn world.
     fn look(&mut self, parts: &Parts<Photo>) {
         self.stragglers = self
@@ -101,8 +110,9 @@ impl Counts {
     }
 
     /// Counts a run.
-    fn count(&mut self, agrees: bool, traffic: &Traffic) {
-        self.runs.count(agrees);
+    fn count_run(&mut self, agrees: bool, traffic: &Traffic) {
+        self.runs = self.runs.wrapping_add(u64::from(agrees));
+        self.other_runs = self.other_runs.wrapping_add(u64::from(!agrees));
         self.executed = self.executed.wrapping_add(traffic.executed);
         self.undone = self.undone.wrapping_add(traffic.undone);
         self.ring = self.ring.wrapping_add(traffic.ring);
@@ -178,7 +188,7 @@ impl Example {
         counts: &mut Counts,
     ) -> Result<(), SimFault> {
         let world = drawn(alloc, self.trace, &self.config, steps)?;
-        counts.worlds.count(self.begins_with(&world));
+        counts.count_world(self.begins_with(&world));
         counts.look(&world.take());
         for plan in PLANS {
             self.run_by(rt, alloc, steps, Plan { lazy, ..plan }, counts)?;
@@ -238,7 +248,7 @@ impl Example {
         let world = drawn(alloc, self.trace, &self.config, steps)?;
         let (outcome, traffic) = rw_rounds::run(rt, alloc, world, plan, gate)?;
         let text = report(alloc, &self.config, &outcome)?;
-        counts.count(text == self.report && self.leaves(&outcome), &traffic);
+        counts.count_run(text == self.report && self.leaves(&outcome), &traffic);
         Ok(())
     }
 

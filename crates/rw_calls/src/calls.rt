@@ -8,7 +8,7 @@ use std::sync::Wait;
 use std::thread::Threads;
 
 /// The names of the calls.
-pub const NAMES: [&str; 11] = [
+const NAMES: [&str; 11] = [
     "eviction",
     "promotion",
     "split-and-merge",
@@ -21,6 +21,23 @@ pub const NAMES: [&str; 11] = [
     "simulate-warp",
     "simulate-journal",
 ];
+
+/// Prints the names of the calls.
+pub fn tell_names<R: Print>(rt: &R) -> Result<(), Setback> {
+    for name in NAMES {
+        println!(rt; "{name}")?;
+    }
+    Ok(())
+}
+
+/// Makes each call, and tells its name and what it answers.
+pub fn call_all<R: Print + Threads + Wait + Sync>(rt: &R, alloc: Global) -> Result<(), Setback> {
+    for name in NAMES {
+        println!(rt; "{name}")?;
+        call(rt, alloc, name)?;
+    }
+    Ok(())
+}
 
 /// Makes the call of this name, and tells what it answers.
 pub fn call<R: Print + Threads + Wait + Sync>(
