@@ -6,7 +6,7 @@
 //! and a list of sealed blocks. A block is only a serial: what it holds is said by the rows, one for each object that
 //! is stored. Each primitive changes one thing and gives a [`Mark`], by which [`Queue::undo`] takes it back.
 //!
-//! Worked examples: `rw_tests/src/primitives.rt`.
+//! Worked examples: `rw_cache_tests/src/primitives.rt`.
 
 mod members;
 mod primitives;

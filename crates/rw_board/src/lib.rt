@@ -6,7 +6,7 @@
 //! what Jefferson (1985) calls global virtual time. There is no lock and no waiting: a note is one atomic `fetch_min`,
 //! a reading is one atomic load.
 //!
-//! Worked examples: `rw_tests/src/board_of_two_seats.rt`.
+//! Worked examples: `rw_round_tests/src/board_of_two_seats.rt`.
 
 mod board;
 mod rule;

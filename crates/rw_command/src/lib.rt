@@ -1,7 +1,7 @@
 #![tactic(auto)]
 //! The command line: from the program's words to what it writes and its exit status.
 //!
-//! Worked examples: `rw_tests/src/commands.rt`, and the cases of `rw_cases`.
+//! Worked examples: `rw_program_tests/src/commands.rt`, and the cases of `rw_cases`.
 
 mod arguments;
 mod command_line;

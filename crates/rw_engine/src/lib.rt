@@ -5,7 +5,7 @@
 //! In order and in rounds a model comes to the very same states; by steps, whatever they are, what is committed is what
 //! executing all events in order of time would have done. What is asked of a model is the trait [`Model`].
 //!
-//! Worked examples: `rw_tests/src/phold_runs.rt`, and the program `phold`.
+//! Worked examples: `rw_round_tests/src/phold_runs.rt`, and the program `phold`.
 
 mod how;
 mod running;

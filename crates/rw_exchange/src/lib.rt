@@ -5,7 +5,7 @@
 //! ring has no room for comes back to its sender, and what is still in the rings when the round is over is given out
 //! by [`settle`]. No letter is lost, repeated or made up.
 //!
-//! Worked examples: `rw_tests/src/rings.rt`.
+//! Worked examples: `rw_round_tests/src/rings.rt`.
 
 mod build;
 mod lane;

@@ -5,7 +5,7 @@
 //! each of these becomes. `specs/Csv.antt` says what a record of a log of fields says, where its columns stand and which
 //! number an object's text has; `specs/Oracle.antt` what a record of the oracle-general format says.
 //!
-//! Worked examples: `rw_tests/src/imports.rt`.
+//! Worked examples: `rw_program_tests/src/imports.rt`.
 
 mod csv_log;
 mod csv_row;

@@ -5,7 +5,7 @@
 //! some parts and gives the table of all their lines, in the order of the places and without them. What a part says and what
 //! becomes of all of them stands in `rw_sweep/specs/Joining.antt` and in `specs/Join.antt`.
 //!
-//! Worked examples: `rw_tests/src/joins.rt`.
+//! Worked examples: `rw_program_tests/src/joins.rt`.
 
 ghost use Rattle.std.specs.Prelude.{◌≡◌, IfOk, map};
 ghost use Rattle.rw_join.specs.Join.{HasJoined, JoinOfPartsIsTheSweep};

@@ -6,7 +6,7 @@
 //! an arrival: the fewest undoings and a delivery. Nothing here knows what a model's events mean: all rests on the laws of
 //! [`rw_vt::Model`].
 //!
-//! Worked examples: `rw_tests/src/edge_process.rt` and `station_process.rt`.
+//! Worked examples: `rw_process_tests/src/edge_process.rt` and `station_process.rt`.
 
 ghost use Rattle.rw_lp.specs.Sound.{StepsKeepAll};
 

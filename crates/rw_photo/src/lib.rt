@@ -9,7 +9,7 @@
 //! [`Photo`] is a model of `rw_vt`: each event can be taken back, by the marks of what it did to the queue, by what it
 //! counted and by the few numbers that it destroyed.
 //!
-//! Worked examples: `rw_tests/src/edge_process.rt` and `photo_rounds.rt`.
+//! Worked examples: `rw_process_tests/src/edge_process.rt` and `photo_rounds.rt`.
 
 mod awaited;
 mod body;

@@ -5,7 +5,7 @@
 //! measure of the rows of one of these by the size of the flash, a polyline for each policy. What a sweep means, and what is
 //! wrong with one that is refused, stands in `specs/Sweep.antt`; what a text of the file becomes in `specs/Escape.antt`.
 //!
-//! Worked examples: `rw_tests/src/plots.rt`.
+//! Worked examples: `rw_program_tests/src/plots.rt`.
 
 ghost use Rattle.std.specs.Prelude.{◌≡◌, ◌≢◌, Err, IfErr, IsOk, OnOk, true};
 ghost use Rattle.rw_trace.specs.Unread.{records_of};

@@ -2,6 +2,7 @@
 //! Small lawful models, on which generic code is tried beside the photo caches: two stations that pass parcels to and fro, and a
 //! bus stop that calls its bus.
 
+pub mod parcels;
 mod stop;
 
 use rw_vt::{END, Event, Model as VtModel, NoMemory, Refusal};

@@ -3,7 +3,7 @@
 //! may evict, merge and split, the promotion of a hit, and the purge of an object. Each hands back a [`Trail`], by which
 //! [`rewind`] takes the whole of it back (reverse computation: Carothers, Perumalla and Fujimoto, 1999).
 //!
-//! Worked examples: `rw_tests/src/insertions.rt`.
+//! Worked examples: `rw_cache_tests/src/insertions.rt`.
 
 ghost use Rattle.std.specs.Prelude.{◌≡◌};
 ghost use Rattle.rw_ripq.specs.Limits.{exhaustion};

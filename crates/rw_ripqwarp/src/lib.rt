@@ -4,7 +4,7 @@
 //! What is proved of the whole stands in `specs/Headline.antt`, a closed statement for each sentence; [`every_reverse`],
 //! [`any_schedule`] and [`one_report`] carry them, and [`simulate`] does what they speak of, by the engine, [`rw_engine::run_in`].
 //!
-//! Worked examples: `rw_tests/src/reports.rt`, and the cases of `rw_cases`.
+//! Worked examples: `rw_program_tests/src/reports.rt`, and the cases of `rw_cases`.
 
 mod headline;
 mod journal_text;

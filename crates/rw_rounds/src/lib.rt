@@ -10,7 +10,7 @@
 //! gathers what they hold at the end and commits what is final; [`run`] makes rounds until nothing is outstanding. How one round leads to the next
 //! is in `specs/Rounds.antt`.
 //!
-//! Worked examples: `rw_tests/src/relay_rounds.rt`, `relay_worker.rt` and `photo_rounds.rt`.
+//! Worked examples: `rw_round_tests/src/relay_rounds.rt`, `relay_worker.rt` and `photo_rounds.rt`.
 
 mod desk;
 mod gathering;

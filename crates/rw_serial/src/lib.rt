@@ -5,7 +5,7 @@
 //! Warp (Jefferson 1985) is measured by: whatever its schedule, a parallel run is to leave the very journals and states
 //! that this one leaves.
 //!
-//! Worked examples: `rw_tests/src/reports.rt`, and the cases of `rw_cases`.
+//! Worked examples: `rw_program_tests/src/reports.rt`, and the cases of `rw_cases`.
 
 mod ledger;
 mod pending;

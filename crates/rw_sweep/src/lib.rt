@@ -6,7 +6,7 @@
 //! `specs/Sweep.antt` and `specs/Table.antt`. [`sweep_part`] runs it under some of them alone, a [`Part`], so that several
 //! machines can share a sweep: `specs/Parts.antt`. [`list`] tells which configurations a part has.
 //!
-//! Worked examples: `rw_tests/src/sweeps.rt`.
+//! Worked examples: `rw_program_tests/src/sweeps.rt`.
 
 mod axes;
 mod caches;

@@ -6,7 +6,7 @@
 //! one is a row of as many fields. What a trace means is `trace_of` of `specs/Trace.antt`; `specs/Laws.antt` says the
 //! same in the words of the format.
 //!
-//! Worked examples: `rw_tests/src/traces.rt`.
+//! Worked examples: `rw_cache_tests/src/traces.rt`.
 
 ghost use Rattle.std.specs.Prelude.{All, ◌≡◌, ◌≢◌, ◌≤◌, ◌∷◌, [], Ok, Err, Some, IfOk, IfNone, IfSome, length, IfErr, MatchBool, MatchResult, true};
 ghost use Rattle.csv.specs.Reading.{error_kind, stops_reader};

@@ -5,7 +5,7 @@
 //! nothing else is said of how it is computed. The one-thread run, a logical process and the world of all processes all
 //! state their contracts by those definitions.
 //!
-//! Worked examples: `rw_tests/src/edge_process.rt`; every other test goes through a model too.
+//! Worked examples: `rw_process_tests/src/edge_process.rt`; every other test goes through a model too.
 
 mod event;
 mod model;

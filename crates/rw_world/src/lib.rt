@@ -6,7 +6,7 @@
 //! what executing all events in order of time would have done: the contract of [`World::run_steps`] says so, for every
 //! lawful model, and the functions of this page say it of the definitions.
 //!
-//! Worked examples: `rw_tests/src/relay_world.rt`.
+//! Worked examples: `rw_round_tests/src/relay_world.rt`.
 
 ghost use Rattle.rw_world.specs.Laws.{BalancesAddUp, ExchangesKeepSound, FloorIsGreatest, SchedulesLeadInOrder, SoundIsInOrder, StepsKeepSound};
 

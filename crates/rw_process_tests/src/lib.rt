@@ -1,0 +1,17 @@
+#![tactic(auto)]
+//! Worked examples of one process of Time Warp, each as a test: what is expected comes from the definitions, worked by hand.
+//!
+//! They stand above the crates that they work through, so that each of those is proved once, without tests.
+
+#[cfg(test)]
+mod desk;
+#[cfg(test)]
+mod edge_process;
+#[cfg(test)]
+mod held_messages;
+#[cfg(test)]
+mod notes;
+#[cfg(test)]
+mod purges;
+#[cfg(test)]
+mod station_process;

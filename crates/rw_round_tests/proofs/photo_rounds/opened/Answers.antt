@@ -1,0 +1,5 @@
+use Rattle.rw_ripqwarp.proofs.Runs.{ready-at}
+use Rattle.rw_round_tests.proofs.photo_rounds.opened.Goals as goal
+
+pub open-requires : goal.open-requires
+open-requires c = record { ready = ready-at c.args.config.now c.new.result c.in-Ok.starts.items c.in-Ok.initial.items c.new.ensures c.in-Ok.ensures.beginning.ready }

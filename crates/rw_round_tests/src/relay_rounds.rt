@@ -1,0 +1,162 @@
+// The relay run in rounds, also from worlds that drawn steps lead to.
+ghost use Rattle.std.specs.Prelude.{◌≡◌, true};
+ghost use Rattle.rw_relay.specs.Parcels.{is_sound_event};
+
+use rw_relay::parcels::{beginning, parcel};
+use rw_relay::{Parcel, Relay};
+use rw_rounds::{Open, Plan, Sim, Stop, run, run_round};
+use rw_vt::{END, Event, Outcome};
+use rw_world::{World, draw};
+use std::alloc::Global;
+use std::sync::Wait;
+use std::test::Fail;
+use std::thread::Threads;
+
+/// How rounds are run, but for their number: workers, turns, batch, window and ring.
+const PLANS: [(u32, u32, u32, u64, u32); 4] = [
+    (1, 3, 2, END, 1),
+    (2, 2, 1, END, 1),
+    (2, 16, 64, 1, 64),
+    (16, 16, 4096, END, 1),
+];
+
+fn plan(of: (u32, u32, u32, u64, u32), max_rounds: u32) -> Plan {
+    let (workers, turns, batch, window, ring) = of;
+    Plan {
+        workers,
+        turns,
+        batch,
+        window,
+        ring,
+        max_rounds,
+        lazy: false,
+    }
+}
+
+/// A parcel that goes to and fro for a while.
+fn first() -> Event<Parcel>
+    ensures { is_sound_event result ≡ true }
+{
+    parcel(5, 0, 0, 0, 9)
+}
+
+/// Another one, that meets it.
+fn second() -> Event<Parcel>
+    ensures { is_sound_event result ≡ true }
+{
+    parcel(8, 0, 1, 1, 12)
+}
+
+/// A third one, that comes to the station to which the first one does.
+fn third() -> Event<Parcel>
+    ensures { is_sound_event result ≡ true }
+{
+    parcel(8, 0, 1, 0, 12)
+}
+
+fn opened(alloc: Global, most: u64) -> Result<World<Relay>, Fail> {
+    let relay = Relay::new(3, most).ok_or("relay")?;
+    let (starts, initial) = beginning(alloc, first(), second())?;
+    Ok(World::open(alloc, relay, starts, initial)?)
+}
+
+/// The world to which the steps that this seed draws lead.
+fn drawn(alloc: Global, seed: u64) -> Result<World<Relay>, Fail> {
+    let steps = draw(alloc, seed, 60, 2)?;
+    let (world, _answers) = opened(alloc, u64::MAX)?.run_steps(alloc, &steps)?;
+    Ok(world)
+}
+
+/// Two parcels to one station, which can take no further one after the first.
+fn soon_exhausted(alloc: Global) -> Result<World<Relay>, Fail> {
+    let relay = Relay::new(3, 1).ok_or("relay")?;
+    let (starts, initial) = beginning(alloc, first(), third())?;
+    Ok(World::open(alloc, relay, starts, initial)?)
+}
+
+fn in_order(alloc: Global) -> Result<Outcome<Relay>, Fail> {
+    let relay = Relay::new(3, u64::MAX).ok_or("relay")?;
+    let (starts, initial) = beginning(alloc, first(), second())?;
+    Ok(rw_serial::run(alloc, &relay, starts, initial)?)
+}
+
+/// Whether rounds lead from this world to that outcome.
+fn lead<R: Threads + Wait + Sync>(
+    rt: &R,
+    alloc: Global,
+    world: World<Relay>,
+    plan: Plan,
+    want: &Outcome<Relay>,
+) -> bool {
+    let Ok((outcome, _traffic)) = run(rt, alloc, world, plan, &Open) else {
+        return false;
+    };
+    outcome.journals == want.journals && outcome.states == want.states
+}
+
+#[test]
+fn rounds_lead_to_the_outcome_in_order(rt: HostRuntime) -> Result<(), Fail> {
+    let alloc = rt.alloc();
+    let want = in_order(alloc)?;
+    for (seed, of) in (0..).zip(PLANS) {
+        let plan = plan(of, 1_048_576);
+        let from_drawn = lead(&rt, alloc, drawn(alloc, seed)?, plan, &want);
+        assert!(rt; from_drawn, "plan {seed}, from a world that was drawn");
+        let from_opened = lead(&rt, alloc, opened(alloc, u64::MAX)?, plan, &want);
+        assert!(rt; from_opened, "plan {seed}");
+    }
+    Ok(())
+}
+
+/// One round of one worker.
+fn one_round<R: Threads + Wait + Sync>(rt: &R, alloc: Global) -> Result<Sim<Relay>, Fail> {
+    let plan = plan((1, 1, 2, END, 1), 1);
+    let Ok(sim) = Sim::open(opened(alloc, u64::MAX)?, plan) else {
+        return Err(Fail::from("plan"));
+    };
+    match run_round(rt, alloc, sim, &Open) {
+        Ok(sim) => Ok(sim),
+        Err(_) => Err(Fail::from("round")),
+    }
+}
+
+#[test]
+fn a_round_tells_its_floor(rt: HostRuntime) -> Result<(), Fail> {
+    let sim = one_round(&rt, rt.alloc())?;
+    assert!(rt; (sim.floor(), sim.traffic().executed) == (8, 2));
+    Ok(())
+}
+
+/// Whether the first parcel is all that is committed.
+fn has_committed_first(world: &World<Relay>) -> bool {
+    world.journal(0) == [first()].as_slice() && world.journal(1).is_empty()
+}
+
+#[test]
+fn a_round_commits_what_is_before_its_floor(rt: HostRuntime) -> Result<(), Fail> {
+    let world = one_round(&rt, rt.alloc())?.into_world();
+    assert!(rt; has_committed_first(&world));
+    Ok(())
+}
+
+/// Why rounds do not lead to an end.
+fn stop<R: Threads + Wait + Sync>(
+    rt: &R,
+    alloc: Global,
+    world: World<Relay>,
+    plan: Plan,
+) -> Option<Stop> {
+    run(rt, alloc, world, plan, &Open).err()
+}
+
+#[test]
+fn a_run_stops_with_its_reason(rt: HostRuntime) -> Result<(), Fail> {
+    let alloc = rt.alloc();
+    let few = plan((2, 1, 1, END, 1), 3);
+    assert!(rt; stop(&rt, alloc, opened(alloc, u64::MAX)?, few) == Some(Stop::RoundsUsed));
+    let one = plan(PLANS[0], 9);
+    assert!(rt; stop(&rt, alloc, soon_exhausted(alloc)?, one) == Some(Stop::Exhausted));
+    let no_worker = plan((0, 1, 1, 1, 1), 1);
+    assert!(rt; stop(&rt, alloc, opened(alloc, 1)?, no_worker) == Some(Stop::BadPlan));
+    Ok(())
+}

@@ -1,2 +1,0 @@
-pub mod FreeBlocks
-pub mod LaterPorts
