@@ -4,7 +4,7 @@
 
 use rw_command::{Fault, Out, Source, SourceFault, command_at};
 use std::alloc::Global;
-use std::io::{ErrorKind, IsTerminal, Read};
+use std::io::{self, ErrorKind, IsTerminal, Read};
 use std::process::ExitCode;
 use std::rt::{Env, Files};
 use std::{env, fs};
@@ -18,11 +18,7 @@ struct Traces<'a, R> {
 impl<R: Files + Input + AllocGlobal> Source for Traces<'_, R> {
     fn bytes(&mut self, alloc: Global, path: &str) -> Result<Vec<u8>, SourceFault> {
         let read = if path == "-" {
-            let mut bytes = Vec::new(alloc);
-            match self.rt.reader().read_to_end(&mut bytes) {
-                Ok(_) => Ok(bytes),
-                Err(error) => Err(error),
-            }
+            read_input(self.rt, alloc)
         } else {
             fs::read(self.rt, path)
         };
@@ -32,6 +28,13 @@ impl<R: Files + Input + AllocGlobal> Source for Traces<'_, R> {
             Err(_) => Err(SourceFault::Read),
         }
     }
+}
+
+/// All bytes of standard input.
+fn read_input<R: Input>(rt: &R, alloc: Global) -> io::Result<Vec<u8>> {
+    let mut bytes = Vec::new(alloc);
+    rt.reader().read_to_end(&mut bytes)?;
+    Ok(bytes)
 }
 
 fn main(rt: HostRuntime) -> ExitCode {

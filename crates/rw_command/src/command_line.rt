@@ -124,10 +124,11 @@ fn mode(alloc: Global, name: &str, options: &ArgMatches<'_>) -> Result<Mode, Fau
     match name {
         "serial" => Ok(Mode::Serial),
         "warp" => Ok(Mode::Warp(plan(options).ok_or(Fault::Plan)?)),
-        _ => {
+        "journal" => {
             let words = options.get_str("schedule").ok_or(Fault::Plan)?;
             Ok(Mode::Journal(schedule(alloc, words).map_err(Fault::Schedule)?))
         }
+        _ => Err(Fault::Plan),
     }
 }
 

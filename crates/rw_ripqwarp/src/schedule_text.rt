@@ -84,22 +84,14 @@ fn step(word: &[u8]) -> Option<Step>
 fn step_of_letter(letter: u8, number: u64) -> Option<Step>
     ensures { result ≡ step_of_letter letter (Some number) }
 {
-    if letter == b'E' {
-        return Some(Step::Execute(process(number)?));
+    match letter {
+        b'E' => Some(Step::Execute(process(number)?)),
+        b'U' => Some(Step::Undo(process(number)?)),
+        b'L' => Some(Step::UndoLazily(process(number)?)),
+        b'D' => Some(Step::Deliver(number)),
+        b'C' => Some(Step::Collect(number)),
+        _ => None,
     }
-    if letter == b'U' {
-        return Some(Step::Undo(process(number)?));
-    }
-    if letter == b'L' {
-        return Some(Step::UndoLazily(process(number)?));
-    }
-    if letter == b'D' {
-        return Some(Step::Deliver(number));
-    }
-    if letter == b'C' {
-        return Some(Step::Collect(number));
-    }
-    None
 }
 
 /// The process of a number, if it is below 2^32.

@@ -14,7 +14,7 @@ use crate::journal_text::journal;
 use crate::mode::Mode;
 use crate::output::Out;
 use crate::sim_fault::SimFault;
-use crate::text::report_of_states;
+use crate::report_text::report_of_states;
 use rw_engine::{Ran, Traffic, run_in};
 use rw_photo::{Body, CacheState, Config, Photo, requests};
 use rw_trace::{Row, read};

@@ -1,6 +1,6 @@
 use Rattle.std.proofs.Common.{◌≡◌, map, take}
 use Rattle.rw_ripqwarp.specs.Report.{cache_lines, totals}
-use Rattle.rw_ripqwarp.proofs.text.report_of_states.Given as goal
+use Rattle.rw_ripqwarp.proofs.report_text.report_of_states.Given as goal
 
 abbrev pub invariant-loop-process : goal.invariant-loop-process
 invariant-loop-process l = record {

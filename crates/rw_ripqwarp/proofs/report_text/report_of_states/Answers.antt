@@ -5,7 +5,7 @@ use Rattle.rw_photo.specs.declared.counters.Counters.{Counters}
 use Rattle.rw_photo.specs.Counts.{sum_of}
 use Rattle.rw_ripqwarp.specs.Report.{cache_lines, line, name_of, totals}
 use Rattle.rw_ripqwarp.proofs.Lines.{line-append, lines-more, totals-more}
-use Rattle.rw_ripqwarp.proofs.text.report_of_states.Goals as goal
+use Rattle.rw_ripqwarp.proofs.report_text.report_of_states.Goals as goal
 
 pub loop-process-preserved : goal.loop-process-preserved
 loop-process-preserved c =

@@ -1,6 +1,6 @@
 use Rattle.std.proofs.Common.{◌≡◌, true, rules}
 use Rattle.std.specs.Result.{is_ok}
-use Rattle.rw_ripqwarp.proofs.text.write_counters.Goals as goal
+use Rattle.rw_ripqwarp.proofs.report_text.write_counters.Goals as goal
 
 pub returns : goal.returns
 returns c =
