@@ -1,3 +1,4 @@
+pub mod OrderedRows
 pub mod Reversing
 pub mod ValidRows
 pub mod Stores

@@ -6,6 +6,7 @@ pub mod Cache
 pub mod Storing
 pub mod Events
 pub mod Simulation
+pub mod Rows
 -- what takes an event back
 pub mod Undoing
 -- for the contracts inside the crate

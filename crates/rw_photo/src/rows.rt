@@ -23,22 +23,29 @@ pub fn requests(alloc: Global, rows: &[Row]) -> Result<Vec<Event<Body>>, NoMemor
 {
     let mut events = Vec::with_capacity(alloc, rows.len())?;
     for (number, row) in rows.iter().enumerate() {
-        let Row {
-            time,
-            edge,
-            object,
-            size,
-            kind,
-        } = *row;
-        events.push(Event {
-            time,
-            source: 0,
-            number: number as u64,
-            to: edge,
-            body: body_of(kind, object, size),
-        })?;
+        events.push(event_of(number as u64, row))?;
     }
     Ok(events)
+}
+
+/// Row `number` of a trace, as an event from outside.
+pub(crate) fn event_of(number: u64, row: &Row) -> Event<Body>
+    ensures { result ≡ event_of number row.now }
+{
+    let Row {
+        time,
+        edge,
+        object,
+        size,
+        kind,
+    } = *row;
+    Event {
+        time,
+        source: 0,
+        number,
+        to: edge,
+        body: body_of(kind, object, size),
+    }
 }
 
 /// What a row of a kind has happen to an object.

@@ -1,5 +1,6 @@
 #![tactic(auto)]
-//! A whole run on one thread: always the least event that is pending is executed.
+//! A whole run on one thread: always the least event that is pending is executed. The initial events come from a [`Source`],
+//! which may make each of them when it is taken.
 //!
 //! So each process executes its events in order, and none is ever taken back. This is the sequential execution that Time
 //! Warp (Jefferson 1985) is measured by: whatever its schedule, a parallel run is to leave the very journals and states
@@ -7,8 +8,10 @@
 //!
 //! Worked examples: `rw_program_tests/src/reports.rt`, and the cases of `rw_cases`.
 
+mod initial;
 mod ledger;
 mod pending;
+mod source;
 
 ghost use Rattle.std.specs.Prelude.{◌≡◌, ◌<◌, ◌++◌, true, [], ◌∷◌, List, IfOk, IfErr, OnOk, length, map, replicate, slice_get, slice_index_or, slice_set};
 ghost use Rattle.rw_vt.specs.Limits.{end_of_time};
@@ -18,6 +21,7 @@ ghost use Rattle.rw_vt.specs.declared.event.Event.{Event};
 use ledger::{Ledger, NoJournals};
 use pending::Pending;
 pub use rw_vt::{Event, Model, Outcome, Refusal};
+pub use source::{Sorted, Source};
 use std::alloc::{AllocError, Global};
 
 /// Executes all events in order, the initial ones and those that are sent, and gives what each process has then executed
@@ -50,7 +54,8 @@ pub fn run<M: Model>(
 {
     let mut journals = empty_journals::<M>(alloc, starts.len())?;
     let mut states = starts;
-    execute_all(alloc, model, &mut states, &mut journals, initial)?;
+    let source = Sorted::new(initial)?;
+    execute_all(alloc, model, &mut states, &mut journals, source)?;
     Ok(Outcome { journals, states })
 }
 
@@ -72,33 +77,53 @@ pub fn last_states<M: Model>(
         → Meets (system M.Model M.Body.cmp model.now starts.items initial.items) end_of_time
         (M.is_exhausted model.now)) }
 {
+    last_states_from(alloc, model, starts, Sorted::new(initial)?)
+}
+
+/// [`last_states`] where the initial events come from a source, so that they need not be there all at once.
+///
+/// None of them is sorted here. Otherwise it costs what `last_states` costs, and is refused as that is.
+pub fn last_states_from<M: Model, S: Source<M::Body>>(
+    alloc: Global,
+    model: &M,
+    starts: Vec<M::State>,
+    source: S,
+) -> Result<Vec<M::State>, Refusal>
+    requires ready { IsReady M.Model model.now starts.items (S.left source) }
+    ensures outcome { IfOk result (λ states. (journals : List (List (Event M.Body)))
+        × IsOutcome (system M.Model M.Body.cmp model.now starts.items (S.left source)) end_of_time
+        journals states.items) }
+    ensures exhausted { IfErr result (λ r. r ≡ Refusal.Exhausted
+        → Meets (system M.Model M.Body.cmp model.now starts.items (S.left source)) end_of_time
+        (M.is_exhausted model.now)) }
+{
     let mut states = starts;
-    execute_all(alloc, model, &mut states, &mut NoJournals, initial)?;
+    execute_all(alloc, model, &mut states, &mut NoJournals, source)?;
     Ok(states)
 }
 
 /// Executes all events in order, from the states given, and enters each in `ledger`.
 ///
 /// After a refusal nothing is said of `states` and `ledger`.
-fn execute_all<M: Model, L: Ledger<M::Body>>(
+fn execute_all<M: Model, L: Ledger<M::Body>, S: Source<M::Body>>(
     alloc: Global,
     model: &M,
     states: &mut Vec<M::State>,
     ledger: &mut L,
-    initial: Vec<Event<M::Body>>,
+    source: S,
 ) -> Result<(), Refusal>
-    requires ready { IsReady M.Model model.now states.old.items initial.items }
+    requires ready { IsReady M.Model model.now states.old.items (S.left source) }
     requires none { L.StandsFor ledger.old (replicate (length states.old.items) []) }
     ensures outcome { OnOk result ((journals : List (List (Event M.Body)))
         × L.StandsFor ledger.new journals
-        × IsOutcome (system M.Model M.Body.cmp model.now states.old.items initial.items) end_of_time
-        journals states.new.items) }
+        × IsOutcome (system M.Model M.Body.cmp model.now states.old.items (S.left source))
+        end_of_time journals states.new.items) }
     ensures exhausted { IfErr result (λ r.
         r ≡ Refusal.Exhausted
-        → Meets (system M.Model M.Body.cmp model.now states.old.items initial.items) end_of_time
+        → Meets (system M.Model M.Body.cmp model.now states.old.items (S.left source)) end_of_time
         (M.is_exhausted model.now)) }
 {
-    let mut pending = Pending::new(alloc, initial)?;
+    let mut pending = Pending::new(alloc, source);
     let mut sent = Vec::new(alloc);
     while let Some(event) = pending.pop() {
         execute(alloc, model, states, &event, &mut sent)?;

@@ -1,47 +1,48 @@
-ghost use Rattle.std.specs.Prelude.{◌≡◌, ◌++◌, [], ◌∷◌, false, All, IfNone, IfOk, IfSome, IsNone, IsPermutation, IsSome, IsTrue, OnOk};
+ghost use Rattle.std.specs.Prelude.{◌≡◌, ◌++◌, [], ◌∷◌, false, All, IfNone, IfSome, IsNone, IsPermutation, IsSome, IsTrue, OnOk};
 ghost use Rattle.rw_vt.specs.Order.{event_cmp, AtMost};
 
+use crate::initial::Initial;
+use crate::source::Source;
 use rw_vt::Event;
 use std::alloc::{AllocError, Global};
 use std::cmp::Reverse;
-use std::collections::{BinaryHeap, VecDeque};
+use std::collections::BinaryHeap;
 use std::marker::Model;
 
 /// The events that are still to be executed. Contracts see them as a list, in no particular order.
 ///
-/// The initial events are sorted once and then taken from the front; only the events that are sent later go through a
-/// heap. So what is taken costs the logarithm of how many of the sent ones are there.
+/// The initial events come from a source, the least first; only the events that are sent later go through a heap. So what is
+/// taken costs the logarithm of how many of the sent ones are there.
 #[derive(Drop)]
-pub struct Pending<B: Ord + Copy> {
-    /// What is left of the initial events, the least first.
-    initial: VecDeque<Event<B>>,
+pub struct Pending<B: Ord + Copy, S: Source<B>> {
+    /// What is left of the initial events.
+    initial: Initial<B, S>,
     /// The events that were sent, the least on top.
     sent: BinaryHeap<Reverse<Event<B>>>,
 }
 
-impl<B: Ord + Copy> Model for Pending<B> {
+impl<B: Ord + Copy, S: Source<B>> Model for Pending<B, S> {
     ghost use Rattle.std.specs.Prelude.{◌++◌, List, map};
     ghost use Rattle.std.specs.BinaryHeap.{heap_items};
     ghost use Rattle.rw_vt.specs.declared.event.Event.{Event};
-    ghost use Rattle.rw_serial.specs.Pending.{IsQueue};
+    ghost use Rattle.rw_serial.specs.Pending.{IsLeastOnTop};
 
     ghost Value = { List (Event B) };
 
-    ghost view = { λ p. p.initial.items ++ map (λ r. r.0) (heap_items p.sent) };
+    ghost view = { λ p. p.initial ++ map (λ r. r.0) (heap_items p.sent) };
 
-    ghost invariant = { λ p. IsQueue B.cmp p.initial.items (heap_items p.sent) };
+    ghost invariant = { λ p. IsLeastOnTop B.cmp (heap_items p.sent) };
 }
 
-impl<B: Ord + Copy> Pending<B> {
-    /// The initial events. They are sorted here, in linear time where they are sorted already.
-    pub fn new(alloc: Global, mut initial: Vec<Event<B>>) -> Result<Self, AllocError>
-        ensures { IfOk result (IsPermutation initial.items) }
+impl<B: Ord + Copy, S: Source<B>> Pending<B, S> {
+    /// The initial events, which this source gives.
+    pub fn new(alloc: Global, source: S) -> Self
+        ensures { result ≡ S.left source }
     {
-        initial.sort()?;
-        Ok(Pending {
-            initial: VecDeque::from(initial),
+        Pending {
+            initial: Initial::new(source),
             sent: BinaryHeap::new(alloc),
-        })
+        }
     }
 
     /// Takes a least event. `None` only where there is none. Takes no memory.
@@ -50,8 +51,8 @@ impl<B: Ord + Copy> Pending<B> {
         ensures least { IfSome result (λ e. All (AtMost (event_cmp B.cmp) e) self.old) }
         ensures taken { IfSome result (λ e. IsPermutation self.old (e ∷ self.new)) }
     {
-        if is_initial_next(self.initial.front(), self.sent.peek()) {
-            self.initial.pop_front()
+        if is_initial_next(self.initial.first(), self.sent.peek()) {
+            self.initial.pop()
         } else {
             self.sent.pop().map(|Reverse(event)| event)
         }

@@ -1,5 +1,6 @@
-use Rattle.std.proofs.Common.{rules, ◌<◌, ◌^◌, ◌-◌, ◌∙◌, sym, subst, refl, [], ◌∷◌, ◌++◌, get_or, length, replicate}
+use Rattle.std.proofs.Common.{rules, ◌<◌, ◌^◌, ◌-◌, ◌∙◌, sym, subst, refl, [], ◌∷◌, ◌++◌, get_or, length, replicate, IsPermutation}
 use Rattle.std.specs.List.{slice_set}
+use Rattle.std.proofs.lemmas.List.Sorted.{IsPermutation-refl}
 use Rattle.std.proofs.lemmas.Result.{err_from_is_err_and}
 use Rattle.rw_vt.specs.System.{system}
 use Rattle.rw_vt.proofs.Laws.{lawful, laws_of}
@@ -12,8 +13,8 @@ loop-event-init g c =
     let laws = laws_of g.met.M.Model g.met.M.Body.Ord.total in
     let m = c.args.model.now in
     let starts = c.args.states.now.items in
-    let law = lawful laws m starts c.args.initial.items c.requires.ready in
-    (replicate (length starts) [], c.requires.none, midrun_start (system g.M.Model g.M.Body.Ord.cmp m starts c.args.initial.items) law (replicate (length starts) []) c.in_ok-pending.pending refl c.in_ok-pending.ensures)
+    let law = lawful laws m starts (g.S.Source.left c.args.source) c.requires.ready in
+    (replicate (length starts) [], c.requires.none, midrun_start (system g.M.Model g.M.Body.Ord.cmp m starts (g.S.Source.left c.args.source)) law (replicate (length starts) []) c.new-pending.result refl (subst (IsPermutation _) (sym c.new-pending.ensures) (IsPermutation-refl _)))
 
 pub execute-requires-clause-process : goal.execute-requires-clause-process
 execute-requires-clause-process g c =
@@ -60,7 +61,7 @@ returns-in_err-execute-clause-exhausted g c =
     let run = c.loop-event.invariant.2 in
     let inside = next_inside run c.in-Some.ensures.taken c.in-Some.ensures.least in
     let meets = midrun_meets run c.in-Some.ensures.taken c.in-Some.ensures.least (2 ^ 40) inside.time (g.M.Model.is_exhausted c.args.model.now) in
-    let p = err_from_is_err_and c.from_residual-in_err-execute.result c.from_residual-in_err-execute.ensures.1 in
+    let p = err_from_is_err_and c.from_residual.result c.from_residual.ensures.1 in
     rw (p.1, p.2) (λ e. meets (λ s there. c.in_err-execute.ensures.exhausted e s there))
 
 pub returns-clause-outcome : goal.returns-clause-outcome

@@ -9,8 +9,8 @@ abbrev pub invariant-loop-event : goal.invariant-loop-event
 invariant-loop-event g l =
     (journals : _)
     × g.L.Ledger.StandsFor l.ledger journals
-    × IsMidrun (system g.M.Model g.M.Body.Ord.cmp l.model l.fn.states.items l.fn.initial.items) (g.M.Model.IsWellFormed l.model) l.states.items journals l.pending
+    × IsMidrun (system g.M.Model g.M.Body.Ord.cmp l.model l.fn.states.items (g.S.Source.left l.fn.source)) (g.M.Model.IsWellFormed l.model) l.states.items journals l.pending
 
 abbrev pub decreases-loop-event : goal.decreases-loop-event
 decreases-loop-event g l =
-    left (event_cmp g.M.Body.Ord.cmp) (flatten (map_from 0 (λ q _. journal_below (system g.M.Model g.M.Body.Ord.cmp l.model l.fn.states.items l.fn.initial.items) (2 ^ 40) q) l.fn.states.items)) l.pending
+    left (event_cmp g.M.Body.Ord.cmp) (flatten (map_from 0 (λ q _. journal_below (system g.M.Model g.M.Body.Ord.cmp l.model l.fn.states.items (g.S.Source.left l.fn.source)) (2 ^ 40) q) l.fn.states.items)) l.pending

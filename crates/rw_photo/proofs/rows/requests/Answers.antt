@@ -10,7 +10,7 @@ loop-number-preserved c =
     let n = c.loop-number.number in
     let rows = c.args.rows.now in
     let good : is_ok c.push.result ≡ true = search rules in
-    let items = rw (good, c.body_of.ensures) at c.push.ensures.items in
+    let items = rw (good, c.event_of.ensures) at c.push.ensures.items in
     let next : n + 1 ≡ suc n = omega arith in
     rw next (items ∙ rw c.loop-number.invariant (sym (more-rows event_of 0 n rows (record { time = 0; edge = 0; object = 0; size = 0; kind = Get }) c.loop-number-test.true ∙ rw zero-add refl)))
 

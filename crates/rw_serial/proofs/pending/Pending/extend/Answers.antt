@@ -8,4 +8,4 @@ use Rattle.rw_serial.proofs.pending.Pending.extend.Goals as goal
 pub returns : goal.returns
 returns g c =
     let added = items_from_extend c.extend.result c.extend.ensures.ran (YieldsList-from_map _ reversed (YieldsList-from_slice c.args.sent.now (search rules)) refl (λ x r q k. search rules)) in
-    rw (← c.self.view_is) (on_ok_weaker c.extend.result (λ h. pushed c.self.inside.initial.items c.args.sent.now (heap_items c.self.inside.sent) (heap_items c.extend.new.self) h.1) added)
+    rw (← c.self.view_is) (on_ok_weaker c.extend.result (λ h. pushed c.self.inside.initial c.args.sent.now (heap_items c.self.inside.sent) (heap_items c.extend.new.self) h.1) added)

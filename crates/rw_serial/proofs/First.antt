@@ -1,0 +1,34 @@
+-- The first initial event, which stands before the others.
+use Rattle.std.proofs.Common.{◌≡◌, true, List, [], ◌∷◌, ◌++◌, refl, sym, ◌∙◌, ap, subst, Option, Some, None, All, IfSome, IfNone, IsPermutation}
+use Rattle.std.specs.declared.cmp.Ordering.{Ordering}
+use Rattle.std.specs.Option.{option_to_list}
+use Rattle.std.specs.List.{slice_get}
+use Rattle.std.proofs.lemmas.List.Elements.{All-cons}
+use Rattle.std.proofs.lemmas.List.Sorted.{All-permutation}
+use Rattle.rw_vt.specs.declared.event.Event.{Event}
+use Rattle.rw_vt.specs.Order.{AtMost, event_cmp}
+use Rattle.rw_vt.specs.System.{IsReady}
+use Rattle.rw_vt.specs.declared.model.Model.{Ghosts}
+use Rattle.rw_vt.proofs.Sorting.{IsExactOrder, at_most_itself}
+use Rattle.rw_serial.specs.Pending.{StandsBefore}
+
+-- a source's next event stands before what the source then has
+pub stands_before : {B : Type 0} (order : B → B → Ordering) (next : Option (Event B)) (xs rest : List (Event B)) → xs ≡ option_to_list next ++ rest
+    → IfSome next (λ e. All (AtMost (event_cmp order) e) rest) → IfNone next (xs ≡ []) → StandsBefore order next rest
+stands_before order None xs rest is least none = sym is ∙ none
+stands_before order (Some e) xs rest is least none = least
+
+-- so it is the first
+pub first_stands : {B : Type 0} (order : B → B → Ordering) (first : Option (Event B)) (others : List (Event B)) → StandsBefore order first others → first ≡ slice_get (option_to_list first ++ others) 0
+first_stands order None others before = ap (λ l. slice_get l 0) (sym before)
+first_stands order (Some e) others before = refl
+
+-- and a least one
+pub first_least : {B : Type 0} (order : B → B → Ordering) → IsExactOrder (event_cmp order) → (first : Option (Event B)) (others : List (Event B)) → StandsBefore order first others
+    → IfSome first (λ e. All (AtMost (event_cmp order) e) (option_to_list first ++ others))
+first_least order o None others before = tt
+first_least order o (Some e) others before = All-cons (AtMost (event_cmp order) e) e others (at_most_itself o e) before
+
+-- what is ready stays so, in whatever order its initial events are listed
+pub ready_permuted : {M S B U : Type 0} (model : Ghosts M S B U) (m : M) (starts : List S) (xs ys : List (Event B)) → IsPermutation xs ys → IsReady model m starts xs → IsReady model m starts ys
+ready_permuted model m starts xs ys moved ready = record { enough = ready.enough; well_formed = ready.well_formed; valid = All-permutation (λ e. model.is_valid m e ≡ true) xs ys moved ready.valid }

@@ -1,0 +1,23 @@
+use Rattle.std.proofs.Common.{◌^◌, map, subst, sym}
+use Rattle.std.proofs.lemmas.Result.{err_from_is_err_and}
+use Rattle.rw_vt.specs.System.{rules, system, IsOutcome}
+use Rattle.rw_vt.proofs.Laws.{laws_of, rules_lawful}
+use Rattle.rw_serial.proofs.First.{ready_permuted}
+use Rattle.rw_serial.proofs.Permuted.{same_outcome, same_meets}
+use Rattle.rw_serial.proofs.run.Goals as goal
+
+pub execute_all-requires-clause-ready : goal.execute_all-requires-clause-ready
+execute_all-requires-clause-ready g c = ready_permuted g.M.Model c.args.model.now c.args.starts.items c.args.initial.items c.in_ok-source.source c.in_ok-source.ensures c.requires.ready
+
+pub returns-in_err-execute_all-clause-exhausted : goal.returns-in_err-execute_all-clause-exhausted
+returns-in_err-execute_all-clause-exhausted g c =
+    let exact = (rules_lawful (laws_of g.met.M.Model g.met.M.Body.Ord.total) c.args.model.now).exact in
+    let p = err_from_is_err_and c.from_residual-in_err-execute_all.result c.from_residual-in_err-execute_all.ensures.1 in
+    rw (p.1, p.2) (λ e. same_meets (rules g.M.Model g.M.Body.Ord.cmp c.args.model.now) exact c.args.starts.items c.args.initial.items c.in_ok-source.source c.in_ok-source.ensures (2 ^ 40) (g.M.Model.is_exhausted c.args.model.now) (c.in_err-execute_all.ensures.exhausted e))
+
+pub returns-clause-outcome : goal.returns-clause-outcome
+returns-clause-outcome g c =
+    let exact = (rules_lawful (laws_of g.met.M.Model g.met.M.Body.Ord.total) c.args.model.now).exact in
+    let out = c.in_ok-execute_all.ensures.outcome in
+    same_outcome (rules g.M.Model g.M.Body.Ord.cmp c.args.model.now) exact c.args.starts.items c.args.initial.items c.in_ok-source.source c.in_ok-source.ensures (2 ^ 40) (map (λ j. j.items) c.execute_all.new.ledger.items) c.execute_all.new.states.items
+    (subst (λ js. IsOutcome (system g.M.Model g.M.Body.Ord.cmp c.args.model.now c.args.starts.items c.in_ok-source.source) (2 ^ 40) js c.execute_all.new.states.items) (sym out.1) out.2)
