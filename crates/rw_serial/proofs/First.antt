@@ -1,5 +1,5 @@
 -- The first initial event, which stands before the others.
-use Rattle.std.proofs.Common.{◌≡◌, true, List, [], ◌∷◌, ◌++◌, refl, sym, ◌∙◌, ap, subst, Option, Some, None, All, IfSome, IfNone, IsPermutation}
+use Rattle.std.proofs.Common.{◌≡◌, true, List, [], ◌++◌, refl, sym, ◌∙◌, ap, Option, Some, None, All, IfSome, IfNone, IsPermutation}
 use Rattle.std.specs.declared.cmp.Ordering.{Ordering}
 use Rattle.std.specs.Option.{option_to_list}
 use Rattle.std.specs.List.{slice_get}

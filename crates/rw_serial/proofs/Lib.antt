@@ -6,3 +6,5 @@ pub mod Midrun
 pub mod Permuted
 pub mod Queue
 pub mod Sanity
+pub mod ByTime
+pub mod Waiting

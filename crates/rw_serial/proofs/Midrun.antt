@@ -1,6 +1,7 @@
 -- The loop of a run: what holds before each step, and what that gives at the end.
 use Rattle.std.proofs.Common.{◌≡◌, ◌≢◌, ℕ, zero, suc, ◌+◌, ◌-◌, ◌<◌, ◌≤◌, Bool, true, false, cond, ◌&&◌, ◌==◌, List, [], ◌∷◌, ◌++◌, refl, sym, ◌∙◌, ap, subst, arith, Some, filter, inl, inr, ◌⊎◌, zero-add, append_assoc, append-nil, length, get_or, replicate}
 use Rattle.std.proofs.lemmas.Bool.Decides.{nat_tests}
+use Rattle.std.proofs.lemmas.List.Elements.{All-weaker}
 use Rattle.std.proofs.lemmas.Option.{same_Some}
 use Rattle.std.proofs.lemmas.List.{get_or-set_same, get_or-set_other, length-set}
 use Rattle.std.specs.declared.cmp.Ordering.{Ordering}
@@ -191,6 +192,13 @@ module _ {S B : Type 0} {y : System S B} {WellFormed : ℕ → S → Type 0} {ss
         on_the_way = c.1 ∙ ap (λ l. (at_list js x.to ++ l) ++ c.0) b.1 ∙ append_assoc (at_list js x.to) (x ∷ b.0) c.0;
         passes = h (state_after (y.rules.step x.to) start_of.0 (at_list js x.to)) state_there;
       }
+
+  -- what x sends is later
+  pub next_sends_later : (sent : List (Event B)) → ((s : S) → slice_get ss x.to ≡ Some s → sent ≡ (y.rules.step x.to s x).1) → All (λ f. x.time < f.time) sent
+  next_sends_later sent sends =
+      let s = state_after (y.rules.step x.to) start_of.0 (at_list js x.to) in
+      subst (All (λ f. x.time < f.time)) (sym (sends s state_there))
+      (All-weaker (λ f. IsSentBy x.to x f × (y.rules.valid f ≡ true)) (λ f. x.time < f.time) (λ f h. h.0.later) (y.rules.step x.to s x).1 (law.rules.future x.to s x (next_well_formed s state_there) next_valid refl))
 
   -- one step further
   module _ (s : S) (there : slice_get ss x.to ≡ Some s) (ss' : List S) (js' : List (List (Event B))) (Q : List (Event B))

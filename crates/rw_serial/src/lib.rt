@@ -8,10 +8,15 @@
 //!
 //! Worked examples: `rw_program_tests/src/reports.rt`, and the cases of `rw_cases`.
 
+mod fifo;
+mod heap;
 mod initial;
+mod later;
 mod ledger;
 mod pending;
+mod slice;
 mod source;
+mod times;
 
 ghost use Rattle.std.specs.Prelude.{◌≡◌, ◌<◌, ◌++◌, true, [], ◌∷◌, List, IfOk, IfErr, OnOk, length, map, replicate, slice_get, slice_index_or, slice_set};
 ghost use Rattle.rw_vt.specs.Limits.{end_of_time};
@@ -124,8 +129,32 @@ fn execute_all<M: Model, L: Ledger<M::Body>, S: Source<M::Body>>(
         (M.is_exhausted model.now)) }
 {
     let mut pending = Pending::new(alloc, source);
+    execute_pending(alloc, model, states, ledger, &mut pending)
+}
+
+/// Executes all events that are pending, and those that are sent, in order, from the states given, and enters each in `ledger`.
+///
+/// After a refusal nothing is said of `states`, `ledger` and `pending`.
+fn execute_pending<M: Model, L: Ledger<M::Body>, S: Source<M::Body>>(
+    alloc: Global,
+    model: &M,
+    states: &mut Vec<M::State>,
+    ledger: &mut L,
+    pending: &mut Pending<M::Body, S>,
+) -> Result<(), Refusal>
+    requires ready { IsReady M.Model model.now states.old.items pending.old.events }
+    requires none { L.StandsFor ledger.old (replicate (length states.old.items) []) }
+    ensures outcome { OnOk result ((journals : List (List (Event M.Body)))
+        × L.StandsFor ledger.new journals
+        × IsOutcome (system M.Model M.Body.cmp model.now states.old.items pending.old.events)
+        end_of_time journals states.new.items) }
+    ensures exhausted { IfErr result (λ r.
+        r ≡ Refusal.Exhausted
+        → Meets (system M.Model M.Body.cmp model.now states.old.items pending.old.events)
+        end_of_time (M.is_exhausted model.now)) }
+{
     let mut sent = Vec::new(alloc);
-    while let Some(event) = pending.pop() {
+    while let Some(event) = pending.pop()? {
         execute(alloc, model, states, &event, &mut sent)?;
         ledger.enter(event)?;
         pending.extend(&sent)?;

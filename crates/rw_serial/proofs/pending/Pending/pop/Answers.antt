@@ -1,38 +1,35 @@
-use Rattle.std.proofs.Common.{rules, heap_items, ◌≡◌, [], All, IfNone, IfSome, IsNone, subst}
-use Rattle.std.specs.Option.{option_map}
-use Rattle.std.proofs.lemmas.Option.{IfSome_then}
-use Rattle.rw_vt.specs.Order.{event_cmp, AtMost}
-use Rattle.rw_vt.proofs.EventOrder.{events_total}
-use Rattle.rw_serial.proofs.Queue.{least_initial, least_sent, popped, none_initial, none_sent, IfSome-option_map}
+use Rattle.std.proofs.Common.{◌≡◌, ◌++◌, [], ◌∷◌, All, IfNone, IfSome, IsPermutation, subst, sym}
+use Rattle.rw_vt.specs.Order.{AtMost, event_cmp}
+use Rattle.rw_serial.specs.Pending.{AreAround}
+use Rattle.rw_serial.proofs.Waiting.{around_after, least_of_all, nothing_waits, taken_from_all}
 use Rattle.rw_serial.proofs.pending.Pending.pop.Goals as goal
 
-pub returns-then-is_initial_next-clause-least : goal.returns-then-is_initial_next-clause-least
-returns-then-is_initial_next-clause-least g c =
-    subst (λ l. IfSome c.pop.result (λ e. All (AtMost (event_cmp g.B.Ord.cmp) e) l)) c.self.view_is
-    (least_initial (events_total g.met.B.Ord.total) c.pop.result c.self.inside.initial c.pop.new.self (heap_items c.self.inside.sent) c.first.result c.peek.result c.is_initial_next.result
-    c.pop.ensures.taken c.self.invariant c.first.ensures.first c.first.ensures.least c.peek.ensures.item.2 c.peek.ensures.greatest c.if-is_initial_next.true c.is_initial_next.ensures.lesser)
+pub invariant_of-self-2 : goal.invariant_of-self-2
+invariant_of-self-2 g c =
+    let went = c.in_ok-self-inside.ensures in
+    let next = c.take_first-next in
+    subst (λ t. AreAround t next.new.initial next.new.now c.reach.new.later) (sym c.time_or-self-inside.ensures)
+    (around_after g.B.Ord.cmp c.in_ok-self-inside.field-0 c.self.inside.initial c.reach.new.now c.reach.new.later next.new.initial next.new.now next.result went.around went.due next.ensures.taken next.ensures.least)
 
-pub returns-else-is_initial_next-clause-least : goal.returns-else-is_initial_next-clause-least
-returns-else-is_initial_next-clause-least g c =
-    let least = least_sent (events_total g.met.B.Ord.total) c.pop-else-is_initial_next.result c.self.inside.initial (heap_items c.self.inside.sent) (heap_items c.pop-else-is_initial_next.new.self) c.first.result c.peek.result c.is_initial_next.result
-    c.pop-else-is_initial_next.ensures.top c.pop-else-is_initial_next.ensures.heap_order c.pop-else-is_initial_next.ensures.permutation c.self.invariant c.first.ensures.first c.first.ensures.least c.peek.ensures.item.2 c.peek.ensures.lookup c.if-is_initial_next.false c.is_initial_next.ensures.greater in
-    let mapped : c.map.result ≡ option_map (λ r. r.0) c.pop-else-is_initial_next.result = search rules in
-    subst (λ l. IfSome c.map.result (λ e. All (AtMost (event_cmp g.B.Ord.cmp) e) l)) c.self.view_is (IfSome-option_map _ _ c.pop-else-is_initial_next.result c.map.result mapped least)
+pub returns-clause-none : goal.returns-clause-none
+returns-clause-none g c =
+    let went = c.in_ok-self-inside.ensures in
+    let next = c.take_first-next in
+    subst (λ w. IfNone next.result (w.events ≡ [])) c.self.view_is
+    (nothing_waits g.B.Ord.cmp c.self.inside.initial c.self.inside.now c.self.inside.later c.reach.new.now c.reach.new.later next.result next.ensures.none went.due went.moved)
 
-pub returns-else-is_initial_next-clause-taken : goal.returns-else-is_initial_next-clause-taken
-returns-else-is_initial_next-clause-taken g c =
-    let mapped : c.map.result ≡ option_map (λ r. r.0) c.pop-else-is_initial_next.result = search rules in
-    let taken = IfSome_then c.pop-else-is_initial_next.result c.pop-else-is_initial_next.ensures.permutation (λ t h. popped c.self.inside.initial t (heap_items c.self.inside.sent) (heap_items c.pop-else-is_initial_next.new.self) h) in
-    rw (← c.self.view_is) (IfSome-option_map _ _ c.pop-else-is_initial_next.result c.map.result mapped taken)
+pub returns-clause-least : goal.returns-clause-least
+returns-clause-least g c =
+    let went = c.in_ok-self-inside.ensures in
+    let next = c.take_first-next in
+    let t = c.in_ok-self-inside.field-0 in
+    let after = around_after g.B.Ord.cmp t c.self.inside.initial c.reach.new.now c.reach.new.later next.new.initial next.new.now next.result went.around went.due next.ensures.taken next.ensures.least in
+    subst (λ w. IfSome next.result (λ e. All (AtMost (event_cmp g.B.Ord.cmp) e) w.events)) c.self.view_is
+    (least_of_all g.B.Ord.cmp t c.self.inside.initial c.self.inside.now c.self.inside.later next.new.initial c.reach.new.now next.new.now c.reach.new.later next.result next.ensures.least after went.moved)
 
-pub returns-then-is_initial_next-clause-none : goal.returns-then-is_initial_next-clause-none
-returns-then-is_initial_next-clause-none g c =
-    subst (λ l. IfNone c.pop.result (l ≡ [])) c.self.view_is
-    (none_initial c.pop.result c.self.inside.initial (heap_items c.self.inside.sent) c.first.result c.pop.ensures.none c.first.ensures.first (c.is_initial_next.ensures.some c.if-is_initial_next.true))
-
-pub returns-else-is_initial_next-clause-none : goal.returns-else-is_initial_next-clause-none
-returns-else-is_initial_next-clause-none g c =
-    let mapped : c.map.result ≡ option_map (λ r. r.0) c.pop-else-is_initial_next.result = search rules in
-    let no_top : IfNone c.pop-else-is_initial_next.result (IsNone c.peek.result) = search rules in
-    subst (λ l. IfNone c.map.result (l ≡ [])) c.self.view_is
-    (none_sent c.pop-else-is_initial_next.result c.map.result c.self.inside.initial (heap_items c.self.inside.sent) c.first.result c.peek.result c.is_initial_next.result mapped c.if-is_initial_next.false c.is_initial_next.ensures.only no_top c.peek.ensures.item.2 c.first.ensures.first)
+pub returns-clause-taken : goal.returns-clause-taken
+returns-clause-taken g c =
+    let went = c.in_ok-self-inside.ensures in
+    let next = c.take_first-next in
+    subst (λ w. IfSome next.result (λ e. IsPermutation w.events (e ∷ (next.new.initial ++ (next.new.now ++ c.reach.new.later))))) c.self.view_is
+    (taken_from_all g.B.Ord.cmp c.self.inside.initial c.self.inside.now c.self.inside.later next.new.initial c.reach.new.now next.new.now c.reach.new.later next.result went.moved next.ensures.taken)

@@ -1,0 +1,14 @@
+use Rattle.std.proofs.Common.{◌++◌, [], ◌∷◌, ◌∙◌, IsPermutation, ap, append_assoc, subst, sym, take}
+use Rattle.std.proofs.lemmas.List.{take_more}
+use Rattle.std.proofs.lemmas.List.Sorted.{IsPermutation-append_left, IsPermutation-trans}
+use Rattle.rw_serial.proofs.pending.put_all.Goals as goal
+
+pub loop-event-preserved : goal.loop-event-preserved
+loop-event-preserved g c =
+    let es = c.args.events.now in
+    let n = c.loop-event.event-index in
+    let e = c.event-item.result in
+    let so_far = c.args.later.now ++ take n es in
+    subst (λ l. IsPermutation (c.args.later.now ++ l) c.put.new.self) (sym (take_more es n e c.loop-event-test.true ∙ ap (λ w. take n es ++ w ∷ []) (sym c.event-item.is)))
+    (subst (λ l. IsPermutation l c.put.new.self) (append_assoc c.args.later.now (take n es) (e ∷ []))
+    (IsPermutation-trans (so_far ++ e ∷ []) (c.loop-event.later ++ e ∷ []) c.put.new.self (IsPermutation-append_left (e ∷ []) so_far c.loop-event.later c.loop-event.invariant) c.in_ok-put.ensures.added))

@@ -1,0 +1,71 @@
+ghost use Rattle.std.specs.Prelude.{◌≡◌, ◌++◌, [], All, IfNone, IfSome, IsPermutation, option_copied, option_to_list, slice_get};
+ghost use Rattle.rw_vt.specs.Order.{event_cmp, AtMost};
+
+use rw_vt::Event;
+use std::alloc::Global;
+use std::marker::Model;
+use std::mem;
+
+/// Events of one time, the least first. Contracts see those that are left, as a list in order.
+#[derive(Drop)]
+pub struct Slice<B: Ord + Copy> {
+    events: Vec<Event<B>>,
+    /// How many of them are taken already.
+    taken: usize,
+}
+
+impl<B: Ord + Copy> Model for Slice<B> {
+    ghost use Rattle.std.specs.Prelude.{◌≤◌, List, drop, length};
+    ghost use Rattle.std.specs.List.Sorted.{IsSorted};
+    ghost use Rattle.rw_vt.specs.declared.event.Event.{Event};
+    ghost use Rattle.rw_vt.specs.Order.{event_cmp};
+
+    ghost Value = { List (Event B) };
+
+    ghost view = { λ s. drop s.taken s.events.items };
+
+    ghost invariant = { λ s. (s.taken ≤ length s.events.items)
+        × IsSorted (event_cmp B.cmp) (drop s.taken s.events.items) };
+}
+
+impl<B: Ord + Copy> Slice<B> {
+    /// No events.
+    pub fn new(alloc: Global) -> Self
+        ensures { result ≡ [] }
+    {
+        Slice {
+            events: Vec::new(alloc),
+            taken: 0,
+        }
+    }
+
+    /// The first event, which is a least one. `None` only where none is left.
+    #[inline]
+    pub fn first(&self) -> Option<&Event<B>>
+        ensures first { option_copied result ≡ slice_get self.now 0 }
+        ensures least { IfSome result (λ e. All (AtMost (event_cmp B.cmp) e.now) self.now) }
+    {
+        self.events.get(self.taken)
+    }
+
+    /// Takes the first event. `None` only where none is left.
+    #[inline]
+    pub fn pop(&mut self) -> Option<Event<B>>
+        ensures taken { self.old ≡ option_to_list result ++ self.new }
+        ensures none { IfNone result (self.old ≡ []) }
+    {
+        let event = *self.events.get(self.taken)?;
+        self.taken += 1;
+        Some(event)
+    }
+
+    /// Takes these events in, where none is left, and sorts them.
+    pub fn fill(&mut self, events: &mut Vec<Event<B>>)
+        requires { self.old ≡ [] }
+        ensures { IsPermutation events.old.items self.new }
+    {
+        mem::swap(&mut self.events, events);
+        self.events.sort_unstable();
+        self.taken = 0;
+    }
+}
