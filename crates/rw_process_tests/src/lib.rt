@@ -1,8 +1,11 @@
 #![tactic(auto)]
-//! Worked examples of one process of Time Warp, each as a test: what is expected comes from the definitions, worked by hand.
+//! Worked examples of one process of Time Warp and of the bags in which its events wait, each as a test: what is
+//! expected comes from the definitions, worked by hand.
 //!
 //! They stand above the crates that they work through, so that each of those is proved once, without tests.
 
+#[cfg(test)]
+mod bags;
 #[cfg(test)]
 mod desk;
 #[cfg(test)]
