@@ -4,3 +4,4 @@ pub mod Written
 pub mod Words
 pub mod Journals
 pub mod Ways
+pub mod InOrder

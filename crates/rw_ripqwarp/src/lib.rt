@@ -2,7 +2,8 @@
 //! The program as a library: from the bytes of a trace to the bytes of a report, or of a journal under a schedule.
 //!
 //! What is proved of the whole stands in `specs/Headline.antt`, a closed statement for each sentence; [`every_reverse`],
-//! [`any_schedule`] and [`one_report`] carry them, and [`simulate`] does what they speak of, by the engine, [`rw_engine::run_in`].
+//! [`any_schedule`] and [`one_report`] carry them, and [`simulate`] does what they speak of: on one thread by
+//! [`last_states_of_rows`], else by the engine, [`rw_engine::run_in`].
 //!
 //! Worked examples: `rw_program_tests/src/reports.rt`, and the cases of `rw_cases`.
 
@@ -25,4 +26,4 @@ pub use rw_trace::TraceFault;
 pub use rw_vt::{Event, NoMemory, Outcome, Refusal};
 pub use schedule_text::{ScheduleFault, schedule};
 pub use sim_fault::SimFault;
-pub use simulation::{beginning, beginning_of_rows, simulate};
+pub use simulation::{beginning, beginning_of_rows, last_states_of_rows, simulate};

@@ -1,13 +1,15 @@
 ghost use Rattle.std.specs.Prelude.{◌≡◌, ◌≢◌, ◌^◌, ◌↔◌, ℕ, List, Err, Some, All, IfOk, IfErr, OnOk, slice_get};
 ghost use Rattle.std.specs.Io.KnownBytes.{Appends};
-ghost use Rattle.rw_photo.specs.Cache.{Cache, IsWellFormed};
+ghost use Rattle.rw_photo.specs.Cache.{Cache, IsWellFormed, is_exhausted};
 ghost use Rattle.rw_photo.specs.Simulation.{simulation, starts_of};
 ghost use Rattle.rw_photo.specs.contracts.photo.PhotoVtModel.TheImpl as model;
 ghost use Rattle.rw_trace.specs.Laws.{IsRow};
-ghost use Rattle.rw_vt.specs.System.{IsReady};
+ghost use Rattle.rw_vt.specs.Limits.{end_of_time};
+ghost use Rattle.rw_vt.specs.System.{IsOutcome, IsReady, Meets};
+ghost use Rattle.rw_vt.specs.declared.event.Event.{Event};
 ghost use Rattle.rw_engine.specs.Runs.{no_traffic};
 ghost use Rattle.rw_ripqwarp.specs.Sink.{AppendsBeginning};
-ghost use Rattle.rw_ripqwarp.specs.Simulate.{IsBeginningOf, IsTextOf, IsWarp, HasGoodPlan, IsRunFault, IsBeginningFault};
+ghost use Rattle.rw_ripqwarp.specs.Simulate.{IsBeginningOf, IsReportOf, IsTextOf, IsWarp, HasGoodPlan, IsRunFault, IsBeginningFault};
 ghost use Rattle.rw_ripqwarp.specs.Headline.{HasWritten, HasWrittenBeginning};
 
 use crate::journal_text::journal;
@@ -16,9 +18,10 @@ use crate::output::Out;
 use crate::sim_fault::SimFault;
 use crate::report_text::report_of_states;
 use rw_engine::{Ran, Traffic, run_in};
-use rw_photo::{Body, CacheState, Config, Photo, requests};
+use rw_photo::{Body, CacheState, Config, OrderedRequests, Photo, requests};
+use rw_serial::{last_states, last_states_from};
 use rw_trace::{Row, read};
-use rw_vt::{Event, Model as VtModel, NoMemory};
+use rw_vt::{Event, Model as VtModel, NoMemory, Refusal};
 use std::alloc::Global;
 use std::io::Write;
 use std::sync::Wait;
@@ -61,6 +64,37 @@ pub fn simulate<W: Write, R: Threads + Wait + Sync>(
 
 /// The text of a run, and what its rounds did.
 fn text_of<R: Threads + Wait + Sync>(
+    rt: &R,
+    alloc: Global,
+    bytes: &[u8],
+    config: &Config,
+    mode: Mode,
+) -> Result<(Vec<u8>, Traffic), SimFault>
+    ensures text { IfOk result (λ r. IsTextOf mode config.now bytes.now r.0.items) }
+    ensures still { IfOk result (λ r. (IsWarp mode → ⊥) → r.1 ≡ no_traffic) }
+    ensures in_range { OnOk result (HasGoodPlan mode) }
+    ensures fault { IfErr result (IsRunFault mode config.now bytes.now) }
+    ensures unwritten { IfErr result (λ e. e ≢ SimFault.Output) }
+{
+    match mode {
+        Mode::Serial => Ok((serial_text(alloc, bytes, config)?, Traffic::default())),
+        mode => engine_text(rt, alloc, bytes, config, mode),
+    }
+}
+
+/// The report of a run on one thread. The requests of a trace whose rows stand in order of time are not there all at once.
+fn serial_text(alloc: Global, bytes: &[u8], config: &Config) -> Result<Vec<u8>, SimFault>
+    ensures text { IfOk result (λ text. IsReportOf config.now bytes.now text.items) }
+    ensures fault { IfErr result (IsRunFault Mode.Serial config.now bytes.now) }
+    ensures unwritten { IfErr result (λ e. e ≢ SimFault.Output) }
+{
+    let trace = read(alloc, bytes, config.edges())?;
+    let states = last_states_of_rows(alloc, trace.as_slice(), config)?;
+    Ok(report_of_states(alloc, config, states.as_slice())?)
+}
+
+/// The text of a run that the engine makes, in any mode, and what its rounds did.
+fn engine_text<R: Threads + Wait + Sync>(
     rt: &R,
     alloc: Global,
     bytes: &[u8],
@@ -116,6 +150,33 @@ pub fn beginning_of_rows(
     let initial = requests(alloc, rows)?;
     let starts = starts(alloc, &Photo::new(*config))?;
     Ok((starts, initial))
+}
+
+/// The state of each cache once the requests of these rows, and all that follows from them, are executed in order of time. The
+/// rows are in the ranges of a trace of the configuration's edges. Where they stand in order of time, each request is made when
+/// its turn comes, so that they are not there all at once.
+///
+/// # Errors
+///
+/// `Exhausted` only where that comes to a cache that can take no further event, and `Memory` only where memory was refused.
+pub fn last_states_of_rows(
+    alloc: Global,
+    rows: &[Row],
+    config: &Config,
+) -> Result<Vec<CacheState>, Refusal>
+    requires { All (IsRow config.now.edges) rows.now }
+    ensures outcome { IfOk result (λ states. (journals : List (List (Event Body)))
+        × IsOutcome (simulation config.now rows.now) end_of_time journals states.items) }
+    ensures exhausted { IfErr result (λ r. r ≡ Refusal.Exhausted
+        → Meets (simulation config.now rows.now) end_of_time is_exhausted) }
+{
+    let photo = Photo::new(*config);
+    let Some(source) = OrderedRequests::new(rows) else {
+        let (starts, initial) = beginning_of_rows(alloc, rows, config)?;
+        return last_states(alloc, &photo, starts, initial);
+    };
+    let starts = starts(alloc, &photo)?;
+    last_states_from(alloc, &photo, starts, source)
 }
 
 /// Each cache as it starts.

@@ -1,5 +1,5 @@
 -- The serial run of a configuration.
-use Rattle.std.proofs.Common.{◌≡◌, ℕ, ◌+◌, List, [], ◌∷◌, suc, refl, sym, ◌∙◌, ap, subst, length}
+use Rattle.std.proofs.Common.{◌≡◌, ℕ, ◌+◌, List, [], ◌∷◌, suc, refl, sym, ◌∙◌, ap, length}
 use Rattle.std.proofs.Common.{Result, Ok, Err}
 use Rattle.std.specs.Result.{IfErr, IsErrAnd}
 use Rattle.std.specs.Global.{Vec}
@@ -10,30 +10,12 @@ use Rattle.rw_sweep.specs.Working.{IsExhaustedAt, IsResultOf}
 use Rattle.std.proofs.lemmas.List.FromFn.{length-map-range_with_len}
 use Rattle.rw_vt.specs.declared.event.Event.{Event}
 use Rattle.rw_vt.specs.Limits.{end_of_time}
-use Rattle.rw_vt.specs.System.{IsOutcome, IsReady, state_after, journal_below, map_from, system}
+use Rattle.rw_vt.specs.System.{IsOutcome, state_after, journal_below, map_from}
 use Rattle.rw_trace.specs.declared.Row.{Row}
 use Rattle.rw_photo.specs.declared.body.Body.{Body}
 use Rattle.rw_photo.specs.declared.config.Config.{Config}
-use Rattle.rw_photo.specs.declared.photo.Photo.{Photo}
-use Rattle.rw_photo.specs.contracts.photo.PhotoVtModel.TheImpl as model
-use Rattle.rw_photo.specs.contracts.body.BodyOrd.TheImpl as order
 use Rattle.rw_photo.specs.Cache.{Cache, start}
 use Rattle.rw_photo.specs.Simulation.{simulation}
-
--- any model of the configuration may run what is ready for one
-pub ready-at : (c : Config) (m : Photo) (starts : List Cache) (initial : List (Event Body)) → m.config ≡ c → IsReady model.ghosts (record { config = c }) starts initial
-    → IsReady model.ghosts m starts initial
-ready-at c m starts initial is r = subst (λ (k : Config). IsReady model.ghosts (record { config = k }) starts initial) (sym is) r
-
--- the run is the simulation of the configuration
-pub simulates : (c : Config) (m : Photo) (rows : List Row) (starts : List Cache) (initial : List (Event Body)) → m.config ≡ c
-    → starts ≡ (simulation c rows).starts → initial ≡ (simulation c rows).initial → system model.ghosts order.ghosts.cmp m starts initial ≡ simulation c rows
-simulates c m rows starts initial config first events i =
-    record {
-      rules = (simulation (config i) rows).rules;
-      starts = first i;
-      initial = events i;
-    }
 
 length-map_from : {A C : Type 0} (k : ℕ) (f : ℕ → A → C) (xs : List A) → length (map_from k f xs) ≡ length xs
 length-map_from k f [] = refl

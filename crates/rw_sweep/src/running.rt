@@ -3,9 +3,7 @@ ghost use Rattle.rw_sweep.specs.Working.{CanRun, IsResultOf};
 
 use crate::point::Point;
 use crate::table::lines;
-use rw_photo::Photo;
-use rw_ripqwarp::beginning_of_rows;
-use rw_serial::last_states;
+use rw_ripqwarp::last_states_of_rows;
 use rw_trace::Row;
 use rw_vt::Refusal;
 use std::alloc::Global;
@@ -19,8 +17,7 @@ pub(crate) fn run_one(alloc: Global, rows: &[Row], point: &Point) -> Result<Vec<
     requires { CanRun rows.now point.now }
     ensures { IsResultOf rows.now point.now result }
 {
-    let (starts, initial) = beginning_of_rows(alloc, rows, &point.config)?;
-    let states = last_states(alloc, &Photo::new(point.config), starts, initial)?;
+    let states = last_states_of_rows(alloc, rows, &point.config)?;
     let text = lines(alloc, point, states.as_slice())?;
     Ok(text)
 }

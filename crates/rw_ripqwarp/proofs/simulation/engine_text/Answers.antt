@@ -9,7 +9,7 @@ use Rattle.rw_ripqwarp.specs.Report.{report_text}
 use Rattle.rw_ripqwarp.specs.Simulate.{IsTextOf}
 use Rattle.rw_ripqwarp.proofs.Runs.{ready-at}
 use Rattle.rw_ripqwarp.proofs.Ways.{journaled, last-states, length-last, reported, stepped, stop-is-fault}
-use Rattle.rw_ripqwarp.proofs.simulation.text_of.Goals as goal
+use Rattle.rw_ripqwarp.proofs.simulation.engine_text.Goals as goal
 
 pub run_in-requires-after_bounds : goal.run_in-requires-after_bounds
 run_in-requires-after_bounds g c κs within =
