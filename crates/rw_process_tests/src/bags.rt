@@ -1,6 +1,6 @@
 // Bags of parcels, through every call. What comes back is worked by hand from their order.
-use rw_relay::parcels::parcel;
 use rw_bag::{Bag, CountedBag};
+use rw_relay::parcels::parcel;
 use rw_relay::{Parcel, Relay};
 use rw_vt::{END, Event};
 use std::test::Fail;

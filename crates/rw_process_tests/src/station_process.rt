@@ -2,8 +2,8 @@
 use crate::desk::Call::{Arrive, Collect, Deliver, ExecuteNext, UndoOne};
 use crate::desk::Line::{Ahead, Copies, Gives, Refuses, Settled, Shows};
 use crate::desk::{Desk, Line};
-use rw_relay::parcels::{parcel, station};
 use rw_lp::StepFault;
+use rw_relay::parcels::{parcel, station};
 use rw_relay::{Parcel, Relay, Station};
 use rw_vt::{END, Event, Letter};
 use std::alloc::Global;

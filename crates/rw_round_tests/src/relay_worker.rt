@@ -3,8 +3,8 @@ ghost use Rattle.std.specs.Prelude.{◌≡◌, true, [], ◌∷◌, IfOk};
 ghost use Rattle.rw_exchange.specs.Ports.{IsWide};
 ghost use Rattle.rw_rounds.specs.Turns.{IsFit};
 
-use rw_relay::parcels::{parcel, station};
 use rw_lp::Lp;
+use rw_relay::parcels::{parcel, station};
 use rw_relay::{Parcel, Relay};
 use rw_rounds::{Board, Plan, Port, Seat, Worker};
 use rw_vt::{END, Event, Letter, Model};
