@@ -15,7 +15,8 @@ use std::io::Write;
 use std::thread::{Threads, available_parallelism};
 
 /// Runs the trace that the options name through every combination of what they list, or through those of a part, and writes
-/// the table; or only lists them. On a terminal one line of `err` shows how many are done, unless the options ask for quiet.
+/// the table, the lines of each as they are done; or only lists them. On a terminal one line of `err` shows how many are done,
+/// unless the options ask for quiet; it is taken away before lines go out, which may stand on the same terminal.
 pub(crate) fn sweep<S: Source, W: Write, E: Write, R: Threads + Sync>(
     rt: &R,
     alloc: Global,
@@ -146,5 +147,9 @@ impl<E: Write> Progress for Shown<'_, E> {
         if self.terminal {
             write_over(self.err, format_args!("sweep {done} of {of}"));
         }
+    }
+
+    fn about_to_write(&mut self) {
+        self.clear();
     }
 }

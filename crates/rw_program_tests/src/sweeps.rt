@@ -58,12 +58,17 @@ fn three_policies_over_two_requests(rt: HostRuntime) {
 struct Told {
     times: u64,
     last: (u64, u64),
+    writes: u64,
 }
 
 impl Progress for Told {
     fn done(&mut self, done: u64, of: u64) {
         self.times = self.times.saturating_add(1);
         self.last = (done, of);
+    }
+
+    fn about_to_write(&mut self) {
+        self.writes = self.writes.saturating_add(1);
     }
 }
 
@@ -75,10 +80,11 @@ fn one_worker_tells_of_each_configuration(rt: HostRuntime) -> Result<(), Fail> {
     let mut told = Told {
         times: 0,
         last: (0, 0),
+        writes: 0,
     };
     let swept = sweep(&rt, alloc, TRACE, &grid, 1, &mut told, &mut out);
     assert!(rt; swept.is_ok() && grid.len() == 3 && !grid.is_empty());
-    assert!(rt; told.times == 4 && told.last == (3, 3));
+    assert!(rt; told.times == 6 && told.last == (3, 3) && told.writes == 3);
     Ok(())
 }
 
@@ -127,5 +133,34 @@ fn faults_of_a_sweep(rt: HostRuntime) -> Result<(), Fail> {
     let cut_off = sweep(&rt, alloc, TRACE, &grid, 2, &mut Silent, &mut out);
     assert!(rt; matches!(cut_off, Err(SimFault::Output)) && out.failures() == 1);
     assert!(rt; out.into_inner().held.as_slice() == &TABLE[..200]);
+    Ok(())
+}
+
+/// The first lines of the table.
+fn first_lines(count: usize) -> &'static [u8] {
+    let mut left = count;
+    for (end, byte) in TABLE.iter().enumerate() {
+        if left == 0 {
+            return &TABLE[..end];
+        }
+        if *byte == b'\n' {
+            left -= 1;
+        }
+    }
+    TABLE
+}
+
+#[test]
+fn a_writer_that_fails_holds_whole_lines(rt: HostRuntime) -> Result<(), Fail> {
+    let alloc = rt.alloc();
+    let grid = Grid::new(alloc, axes(alloc, 3, 10)?).ok().ok_or("grid")?;
+    for (fails_in, lines) in [(0, 0), (1, 1), (2, 4), (3, 7)] {
+        for workers in [1, 2] {
+            let mut out = Out::new(Pipe::new(alloc, 1000, fails_in, false));
+            let swept = sweep(&rt, alloc, TRACE, &grid, workers, &mut Silent, &mut out);
+            assert!(rt; matches!(swept, Err(SimFault::Output)) && out.failures() == 1);
+            assert!(rt; out.into_inner().held.as_slice() == first_lines(lines));
+        }
+    }
     Ok(())
 }

@@ -4,6 +4,7 @@ pub mod Joining
 pub mod Lists
 pub mod Serial
 pub mod Slots
+pub mod Taken
 pub mod Tables
 pub mod ThreeLines
 pub mod Totals

@@ -1,16 +1,23 @@
 -- The parts of a sweep: some of its configurations, each line behind the place of its own.
-use Rattle.std.specs.Prelude.{◌≡◌, ℕ, ◌%◌, ◌==◌, Bool, List, ◌++◌, codes, decimal, Ok, Option}
-use Rattle.std.specs.List.{AllZip, enumerate_from, filter, flat_map}
+use Rattle.std.specs.Prelude.{◌≡◌, ℕ, ◌%◌, ◌==◌, Bool, List, ◌++◌, codes, decimal, Ok, Err, Option}
+use Rattle.std.specs.List.{AllZip, Contains, enumerate_from, filter, flat_map}
 use Rattle.std.specs.Io.KnownBytes.{Appends}
 use Rattle.rw_vt.specs.Words.{Count, Position}
+use Rattle.rw_vt.specs.System.{Meets}
+use Rattle.rw_vt.specs.Limits.{end_of_time}
 use Rattle.rw_trace.specs.declared.Row.{Row}
 use Rattle.rw_trace.specs.Limits.{most_rows}
 use Rattle.rw_trace.specs.Trace.{trace_of}
 use Rattle.rw_trace.specs.Unread.{records_of}
+use Rattle.rw_photo.specs.declared.config.Config.{Config}
+use Rattle.rw_photo.specs.Cache.{is_exhausted}
+use Rattle.rw_photo.specs.Simulation.{simulation}
 use Rattle.rw_ripqwarp.specs.Sink.{AppendsBeginning}
+use Rattle.rw_ripqwarp.specs.declared.sim_fault.SimFault.{SimFault}
+use Rattle.rw_ripqwarp.specs.declared.sim_fault.SimFault.TheVariants as sim
 use Rattle.rw_sweep.specs.declared.axes.Axes.{Axes}
 use Rattle.rw_sweep.specs.declared.choice.Choice.{Choice}
-use Rattle.rw_sweep.specs.Grids.{combinations}
+use Rattle.rw_sweep.specs.Grids.{IsConfigOf, combinations}
 use Rattle.rw_sweep.specs.Sweep.{AreLinesOfChoice}
 use Rattle.rw_sweep.specs.Table.{header_line}
 
@@ -54,7 +61,43 @@ abbrev pub HasSweptPart : Axes → ℕ → Count → List ℕ → Option (List �
 HasSweptPart a index count bytes before after =
     (text : List ℕ) × IsPartSweepOf a index count bytes text × Appends before after text
 
--- what went out of a part that the writer cut off is a beginning of its table
+-- the text is a beginning of that part, which ends where the lines of a combination end: the combinations of the part are some first
+-- ones and the rest, and behind the header stand the lines of each of the first ones, in their order, each line behind its place
+pub record IsPartSweepOfFirst (a : Axes) (index : ℕ) (count : Count) (bytes text : List ℕ) : Type 0 where
+  pub rows : List Row
+  pub first : List (Position × Choice)
+  pub rest : List (Position × Choice)
+  pub lines : List LinesAt
+  pub accepted : trace_of a.edges most_rows (records_of bytes) ≡ Ok rows
+  pub parted : dealt index count (combinations a) ≡ first ++ rest
+  pub each : AllZip (AreLinesOfPlaced a rows) first lines
+  pub told : text ≡ part_header ++ flat_map (λ ls. flat_map (placed_line ls.place) ls.lines) lines
+
+-- a sweep of a part has written the header and the lines of its first combinations, whole, and nothing more
+abbrev pub HasSweptPartFirst : Axes → ℕ → Count → List ℕ → Option (List ℕ) → Option (List ℕ) → Type 0
+HasSweptPartFirst a index count bytes before after =
+    (text : List ℕ) × IsPartSweepOfFirst a index count bytes text × Appends before after text
+
+-- what went out of a part that the writer cut off is a beginning of the header and the lines of its first combinations
 abbrev pub HasSweptPartBeginning : Axes → ℕ → Count → List ℕ → Option (List ℕ) → Option (List ℕ) → Type 0
 HasSweptPartBeginning a index count bytes before after =
-    (text : List ℕ) × IsPartSweepOf a index count bytes text × AppendsBeginning before after text
+    (text : List ℕ) × IsPartSweepOfFirst a index count bytes text × AppendsBeginning before after text
+
+-- the trace in these bytes is accepted, and executing it in order of time under one of the combinations of the part comes to a cache
+-- that can take no further event
+pub record IsExhaustingPart (a : Axes) (index : ℕ) (count : Count) (bytes : List ℕ) : Type 0 where
+  pub rows : List Row
+  pub at : Position × Choice
+  pub config : Config
+  pub accepted : trace_of a.edges most_rows (records_of bytes) ≡ Ok rows
+  pub among : Contains (dealt index count (combinations a)) at
+  pub config_is : IsConfigOf a at.1 config
+  pub met : Meets (simulation config rows) end_of_time is_exhausted
+
+-- why a part has no table, or could not write it; want of memory may come anywhere
+abbrev pub IsPartSweepFault : Axes → ℕ → Count → List ℕ → SimFault → Type 0
+IsPartSweepFault a index count bytes (sim.Trace f) = trace_of a.edges most_rows (records_of bytes) ≡ Err f
+IsPartSweepFault a index count bytes sim.Exhausted = IsExhaustingPart a index count bytes
+IsPartSweepFault a index count bytes sim.Output = Unit {0}
+IsPartSweepFault a index count bytes sim.Memory = Unit {0}
+IsPartSweepFault a index count bytes _ = ⊥

@@ -48,9 +48,25 @@ pub record IsSweepOf (a : Axes) (bytes text : List ℕ) : Type 0 where
 abbrev pub HasSwept : Axes → List ℕ → Option (List ℕ) → Option (List ℕ) → Type 0
 HasSwept a bytes before after = (text : List ℕ) × IsSweepOf a bytes text × Appends before after text
 
--- what went out of a sweep that the writer cut off is a beginning of its table
+-- the text is a beginning of that table, which ends where the lines of a combination end: the combinations are some first ones and
+-- the rest, and behind the header stand the lines of each of the first ones, in their order
+pub record IsSweepOfFirst (a : Axes) (bytes text : List ℕ) : Type 0 where
+  pub rows : List Row
+  pub first : List Choice
+  pub rest : List Choice
+  pub lines : List (List (List ℕ))
+  pub accepted : trace_of a.edges most_rows (records_of bytes) ≡ Ok rows
+  pub parted : combinations a ≡ first ++ rest
+  pub each : AllZip (AreLinesOfChoice a rows) first lines
+  pub told : text ≡ header_line ++ flat_map concat lines
+
+-- a sweep has written the header and the lines of its first combinations, whole, and nothing more
+abbrev pub HasSweptFirst : Axes → List ℕ → Option (List ℕ) → Option (List ℕ) → Type 0
+HasSweptFirst a bytes before after = (text : List ℕ) × IsSweepOfFirst a bytes text × Appends before after text
+
+-- what went out of a sweep that the writer cut off is a beginning of the header and the lines of its first combinations
 abbrev pub HasSweptBeginning : Axes → List ℕ → Option (List ℕ) → Option (List ℕ) → Type 0
-HasSweptBeginning a bytes before after = (text : List ℕ) × IsSweepOf a bytes text × AppendsBeginning before after text
+HasSweptBeginning a bytes before after = (text : List ℕ) × IsSweepOfFirst a bytes text × AppendsBeginning before after text
 
 -- the trace in these bytes is accepted, and executing it in order of time under one of the combinations comes to a cache that can
 -- take no further event

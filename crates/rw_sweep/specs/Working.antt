@@ -1,6 +1,7 @@
 -- What those who work on a sweep need and make.
-use Rattle.std.specs.Prelude.{◌≡◌, ◌<◌, ℕ, List, [], ◌++◌, codes, decimal, length, All, Option, Some, None, IfSome, Result, Ok, MatchResult, slice_index_or}
-use Rattle.std.specs.List.{AllZip, concat, flat_map}
+use Rattle.std.specs.Prelude.{◌≡◌, ◌<◌, ℕ, Bool, List, [], ◌++◌, codes, decimal, length, All, Option, Some, None, IfSome, Result, Ok, Err, MatchBool, MatchResult, slice_index_or}
+use Rattle.std.specs.List.{AllZip, Any, concat, flat_map}
+use Rattle.std.specs.Io.KnownBytes.{Appends}
 use Rattle.std.specs.Global.{Vec}
 use Rattle.rw_vt.specs.declared.refusal.Refusal.{Refusal}
 use Rattle.rw_vt.specs.declared.refusal.Refusal.TheVariants.{Exhausted}
@@ -14,6 +15,9 @@ use Rattle.rw_trace.specs.Trace.{trace_of}
 use Rattle.rw_trace.specs.Unread.{records_of}
 use Rattle.rw_photo.specs.Cache.{is_exhausted}
 use Rattle.rw_photo.specs.Simulation.{simulation}
+use Rattle.rw_ripqwarp.specs.Sink.{AppendsBeginning}
+use Rattle.rw_ripqwarp.specs.declared.sim_fault.SimFault.{SimFault}
+use Rattle.rw_ripqwarp.specs.declared.sim_fault.SimFault.TheVariants as sim
 use Rattle.rw_sweep.specs.declared.axes.Axes.{Axes}
 use Rattle.rw_sweep.specs.declared.point.Point.{Point}
 use Rattle.rw_sweep.specs.declared.entry.Entry.{Entry}
@@ -61,21 +65,39 @@ pub record AreSlots (rows : List Row) (points : List Point) (slots : List (Optio
   pub each : (i : ℕ) (p : Point) (d : Option (Result (Vec ℕ) Refusal)) → i < length points
       → IfSome (slice_index_or slots i d) (IsResultOf rows (slice_index_or points i p))
 
--- the text has grown by the lines of a configuration
-pub record HasLinesAt (rows : List Row) (p : Point) (old new : List ℕ) : Type 0 where
-  pub more : List ℕ
-  pub tells : IsTextOfPoint rows p more
-  pub grown : new ≡ old ++ more
+-- what a writer holds has grown by a text, or, where it did not take the whole, by a beginning of it
+abbrev pub Takes : Bool → Option (List ℕ) → Option (List ℕ) → List ℕ → Type 0
+Takes whole before after text = MatchBool whole (Appends before after text) (AppendsBeginning before after text)
 
--- the text has the lines of these configurations behind a header, in order
-pub record HasLines (rows : List Row) (points : List Point) (header text : List ℕ) : Type 0 where
+-- a writer has taken the lines of a configuration, whole or not
+pub record HasTakenPoint (whole : Bool) (rows : List Row) (p : Point) (before after : Option (List ℕ)) : Type 0 where
+  pub text : List ℕ
+  pub tells : IsTextOfPoint rows p text
+  pub taken : Takes whole before after text
+
+-- a writer has taken a header and behind it the lines of these configurations, in order, whole or not
+pub record HasTaken (whole : Bool) (rows : List Row) (points : List Point) (header : List ℕ) (before after : Option (List ℕ)) : Type 0 where
   pub texts : List (List ℕ)
   pub each : AllZip (IsTextOfPoint rows) points texts
-  pub told : text ≡ header ++ concat texts
+  pub taken : Takes whole before after (header ++ concat texts)
 
--- the text has the lines of these configurations behind a header: the trace in these bytes is accepted, and they were at work on
--- its rows
-pub record HasLinesOfTrace (a : Axes) (bytes : List ℕ) (points : List Point) (header text : List ℕ) : Type 0 where
+-- the same, of the first ones of these configurations
+pub record HasTakenFirst (whole : Bool) (rows : List Row) (points : List Point) (header : List ℕ) (before after : Option (List ℕ)) : Type 0 where
+  pub first : List Point
+  pub rest : List Point
+  pub parted : points ≡ first ++ rest
+  pub taken : HasTaken whole rows first header before after
+
+-- the trace in these bytes is accepted, and so much holds of its rows
+pub record IsAcceptedWith (a : Axes) (bytes : List ℕ) (Holds : List Row → Type 0) : Type 0 where
   pub rows : List Row
   pub accepted : trace_of a.edges most_rows (records_of bytes) ≡ Ok rows
-  pub behind : HasLines rows points header text
+  pub holds : Holds rows
+
+-- why the lines of these configurations are not all out
+abbrev pub IsFaultOfPoints : Axes → List ℕ → List Point → SimFault → Type 0
+IsFaultOfPoints a bytes points (sim.Trace f) = trace_of a.edges most_rows (records_of bytes) ≡ Err f
+IsFaultOfPoints a bytes points sim.Exhausted = IsAcceptedWith a bytes (λ rows. Any (IsExhaustedAt rows) points)
+IsFaultOfPoints a bytes points sim.Output = Unit {0}
+IsFaultOfPoints a bytes points sim.Memory = Unit {0}
+IsFaultOfPoints a bytes points _ = ⊥

@@ -20,6 +20,7 @@ mod progress;
 mod running;
 mod sweeping;
 mod table;
+mod waves;
 mod working;
 
 pub use axes::Axes;

@@ -29,15 +29,6 @@ const PLACE: &[u8] = b"place,";
 /// The names of the columns of a list.
 const LIST_HEADER: &[u8] = b"place,policy,sections,block,edge_blocks,origin_blocks\n";
 
-/// The first line of a table.
-pub(crate) fn header(alloc: Global) -> Result<Vec<u8>, NoMemory>
-    ensures { IfOk result (λ text. text.items ≡ header_line) }
-{
-    let mut text = Vec::new(alloc);
-    text.extend_from_slice(HEADER)?;
-    Ok(text)
-}
-
 /// The first line of a part.
 pub(crate) fn part_header(alloc: Global) -> Result<Vec<u8>, NoMemory>
     ensures { IfOk result (λ text. text.items ≡ part_header) }

@@ -4,7 +4,7 @@ ghost use Rattle.rw_sweep.specs.Working.{AreSlots, CanRun, IsEntryOf};
 
 use crate::entry::{Entry, Lines};
 use crate::point::Point;
-use crate::progress::{Progress, Silent};
+use crate::progress::{Progress, Reached, Silent};
 use crate::running::run_one;
 use rw_trace::Row;
 use rw_vt::NoMemory;
@@ -18,15 +18,17 @@ use std::thread::{Threads, join, map_indices};
 struct Pace {
     next: AtomicUsize,
     done: AtomicU64,
+    of: u64,
 }
 
 /// Runs the configurations side by side by so many workers, the calling thread being one of them, and gives what became of each
-/// that was taken up. Where no thread can be made there are fewer workers.
+/// that was taken up. Where no thread can be made there are fewer workers. So far has the sweep come before.
 pub(crate) fn run_all<P: Progress, R: Threads + Sync>(
     rt: &R,
     alloc: Global,
     rows: &[Row],
     points: &[Point],
+    reached: Reached,
     workers: usize,
     progress: &mut P,
 ) -> Result<Vec<Option<Lines>>, NoMemory>
@@ -35,7 +37,8 @@ pub(crate) fn run_all<P: Progress, R: Threads + Sync>(
 {
     let pace = Pace {
         next: AtomicUsize::new(0),
-        done: AtomicU64::new(0),
+        done: AtomicU64::new(reached.done),
+        of: reached.of,
     };
     let mut slots = empty_slots(alloc, points.len())?;
     let others = workers.saturating_sub(1);
@@ -105,7 +108,7 @@ fn work<P: Progress>(
         let lines = run_one(alloc, rows, &points[index]);
         entries.push(Entry { index, lines })?;
         let done = pace.done.fetch_add(1, Ordering::SeqCst);
-        progress.done(done.saturating_add(1), points.len() as u64);
+        progress.done(done.saturating_add(1), pace.of);
     }
     Ok(entries)
 }
