@@ -2,7 +2,7 @@ use Rattle.std.proofs.Common.{rules, ◌≡◌, true, sym, subst}
 use Rattle.rw_photo.specs.Cache.{IsWellFormed}
 use Rattle.rw_photo.specs.Events.{is_valid}
 use Rattle.rw_photo.specs.Laws.{step_keeps}
-use Rattle.rw_cases.proofs.cache_calls.execute.Goals as goal
+use Rattle.rw_calls.proofs.cache_calls.execute.Goals as goal
 
 pub returns-clause-well_formed : goal.returns-clause-well_formed
 returns-clause-well_formed c =

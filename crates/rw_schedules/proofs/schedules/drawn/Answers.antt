@@ -1,5 +1,5 @@
 use Rattle.rw_ripqwarp.proofs.Runs.{ready-at}
-use Rattle.rw_cases.proofs.schedules.drawn.Goals as goal
+use Rattle.rw_schedules.proofs.schedules.drawn.Goals as goal
 
 pub open-requires : goal.open-requires
 open-requires c = record { ready = ready-at c.args.config.now c.new.result c.in_ok-starts.starts.items c.in_ok-starts.initial.items c.new.ensures c.in_ok-starts.ensures.beginning.ready }

@@ -3,7 +3,7 @@ use Rattle.std.proofs.lemmas.List.FromFn.{length-map-range_with_len}
 use Rattle.rw_photo.specs.declared.config.Config.{Config}
 use Rattle.rw_photo.specs.Cache.{start}
 use Rattle.rw_ripqwarp.proofs.Runs.{length-states, ready-at}
-use Rattle.rw_cases.proofs.schedules.Example.of.Goals as goal
+use Rattle.rw_schedules.proofs.schedules.Example.of.Goals as goal
 
 pub run-requires : goal.run-requires
 run-requires c = record { ready = ready-at c.args.config c.new.result c.in_ok-starts.starts.items c.in_ok-starts.initial.items c.new.ensures c.in_ok-starts.ensures.beginning.ready }

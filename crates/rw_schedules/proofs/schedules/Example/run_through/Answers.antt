@@ -1,6 +1,6 @@
 use Rattle.std.proofs.Common.{◌^◌, ◌∙◌, map}
 use Rattle.rw_ripqwarp.proofs.Runs.{length-states}
-use Rattle.rw_cases.proofs.schedules.Example.run_through.Goals as goal
+use Rattle.rw_schedules.proofs.schedules.Example.run_through.Goals as goal
 
 pub report-requires : goal.report-requires
 report-requires g c =
