@@ -26,22 +26,36 @@ no_traffic = record { rounds = 0; executed = 0; undone = 0; ring = 0; kept = 0 }
 
 -- these are the states that executing all events in order of time leaves
 abbrev pub AreLastStates : {S B : Type 0} → System S B → List S → Type 0
-AreLastStates {B = B} y states = (journals : List (List (Event B))) × IsOutcome y end_of_time journals states
+AreLastStates {B = B} y states =
+    (journals : List (List (Event B))) × IsOutcome y end_of_time journals states
 
--- the steps lead from the world in which nothing is done to this one, with these answers; it is sound, and what is committed there
--- is what executing all events in order of time would have done
-pub record IsSteppedTo {M S B U : Type 0} (model : Ghosts M S B U) (order : B → B → Ordering) (m : M) (starts : List S) (initial : List (Event B)) (steps : List Step)
+-- the steps lead from the world in which nothing is done to this one, with these answers; it is sound, and what is
+-- committed there is what executing all events in order of time would have done
+pub record IsSteppedTo {M S B U : Type 0} (model : Ghosts M S B U) (order : B → B → Ordering)
+    (m : M) (starts : List S) (initial : List (Event B)) (steps : List Step)
     (x : Simulation M S B) (answered : List Answer) : Type 0 where
-  pub world_is : x ≡ record { model = m; starts = starts; initial = initial; world = run (system model order m starts initial) (opening_world (system model order m starts initial)) steps }
-  pub answers_are : answered ≡ answers (system model order m starts initial) (opening_world (system model order m starts initial)) steps
+  pub world_is : x ≡ record {
+    model = m;
+    starts = starts;
+    initial = initial;
+    world = run (system model order m starts initial)
+        (opening_world (system model order m starts initial)) steps;
+  }
+  pub answers_are : answered ≡ answers (system model order m starts initial)
+      (opening_world (system model order m starts initial)) steps
   pub sound : Sound (system model order m starts initial) x.world
   pub in_order : IsInOrder (system model order m starts initial) x.world
 
--- what a run is to come to: in order and in rounds the same states, in order with no round; by steps a world in order of time
-abbrev pub HasRun : {M S B U : Type 0} → Ghosts M S B U → (B → B → Ordering) → M → List S → List (Event B) → How → Ran M S B U → Type 0
-HasRun model order m starts initial InOrder (Finished states traffic) = AreLastStates (system model order m starts initial) states.items × (traffic ≡ no_traffic)
-HasRun model order m starts initial (InRounds plan) (Finished states traffic) = AreLastStates (system model order m starts initial) states.items
-HasRun model order m starts initial (BySteps steps) (Stepped x answered) = IsSteppedTo model order m starts initial steps.now x answered.items
+-- what a run is to come to: in order and in rounds the same states, in order with no round; by steps a world in order
+-- of time
+abbrev pub HasRun : {M S B U : Type 0} → Ghosts M S B U → (B → B → Ordering) → M → List S
+    → List (Event B) → How → Ran M S B U → Type 0
+HasRun model order m starts initial InOrder (Finished states traffic) =
+    AreLastStates (system model order m starts initial) states.items × (traffic ≡ no_traffic)
+HasRun model order m starts initial (InRounds plan) (Finished states traffic) =
+    AreLastStates (system model order m starts initial) states.items
+HasRun model order m starts initial (BySteps steps) (Stepped x answered) =
+    IsSteppedTo model order m starts initial steps.now x answered.items
 HasRun model order m starts initial _ _ = ⊥
 
 -- the run is in rounds by a plan of which some field is out of its range
@@ -49,8 +63,8 @@ abbrev pub IsByBadPlan : How → Type 0
 IsByBadPlan (InRounds plan) = IsInRanges plan → ⊥
 IsByBadPlan _ = ⊥
 
--- where a run comes to a state that can take no further event; of rounds nothing is said, since a worker may come to such a
--- state in a past that is then undone
+-- where a run comes to a state that can take no further event; of rounds nothing is said, since a worker may come to
+-- such a state in a past that is then undone
 abbrev pub ComesToExhaustion : {S B : Type 0} → System S B → (S → Bool) → How → Type 0
 ComesToExhaustion y test InOrder = Meets y end_of_time test
 ComesToExhaustion y test (InRounds plan) = Unit {0}
@@ -62,7 +76,8 @@ IsOfAnyRun stop.Memory = Unit {0}
 IsOfAnyRun stop.Exhausted = Unit {0}
 IsOfAnyRun _ = ⊥
 
--- what this way of running may stop for: that rounds are used up, that there is no thread and that the plan is bad come in rounds alone
+-- what this way of running may stop for: that rounds are used up, that there is no thread and that the plan is bad come
+-- in rounds alone
 abbrev pub MayStopFor : How → Stop → Type 0
 MayStopFor InOrder reason = IsOfAnyRun reason
 MayStopFor (InRounds plan) reason = Unit {0}

@@ -57,7 +57,8 @@ has_places fields p =
     has_place fields p.time && has_place_if fields p.edge && has_place fields p.object
     && has_place fields p.size && has_place_if fields p.kind
 
--- the billionths that the digits behind a point write: nine of them count, and where there are fewer the others are zeros
+-- the billionths that the digits behind a point write: nine of them count, and where there are fewer the others are
+-- zeros
 unfoldable pub fraction_of : Text → Option ℕ
 fraction_of digits =
     if (length digits == 0) || not (list_all is_ascii_digit digits) then None
@@ -112,8 +113,8 @@ abbrev pub some_text : Text → Option Text
 some_text [] = None
 some_text (b ∷ bs) = Some (b ∷ bs)
 
--- what a record says but its object, or what is first wrong with it: a place that it has not, and then its columns in the
--- order of time, edge, object, size and kind
+-- what a record says but its object, or what is first wrong with it: a place that it has not, and then its columns in
+-- the order of time, edge, object, size and kind
 unfoldable pub entry_of : Places → ℕ → Fields → Result Entry Flaw
 entry_of p edges fields =
     if has_places fields p then (do
@@ -255,6 +256,7 @@ HaveOneNumberEach texts numbers =
     ↔ (slice_index_or texts i [] ≡ slice_index_or texts j [])
 
 -- why a log is refused: its columns are not found, or for its rows
-abbrev pub IsCsvFault : Options → List (Saying Text) → Result Places ImportFault → ImportFault → Type 0
+abbrev pub IsCsvFault : Options → List (Saying Text) → Result Places ImportFault → ImportFault
+    → Type 0
 IsCsvFault o told (Err f) e = e ≡ f
 IsCsvFault o told (Ok p) e = IsRowsFault o told e

@@ -1,4 +1,5 @@
--- What a log means, however its rows are written: what each row says, which rows are kept, and what each of these becomes.
+-- What a log means, however its rows are written: what each row says, which rows are kept, and what each of these
+-- becomes.
 use Rattle.std.specs.Prelude.{◌≡◌, ◌+◌, ◌-◌, ◌*◌, ◌/◌, ◌%◌, ◌^◌, ◌++◌, ℕ, List, [], ◌∷◌, Bool, true, false, Result, Ok, Err, Option, Some, None, map, fold, min, count_by, bit_xor, length, nat_le, unwrap_or, if◌then◌else◌}
 use Rattle.std.specs.List.{AllPass, filter_map}
 use Rattle.std.specs.Result.{is_ok, result_ok}
@@ -139,7 +140,8 @@ fault_at n Length = fault.RowLength n
 fault_at n (Column c p) = fault.Row n c p
 
 -- strict, the first row that is left out
-pub record IsFirstLeftOut {O : Type 0} (o : Options) (said : List (Saying O)) (e : ImportFault) : Type 0 where
+pub record IsFirstLeftOut {O : Type 0} (o : Options) (said : List (Saying O))
+    (e : ImportFault) : Type 0 where
   pub strict : o.strict ≡ true
   pub before : List (Saying O)
   pub flaw : Flaw

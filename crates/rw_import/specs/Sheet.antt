@@ -39,7 +39,8 @@ pub record AreCountsOf (n : ℕ) (l : LeftOut) : Type 0 where
   pub size : l.size ≤ n
   pub kind : l.kind ≤ n
 
--- an edge that a row names is below the number of edges, and where it names none this is the number that rows are dealt to
+-- an edge that a row names is below the number of edges, and where it names none this is the number that rows are dealt
+-- to
 abbrev pub IsEdgeIn : ℕ → Options → Option ℕ → Type 0
 IsEdgeIn edges o None = o.edges ≡ edges
 IsEdgeIn edges o (Some e) = e < edges

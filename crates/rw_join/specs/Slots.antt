@@ -15,7 +15,8 @@ pub record IsSlotOf (lines : List (List ℕ)) (slot : Slot) : Type 0 where
 -- the slots hold these lines, each in the slot of its place
 pub record AreSlotsOf (ls : List PlacedLine) (slots : List Slot) : Type 0 where
   pub within : All (λ l. l.place < length slots) ls
-  pub each : (place : Position) (d : Slot) → place < length slots → IsSlotOf (lines_of_place ls place) (slice_index_or slots place d)
+  pub each : (place : Position) (d : Slot) → place < length slots
+      → IsSlotOf (lines_of_place ls place) (slice_index_or slots place d)
 
 -- the slots have gained these lines
 abbrev pub HaveGained : List PlacedLine → List Slot → List Slot → Type 0

@@ -30,24 +30,28 @@ and_undo undo (Stays fault) = Stays fault
 and_undo undo (Turned z out) = with_out out (undo z)
 
 -- n undoings, one after another: a turn of its own
-abbrev pub undo_times : {S B : Type 0} → (ProcessState S B → Turn S B) → Count → ProcessState S B → Turn S B
+abbrev pub undo_times : {S B : Type 0} → (ProcessState S B → Turn S B) → Count → ProcessState S B
+    → Turn S B
 undo_times undo zero x = Turned x []
 undo_times undo (suc n) x = and_undo undo (undo_times undo n x)
 
 -- the letter cannot come before the last processed event is undone
-abbrev pub is_barred : {S B : Type 0} → (Event B → Event B → Ordering) → Letter B → ProcessState S B → Bool
+abbrev pub is_barred : {S B : Type 0} → (Event B → Event B → Ordering) → Letter B → ProcessState S B
+    → Bool
 is_barred cmp l x =
     if l.anti
     then has cmp l.event x.processed && not (has cmp l.event x.pending)
     else is_less_than_last cmp l.event (split_last x.processed)
 
 -- process x accepts the letter, and a message is less than no processed event
-pub record Accepts {S B : Type 0} (cmp : Event B → Event B → Ordering) (l : Letter B) (x : ProcessState S B) : Type 0 where
+pub record Accepts {S B : Type 0} (cmp : Event B → Event B → Ordering) (l : Letter B)
+    (x : ProcessState S B) : Type 0 where
   pub taken : IsTaken (deliver cmp l x)
   pub in_time : l.anti ≡ false → Each cmp (λ e. AtMost cmp e l.event) x.processed
 
 -- the letter arrives at x, which leads to z and gives these letters out; what has to be undone is undone that way
-pub record ArrivedBy {S B : Type 0} (way : Way) (y : Rules S B) (p : Process) (l : Letter B) (x z : ProcessState S B) (given : List (Letter B)) : Type 0 where
+pub record ArrivedBy {S B : Type 0} (way : Way) (y : Rules S B) (p : Process) (l : Letter B)
+    (x z : ProcessState S B) (given : List (Letter B)) : Type 0 where
   -- `count` undoings lead to a process that accepts the letter
   pub count : Count
   pub between : ProcessState S B
@@ -55,15 +59,18 @@ pub record ArrivedBy {S B : Type 0} (way : Way) (y : Rules S B) (p : Process) (l
   pub undone : undo_times (undo_by way y p) count x ≡ Turned between unsent
   pub accepts : Accepts y.order l between
   -- fewer do not
-  pub fewest : (k : Count) (w : ProcessState S B) (out : List (Letter B)) → k < count → undo_times (undo_by way y p) k x ≡ Turned w out → Accepts y.order l w → ⊥
+  pub fewest : (k : Count) (w : ProcessState S B) (out : List (Letter B)) → k < count
+      → undo_times (undo_by way y p) k x ≡ Turned w out → Accepts y.order l w → ⊥
   -- then it is delivered
   pub rest : List (Letter B)
   pub delivered : deliver y.order l between ≡ Turned z rest
   pub all : given ≡ unsent ++ rest
 
 -- what is undone is cancelled; or what it sent is held
-abbrev pub Arrived : {S B : Type 0} → Rules S B → Process → Letter B → ProcessState S B → ProcessState S B → List (Letter B) → Type 0
+abbrev pub Arrived : {S B : Type 0} → Rules S B → Process → Letter B → ProcessState S B
+    → ProcessState S B → List (Letter B) → Type 0
 Arrived = ArrivedBy Cancelling
 
-abbrev pub ArrivedLazily : {S B : Type 0} → Rules S B → Process → Letter B → ProcessState S B → ProcessState S B → List (Letter B) → Type 0
+abbrev pub ArrivedLazily : {S B : Type 0} → Rules S B → Process → Letter B → ProcessState S B
+    → ProcessState S B → List (Letter B) → Type 0
 ArrivedLazily = ArrivedBy Holding

@@ -24,6 +24,7 @@ IsWithinFront n [] = Unit {0}
 IsWithinFront n (run ∷ runs) = n < length run.items
 
 -- without its first n values, whatever follows, old is new without its first m
-pub record IsLeftAfter {T : Type 0} (n : ℕ) (old : List (Vec T)) (m : ℕ) (new : List (Vec T)) : Type 0 where
+pub record IsLeftAfter {T : Type 0} (n : ℕ) (old : List (Vec T)) (m : ℕ)
+    (new : List (Vec T)) : Type 0 where
   pub count : n + length (values_of new) ≡ m + length (values_of old)
   pub rest : (behind : List T) → drop n (values_of old ++ behind) ≡ drop m (values_of new ++ behind)

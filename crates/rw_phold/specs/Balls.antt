@@ -73,12 +73,19 @@ phold_step m p s e =
     (holder_after m s e, if comes_again m s e then next_ball m p s e ∷ [] else [])
 
 -- the record links the process before, the event and the process after
-pub record IsPassed (m : Phold) (p : ℕ) (before : Holder) (e : Event Ball) (u : Passed) (later : Holder) : Type 0 where
+pub record IsPassed (m : Phold) (p : ℕ) (before : Holder) (e : Event Ball) (u : Passed)
+    (later : Holder) : Type 0 where
   pub passed : u.0 ≡ comes_again m before e
   pub is : later ≡ holder_after m before e
 
 pub phold_ranges : (m : Phold) (e : Event Ball) → is_sound_ball m e ≡ true → IsInRange m.processes e
-phold_ranges m e h = record { time = grind (arith, nat_tests); source = grind (arith, nat_tests, m.few_processes); number = grind (arith, nat_tests); to = grind (arith, nat_tests) }
+phold_ranges m e h =
+    record {
+      time = grind (arith, nat_tests);
+      source = grind (arith, nat_tests, m.few_processes);
+      number = grind (arith, nat_tests);
+      to = grind (arith, nat_tests);
+    }
 
 -- what is drawn fits 64 bits
 drawn-fits : (x : ℕ) → drawn x < 2 ^ 64
@@ -87,7 +94,8 @@ drawn-fits x = below (x * 6364136223846793005 % 2 ^ 64 + 1442695040888963407)
     below : (n : ℕ) → n % 2 ^ 64 < 2 ^ 64
     below n = omega arith
 
-pub phold_keeps : (m : Phold) (p : ℕ) (s : Holder) (e : Event Ball) → IsHolder s → is_sound_ball m e ≡ true → e.to ≡ p → IsHolder (phold_step m p s e).0
+pub phold_keeps : (m : Phold) (p : ℕ) (s : Holder) (e : Event Ball) → IsHolder s
+    → is_sound_ball m e ≡ true → e.to ≡ p → IsHolder (phold_step m p s e).0
 phold_keeps m p s e w h t =
     record {
       random = drawn-fits (first_draw s);
@@ -104,7 +112,8 @@ phold_keeps m p s e w h t =
     kept false n l = l
 
 -- the process to which a ball goes is one of those there are
-process-there : (m : Phold) (p : ℕ) (s : Holder) → p < m.processes → next_process m p s < m.processes
+process-there : (m : Phold) (p : ℕ) (s : Holder) → p < m.processes
+    → next_process m p s < m.processes
 process-there m p s h = by (nat_lt (second_draw s / 2 ^ 48) m.remote)
   where
     rest : (n k : ℕ) → 1 ≤ k → n % k < k
@@ -115,29 +124,42 @@ process-there m p s h = by (nat_lt (second_draw s / 2 ^ 48) m.remote)
     by false = h
 
 -- what is said of a ball that goes on
-sent_well : (m : Phold) (p : ℕ) (s : Holder) (e : Event Ball) → IsHolder s → is_sound_ball m e ≡ true → e.to ≡ p → comes_again m s e ≡ true → IsSentBy p e (next_ball m p s e) × (is_sound_ball m (next_ball m p s e) ≡ true)
+sent_well : (m : Phold) (p : ℕ) (s : Holder) (e : Event Ball) → IsHolder s
+    → is_sound_ball m e ≡ true → e.to ≡ p → comes_again m s e ≡ true
+    → IsSentBy p e (next_ball m p s e) × (is_sound_ball m (next_ball m p s e) ≡ true)
 sent_well m p s e w h t g =
     let here : p < m.processes = grind (arith, nat_tests) in
-    let there = process-there m p s here in
-    (record { source = refl; later = later (first_draw s / 2 ^ 32 % m.spread) }, sound (next_time m s e) (next_process m p s) g there)
+    let there = process-there m p s here in (
+      record { source = refl; later = later (first_draw s / 2 ^ 32 % m.spread) },
+      sound (next_time m s e) (next_process m p s) g there,
+    )
   where
     later : (k : ℕ) → e.time < e.time + m.lookahead + k
     later k = omega (arith, m.some_lookahead)
 
     sound : (time to : ℕ) → nat_lt time m.until ≡ true → to < m.processes
-        → is_sound_ball m (record { time = time; source = p + 1; number = s.sends; to = to; body = e.body }) ≡ true
+        → is_sound_ball m
+        (record { time = time; source = p + 1; number = s.sends; to = to; body = e.body })
+        ≡ true
     sound time to g there = grind (arith, nat_tests, w.sends, m.before_end)
 
-pub phold_future : (m : Phold) (p : ℕ) (s : Holder) (e : Event Ball) → IsHolder s → is_sound_ball m e ≡ true → e.to ≡ p → All (λ f. IsSentBy p e f × (is_sound_ball m f ≡ true)) (phold_step m p s e).1
+pub phold_future : (m : Phold) (p : ℕ) (s : Holder) (e : Event Ball) → IsHolder s
+    → is_sound_ball m e ≡ true → e.to ≡ p
+    → All (λ f. IsSentBy p e f × (is_sound_ball m f ≡ true)) (phold_step m p s e).1
 phold_future m p s e w h t = by (comes_again m s e) refl
   where
-    by : (b : Bool) → comes_again m s e ≡ b → All (λ f. IsSentBy p e f × (is_sound_ball m f ≡ true)) (cond b (next_ball m p s e ∷ []) [])
-    by true g = All-cons (λ f. IsSentBy p e f × (is_sound_ball m f ≡ true)) (next_ball m p s e) [] (sent_well m p s e w h t g) (All-nil (λ f. IsSentBy p e f × (is_sound_ball m f ≡ true)))
+    by : (b : Bool) → comes_again m s e ≡ b
+        → All (λ f. IsSentBy p e f × (is_sound_ball m f ≡ true))
+        (cond b (next_ball m p s e ∷ []) [])
+    by true g = All-cons (λ f. IsSentBy p e f × (is_sound_ball m f ≡ true)) (next_ball m p s e) []
+        (sent_well m p s e w h t g) (All-nil (λ f. IsSentBy p e f × (is_sound_ball m f ≡ true)))
     by false g = All-nil (λ f. IsSentBy p e f × (is_sound_ball m f ≡ true))
 
 -- numbers that compare as equal are the same
 nat_cmp_same : (m n : ℕ) → nat_cmp m n ≡ Equal → m ≡ n
-nat_cmp_same m n h = by_ranked (m < n) (m ≡ n) (n < m) (nat_cmp m n) (ranked m n (nat_cmp m n) refl) (λ e _. cc) (λ _ same. same) (λ e _. cc)
+nat_cmp_same m n h =
+    by_ranked (m < n) (m ≡ n) (n < m) (nat_cmp m n) (ranked m n (nat_cmp m n) refl) (λ e _. cc)
+    (λ _ same. same) (λ e _. cc)
 
 pub ball_same : (a b : Ball) → nat_cmp a.number b.number ≡ Equal → a ≡ b
 ball_same a b h =

@@ -28,8 +28,8 @@ is_origin c p = nat_le c.edges p && nat_lt p (c.edges + c.origins)
 abbrev pub is_object : Object → Size → Bool
 is_object o z = nat_lt o (2 ^ 64) && nat_le 1 z && nat_le z greatest_size
 
--- what may happen at process p at time t: requests and purges up to the latest time of a trace, and what may follow from
--- them
+-- what may happen at process p at time t: requests and purges up to the latest time of a trace, and what may follow
+-- from them
 abbrev pub may_happen : Config → Time → Process → Body → Bool
 may_happen c t p (Request o z) = is_edge c p && nat_le t latest_time && is_object o z
 may_happen c t p (Miss o z g) =
@@ -110,7 +110,8 @@ abbrev pub miss_happening : Config → Process → Cache → Time → Object →
 miss_happening c p s t o z g =
     if is_stored s o
     then serving s o (hit c.policy s.queue o z) (event_from p s (t + c.down) g (Fill o z) ∷ [])
-    else serving s o (backend_store c s o z) (event_from p s (t + c.down + c.back) g (Fill o z) ∷ [])
+    else serving s o (backend_store c s o z)
+        (event_from p s (t + c.down + c.back) g (Fill o z) ∷ [])
 
 -- a fill at an edge, which answers the requests that wait for it, if any, and stores what the edge lacks
 abbrev pub fill_happening : Config → Cache → Object → Size → Happening

@@ -15,7 +15,9 @@ use Rattle.rw_relay.specs.declared.stop.Note.{Note}
 
 -- an event that may be handed to its process
 abbrev pub is_sound_note : Event Note → Bool
-is_sound_note e = nat_lt e.time end_of_time && nat_le e.source 2 && nat_lt e.number (2 ^ 64) && nat_lt e.to 2 && nat_lt e.body.people (2 ^ 64)
+is_sound_note e =
+    nat_lt e.time end_of_time && nat_le e.source 2 && nat_lt e.number (2 ^ 64) && nat_lt e.to 2
+    && nat_lt e.body.people (2 ^ 64)
 
 -- what is kept is in the range of its type
 pub record IsSeen (s : Seen) : Type 0 where
@@ -23,7 +25,14 @@ pub record IsSeen (s : Seen) : Type 0 where
 
 -- a message of process p to the bus
 abbrev pub note_of : Stop → ℕ → ℕ → ℕ → Event Note
-note_of m p number people = record { time = m.due; source = p + 1; number = number; to = 1; body = record { people = people } }
+note_of m p number people =
+    record {
+      time = m.due;
+      source = p + 1;
+      number = number;
+      to = 1;
+      body = record { people = people };
+    }
 
 -- whether the event is a passenger who comes to the stop in time
 abbrev pub is_in_time : Stop → ℕ → Event Note → Bool
@@ -35,25 +44,45 @@ count_after s = (s.events + 1) % 2 ^ 64
 
 -- a passenger makes the stop call the bus, and tell it how many have come
 abbrev pub stop_step : Stop → ℕ → Seen → Event Note → Seen × List (Event Note)
-stop_step m p s e = (record { events = count_after s }, if is_in_time m p e then note_of m p 0 1 ∷ note_of m p 1 (count_after s) ∷ [] else [])
+stop_step m p s e = (
+  record { events = count_after s },
+  if is_in_time m p e then note_of m p 0 1 ∷ note_of m p 1 (count_after s) ∷ [] else [],
+)
 
 pub stop_ranges : (m : Stop) (e : Event Note) → is_sound_note e ≡ true → IsInRange 2 e
-stop_ranges m e h = record { time = grind (arith, nat_tests); source = grind (arith, nat_tests); number = grind (arith, nat_tests); to = grind (arith, nat_tests) }
+stop_ranges m e h =
+    record {
+      time = grind (arith, nat_tests);
+      source = grind (arith, nat_tests);
+      number = grind (arith, nat_tests);
+      to = grind (arith, nat_tests);
+    }
 
-pub stop_keeps : (m : Stop) (p : ℕ) (s : Seen) (e : Event Note) → IsSeen s → is_sound_note e ≡ true → e.to ≡ p → IsSeen (stop_step m p s e).0
+pub stop_keeps : (m : Stop) (p : ℕ) (s : Seen) (e : Event Note) → IsSeen s → is_sound_note e ≡ true
+    → e.to ≡ p → IsSeen (stop_step m p s e).0
 stop_keeps m p s e w h t = record { events = omega arith }
 
 -- what is said of a note that a passenger causes
-sent_well : (m : Stop) (p : ℕ) (e : Event Note) (number people : ℕ) → m.due < end_of_time → number < 2 ^ 64 → people < 2 ^ 64 → is_in_time m p e ≡ true → IsSentBy p e (note_of m p number people) × (is_sound_note (note_of m p number people) ≡ true)
-sent_well m p e number people due n k g = (record { source = refl; later = grind (arith, nat_tests) }, grind (arith, nat_tests))
+sent_well : (m : Stop) (p : ℕ) (e : Event Note) (number people : ℕ) → m.due < end_of_time
+    → number < 2 ^ 64 → people < 2 ^ 64 → is_in_time m p e ≡ true
+    → IsSentBy p e (note_of m p number people) × (is_sound_note (note_of m p number people) ≡ true)
+sent_well m p e number people due n k g =
+    (record { source = refl; later = grind (arith, nat_tests) }, grind (arith, nat_tests))
 
-pub stop_future : (m : Stop) (p : ℕ) (s : Seen) (e : Event Note) → IsSeen s → is_sound_note e ≡ true → e.to ≡ p → All (λ f. IsSentBy p e f × (is_sound_note f ≡ true)) (stop_step m p s e).1
+pub stop_future : (m : Stop) (p : ℕ) (s : Seen) (e : Event Note) → IsSeen s → is_sound_note e ≡ true
+    → e.to ≡ p → All (λ f. IsSentBy p e f × (is_sound_note f ≡ true)) (stop_step m p s e).1
 stop_future m p s e w h t = by_case (is_in_time m p e) refl
   where
-    by_case : (b : Bool) → is_in_time m p e ≡ b → All (λ f. IsSentBy p e f × (is_sound_note f ≡ true)) (cond b (note_of m p 0 1 ∷ note_of m p 1 (count_after s) ∷ []) [])
+    by_case : (b : Bool) → is_in_time m p e ≡ b
+        → All (λ f. IsSentBy p e f × (is_sound_note f ≡ true))
+        (cond b (note_of m p 0 1 ∷ note_of m p 1 (count_after s) ∷ []) [])
     by_case true g =
-        All-cons (λ f. IsSentBy p e f × (is_sound_note f ≡ true)) (note_of m p 0 1) (note_of m p 1 (count_after s) ∷ []) (sent_well m p e 0 1 m.before_end (omega arith) (omega arith) g)
-        (All-cons (λ f. IsSentBy p e f × (is_sound_note f ≡ true)) (note_of m p 1 (count_after s)) [] (sent_well m p e 1 (count_after s) m.before_end (omega arith) (omega arith) g)
+        All-cons (λ f. IsSentBy p e f × (is_sound_note f ≡ true)) (note_of m p 0 1)
+        (note_of m p 1 (count_after s) ∷ [])
+        (sent_well m p e 0 1 m.before_end (omega arith) (omega arith) g)
+        (All-cons (λ f. IsSentBy p e f × (is_sound_note f ≡ true))
+        (note_of m p 1 (count_after s)) []
+        (sent_well m p e 1 (count_after s) m.before_end (omega arith) (omega arith) g)
         (All-nil (λ f. IsSentBy p e f × (is_sound_note f ≡ true))))
     by_case false g = All-nil (λ f. IsSentBy p e f × (is_sound_note f ≡ true))
 

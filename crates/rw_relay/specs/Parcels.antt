@@ -16,7 +16,9 @@ use Rattle.rw_relay.specs.declared.Track.{Track}
 
 -- an event that may be handed to its process
 abbrev pub is_sound_event : Event Parcel → Bool
-is_sound_event e = nat_lt e.time end_of_time && nat_le e.source 2 && nat_lt e.number (2 ^ 64) && nat_lt e.to 2 && nat_lt e.body.hops (2 ^ 32)
+is_sound_event e =
+    nat_lt e.time end_of_time && nat_le e.source 2 && nat_lt e.number (2 ^ 64) && nat_lt e.to 2
+    && nat_lt e.body.hops (2 ^ 32)
 
 -- a station's numbers are in the ranges of their types
 pub record IsStation (s : Station) : Type 0 where
@@ -30,7 +32,14 @@ goes_on m e = nat_lt 0 e.body.hops && nat_lt (e.time + m.delay) end_of_time
 
 -- the parcel that goes on, with a hop less
 abbrev pub passed_on : Relay → ℕ → Station → Event Parcel → Event Parcel
-passed_on m p s e = record { time = e.time + m.delay; source = p + 1; number = s.sends; to = 1 - p; body = record { hops = e.body.hops - 1 } }
+passed_on m p s e =
+    record {
+      time = e.time + m.delay;
+      source = p + 1;
+      number = s.sends;
+      to = 1 - p;
+      body = record { hops = e.body.hops - 1 };
+    }
 
 abbrev pub station_after : Relay → Station → Event Parcel → Station
 station_after m s e =
@@ -44,35 +53,58 @@ abbrev pub relay_step : Relay → ℕ → Station → Event Parcel → Station �
 relay_step m p s e = (station_after m s e, if goes_on m e then passed_on m p s e ∷ [] else [])
 
 -- the track links the station before, the event and the station after
-pub record IsTrackOf (m : Relay) (p : ℕ) (before : Station) (e : Event Parcel) (t : Track) (later : Station) : Type 0 where
+pub record IsTrackOf (m : Relay) (p : ℕ) (before : Station) (e : Event Parcel) (t : Track)
+    (later : Station) : Type 0 where
   pub last : t.last ≡ before.last
   pub sent : t.sent ≡ goes_on m e
   pub is : later ≡ station_after m before e
 
 pub relay_ranges : (m : Relay) (e : Event Parcel) → is_sound_event e ≡ true → IsInRange 2 e
-relay_ranges m e h = record { time = grind (arith, nat_tests); source = grind (arith, nat_tests); number = grind (arith, nat_tests); to = grind (arith, nat_tests) }
+relay_ranges m e h =
+    record {
+      time = grind (arith, nat_tests);
+      source = grind (arith, nat_tests);
+      number = grind (arith, nat_tests);
+      to = grind (arith, nat_tests);
+    }
 
-pub relay_keeps : (m : Relay) (p : ℕ) (s : Station) (e : Event Parcel) → IsStation s → is_sound_event e ≡ true → e.to ≡ p → IsStation (relay_step m p s e).0
-relay_keeps m p s e w h t = record { sum = omega arith; last = grind (arith, nat_tests); sends = kept_sends (goes_on m e) s.sends w.sends }
+pub relay_keeps : (m : Relay) (p : ℕ) (s : Station) (e : Event Parcel) → IsStation s
+    → is_sound_event e ≡ true → e.to ≡ p → IsStation (relay_step m p s e).0
+relay_keeps m p s e w h t =
+    record {
+      sum = omega arith;
+      last = grind (arith, nat_tests);
+      sends = kept_sends (goes_on m e) s.sends w.sends;
+    }
   where
     kept_sends : (b : Bool) (n : ℕ) → n < 2 ^ 64 → cond b ((n + 1) % 2 ^ 64) n < 2 ^ 64
     kept_sends true n l = omega arith
     kept_sends false n l = l
 
 -- what is said of a parcel that goes on
-sent_well : (m : Relay) (p : ℕ) (s : Station) (e : Event Parcel) → 0 < m.delay → IsStation s → is_sound_event e ≡ true → e.to ≡ p → goes_on m e ≡ true → IsSentBy p e (passed_on m p s e) × (is_sound_event (passed_on m p s e) ≡ true)
-sent_well m p s e pos w h t g = (record { source = refl; later = omega arith }, grind (arith, nat_tests, w.sends))
+sent_well : (m : Relay) (p : ℕ) (s : Station) (e : Event Parcel) → 0 < m.delay → IsStation s
+    → is_sound_event e ≡ true → e.to ≡ p → goes_on m e ≡ true
+    → IsSentBy p e (passed_on m p s e) × (is_sound_event (passed_on m p s e) ≡ true)
+sent_well m p s e pos w h t g =
+    (record { source = refl; later = omega arith }, grind (arith, nat_tests, w.sends))
 
-pub relay_future : (m : Relay) (p : ℕ) (s : Station) (e : Event Parcel) → IsStation s → is_sound_event e ≡ true → e.to ≡ p → All (λ f. IsSentBy p e f × (is_sound_event f ≡ true)) (relay_step m p s e).1
+pub relay_future : (m : Relay) (p : ℕ) (s : Station) (e : Event Parcel) → IsStation s
+    → is_sound_event e ≡ true → e.to ≡ p
+    → All (λ f. IsSentBy p e f × (is_sound_event f ≡ true)) (relay_step m p s e).1
 relay_future m p s e w h t = by_case (goes_on m e) refl
   where
-    by_case : (b : Bool) → goes_on m e ≡ b → All (λ f. IsSentBy p e f × (is_sound_event f ≡ true)) (cond b (passed_on m p s e ∷ []) [])
-    by_case true g = All-cons (λ f. IsSentBy p e f × (is_sound_event f ≡ true)) (passed_on m p s e) [] (sent_well m p s e m.positive w h t g) (All-nil (λ f. IsSentBy p e f × (is_sound_event f ≡ true)))
+    by_case : (b : Bool) → goes_on m e ≡ b
+        → All (λ f. IsSentBy p e f × (is_sound_event f ≡ true)) (cond b (passed_on m p s e ∷ []) [])
+    by_case true g = All-cons (λ f. IsSentBy p e f × (is_sound_event f ≡ true))
+        (passed_on m p s e) [] (sent_well m p s e m.positive w h t g)
+        (All-nil (λ f. IsSentBy p e f × (is_sound_event f ≡ true)))
     by_case false g = All-nil (λ f. IsSentBy p e f × (is_sound_event f ≡ true))
 
 -- numbers that compare as equal are the same
 pub nat_cmp_same : (m n : ℕ) → nat_cmp m n ≡ Equal → m ≡ n
-nat_cmp_same m n h = by_ranked (m < n) (m ≡ n) (n < m) (nat_cmp m n) (ranked m n (nat_cmp m n) refl) (λ e _. cc) (λ _ same. same) (λ e _. cc)
+nat_cmp_same m n h =
+    by_ranked (m < n) (m ≡ n) (n < m) (nat_cmp m n) (ranked m n (nat_cmp m n) refl) (λ e _. cc)
+    (λ _ same. same) (λ e _. cc)
 
 pub parcel_same : (a b : Parcel) → nat_cmp a.hops b.hops ≡ Equal → a ≡ b
 parcel_same a b h =

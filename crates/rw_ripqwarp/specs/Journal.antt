@@ -24,12 +24,14 @@ fault_words AboveFloor = codes "7 AboveFloor"
 -- a line for a step that was refused, none for one that was made
 abbrev pub answer_line : ℕ → Answer → List ℕ
 answer_line step Done = []
-answer_line step (Refused fault) = codes "step " ++ decimal step ++ codes " refused " ++ fault_words fault ++ codes "\n"
+answer_line step (Refused fault) =
+    codes "step " ++ decimal step ++ codes " refused " ++ fault_words fault ++ codes "\n"
 
 -- what happens, to which object, of which size if one is said, and for a miss and a drop from which edge
 abbrev pub body_words : Body → List ℕ
 body_words (Request object size) = codes "request " ++ decimal object ++ codes " " ++ decimal size
-body_words (Miss object size edge) = codes "miss " ++ decimal object ++ codes " " ++ decimal size ++ codes " " ++ decimal edge
+body_words (Miss object size edge) =
+    codes "miss " ++ decimal object ++ codes " " ++ decimal size ++ codes " " ++ decimal edge
 body_words (Fill object size) = codes "fill " ++ decimal object ++ codes " " ++ decimal size
 body_words (Purge object) = codes "purge " ++ decimal object
 body_words (Drop object edge) = codes "drop " ++ decimal object ++ codes " " ++ decimal edge

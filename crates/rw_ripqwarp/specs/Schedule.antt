@@ -45,7 +45,8 @@ step_of_word [] = None
 step_of_word (b ∷ digits) = step_of_letter b (number_of digits)
 
 -- a step, or a bad word, before what the words behind it say
-abbrev pub and_then : ℕ → Option Step → Result (List Step) ScheduleFault → Result (List Step) ScheduleFault
+abbrev pub and_then : ℕ → Option Step → Result (List Step) ScheduleFault
+    → Result (List Step) ScheduleFault
 and_then n None rest = Err (Word n)
 and_then n (Some step) (Ok steps) = Ok (step ∷ steps)
 and_then n (Some step) (Err fault) = Err fault

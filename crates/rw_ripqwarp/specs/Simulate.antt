@@ -26,8 +26,9 @@ use Rattle.rw_ripqwarp.specs.declared.mode.Mode.TheVariants.{Serial, Warp, Journ
 use Rattle.rw_vt.specs.Limits.{end_of_time}
 use Rattle.rw_trace.specs.Limits.{most_rows}
 
--- the text is the report of the trace in these bytes: the trace is accepted with these rows; executing their requests, and all
--- that follows from them, in order of time leaves the caches in these states; and the text tells what they have counted
+-- the text is the report of the trace in these bytes: the trace is accepted with these rows; executing their requests,
+-- and all that follows from them, in order of time leaves the caches in these states; and the text tells what they have
+-- counted
 pub record IsReportOf (c : Config) (bytes text : List ℕ) : Type 0 where
   pub rows : List Row
   pub journals : List (List (Event Body))
@@ -36,26 +37,32 @@ pub record IsReportOf (c : Config) (bytes text : List ℕ) : Type 0 where
   pub outcome : IsOutcome (simulation c rows) end_of_time journals states
   pub told : text ≡ report_text c (map (λ s. s.counters) states)
 
--- the text is the journal of the trace in these bytes under these steps: the trace is accepted with these rows; the text tells
--- what the steps answer, refused ones included, and to which world they lead from the one in which nothing is done
+-- the text is the journal of the trace in these bytes under these steps: the trace is accepted with these rows; the
+-- text tells what the steps answer, refused ones included, and to which world they lead from the one in which nothing
+-- is done
 pub record IsJournalOf (steps : List Step) (c : Config) (bytes text : List ℕ) : Type 0 where
   pub rows : List Row
   pub accepted : trace_of c.edges most_rows (records_of bytes) ≡ Ok rows
-  pub told : text ≡ journal_text (answers (simulation c rows) (opening_world (simulation c rows)) steps) (run (simulation c rows) (opening_world (simulation c rows)) steps)
+  pub told : text
+      ≡ journal_text (answers (simulation c rows) (opening_world (simulation c rows)) steps)
+      (run (simulation c rows) (opening_world (simulation c rows)) steps)
 
--- the text is what this mode makes of the trace in these bytes; rounds of workers make the very report of the one thread
+-- the text is what this mode makes of the trace in these bytes; rounds of workers make the very report of the one
+-- thread
 abbrev pub IsTextOf : Mode → Config → List ℕ → List ℕ → Type 0
 IsTextOf Serial c bytes text = IsReportOf c bytes text
 IsTextOf (Warp plan) c bytes text = IsReportOf c bytes text
 IsTextOf (Journal steps) c bytes text = IsJournalOf steps.items c bytes text
 
--- the trace in these bytes is accepted, and executing it in order of time comes to a cache that can take no further event
+-- the trace in these bytes is accepted, and executing it in order of time comes to a cache that can take no further
+-- event
 pub record IsExhaustingInOrder (c : Config) (bytes : List ℕ) : Type 0 where
   pub rows : List Row
   pub accepted : trace_of c.edges most_rows (records_of bytes) ≡ Ok rows
   pub met : Meets (simulation c rows) end_of_time is_exhausted
 
--- the trace in these bytes is accepted, and one of these steps, when its turn comes, is to execute an event at such a cache
+-- the trace in these bytes is accepted, and one of these steps, when its turn comes, is to execute an event at such a
+-- cache
 pub record IsExhaustingBySteps (steps : List Step) (c : Config) (bytes : List ℕ) : Type 0 where
   pub rows : List Row
   pub accepted : trace_of c.edges most_rows (records_of bytes) ≡ Ok rows
@@ -66,8 +73,8 @@ pub record IsAccepted (c : Config) (bytes : List ℕ) : Type 0 where
   pub rows : List Row
   pub accepted : trace_of c.edges most_rows (records_of bytes) ≡ Ok rows
 
--- the trace in these bytes is accepted, and in this mode comes to a cache that can take no further event; of rounds only the first
--- is said, since a worker may come to such a cache in a past that is then undone
+-- the trace in these bytes is accepted, and in this mode comes to a cache that can take no further event; of rounds
+-- only the first is said, since a worker may come to such a cache in a past that is then undone
 abbrev pub IsExhausting : Mode → Config → List ℕ → Type 0
 IsExhausting Serial c bytes = IsExhaustingInOrder c bytes
 IsExhausting (Warp plan) c bytes = IsAccepted c bytes
@@ -100,8 +107,8 @@ IsBeginningFault c bytes (sim.Trace f) = trace_of c.edges most_rows (records_of 
 IsBeginningFault c bytes sim.Memory = Unit {0}
 IsBeginningFault c bytes _ = ⊥
 
--- why a run of the trace in these bytes has no report or journal, or could not write it. The trace is tested before the plan, and
--- want of memory may come anywhere
+-- why a run of the trace in these bytes has no report or journal, or could not write it. The trace is tested before the
+-- plan, and want of memory may come anywhere
 abbrev pub IsRunFault : Mode → Config → List ℕ → SimFault → Type 0
 IsRunFault mode c bytes (sim.Trace f) = trace_of c.edges most_rows (records_of bytes) ≡ Err f
 IsRunFault mode c bytes sim.Plan = IsWarp mode × IsAccepted c bytes × HasBadPlan mode
@@ -111,9 +118,10 @@ IsRunFault mode c bytes sim.NoThread = IsWarp mode × IsAccepted c bytes × HasG
 IsRunFault mode c bytes sim.Output = HasGoodPlan mode
 IsRunFault mode c bytes sim.Memory = Unit {0}
 
--- a run of the trace in these bytes begins with these caches and events: the trace is accepted, the caches and the requests are
--- those of its simulation, and a model of the configuration may run them
-pub record IsBeginningOf (c : Config) (bytes : List ℕ) (starts : List Cache) (initial : List (Event Body)) : Type 0 where
+-- a run of the trace in these bytes begins with these caches and events: the trace is accepted, the caches and the
+-- requests are those of its simulation, and a model of the configuration may run them
+pub record IsBeginningOf (c : Config) (bytes : List ℕ) (starts : List Cache)
+    (initial : List (Event Body)) : Type 0 where
   pub rows : List Row
   pub accepted : trace_of c.edges most_rows (records_of bytes) ≡ Ok rows
   pub starts_are : starts ≡ (simulation c rows).starts

@@ -1,4 +1,4 @@
-ghost use Rattle.std.specs.Prelude.{◌≡◌, ◌+◌, ◌*◌, ◌%◌, ◌<◌, ◌≤◌, ◌==◌, ℕ, [], IfOk, All, filter, length, map, replicate, slice_get, slice_index_or};
+ghost use Rattle.std.specs.Prelude.{◌≡◌, ◌+◌, ◌*◌, ◌%◌, ◌<◌, ◌≤◌, ◌==◌, ℕ, [], IfOk, All, filter, length, map, slice_get, slice_index_or};
 ghost use Rattle.rw_rounds.specs.Plans.{IsInRanges};
 ghost use Rattle.rw_rounds.specs.Rounds.{role};
 ghost use Rattle.rw_rounds.specs.Setting.{AreSetUp};
@@ -8,7 +8,7 @@ use crate::worker::Worker;
 use rw_board::{Board, Seat};
 use rw_exchange::Port;
 use rw_lp::Lp;
-use rw_vt::{Letter, Model as VtModel, NoMemory};
+use rw_vt::{Letter, Model as VtModel, NoMemory, empty_lists};
 use std::alloc::Global;
 
 /// Sets up a round: opens its board and its rings, and splits processes and letters among its workers.
@@ -71,17 +71,6 @@ fn split_letters<B: Copy>(
         inboxes[(letter.event.to % workers) as usize].push(*letter)?;
     }
     Ok(inboxes)
-}
-
-/// `count` empty lists.
-fn empty_lists<T: Drop>(alloc: Global, count: usize) -> Result<Vec<Vec<T>>, NoMemory>
-    ensures { IfOk result (λ v. map (λ l. l.items) v.items ≡ replicate count []) }
-{
-    let mut lists = Vec::with_capacity(alloc, count)?;
-    for _list in 0..count {
-        lists.push(Vec::new(alloc))?;
-    }
-    Ok(lists)
 }
 
 /// The workers of a round, numbered from 0, each with its processes, its inbox, its port and its seat.

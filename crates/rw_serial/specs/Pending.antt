@@ -13,7 +13,8 @@ pub record Waiting (B : Type 0) : Type 0 where
   pub events : List (Event B)
 
 -- the first event is at most all others; where there is none, there are no others
-abbrev pub StandsBefore : {B : Type 0} → (B → B → Ordering) → Option (Event B) → List (Event B) → Type 0
+abbrev pub StandsBefore : {B : Type 0} → (B → B → Ordering) → Option (Event B) → List (Event B)
+    → Type 0
 StandsBefore order None others = others ≡ []
 StandsBefore order (Some first) others = All (AtMost (event_cmp order) first) others
 
@@ -44,7 +45,8 @@ time_or None t = t
 time_or (Some e) t = e.time
 
 -- the event is taken from the front of one of two lists
-pub record IsTakenFromOne {B : Type 0} (xs ys : List (Event B)) (taken : Option (Event B)) (us vs : List (Event B)) : Type 0 where
+pub record IsTakenFromOne {B : Type 0} (xs ys : List (Event B)) (taken : Option (Event B))
+    (us vs : List (Event B)) : Type 0 where
   pub from_first : List (Event B)
   pub from_second : List (Event B)
   pub first : xs ≡ from_first ++ us

@@ -25,9 +25,10 @@ ghost use Rattle.rw_vt.specs.declared.event.Event.{Event};
 
 use ledger::{Ledger, NoJournals};
 use pending::Pending;
+use rw_vt::empty_lists;
 pub use rw_vt::{Event, Model, Outcome, Refusal};
 pub use source::{Sorted, Source};
-use std::alloc::{AllocError, Global};
+use std::alloc::Global;
 
 /// Executes all events in order, the initial ones and those that are sent, and gives what each process has then executed
 /// and the state that it is in.
@@ -57,7 +58,7 @@ pub fn run<M: Model>(
         → Meets (system M.Model M.Body.cmp model.now starts.items initial.items) end_of_time
         (M.is_exhausted model.now)) }
 {
-    let mut journals = empty_journals::<M>(alloc, starts.len())?;
+    let mut journals = empty_lists(alloc, starts.len())?;
     let mut states = starts;
     let source = Sorted::new(initial)?;
     execute_all(alloc, model, &mut states, &mut journals, source)?;
@@ -160,20 +161,6 @@ fn execute_pending<M: Model, L: Ledger<M::Body>, S: Source<M::Body>>(
         pending.extend(&sent)?;
     }
     Ok(())
-}
-
-/// `count` empty journals.
-fn empty_journals<M: Model>(
-    alloc: Global,
-    count: usize,
-) -> Result<Vec<Vec<Event<M::Body>>>, AllocError>
-    ensures { IfOk result (λ js. map (λ j. j.items) js.items ≡ replicate count []) }
-{
-    let mut journals = Vec::with_capacity(alloc, count)?;
-    for _process in 0..count {
-        journals.push(Vec::new(alloc))?;
-    }
-    Ok(journals)
 }
 
 /// Executes an event at its process, and leaves in `sent` what it sends, in order.

@@ -22,15 +22,16 @@ choice_of policy sections block edge_blocks origin_blocks =
       origin_blocks = origin_blocks;
     }
 
--- every choice of one value from each list: the policies change slowest, then the sections, the block, the blocks of an edge, and
--- the blocks of an origin fastest
+-- every choice of one value from each list: the policies change slowest, then the sections, the block, the blocks of an
+-- edge, and the blocks of an origin fastest
 abbrev pub combinations : Axes → List Choice
 combinations a =
     along a.policies.items (λ policy.
     along a.sections.items (λ sections.
     along a.blocks.items (λ block.
     along a.edge_blocks.items (λ edge_blocks.
-    map (λ origin_blocks. choice_of policy sections block edge_blocks origin_blocks) a.origin_blocks.items))))
+    map (λ origin_blocks.
+        choice_of policy sections block edge_blocks origin_blocks) a.origin_blocks.items))))
 
 -- a choice makes a configuration: what all have in common is in its ranges, and so are both shapes
 pub record IsInGridRanges (a : Axes) (x : Choice) : Type 0 where

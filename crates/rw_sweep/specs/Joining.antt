@@ -33,7 +33,8 @@ lines_of_place ls place = map (λ l. l.line) (filter (λ l. l.place == place) ls
 
 -- behind the header the lines of so many places, from place 0 on, without the places
 abbrev pub in_order_of_place : Count → List PlacedLine → List ℕ
-in_order_of_place count ls = header_line ++ flat_map (λ place. concat (lines_of_place ls place)) (range_with_len 0 count)
+in_order_of_place count ls =
+    header_line ++ flat_map (λ place. concat (lines_of_place ls place)) (range_with_len 0 count)
 
 -- all lines of some parts
 abbrev pub lines_of_all : List (List PlacedLine) → List PlacedLine
@@ -43,18 +44,21 @@ lines_of_all parts = flat_map (λ ls. ls) parts
 abbrev pub HasEachOnce : Count → List ℕ → Type 0
 HasEachOnce count indices = (i : ℕ) → i < count → filter (λ j. j == i) indices ≡ i ∷ []
 
--- these texts have lines, each behind a place; put in the order of the places, and without them, they are the sweep. Each place is
--- that of one of the sweep's configurations, and each of these has three lines
+-- these texts have lines, each behind a place; put in the order of the places, and without them, they are the sweep.
+-- Each place is that of one of the sweep's configurations, and each of these has three lines
 pub record MakeTheSweep (a : Axes) (bytes : List ℕ) (texts : List (List ℕ)) : Type 0 where
   pub parts : List (List PlacedLine)
   pub have : AllZip (λ text ls. text ≡ part_with ls) texts parts
   pub whole : All (λ l. IsLine l.line) (lines_of_all parts)
   pub within : All (λ l. l.place < length (combinations a)) (lines_of_all parts)
-  pub three : (place : Position) → place < length (combinations a) → length (lines_of_place (lines_of_all parts) place) ≡ 3
+  pub three : (place : Position) → place < length (combinations a)
+      → length (lines_of_place (lines_of_all parts) place) ≡ 3
   pub are : IsSweepOf a bytes (in_order_of_place (length (combinations a)) (lines_of_all parts))
 
 -- the parts of a sweep make the sweep, in whatever order they come, if each is there once
 abbrev pub PartsMakeTheSweep : Type 0
 PartsMakeTheSweep =
-    (a : Axes) (bytes : List ℕ) (count : Count) (indices : List ℕ) (texts : List (List ℕ)) → 0 < count → HasEachOnce count indices
-    → AllZip (λ index text. IsPartSweepOf a index count bytes text) indices texts → MakeTheSweep a bytes texts
+    (a : Axes) (bytes : List ℕ) (count : Count) (indices : List ℕ) (texts : List (List ℕ))
+        → 0 < count → HasEachOnce count indices
+    → AllZip (λ index text. IsPartSweepOf a index count bytes text) indices texts
+        → MakeTheSweep a bytes texts

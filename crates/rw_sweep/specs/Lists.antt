@@ -18,4 +18,5 @@ listed_line at = placed_line at.0 (choice_columns at.1 ++ codes "\n")
 
 -- the list of the configurations of a part, in order
 abbrev pub list_of_part : Axes → ℕ → Count → List ℕ
-list_of_part a index count = list_header ++ flat_map listed_line (dealt index count (combinations a))
+list_of_part a index count =
+    list_header ++ flat_map listed_line (dealt index count (combinations a))

@@ -43,12 +43,14 @@ pub record LinesAt : Type 0 where
   pub lines : List (List ℕ)
 
 -- the lines of the choice at this place
-pub record AreLinesOfPlaced (a : Axes) (rows : List Row) (at : Position × Choice) (ls : LinesAt) : Type 0 where
+pub record AreLinesOfPlaced (a : Axes) (rows : List Row) (at : Position × Choice)
+    (ls : LinesAt) : Type 0 where
   pub place_is : ls.place ≡ at.0
   pub tell : AreLinesOfChoice a rows at.1 ls.lines
 
--- the text is part `index` of so many of the table of the trace in these bytes over a grid: the trace is accepted with these rows,
--- and behind the header stand the lines of each combination that is in the part, in their order, each line behind its place
+-- the text is part `index` of so many of the table of the trace in these bytes over a grid: the trace is accepted with
+-- these rows, and behind the header stand the lines of each combination that is in the part, in their order, each line
+-- behind its place
 pub record IsPartSweepOf (a : Axes) (index : ℕ) (count : Count) (bytes text : List ℕ) : Type 0 where
   pub rows : List Row
   pub lines : List LinesAt
@@ -61,9 +63,11 @@ abbrev pub HasSweptPart : Axes → ℕ → Count → List ℕ → Option (List �
 HasSweptPart a index count bytes before after =
     (text : List ℕ) × IsPartSweepOf a index count bytes text × Appends before after text
 
--- the text is a beginning of that part, which ends where the lines of a combination end: the combinations of the part are some first
--- ones and the rest, and behind the header stand the lines of each of the first ones, in their order, each line behind its place
-pub record IsPartSweepOfFirst (a : Axes) (index : ℕ) (count : Count) (bytes text : List ℕ) : Type 0 where
+-- the text is a beginning of that part, which ends where the lines of a combination end: the combinations of the part
+-- are some first ones and the rest, and behind the header stand the lines of each of the first ones, in their order,
+-- each line behind its place
+pub record IsPartSweepOfFirst (a : Axes) (index : ℕ) (count : Count)
+    (bytes text : List ℕ) : Type 0 where
   pub rows : List Row
   pub first : List (Position × Choice)
   pub rest : List (Position × Choice)
@@ -74,17 +78,20 @@ pub record IsPartSweepOfFirst (a : Axes) (index : ℕ) (count : Count) (bytes te
   pub told : text ≡ part_header ++ flat_map (λ ls. flat_map (placed_line ls.place) ls.lines) lines
 
 -- a sweep of a part has written the header and the lines of its first combinations, whole, and nothing more
-abbrev pub HasSweptPartFirst : Axes → ℕ → Count → List ℕ → Option (List ℕ) → Option (List ℕ) → Type 0
+abbrev pub HasSweptPartFirst : Axes → ℕ → Count → List ℕ → Option (List ℕ) → Option (List ℕ)
+    → Type 0
 HasSweptPartFirst a index count bytes before after =
     (text : List ℕ) × IsPartSweepOfFirst a index count bytes text × Appends before after text
 
 -- what went out of a part that the writer cut off is a beginning of the header and the lines of its first combinations
-abbrev pub HasSweptPartBeginning : Axes → ℕ → Count → List ℕ → Option (List ℕ) → Option (List ℕ) → Type 0
+abbrev pub HasSweptPartBeginning : Axes → ℕ → Count → List ℕ → Option (List ℕ) → Option (List ℕ)
+    → Type 0
 HasSweptPartBeginning a index count bytes before after =
-    (text : List ℕ) × IsPartSweepOfFirst a index count bytes text × AppendsBeginning before after text
+    (text : List ℕ) × IsPartSweepOfFirst a index count bytes text
+        × AppendsBeginning before after text
 
--- the trace in these bytes is accepted, and executing it in order of time under one of the combinations of the part comes to a cache
--- that can take no further event
+-- the trace in these bytes is accepted, and executing it in order of time under one of the combinations of the part
+-- comes to a cache that can take no further event
 pub record IsExhaustingPart (a : Axes) (index : ℕ) (count : Count) (bytes : List ℕ) : Type 0 where
   pub rows : List Row
   pub at : Position × Choice
@@ -96,7 +103,8 @@ pub record IsExhaustingPart (a : Axes) (index : ℕ) (count : Count) (bytes : Li
 
 -- why a part has no table, or could not write it; want of memory may come anywhere
 abbrev pub IsPartSweepFault : Axes → ℕ → Count → List ℕ → SimFault → Type 0
-IsPartSweepFault a index count bytes (sim.Trace f) = trace_of a.edges most_rows (records_of bytes) ≡ Err f
+IsPartSweepFault a index count bytes (sim.Trace f) =
+    trace_of a.edges most_rows (records_of bytes) ≡ Err f
 IsPartSweepFault a index count bytes sim.Exhausted = IsExhaustingPart a index count bytes
 IsPartSweepFault a index count bytes sim.Output = Unit {0}
 IsPartSweepFault a index count bytes sim.Memory = Unit {0}

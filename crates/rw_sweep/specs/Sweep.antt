@@ -21,22 +21,24 @@ use Rattle.rw_sweep.specs.declared.axes.Axes.{Axes}
 use Rattle.rw_sweep.specs.Grids.{IsConfigOf, combinations}
 use Rattle.rw_sweep.specs.Table.{header_line, sweep_lines}
 
--- the lines tell of a configuration at work on these rows: executing their requests, and all that follows from them, in order of
--- time leaves the caches in these states; and the three lines tell what they have counted
-pub record AreLinesOf (c : Config) (x : Choice) (rows : List Row) (lines : List (List ℕ)) : Type 0 where
+-- the lines tell of a configuration at work on these rows: executing their requests, and all that follows from them, in
+-- order of time leaves the caches in these states; and the three lines tell what they have counted
+pub record AreLinesOf (c : Config) (x : Choice) (rows : List Row)
+    (lines : List (List ℕ)) : Type 0 where
   pub journals : List (List (Event Body))
   pub states : List Cache
   pub outcome : IsOutcome (simulation c rows) end_of_time journals states
   pub told : lines ≡ sweep_lines c x (map (λ s. s.counters) states)
 
 -- the same, of the configuration of a choice
-pub record AreLinesOfChoice (a : Axes) (rows : List Row) (x : Choice) (lines : List (List ℕ)) : Type 0 where
+pub record AreLinesOfChoice (a : Axes) (rows : List Row) (x : Choice)
+    (lines : List (List ℕ)) : Type 0 where
   pub config : Config
   pub config_is : IsConfigOf a x config
   pub tells : AreLinesOf config x rows lines
 
--- the text is the table of the trace in these bytes over a grid: the trace is accepted with these rows, and behind the header stand
--- the lines of each combination, in their order
+-- the text is the table of the trace in these bytes over a grid: the trace is accepted with these rows, and behind the
+-- header stand the lines of each combination, in their order
 pub record IsSweepOf (a : Axes) (bytes text : List ℕ) : Type 0 where
   pub rows : List Row
   pub lines : List (List (List ℕ))
@@ -48,8 +50,8 @@ pub record IsSweepOf (a : Axes) (bytes text : List ℕ) : Type 0 where
 abbrev pub HasSwept : Axes → List ℕ → Option (List ℕ) → Option (List ℕ) → Type 0
 HasSwept a bytes before after = (text : List ℕ) × IsSweepOf a bytes text × Appends before after text
 
--- the text is a beginning of that table, which ends where the lines of a combination end: the combinations are some first ones and
--- the rest, and behind the header stand the lines of each of the first ones, in their order
+-- the text is a beginning of that table, which ends where the lines of a combination end: the combinations are some
+-- first ones and the rest, and behind the header stand the lines of each of the first ones, in their order
 pub record IsSweepOfFirst (a : Axes) (bytes text : List ℕ) : Type 0 where
   pub rows : List Row
   pub first : List Choice
@@ -62,14 +64,16 @@ pub record IsSweepOfFirst (a : Axes) (bytes text : List ℕ) : Type 0 where
 
 -- a sweep has written the header and the lines of its first combinations, whole, and nothing more
 abbrev pub HasSweptFirst : Axes → List ℕ → Option (List ℕ) → Option (List ℕ) → Type 0
-HasSweptFirst a bytes before after = (text : List ℕ) × IsSweepOfFirst a bytes text × Appends before after text
+HasSweptFirst a bytes before after =
+    (text : List ℕ) × IsSweepOfFirst a bytes text × Appends before after text
 
 -- what went out of a sweep that the writer cut off is a beginning of the header and the lines of its first combinations
 abbrev pub HasSweptBeginning : Axes → List ℕ → Option (List ℕ) → Option (List ℕ) → Type 0
-HasSweptBeginning a bytes before after = (text : List ℕ) × IsSweepOfFirst a bytes text × AppendsBeginning before after text
+HasSweptBeginning a bytes before after =
+    (text : List ℕ) × IsSweepOfFirst a bytes text × AppendsBeginning before after text
 
--- the trace in these bytes is accepted, and executing it in order of time under one of the combinations comes to a cache that can
--- take no further event
+-- the trace in these bytes is accepted, and executing it in order of time under one of the combinations comes to a
+-- cache that can take no further event
 pub record IsExhaustingSweep (a : Axes) (bytes : List ℕ) : Type 0 where
   pub rows : List Row
   pub choice : Choice

@@ -13,7 +13,8 @@ use Rattle.rw_sweep.specs.declared.caches.Caches.TheVariants.{Edges, Origins, Al
 
 -- the names of the columns
 abbrev pub header_line : List ℕ
-header_line = codes "policy,sections,block,edge_blocks,origin_blocks,caches,requests,hits,misses,coalesced,late,bypassed,inserted,evicted,reinserted,promoted,writes,splits,merges,hit_bytes,request_bytes,hit_ratio,byte_hit_ratio,flash_bytes,written_bytes,backend_requests\n"
+header_line =
+    codes "policy,sections,block,edge_blocks,origin_blocks,caches,requests,hits,misses,coalesced,late,bypassed,inserted,evicted,reinserted,promoted,writes,splits,merges,hit_bytes,request_bytes,hit_ratio,byte_hit_ratio,flash_bytes,written_bytes,backend_requests\n"
 
 -- a policy as the command line names it
 abbrev pub policy_name : Policy → List ℕ
@@ -68,7 +69,8 @@ backend_requests c All ks = (totals (drop c.edges ks)).misses
 abbrev pub counts_of : Counters → List Count
 counts_of k =
     k.requests ∷ k.hits ∷ k.misses ∷ k.coalesced ∷ k.late ∷ k.bypassed ∷ k.inserted ∷ k.evicted
-    ∷ k.reinserted ∷ k.promoted ∷ k.writes ∷ k.splits ∷ k.merges ∷ k.hit_bytes ∷ k.request_bytes ∷ []
+    ∷ k.reinserted ∷ k.promoted ∷ k.writes ∷ k.splits ∷ k.merges ∷ k.hit_bytes ∷ k.request_bytes
+        ∷ []
 
 -- the columns that say which configuration
 abbrev pub choice_columns : Choice → List ℕ
@@ -93,8 +95,10 @@ line_with c x caches k backend =
 
 -- the same, from the counters of all the caches of the configuration
 abbrev pub sweep_line : Config → Choice → List Counters → Caches → List ℕ
-sweep_line c x ks caches = line_with c x caches (totals (those_of c caches ks)) (backend_requests c caches ks)
+sweep_line c x ks caches =
+    line_with c x caches (totals (those_of c caches ks)) (backend_requests c caches ks)
 
 -- a configuration's three lines
 abbrev pub sweep_lines : Config → Choice → List Counters → List (List ℕ)
-sweep_lines c x ks = sweep_line c x ks Edges ∷ sweep_line c x ks Origins ∷ sweep_line c x ks All ∷ []
+sweep_lines c x ks =
+    sweep_line c x ks Edges ∷ sweep_line c x ks Origins ∷ sweep_line c x ks All ∷ []

@@ -57,32 +57,39 @@ IsResultOf rows p r =
 
 -- the entry says what became of the configuration of its number
 abbrev pub IsEntryOf : List Row → List Point → Entry → Type 0
-IsEntryOf rows points e = (p : Point) → e.index < length points → IsResultOf rows (slice_index_or points e.index p) e.lines
+IsEntryOf rows points e =
+    (p : Point) → e.index < length points
+    → IsResultOf rows (slice_index_or points e.index p) e.lines
 
 -- a slot for each configuration; what stands in it became of that one
-pub record AreSlots (rows : List Row) (points : List Point) (slots : List (Option (Result (Vec ℕ) Refusal))) : Type 0 where
+pub record AreSlots (rows : List Row) (points : List Point)
+    (slots : List (Option (Result (Vec ℕ) Refusal))) : Type 0 where
   pub many : length slots ≡ length points
   pub each : (i : ℕ) (p : Point) (d : Option (Result (Vec ℕ) Refusal)) → i < length points
       → IfSome (slice_index_or slots i d) (IsResultOf rows (slice_index_or points i p))
 
 -- what a writer holds has grown by a text, or, where it did not take the whole, by a beginning of it
 abbrev pub Takes : Bool → Option (List ℕ) → Option (List ℕ) → List ℕ → Type 0
-Takes whole before after text = MatchBool whole (Appends before after text) (AppendsBeginning before after text)
+Takes whole before after text =
+    MatchBool whole (Appends before after text) (AppendsBeginning before after text)
 
 -- a writer has taken the lines of a configuration, whole or not
-pub record HasTakenPoint (whole : Bool) (rows : List Row) (p : Point) (before after : Option (List ℕ)) : Type 0 where
+pub record HasTakenPoint (whole : Bool) (rows : List Row) (p : Point)
+    (before after : Option (List ℕ)) : Type 0 where
   pub text : List ℕ
   pub tells : IsTextOfPoint rows p text
   pub taken : Takes whole before after text
 
 -- a writer has taken a header and behind it the lines of these configurations, in order, whole or not
-pub record HasTaken (whole : Bool) (rows : List Row) (points : List Point) (header : List ℕ) (before after : Option (List ℕ)) : Type 0 where
+pub record HasTaken (whole : Bool) (rows : List Row) (points : List Point) (header : List ℕ)
+    (before after : Option (List ℕ)) : Type 0 where
   pub texts : List (List ℕ)
   pub each : AllZip (IsTextOfPoint rows) points texts
   pub taken : Takes whole before after (header ++ concat texts)
 
 -- the same, of the first ones of these configurations
-pub record HasTakenFirst (whole : Bool) (rows : List Row) (points : List Point) (header : List ℕ) (before after : Option (List ℕ)) : Type 0 where
+pub record HasTakenFirst (whole : Bool) (rows : List Row) (points : List Point) (header : List ℕ)
+    (before after : Option (List ℕ)) : Type 0 where
   pub first : List Point
   pub rest : List Point
   pub parted : points ≡ first ++ rest
@@ -97,7 +104,8 @@ pub record IsAcceptedWith (a : Axes) (bytes : List ℕ) (Holds : List Row → Ty
 -- why the lines of these configurations are not all out
 abbrev pub IsFaultOfPoints : Axes → List ℕ → List Point → SimFault → Type 0
 IsFaultOfPoints a bytes points (sim.Trace f) = trace_of a.edges most_rows (records_of bytes) ≡ Err f
-IsFaultOfPoints a bytes points sim.Exhausted = IsAcceptedWith a bytes (λ rows. Any (IsExhaustedAt rows) points)
+IsFaultOfPoints a bytes points sim.Exhausted =
+    IsAcceptedWith a bytes (λ rows. Any (IsExhaustedAt rows) points)
 IsFaultOfPoints a bytes points sim.Output = Unit {0}
 IsFaultOfPoints a bytes points sim.Memory = Unit {0}
 IsFaultOfPoints a bytes points _ = ⊥

@@ -8,9 +8,11 @@
 //! Worked examples: `rw_process_tests/src/edge_process.rt`; every other test goes through a model too.
 
 mod event;
+mod lists;
 mod model;
 mod refusal;
 
 pub use event::{END, Event, Letter, every_limit};
+pub use lists::empty_lists;
 pub use model::{Model, Outcome, execute_and_reverse, in_order};
 pub use refusal::{NoMemory, Refusal};

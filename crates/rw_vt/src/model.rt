@@ -86,6 +86,32 @@ pub trait Model {
         ensures exhausted { (result ≡ Err Refusal.Exhausted)
             ↔ (is_exhausted self.now state.old ≡ true) };
 
+    /// Executes an event for good: as [`Model::execute`], but of an execution that is never taken back, so that there is no
+    /// record. A model that can do so for less than a record costs has a body of its own.
+    ///
+    /// Refused where `execute` is. After a refusal nothing is said of `state` and `out`: drop them.
+    fn advance(
+        &self,
+        alloc: Global,
+        process: u32,
+        state: &mut Self::State,
+        event: &Event<Self::Body>,
+        out: &mut Vec<Event<Self::Body>>,
+    ) -> Result<(), Refusal>
+        requires process { process < process_count self.now }
+        requires well_formed { IsWellFormed self.now process state.old }
+        requires valid { is_valid self.now event.now ≡ true }
+        requires here { event.now.to ≡ process }
+        ensures state { OnOk result (state.new ≡ (step self.now process state.old event.now).0) }
+        ensures sends { OnOk result
+            (out.new.items ≡ out.old.items ++ (step self.now process state.old event.now).1) }
+        ensures exhausted { (result ≡ Err Refusal.Exhausted)
+            ↔ (is_exhausted self.now state.old ≡ true) }
+    {
+        let _undo = self.execute(alloc, process, state, event, out)?;
+        Ok(())
+    }
+
     /// Takes an execution back: given the state after it, the event and its undo record, gives the very state before.
     ///
     /// After a refusal nothing is said of `state`: drop it.

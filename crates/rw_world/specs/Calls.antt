@@ -24,15 +24,18 @@ pub record Simulation (M S B : Type 0) : Type 0 where
   pub world : WorldState S B
 
 -- the model at work in it
-abbrev pub system_of : {M S B U : Type 0} → Ghosts M S B U → (B → B → Ordering) → Simulation M S B → System S B
+abbrev pub system_of : {M S B U : Type 0} → Ghosts M S B U → (B → B → Ordering) → Simulation M S B
+    → System S B
 system_of model order x = system model order x.model x.starts x.initial
 
 -- its world is sound
-abbrev pub IsSound : {M S B U : Type 0} → Ghosts M S B U → (B → B → Ordering) → Simulation M S B → Type 0
+abbrev pub IsSound : {M S B U : Type 0} → Ghosts M S B U → (B → B → Ordering) → Simulation M S B
+    → Type 0
 IsSound model order x = Sound (system_of model order x) x.world
 
 -- where a step leads from it, and what the step answers
-abbrev pub step_from : {M S B U : Type 0} → Ghosts M S B U → (B → B → Ordering) → Simulation M S B → Step → WorldState S B × Answer
+abbrev pub step_from : {M S B U : Type 0} → Ghosts M S B U → (B → B → Ordering) → Simulation M S B
+    → Step → WorldState S B × Answer
 step_from model order x step = apply (system_of model order x) x.world step
 
 -- the same, in another world
@@ -41,10 +44,14 @@ with_world x w = record x { world = w }
 
 -- what the parts make up
 abbrev pub world_of : {M S B U : Type 0} → Parts M S B U → WorldState S B
-world_of x = record { processes = map (λ l. l.process) x.processes.items; letters = x.letters.items; collected = x.collected }
+world_of x =
+    record { processes = map (λ l. l.process) x.processes.items; letters = x.letters.items;
+    collected = x.collected }
 
 abbrev pub simulation_of : {M S B U : Type 0} → Parts M S B U → Simulation M S B
-simulation_of x = record { model = x.model; starts = x.starts.value.items; initial = x.initial.value.items; world = world_of x }
+simulation_of x =
+    record { model = x.model; starts = x.starts.value.items; initial = x.initial.value.items;
+    world = world_of x }
 
 -- a process after it has collected
 abbrev pub after_collecting : {M S B : Type 0} → Time → LogicalProcess M S B → LogicalProcess M S B
@@ -52,22 +59,29 @@ after_collecting t l = record l { process = process.collect t l.process }
 
 -- the processes run the model m, and are numbered from 0
 abbrev pub AreNumbered : {M S B : Type 0} → M → List (LogicalProcess M S B) → Type 0
-AreNumbered {M} {S} {B} m xs = (p : Process) (x : LogicalProcess M S B) → slice_get xs p ≡ Some x → (x.model ≡ m) × (x.number ≡ p)
+AreNumbered {M} {S} {B} m xs =
+    (p : Process) (x : LogicalProcess M S B) → slice_get xs p ≡ Some x
+    → (x.model ≡ m) × (x.number ≡ p)
 
 -- the parts make up a sound world of the model, the starts and the initial events that they name
-pub record IsWhole {M S B U : Type 0} (model : Ghosts M S B U) (order : B → B → Ordering) (x : Parts M S B U) : Type 0 where
+pub record IsWhole {M S B U : Type 0} (model : Ghosts M S B U) (order : B → B → Ordering)
+    (x : Parts M S B U) : Type 0 where
   pub ready : IsReady model x.model x.starts.value.items x.initial.value.items
   pub numbered : AreNumbered x.model x.processes.items
   pub sound : Sound (system_of model order (simulation_of x)) (world_of x)
 
 -- the parts x were led to z by this step, with this answer
-pub record Made {M S B U : Type 0} (model : Ghosts M S B U) (order : B → B → Ordering) (x z : Parts M S B U) (step : Step) (answer : Answer) : Type 0 where
-  pub world : simulation_of z ≡ with_world (simulation_of x) (apply (system_of model order (simulation_of x)) (world_of x) step).0
+pub record Made {M S B U : Type 0} (model : Ghosts M S B U) (order : B → B → Ordering)
+    (x z : Parts M S B U) (step : Step) (answer : Answer) : Type 0 where
+  pub world : simulation_of z
+      ≡ with_world (simulation_of x)
+      (apply (system_of model order (simulation_of x)) (world_of x) step).0
   pub answered : answer ≡ (apply (system_of model order (simulation_of x)) (world_of x) step).1
   pub numbered : AreNumbered z.model z.processes.items
 
 -- the step is to execute an event at a process that has one to execute next, in a state that passes the test
-pub record ExecutesAt {S B : Type 0} (cmp : Event B → Event B → Ordering) (w : WorldState S B) (test : S → Bool) (step : Step) : Type 0 where
+pub record ExecutesAt {S B : Type 0} (cmp : Event B → Event B → Ordering) (w : WorldState S B)
+    (test : S → Bool) (step : Step) : Type 0 where
   pub number : Process
   pub process : ProcessState S B
   pub executes : step ≡ Execute number
@@ -75,7 +89,8 @@ pub record ExecutesAt {S B : Type 0} (cmp : Event B → Event B → Ordering) (w
   pub meets : MeetsNext cmp process test
 
 -- one of the steps is, when its turn comes
-pub record MeetsAt {S B : Type 0} (y : System S B) (w : WorldState S B) (test : S → Bool) (steps : List Step) : Type 0 where
+pub record MeetsAt {S B : Type 0} (y : System S B) (w : WorldState S B) (test : S → Bool)
+    (steps : List Step) : Type 0 where
   pub before : List Step
   pub step : Step
   pub rest : List Step

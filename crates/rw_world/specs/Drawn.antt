@@ -25,7 +25,8 @@ step_of mixed processes v =
 -- n steps of a world with so many processes, drawn from the numbers after x, of each the upper 31 bits
 abbrev pub steps_drawn : Bool → Count → ℕ → Count → List Step
 steps_drawn mixed processes x zero = []
-steps_drawn mixed processes x (suc n) = step_of mixed processes (next_number x / 2 ^ 33) ∷ steps_drawn mixed processes (next_number x) n
+steps_drawn mixed processes x (suc n) =
+    step_of mixed processes (next_number x / 2 ^ 33) ∷ steps_drawn mixed processes (next_number x) n
 
 -- no undoing is lazy
 abbrev pub drawn_steps : Count → ℕ → Count → List Step

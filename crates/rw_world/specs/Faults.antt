@@ -37,7 +37,8 @@ pub record FindsNothing {S B : Type 0} (w : WorldState S B) (step : Step) : Type
   pub none : process.pending ≡ []
 
 -- a process is to execute, and its least pending event is less than its last done one
-pub record FindsStraggler {S B : Type 0} (cmp : Event B → Event B → Ordering) (w : WorldState S B) (step : Step) : Type 0 where
+pub record FindsStraggler {S B : Type 0} (cmp : Event B → Event B → Ordering) (w : WorldState S B)
+    (step : Step) : Type 0 where
   pub number : Process
   pub process : ProcessState S B
   pub least : Event B
@@ -56,7 +57,8 @@ pub record FindsNothingDone {S B : Type 0} (w : WorldState S B) (step : Step) : 
   pub none : process.processed ≡ []
 
 -- an anti-message comes whose event is processed and not pending
-pub record FindsItDone {S B : Type 0} (cmp : Event B → Event B → Ordering) (w : WorldState S B) (step : Step) : Type 0 where
+pub record FindsItDone {S B : Type 0} (cmp : Event B → Event B → Ordering) (w : WorldState S B)
+    (step : Step) : Type 0 where
   pub number : Count
   pub letter : Letter B
   pub process : ProcessState S B
@@ -74,7 +76,8 @@ pub record IsAboveFloor {S B : Type 0} (w : WorldState S B) (step : Step) : Type
   pub above : floor w < time
 
 -- the fault applies: the step cannot be made for this reason
-abbrev pub Applies : {S B : Type 0} → (Event B → Event B → Ordering) → WorldState S B → Step → StepFault → Type 0
+abbrev pub Applies : {S B : Type 0} → (Event B → Event B → Ordering) → WorldState S B → Step
+    → StepFault → Type 0
 Applies cmp w step NoSuchProcess = NamesNoProcess w step
 Applies cmp w step NoSuchLetter = NamesNoLetter w step
 Applies cmp w step NothingPending = FindsNothing w step

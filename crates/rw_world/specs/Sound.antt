@@ -18,7 +18,8 @@ use Rattle.rw_world.specs.Steps.{apply}
 
 -- Lists of one process, empty where there is none, or of all
 
-abbrev pub list_at : {S B : Type 0} → (ProcessState S B → List (Event B)) → Option (ProcessState S B) → List (Event B)
+abbrev pub list_at : {S B : Type 0} → (ProcessState S B → List (Event B))
+    → Option (ProcessState S B) → List (Event B)
 list_at f None = []
 list_at f (Some x) = f x
 
@@ -41,15 +42,19 @@ held_in [] = []
 held_in (x ∷ ps) = held_messages x.held ++ held_in ps
 
 -- each copy of e that was sent, or is held, is done, pending or on its way
-abbrev pub Balanced : {S B : Type 0} → System S B → List (ProcessState S B) → List (Letter B) → Event B → Type 0
+abbrev pub Balanced : {S B : Type 0} → System S B → List (ProcessState S B) → List (Letter B)
+    → Event B → Type 0
 Balanced y ps ls e =
-    copies y.rules.order e (all_sent y (done_of ps)) + copies y.rules.order e (held_in ps) + copies y.rules.order e (debts_of ps e.to) + antis y.rules.order e ls
-    ≡ copies y.rules.order e (done_of ps e.to) + copies y.rules.order e (pending_of ps e.to) + messages y.rules.order e ls
+    copies y.rules.order e (all_sent y (done_of ps)) + copies y.rules.order e (held_in ps)
+        + copies y.rules.order e (debts_of ps e.to) + antis y.rules.order e ls
+    ≡ copies y.rules.order e (done_of ps e.to) + copies y.rules.order e (pending_of ps e.to)
+        + messages y.rules.order e ls
 
 -- each process is sound, so are the letters, and all events are balanced
 pub record Sound {S B : Type 0} (y : System S B) (w : WorldState S B) : Type 0 where
   pub starts : map (λ x. x.start) w.processes ≡ y.starts
-  pub each : (q : Process) (x : ProcessState S B) → slice_get w.processes q ≡ Some x → SoundAt y.rules w.collected q x
+  pub each : (q : Process) (x : ProcessState S B) → slice_get w.processes q ≡ Some x
+      → SoundAt y.rules w.collected q x
   pub letters : SoundLetters y.rules w.collected w.letters
   pub balance : (e : Event B) → Balanced y w.processes w.letters e
 
@@ -57,20 +62,28 @@ pub record Sound {S B : Type 0} (y : System S B) (w : WorldState S B) : Type 0 w
 pub record IsQuiet {S B : Type 0} (y : System S B) (t : Time) (w : WorldState S B) : Type 0 where
   pub pending : (q : Process) → Each y.rules.order (λ e. t ≤ e.time) (pending_of w.processes q)
   pub debts : (q : Process) → Each y.rules.order (λ e. t ≤ e.time) (debts_of w.processes q)
-  pub letters : (e : Event B) → 0 < messages y.rules.order e w.letters + antis y.rules.order e w.letters → t ≤ e.time
+  pub letters : (e : Event B)
+      → 0 < messages y.rules.order e w.letters + antis y.rules.order e w.letters → t ≤ e.time
   pub held : Each y.rules.order (λ e. t ≤ e.time) (held_in w.processes)
 
--- the committed events, the state of a process that has done nothing beyond them, and all that is done before the floor, are
--- those of executing all events in order of time, and a finished world is the outcome of that
+-- the committed events, the state of a process that has done nothing beyond them, and all that is done before the
+-- floor, are those of executing all events in order of time, and a finished world is the outcome of that
 pub record IsInOrder {S B : Type 0} (y : System S B) (w : WorldState S B) : Type 0 where
-  pub committed : (q : Process) (x : ProcessState S B) → slice_get w.processes q ≡ Some x → x.committed ≡ journal_below y w.collected q
-  pub left : (q : Process) (x : ProcessState S B) (s : S) → slice_get w.processes q ≡ Some x → slice_get y.starts q ≡ Some s → x.processed ≡ []
+  pub committed : (q : Process) (x : ProcessState S B) → slice_get w.processes q ≡ Some x
+      → x.committed ≡ journal_below y w.collected q
+  pub left : (q : Process) (x : ProcessState S B) (s : S) → slice_get w.processes q ≡ Some x
+      → slice_get y.starts q ≡ Some s → x.processed ≡ []
       → x.state ≡ state_after (y.rules.step q) s (journal_below y w.collected q)
-  pub before_floor : (t : Time) (q : Process) → t ≤ floor w → filter (λ e. nat_lt e.time t) (done_of w.processes q) ≡ journal_below y t q
-  pub finished : is_finished w ≡ true → IsOutcome y end_of_time (map done w.processes) (map (λ x. x.state) w.processes)
+  pub before_floor : (t : Time) (q : Process) → t ≤ floor w
+      → filter (λ e. nat_lt e.time t) (done_of w.processes q) ≡ journal_below y t q
+  pub finished : is_finished w ≡ true
+      → IsOutcome y end_of_time (map done w.processes) (map (λ x. x.state) w.processes)
 
 -- a step leads to a sound world, a refused one leaves the world as it was, and committed lists only grow
-pub record StepKept {S B : Type 0} (y : System S B) (w : WorldState S B) (step : Step) : Type 0 where
+pub record StepKept {S B : Type 0} (y : System S B) (w : WorldState S B)
+    (step : Step) : Type 0 where
   pub sound : Sound y (apply y w step).0
   pub refused : (fault : StepFault) → (apply y w step).1 ≡ Refused fault → (apply y w step).0 ≡ w
-  pub grows : (q : Process) (x z : ProcessState S B) → slice_get w.processes q ≡ Some x → slice_get (apply y w step).0.processes q ≡ Some z → (rest : List (Event B)) × (x.committed ++ rest ≡ z.committed)
+  pub grows : (q : Process) (x z : ProcessState S B) → slice_get w.processes q ≡ Some x
+      → slice_get (apply y w step).0.processes q ≡ Some z
+      → (rest : List (Event B)) × (x.committed ++ rest ≡ z.committed)

@@ -18,12 +18,15 @@ abbrev pub refusal : {S B : Type 0} → WorldState S B → StepFault → WorldSt
 refusal w fault = (w, Refused fault)
 
 -- process p took this turn, while these letters were left on their way
-abbrev pub world_after : {S B : Type 0} → WorldState S B → Process → List (Letter B) → Turn S B → WorldState S B × Answer
+abbrev pub world_after : {S B : Type 0} → WorldState S B → Process → List (Letter B) → Turn S B
+    → WorldState S B × Answer
 world_after w p left (Stays fault) = refusal w fault
-world_after w p left (Turned x out) = (record w { processes = slice_set w.processes p x; letters = left ++ out }, Done)
+world_after w p left (Turned x out) =
+    (record w { processes = slice_set w.processes p x; letters = left ++ out }, Done)
 
 -- process p, if there is one, takes a turn
-abbrev pub turn_at : {S B : Type 0} → WorldState S B → Process → (ProcessState S B → Turn S B) → Option (ProcessState S B) → WorldState S B × Answer
+abbrev pub turn_at : {S B : Type 0} → WorldState S B → Process → (ProcessState S B → Turn S B)
+    → Option (ProcessState S B) → WorldState S B × Answer
 turn_at w p step None = refusal w NoSuchProcess
 turn_at w p step (Some x) = world_after w p w.letters (step x)
 
@@ -34,12 +37,15 @@ remove_at (x ∷ xs) zero = xs
 remove_at (x ∷ xs) (suc i) = x ∷ remove_at xs i
 
 -- letter i comes to this process
-abbrev pub deliver_to : {S B : Type 0} → System S B → WorldState S B → Count → Letter B → Option (ProcessState S B) → WorldState S B × Answer
+abbrev pub deliver_to : {S B : Type 0} → System S B → WorldState S B → Count → Letter B
+    → Option (ProcessState S B) → WorldState S B × Answer
 deliver_to y w i l None = refusal w NoSuchProcess
-deliver_to y w i l (Some x) = world_after w l.event.to (remove_at w.letters i) (process.deliver y.rules.order l x)
+deliver_to y w i l (Some x) =
+    world_after w l.event.to (remove_at w.letters i) (process.deliver y.rules.order l x)
 
 -- letter i, if there is one, comes to its process
-abbrev pub deliver_letter : {S B : Type 0} → System S B → WorldState S B → Count → Option (Letter B) → WorldState S B × Answer
+abbrev pub deliver_letter : {S B : Type 0} → System S B → WorldState S B → Count → Option (Letter B)
+    → WorldState S B × Answer
 deliver_letter y w i None = refusal w NoSuchLetter
 deliver_letter y w i (Some l) = deliver_to y w i l (slice_get w.processes l.event.to)
 
@@ -47,7 +53,8 @@ deliver_letter y w i (Some l) = deliver_to y w i l (slice_get w.processes l.even
 abbrev pub collect_to : {S B : Type 0} → WorldState S B → Time → WorldState S B × Answer
 collect_to w t =
     if nat_le t (floor w)
-    then (record w { processes = map (process.collect t) w.processes; collected = max w.collected t }, Done)
+    then (record w
+        { processes = map (process.collect t) w.processes; collected = max w.collected t }, Done)
     else refusal w AboveFloor
 
 -- one step, and what it answers

@@ -21,7 +21,8 @@ opening_process y q s = new_process y.rules.order s (filter (λ e. e.to == q) y.
 
 -- the world in which nothing is done
 abbrev pub opening_world : {S B : Type 0} → System S B → WorldState S B
-opening_world y = record { processes = map_from 0 (opening_process y) y.starts; letters = []; collected = 0 }
+opening_world y =
+    record { processes = map_from 0 (opening_process y) y.starts; letters = []; collected = 0 }
 
 -- What is outstanding
 

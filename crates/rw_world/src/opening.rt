@@ -1,10 +1,10 @@
-ghost use Rattle.std.specs.Prelude.{◌≡◌, ◌<◌, ◌==◌, ℕ, [], IfOk, IfErr, All, filter, length, map, replicate, slice_index_or};
+ghost use Rattle.std.specs.Prelude.{◌≡◌, ◌<◌, ◌==◌, ℕ, [], IfOk, IfErr, All, filter, length, map, slice_index_or};
 ghost use Rattle.rw_vt.specs.System.{IsReady, map_from, system};
 ghost use Rattle.rw_vt.specs.declared.refusal.Refusal.TheVariants.{Memory};
 ghost use Rattle.rw_world.specs.WorldState.{opening_process};
 
 use rw_lp::Lp;
-use rw_vt::{Event, Model as VtModel, Refusal};
+use rw_vt::{Event, Model as VtModel, Refusal, empty_lists};
 use std::alloc::{AllocError, Global};
 
 /// A process for each start, numbered from 0, with those of `events` pending that go to it. Refused only as `Memory`.
@@ -51,17 +51,6 @@ fn by_destination<B: Copy>(
     let mut lists = empty_lists(alloc, count)?;
     for event in events {
         lists[event.to as usize].push(*event)?;
-    }
-    Ok(lists)
-}
-
-/// `count` empty lists.
-fn empty_lists<T: Drop>(alloc: Global, count: usize) -> Result<Vec<Vec<T>>, AllocError>
-    ensures { IfOk result (λ v. map (λ l. l.items) v.items ≡ replicate count []) }
-{
-    let mut lists = Vec::with_capacity(alloc, count)?;
-    for _list in 0..count {
-        lists.push(Vec::new(alloc))?;
     }
     Ok(lists)
 }
