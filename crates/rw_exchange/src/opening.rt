@@ -1,24 +1,13 @@
 //! The ports of an opening.
-ghost use Rattle.std.specs.Prelude.{◌≡◌, ◌≤◌, [], All, IfOk, vec_len};
+ghost use Rattle.std.specs.Prelude.{◌≡◌, ◌≤◌, All, IfOk, vec_len};
 ghost use Rattle.rw_exchange.specs.Ports.{IsNew, IsOpening, KnowsFreeToEach, StayAnOpening};
 ghost use Rattle.rw_exchange.specs.Rings.{out_table, in_table, HasCapacity, KnowsFree, NothingSent, NothingReceivedAtAll, AreCrossed};
 
 use crate::Port;
 use crate::build::row;
 use rtrb::{Consumer, Producer};
-use rw_vt::NoMemory;
+use rw_vt::{NoMemory, empty_lists};
 use std::alloc::Global;
-
-// `count` columns with no end yet.
-fn empty<T: Drop>(alloc: Global, count: usize) -> Result<Vec<Vec<Option<Consumer<T>>>>, NoMemory>
-    ensures { IfOk result (λ c. (vec_len c ≡ count) × All (λ v. v.items ≡ []) c.items) }
-{
-    let mut columns = Vec::with_capacity(alloc, count)?;
-    for _ in 0..count {
-        columns.push_reserved(Vec::new(alloc));
-    }
-    Ok(columns)
-}
 
 // All rings, by sender and by receiver.
 fn tables<T: Drop>(
@@ -33,7 +22,7 @@ fn tables<T: Drop>(
     ensures sent { IfOk result (λ r. All (λ v. All NothingSent v.items) r.0.items) }
     ensures received { IfOk result (λ r. NothingReceivedAtAll r.1.items) }
 {
-    let mut columns = empty(alloc, count)?;
+    let mut columns = empty_lists(alloc, count)?;
     let mut rows = Vec::with_capacity(alloc, count)?;
     for own in 0..count {
         rows.push_reserved(row(alloc, &mut columns, own, capacity)?);
@@ -69,12 +58,8 @@ pub fn open<B: Copy>(
     ensures free { IfOk result (λ ports. All (KnowsFreeToEach capacity) ports.items) }
 {
     let (rows, columns) = tables(alloc, workers, capacity)?;
-    let mut columns = columns.into_iter();
     let mut ports = Vec::with_capacity(alloc, workers)?;
-    for outs in rows {
-        let Some(ins) = columns.next() else {
-            unreachable!()
-        };
+    for (outs, ins) in rows.into_iter().zip(columns) {
         let port = Port::of(ports.len(), capacity, outs, ins);
         ports.push_reserved(port);
     }

@@ -51,7 +51,7 @@ NoneBefore {M} {S} {B} cmp events_of t xs = (place : Position) (l : LogicalProce
 abbrev pub closing_times : {M S B : Type 0} → WorkerState M S B → List Time
 closing_times a =
     least_of_processes end_of_time (map (λ l. l.process) a.processes)
-        ∷ map (λ l. l.event.time) a.kept
+    ∷ map (λ l. l.event.time) a.kept
 
 -- after its last turn a worker notes just these
 abbrev pub Closes : {M S B : Type 0} → WorkerState M S B → WorkerState M S B → Type 0

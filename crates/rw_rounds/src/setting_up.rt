@@ -100,20 +100,10 @@ fn make_workers<M: VtModel>(
         All (λ w. (w.kept ≡ []) × (w.aside ≡ [])) workers.items) }
 {
     let mut workers = Vec::with_capacity(alloc, shares.len())?;
-    let mut inboxes = inboxes.into_iter();
-    let mut ports = ports.into_iter();
-    let mut seats = seats.into_iter();
+    let loads = shares.into_iter().zip(inboxes);
+    let places = ports.into_iter().zip(seats);
     let mut number = 0;
-    for processes in shares {
-        let Some(inbox) = inboxes.next() else {
-            unreachable!()
-        };
-        let Some(port) = ports.next() else {
-            unreachable!()
-        };
-        let Some(seat) = seats.next() else {
-            unreachable!()
-        };
+    for ((processes, inbox), (port, seat)) in loads.zip(places) {
         workers.push_reserved(Worker::new(
             alloc, number, plan, processes, inbox, port, seat, collected,
         ));

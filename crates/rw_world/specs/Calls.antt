@@ -45,13 +45,20 @@ with_world x w = record x { world = w }
 -- what the parts make up
 abbrev pub world_of : {M S B U : Type 0} → Parts M S B U → WorldState S B
 world_of x =
-    record { processes = map (λ l. l.process) x.processes.items; letters = x.letters.items;
-    collected = x.collected }
+    record {
+      processes = map (λ l. l.process) x.processes.items;
+      letters = x.letters.items;
+      collected = x.collected;
+    }
 
 abbrev pub simulation_of : {M S B U : Type 0} → Parts M S B U → Simulation M S B
 simulation_of x =
-    record { model = x.model; starts = x.starts.value.items; initial = x.initial.value.items;
-    world = world_of x }
+    record {
+      model = x.model;
+      starts = x.starts.value.items;
+      initial = x.initial.value.items;
+      world = world_of x;
+    }
 
 -- a process after it has collected
 abbrev pub after_collecting : {M S B : Type 0} → Time → LogicalProcess M S B → LogicalProcess M S B

@@ -18,27 +18,27 @@ use Rattle.rw_world.specs.Rounds.{Exchanged}
 abbrev pub StepsKeepSound : {M S B U : Type 0} → Ghosts M S B U → (B → B → Ordering) → Type 0
 StepsKeepSound {M} {S} {B} model order =
     (k : Setting model) (w : WorldState S B) (step : Step) → Sound (system_in order k) w
-        → StepKept (system_in order k) w step
+    → StepKept (system_in order k) w step
 
 -- a sound world is in order
 abbrev pub SoundIsInOrder : {M S B U : Type 0} → Ghosts M S B U → (B → B → Ordering) → Type 0
 SoundIsInOrder {M} {S} {B} model order =
     (k : Setting model) (w : WorldState S B) → Sound (system_in order k) w
-        → IsInOrder (system_in order k) w
+    → IsInOrder (system_in order k) w
 
 -- in every setting: whatever the steps, refused ones included, the world to which they lead from the one in which
 -- nothing is done is in order
 abbrev pub SchedulesLeadInOrder : {M S B U : Type 0} → Ghosts M S B U → (B → B → Ordering) → Type 0
 SchedulesLeadInOrder model order =
     (k : Setting model) (steps : List Step)
-        → IsInOrder (system_in order k)
-        (run (system_in order k) (opening_world (system_in order k)) steps)
+    → IsInOrder (system_in order k)
+    (run (system_in order k) (opening_world (system_in order k)) steps)
 
 -- the floor is the greatest time, up to the end, before which nothing is outstanding
 abbrev pub FloorIsGreatest : {M S B U : Type 0} → Ghosts M S B U → (B → B → Ordering) → Type 0
 FloorIsGreatest {M} {S} {B} model order =
     (k : Setting model) (w : WorldState S B) (t : Time)
-        → (t ≤ floor w) ↔ ((t ≤ end_of_time) × IsQuiet (system_in order k) t w)
+    → (t ≤ floor w) ↔ ((t ≤ end_of_time) × IsQuiet (system_in order k) t w)
 
 -- whatever all processes of a sound world do at once, each keeping its balance of letters, the world is sound
 -- afterwards
@@ -46,12 +46,12 @@ abbrev pub ExchangesKeepSound : {M S B U : Type 0} → Ghosts M S B U → (B →
 ExchangesKeepSound {M} {S} {B} model order =
     (k : Setting model) (w v : WorldState S B) (came out : Process → List (Letter B))
     → Sound (system_in order k) w → Exchanged (system_in order k) w v came out
-        → Sound (system_in order k) v
+    → Sound (system_in order k) v
 
 -- what process p kept on the way from x to z, and from there to u, it kept on the whole way
 abbrev pub BalancesAddUp : (S B : Type 0) → Type 0
 BalancesAddUp S B =
     (y : Rules S B) (g : Time) (p : Process) (x z u : ProcessState S B)
-        (came more out rest : List (Letter B))
+    (came more out rest : List (Letter B))
     → Kept y g p x z came out → Kept y g p z u more rest
-        → Kept y g p x u (came ++ more) (out ++ rest)
+    → Kept y g p x u (came ++ more) (out ++ rest)

@@ -46,9 +46,9 @@ abbrev pub Balanced : {S B : Type 0} → System S B → List (ProcessState S B) 
     → Event B → Type 0
 Balanced y ps ls e =
     copies y.rules.order e (all_sent y (done_of ps)) + copies y.rules.order e (held_in ps)
-        + copies y.rules.order e (debts_of ps e.to) + antis y.rules.order e ls
+    + copies y.rules.order e (debts_of ps e.to) + antis y.rules.order e ls
     ≡ copies y.rules.order e (done_of ps e.to) + copies y.rules.order e (pending_of ps e.to)
-        + messages y.rules.order e ls
+    + messages y.rules.order e ls
 
 -- each process is sound, so are the letters, and all events are balanced
 pub record Sound {S B : Type 0} (y : System S B) (w : WorldState S B) : Type 0 where

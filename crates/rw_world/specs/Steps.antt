@@ -53,8 +53,11 @@ deliver_letter y w i (Some l) = deliver_to y w i l (slice_get w.processes l.even
 abbrev pub collect_to : {S B : Type 0} → WorldState S B → Time → WorldState S B × Answer
 collect_to w t =
     if nat_le t (floor w)
-    then (record w
-        { processes = map (process.collect t) w.processes; collected = max w.collected t }, Done)
+    then (
+      record w
+          { processes = map (process.collect t) w.processes; collected = max w.collected t },
+      Done,
+    )
     else refusal w AboveFloor
 
 -- one step, and what it answers

@@ -23,13 +23,10 @@ pub fn open_processes<M: VtModel>(
     ensures memory { IfErr result (λ e. e ≡ Memory) }
 {
     let count = model.processes();
-    let mut inboxes = by_destination(alloc, count as usize, events)?.into_iter();
+    let inboxes = by_destination(alloc, count as usize, events)?;
     let mut processes = Vec::with_capacity(alloc, count as usize)?;
     let mut number = 0;
-    for start in starts {
-        let Some(inbox) = inboxes.next() else {
-            unreachable!();
-        };
+    for (start, inbox) in starts.into_iter().zip(inboxes) {
         processes.push(Lp::new(alloc, model, number, start, inbox)?)?;
         number += 1;
     }

@@ -1,4 +1,4 @@
-use Rattle.std.proofs.Common.{◌≡◌, ◌≢◌, ℕ, ◌<◌, [], ◌∷◌, ◌++◌, length, All, sym, ap, ◌∙◌, arith, get_or, None, IsSome}
+use Rattle.std.proofs.Common.{◌≡◌, ◌≢◌, ℕ, ◌<◌, [], ◌∷◌, ◌++◌, length, All, sym, ap, ◌∙◌, arith, get_or, None, IsSome, ⊎_elim}
 use Rattle.std.proofs.lemmas.List.{length-map, nil_from_length}
 use Rattle.std.proofs.lemmas.List.Elements.{All-head, All-tail, All-same, All-push}
 use Rattle.rw_exchange.specs.Ports.{outs_of, intos_of, IsNew, IsOther, free_to}
@@ -16,28 +16,30 @@ of-port-requires-clause-same g c =
     let rows = c.in_ok-rows.rows.items in
     let cols = c.in_ok-rows.columns.items in
     let count : length ports ≡ c.len.result = sym c.loop-outs.ports.ok.0 ∙ sym c.len.ensures in
-    let out : outs_of ports ++ out_table c.loop-outs.outs-iterator.rest.items ≡ out_table rows = inv.out ∙ ap out_table c.into_iter-outs-iterator.ensures.into_iter_gives.0 in
-    let into : intos_of ports ++ in_table c.loop-outs.columns.rest.items ≡ in_table cols = inv.into ∙ ap in_table c.into_iter-columns.ensures.rest in
-    let within : c.len.result < c.args.workers = omega (arith, ap length c.in-Some.ensures.steps.0, inv.rows, c.len.ensures) in
-    let row = next_is (λ v. out_rings v.items) (outs_of ports) (out_table rows) c.loop-outs.outs-iterator.rest.items c.next.new.self.rest.items c.in-Some.outs c.len.result [] out c.in-Some.ensures.steps.0 (length-map ports (λ f. f.out) ∙ count) in
-    let column = next_is (λ v. in_rings v.items) (intos_of ports) (in_table cols) c.loop-outs.columns.rest.items c.next-in-loop-outs.new.self.rest.items c.in-Some-next.ins c.len.result [] into c.in-Some-next.ensures.items (length-map ports (λ f. f.into) ∙ count) in
-    let fit = ends_fit c.args.workers c.len.result (out_table rows) (in_table cols) c.in-Some.outs.items c.in-Some-next.ins.items c.in_ok-rows.ensures.crossed within row column in
+    let out : outs_of ports ++ out_table c.loop-outs.outs-iterator.a.rest.items ≡ out_table rows = inv.out ∙ ap out_table (ap (λ z. z.a.rest.items) c.into_iter-outs-iterator.ensures.into_iter_gives ∙ ap (λ i. i.rest.items) c.zip-outs-items.ensures.first ∙ c.into_iter.ensures.rest) in
+    let columns : c.zip-outs-items.result.b.rest.items ≡ cols = c.zip-outs-items.ensures.second.0 in
+    let into : intos_of ports ++ in_table c.loop-outs.outs-iterator.b.rest.items ≡ in_table cols = inv.into ∙ ap in_table (ap (λ z. z.b.rest.items) c.into_iter-outs-iterator.ensures.into_iter_gives ∙ columns) in
+    let within : c.len.result < c.args.workers = omega (arith, ap length c.in-Some.ensures.steps.0.0, inv.rows, c.len.ensures) in
+    let row = next_is (λ v. out_rings v.items) (outs_of ports) (out_table rows) c.loop-outs.outs-iterator.a.rest.items c.next.new.self.a.rest.items c.in-Some.outs c.len.result [] out c.in-Some.ensures.steps.0.0 (length-map ports (λ f. f.out) ∙ count) in
+    let column = next_is (λ v. in_rings v.items) (intos_of ports) (in_table cols) c.loop-outs.outs-iterator.b.rest.items c.next.new.self.b.rest.items c.in-Some.ins c.len.result [] into c.in-Some.ensures.steps.1.0 (length-map ports (λ f. f.into) ∙ count) in
+    let fit = ends_fit c.args.workers c.len.result (out_table rows) (in_table cols) c.in-Some.outs.items c.in-Some.ins.items c.in_ok-rows.ensures.crossed within row column in
     fit.1 ∙ sym fit.0
 
 -- a port has both ends of the rings to and from each other worker
-others_there : (g : given.Over) (c : After-len g) → (k : ℕ) → k < length c.in-Some.outs.items → k ≢ c.len.result → IsSome (get_or c.in-Some.outs.items k None) × IsSome (get_or c.in-Some-next.ins.items k None)
+others_there : (g : given.Over) (c : After-len g) → (k : ℕ) → k < length c.in-Some.outs.items → k ≢ c.len.result → IsSome (get_or c.in-Some.outs.items k None) × IsSome (get_or c.in-Some.ins.items k None)
 others_there g c =
     let inv = c.loop-outs.invariant in
     let ports = c.loop-outs.ports.items in
     let rows = c.in_ok-rows.rows.items in
     let cols = c.in_ok-rows.columns.items in
     let count : length ports ≡ c.len.result = sym c.loop-outs.ports.ok.0 ∙ sym c.len.ensures in
-    let out : outs_of ports ++ out_table c.loop-outs.outs-iterator.rest.items ≡ out_table rows = inv.out ∙ ap out_table c.into_iter-outs-iterator.ensures.into_iter_gives.0 in
-    let into : intos_of ports ++ in_table c.loop-outs.columns.rest.items ≡ in_table cols = inv.into ∙ ap in_table c.into_iter-columns.ensures.rest in
-    let within : c.len.result < c.args.workers = omega (arith, ap length c.in-Some.ensures.steps.0, inv.rows, c.len.ensures) in
-    let row = next_is (λ v. out_rings v.items) (outs_of ports) (out_table rows) c.loop-outs.outs-iterator.rest.items c.next.new.self.rest.items c.in-Some.outs c.len.result [] out c.in-Some.ensures.steps.0 (length-map ports (λ f. f.out) ∙ count) in
-    let column = next_is (λ v. in_rings v.items) (intos_of ports) (in_table cols) c.loop-outs.columns.rest.items c.next-in-loop-outs.new.self.rest.items c.in-Some-next.ins c.len.result [] into c.in-Some-next.ensures.items (length-map ports (λ f. f.into) ∙ count) in
-    (ends_fit c.args.workers c.len.result (out_table rows) (in_table cols) c.in-Some.outs.items c.in-Some-next.ins.items c.in_ok-rows.ensures.crossed within row column).2
+    let out : outs_of ports ++ out_table c.loop-outs.outs-iterator.a.rest.items ≡ out_table rows = inv.out ∙ ap out_table (ap (λ z. z.a.rest.items) c.into_iter-outs-iterator.ensures.into_iter_gives ∙ ap (λ i. i.rest.items) c.zip-outs-items.ensures.first ∙ c.into_iter.ensures.rest) in
+    let columns : c.zip-outs-items.result.b.rest.items ≡ cols = c.zip-outs-items.ensures.second.0 in
+    let into : intos_of ports ++ in_table c.loop-outs.outs-iterator.b.rest.items ≡ in_table cols = inv.into ∙ ap in_table (ap (λ z. z.b.rest.items) c.into_iter-outs-iterator.ensures.into_iter_gives ∙ columns) in
+    let within : c.len.result < c.args.workers = omega (arith, ap length c.in-Some.ensures.steps.0.0, inv.rows, c.len.ensures) in
+    let row = next_is (λ v. out_rings v.items) (outs_of ports) (out_table rows) c.loop-outs.outs-iterator.a.rest.items c.next.new.self.a.rest.items c.in-Some.outs c.len.result [] out c.in-Some.ensures.steps.0.0 (length-map ports (λ f. f.out) ∙ count) in
+    let column = next_is (λ v. in_rings v.items) (intos_of ports) (in_table cols) c.loop-outs.outs-iterator.b.rest.items c.next.new.self.b.rest.items c.in-Some.ins c.len.result [] into c.in-Some.ensures.steps.1.0 (length-map ports (λ f. f.into) ∙ count) in
+    (ends_fit c.args.workers c.len.result (out_table rows) (in_table cols) c.in-Some.outs.items c.in-Some.ins.items c.in_ok-rows.ensures.crossed within row column).2
 
 pub of-port-requires-clause-others : goal.of-port-requires-clause-others
 of-port-requires-clause-others g c = others_there g (goal.at.of-port-requires-clause-others g c).After-len
@@ -47,13 +49,13 @@ loop-outs-preserved g c =
     let inv = c.loop-outs.invariant in
     let ports = c.loop-outs.ports.items in
     let outs = c.in-Some.outs in
-    let ins = c.in-Some-next.ins in
-    let r : c.loop-outs.outs-iterator.rest.items ≡ outs ∷ c.next.new.self.rest.items = c.in-Some.ensures.steps.0 in
-    let q : c.loop-outs.columns.rest.items ≡ ins ∷ c.next-in-loop-outs.new.self.rest.items = c.in-Some-next.ensures.items in
+    let ins = c.in-Some.ins in
+    let r : c.loop-outs.outs-iterator.a.rest.items ≡ outs ∷ c.next.new.self.a.rest.items = c.in-Some.ensures.steps.0.0 in
+    let q : c.loop-outs.outs-iterator.b.rest.items ≡ ins ∷ c.next.new.self.b.rest.items = c.in-Some.ensures.steps.1.0 in
     let more : c.push_reserved.new.self.items ≡ ports ++ c.of-port.result ∷ [] = c.push_reserved.ensures.items in
-    let some_sent : All NothingSent outs.items = All-head (λ v. All NothingSent v.items) outs c.next.new.self.rest.items (All-same (λ v. All NothingSent v.items) _ _ (sym r) inv.sent) in
-    let some_free : All (KnowsFree c.args.capacity) outs.items = All-head (λ v. All (KnowsFree c.args.capacity) v.items) outs c.next.new.self.rest.items (All-same (λ v. All (KnowsFree c.args.capacity) v.items) _ _ (sym r) inv.free) in
-    let some_got : All NothingReceived ins.items = All-head (λ v. All NothingReceived v.items) ins c.next-in-loop-outs.new.self.rest.items (All-same (λ v. All NothingReceived v.items) _ _ (sym q) inv.received) in
+    let some_sent : All NothingSent outs.items = All-head (λ v. All NothingSent v.items) outs c.next.new.self.a.rest.items (All-same (λ v. All NothingSent v.items) _ _ (sym r) inv.sent) in
+    let some_free : All (KnowsFree c.args.capacity) outs.items = All-head (λ v. All (KnowsFree c.args.capacity) v.items) outs c.next.new.self.a.rest.items (All-same (λ v. All (KnowsFree c.args.capacity) v.items) _ _ (sym r) inv.free) in
+    let some_got : All NothingReceived ins.items = All-head (λ v. All NothingReceived v.items) ins c.next.new.self.b.rest.items (All-same (λ v. All NothingReceived v.items) _ _ (sym q) inv.received) in
     record {
       room = c.push_reserved.ensures.capacity ∙ inv.room;
       rows = omega (arith, ap length r, c.push_reserved.ensures.len, inv.rows);
@@ -84,12 +86,13 @@ returns-clause-opening g c =
     let ports = c.loop-outs.ports.items in
     let rows = c.in_ok-rows.rows.items in
     let cols = c.in_ok-rows.columns.items in
-    let zero : length c.loop-outs.outs-iterator.rest.items ≡ 0 = sym c.loop-outs.outs-iterator.rest.ok.0 ∙ c.in-None.ensures.steps.0 in
-    let none : c.loop-outs.outs-iterator.rest.items ≡ [] = nil_from_length c.loop-outs.outs-iterator.rest.items zero in
-    let none' : c.loop-outs.columns.rest.items ≡ [] = nil_from_length c.loop-outs.columns.rest.items (omega (arith, inv.rows, inv.others)) in
+    let zero : length c.loop-outs.outs-iterator.a.rest.items ≡ 0 = ⊎_elim (λ rows. sym c.loop-outs.outs-iterator.a.rest.ok.0 ∙ rows.1.0) (λ columns. omega (arith, c.loop-outs.outs-iterator.b.rest.ok.0, columns.1.0, inv.rows, inv.others)) c.in-None.ensures.steps in
+    let none : c.loop-outs.outs-iterator.a.rest.items ≡ [] = nil_from_length c.loop-outs.outs-iterator.a.rest.items zero in
+    let none' : c.loop-outs.outs-iterator.b.rest.items ≡ [] = nil_from_length c.loop-outs.outs-iterator.b.rest.items (omega (arith, inv.rows, inv.others)) in
     let count : length ports ≡ c.args.workers = sym c.loop-outs.ports.ok.0 ∙ omega (arith, inv.rows) in
-    let out : outs_of ports ++ out_table c.loop-outs.outs-iterator.rest.items ≡ out_table rows = inv.out ∙ ap out_table c.into_iter-outs-iterator.ensures.into_iter_gives.0 in
-    let into : intos_of ports ++ in_table c.loop-outs.columns.rest.items ≡ in_table cols = inv.into ∙ ap in_table c.into_iter-columns.ensures.rest in
+    let out : outs_of ports ++ out_table c.loop-outs.outs-iterator.a.rest.items ≡ out_table rows = inv.out ∙ ap out_table (ap (λ z. z.a.rest.items) c.into_iter-outs-iterator.ensures.into_iter_gives ∙ ap (λ i. i.rest.items) c.zip-outs-items.ensures.first ∙ c.into_iter.ensures.rest) in
+    let columns : c.zip-outs-items.result.b.rest.items ≡ cols = c.zip-outs-items.ensures.second.0 in
+    let into : intos_of ports ++ in_table c.loop-outs.outs-iterator.b.rest.items ≡ in_table cols = inv.into ∙ ap in_table (ap (λ z. z.b.rest.items) c.into_iter-outs-iterator.ensures.into_iter_gives ∙ columns) in
     opening_of ports c.args.workers (out_table rows) (in_table cols) count (all_walked (λ v. out_rings v.items) (λ f. f.out) ports (out_table rows) _ out none) (all_walked (λ v. in_rings v.items) (λ f. f.into) ports (in_table cols) _ into none') c.in_ok-rows.ensures.crossed inv.numbered inv.lists
 
 pub returns-clause-stays : goal.returns-clause-stays

@@ -6,10 +6,10 @@ use Rattle.rw_world.proofs.opening.open_processes.Given as goal
 
 abbrev pub invariant-loop-start : goal.invariant-loop-start
 invariant-loop-start g l = record {
-  room : l.number + length l.start-iterator.rest.items ≡ l.count;
-  boxes : length l.inboxes.rest.items ≡ length l.start-iterator.rest.items;
-  left : l.start-iterator.rest.items ≡ drop l.number l.fn.starts.items;
-  sorted_out : (k : ℕ) → k < length l.inboxes.rest.items → get_or (map (λ j. j.items) l.inboxes.rest.items) k [] ≡ filter (λ e. e.to == (l.number + k)) l.events;
-  opened : l.processes.items ++ map_from l.number (λ q s. record { model = l.model; number = q; process = opening_process (system g.M.Model g.M.Body.Ord.cmp l.model l.fn.starts.items l.events) q s }) l.start-iterator.rest.items
+  room : l.number + length l.start-iterator.a.rest.items ≡ l.count;
+  boxes : length l.start-iterator.b.rest.items ≡ length l.start-iterator.a.rest.items;
+  left : l.start-iterator.a.rest.items ≡ drop l.number l.fn.starts.items;
+  sorted_out : (k : ℕ) → k < length l.start-iterator.b.rest.items → get_or (map (λ j. j.items) l.start-iterator.b.rest.items) k [] ≡ filter (λ e. e.to == (l.number + k)) l.events;
+  opened : l.processes.items ++ map_from l.number (λ q s. record { model = l.model; number = q; process = opening_process (system g.M.Model g.M.Body.Ord.cmp l.model l.fn.starts.items l.events) q s }) l.start-iterator.a.rest.items
       ≡ map_from 0 (λ q s. record { model = l.model; number = q; process = opening_process (system g.M.Model g.M.Body.Ord.cmp l.model l.fn.starts.items l.events) q s }) l.fn.starts.items;
 }
