@@ -1,5 +1,5 @@
 // Insert: a miss puts an object at the target of its level, and the queue is adjusted where that sealed a device block.
-ghost use Rattle.std.specs.Prelude.{◌≡◌, ◌≤◌, ◌<◌, ◌+◌, ◌^◌, ◌≢◌, ◌↔◌, length, None, OnOk, IfOk, Err};
+ghost use Rattle.std.specs.Prelude.{◌≡◌, ◌≤◌, ◌<◌, ◌+◌, ◌^◌, ◌≢◌, ◌↔◌, length, None, OnOk, IfOk, Err, []};
 ghost use Rattle.rw_blocks.specs.State.{row_at, QueueState};
 ghost use Rattle.rw_blocks.specs.Loose.{IsWellFormedQueue};
 ghost use Rattle.rw_vt.specs.declared.refusal.Refusal.{Refusal};
@@ -66,14 +66,55 @@ pub fn insert(
     ensures leaves { OnOk result (LeavesWithBlock queue.old queue.new) }
     ensures tail { OnOk result (LeavesFromTail queue.old queue.new) }
 {
+    let mut change = Change::new(alloc, Tally::default());
+    insert_with(queue, &mut change, policy, object, size, level)?;
+    let Change { trail, counts } = change;
+    Ok((trail, counts))
+}
+
+/// [`insert`] with a change of the caller's, which has no mark and no count yet.
+///
+/// # Errors
+///
+/// As [`insert`]. Nothing is said of the change then.
+pub fn insert_with(
+    queue: &mut Queue,
+    change: &mut Change<Tally>,
+    policy: Policy,
+    object: u64,
+    size: u64,
+    level: u8,
+) -> Result<(), Refusal>
+    requires well_formed { IsWellFormedQueue queue.old }
+    requires stores { policy ≢ Policy.Off }
+    requires new { row_at queue.old object ≡ None }
+    requires some { 1 ≤ size }
+    requires small { size ≤ queue.old.shape.block }
+    requires from_one { 1 ≤ level }
+    requires to_highest { level ≤ highest_level policy }
+    requires none { change.old.trail ≡ [] }
+    requires uncounted { change.old.counts ≡ no_tally }
+    ensures exhausted { (result ≡ Err Refusal.Exhausted) ↔ (exhaustion ≤ queue.old.next) }
+    ensures effect { OnOk result (queue.new ≡ (insert policy queue.old object size level).queue) }
+    ensures tally { OnOk result
+        (change.new.counts ≡ (insert policy queue.old object size level).tally) }
+    ensures leads { OnOk result (Leads change.new.trail queue.old queue.new) }
+    ensures short { OnOk result (IsShort change.new.trail queue.old queue.new) }
+    ensures kept { OnOk result (IsWellFormedQueue queue.new) }
+    ensures sizes { OnOk result (KeepsSizes queue.old queue.new) }
+    ensures adds { OnOk result (AddsOnly queue.old object size queue.new) }
+    ensures rows { OnOk result
+        (length queue.new.rows + change.new.counts.evicted ≡ length queue.old.rows + 1) }
+    ensures order { OnOk result (KeepsOrder queue.old queue.new) }
+    ensures leaves { OnOk result (LeavesWithBlock queue.old queue.new) }
+    ensures tail { OnOk result (LeavesFromTail queue.old queue.new) }
+{
     if queue.next_serial() >= EXHAUSTED {
         return Err(Refusal::Exhausted);
     }
     let section = target(queue, policy, level) as usize;
-    let mut change = Change::new(alloc, Tally::default());
-    insert_at(queue, &mut change, object, size, section)?;
-    let Change { trail, counts } = change;
-    Ok((trail, counts))
+    insert_at(queue, change, object, size, section)?;
+    Ok(())
 }
 
 /// Puts a new object into the section, and adjusts where that sealed a device block.

@@ -21,10 +21,10 @@ mod segments;
 mod trail;
 
 pub use change::Change;
-pub use insertion::insert;
+pub use insertion::{insert, insert_with};
 pub use levels::{level_of, resident, target};
-pub use promotion::{promote, promote_row};
-pub use purging::purge;
+pub use promotion::{promote, promote_row, promote_with};
+pub use purging::{purge, purge_with};
 pub use rw_blocks::{Kind, Mark, Place, Queue, Shape};
 pub use rw_vt::{NoMemory, Refusal};
 pub use segments::Levels;

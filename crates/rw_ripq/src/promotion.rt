@@ -1,5 +1,5 @@
 // Promote: a hit raises an object's priority by a virtual block, without writing it.
-ghost use Rattle.std.specs.Prelude.{◌≡◌, ◌≤◌, ◌<◌, ◌+◌, ◌^◌, ◌≢◌, ◌↔◌, length, not, nat_eq, OnOk, IfOk, IsSome, Some, Err};
+ghost use Rattle.std.specs.Prelude.{◌≡◌, ◌≤◌, ◌<◌, ◌+◌, ◌^◌, ◌≢◌, ◌↔◌, length, not, nat_eq, OnOk, IfOk, IsSome, Some, Err, []};
 ghost use Rattle.rw_blocks.specs.State.{row_at, row_or, QueueState};
 ghost use Rattle.rw_blocks.specs.Loose.{IsLoose, IsWellFormedQueue};
 ghost use Rattle.rw_vt.specs.declared.refusal.Refusal.{Refusal};
@@ -100,13 +100,46 @@ pub fn promote_row(
     ensures leaves { OnOk result (LeavesWithBlock queue.old queue.new) }
     ensures tail { OnOk result (LeavesFromTail queue.old queue.new) }
 {
+    let mut trail = Trail::new(alloc);
+    let changed = promote_with(queue, &mut trail, policy, object, row)?;
+    Ok((trail, changed))
+}
+
+/// [`promote_row`] with a trail of the caller's, which has no mark yet. Answers whether the place changed.
+///
+/// # Errors
+///
+/// As [`promote`]. Nothing is said of the trail then.
+pub fn promote_with(
+    queue: &mut Queue,
+    trail: &mut Trail,
+    policy: Policy,
+    object: u64,
+    row: Place,
+) -> Result<bool, Refusal>
+    requires well_formed { IsWellFormedQueue queue.old }
+    requires row { row_at queue.old object ≡ Some row }
+    requires stores { policy ≢ Policy.Off }
+    requires none { trail.old ≡ [] }
+    ensures exhausted { (result ≡ Err Refusal.Exhausted) ↔ (exhaustion ≤ queue.old.next) }
+    ensures effect { OnOk result (queue.new ≡ promote policy queue.old object) }
+    ensures changed { IfOk result (λ changed.
+        changed ≡ not (nat_eq (row_or queue.new object).place (row_or queue.old object).place)) }
+    ensures leads { OnOk result (Leads trail.new queue.old queue.new) }
+    ensures short { OnOk result (IsShort trail.new queue.old queue.new) }
+    ensures kept { OnOk result (IsWellFormedQueue queue.new) }
+    ensures home { OnOk result (KeepsHome queue.old object queue.new) }
+    ensures others { OnOk result (KeepsOthers queue.old object queue.new) }
+    ensures order { OnOk result (KeepsOrder queue.old queue.new) }
+    ensures leaves { OnOk result (LeavesWithBlock queue.old queue.new) }
+    ensures tail { OnOk result (LeavesFromTail queue.old queue.new) }
+{
     if queue.next_serial() >= EXHAUSTED {
         return Err(Refusal::Exhausted);
     }
-    let mut trail = Trail::new(alloc);
     let section = hit_target(queue, policy, object, row);
-    let changed = promote_to(queue, &mut trail, object, row, section)?;
-    Ok((trail, changed))
+    let changed = promote_to(queue, trail, object, row, section)?;
+    Ok(changed)
 }
 
 /// Makes the section's active virtual block the object's place, unless that is an active block of the section already.

@@ -1,5 +1,5 @@
 // Purge: an object leaves, whatever its priority.
-ghost use Rattle.std.specs.Prelude.{◌≡◌, ◌≤◌, length, None, OnOk, IfOk, IsSome};
+ghost use Rattle.std.specs.Prelude.{◌≡◌, ◌≤◌, length, None, OnOk, IfOk, IsSome, []};
 ghost use Rattle.rw_blocks.specs.State.{row_at};
 ghost use Rattle.rw_blocks.specs.Loose.{IsWellFormedQueue};
 ghost use Rattle.rw_ripq.specs.Purge.{purge};
@@ -32,10 +32,31 @@ pub fn purge(alloc: Global, queue: &mut Queue, object: u64) -> Result<Trail, NoM
     ensures others { OnOk result (KeepsOthers queue.old object queue.new) }
     ensures order { OnOk result (KeepsOrder queue.old queue.new) }
 {
-    let row = queue.row(object).unwrap();
     let mut trail = Trail::new(alloc);
+    purge_with(queue, &mut trail, object)?;
+    Ok(trail)
+}
+
+/// [`purge`] with a trail of the caller's, which has no mark yet.
+///
+/// # Errors
+///
+/// As [`purge`]. Nothing is said of the trail then.
+pub fn purge_with(queue: &mut Queue, trail: &mut Trail, object: u64) -> Result<(), NoMemory>
+    requires well_formed { IsWellFormedQueue queue.old }
+    requires resident { IsSome (row_at queue.old object) }
+    requires none { trail.old ≡ [] }
+    ensures effect { OnOk result (queue.new ≡ purge queue.old object) }
+    ensures leads { OnOk result (Leads trail.new queue.old queue.new) }
+    ensures short { OnOk result (length trail.new ≤ 2) }
+    ensures kept { OnOk result (IsWellFormedQueue queue.new) }
+    ensures gone { OnOk result (row_at queue.new object ≡ None) }
+    ensures others { OnOk result (KeepsOthers queue.old object queue.new) }
+    ensures order { OnOk result (KeepsOrder queue.old queue.new) }
+{
+    let row = queue.row(object).unwrap();
     let mark = queue.remove(object)?;
     trail.push(mark)?;
-    clear(queue, &mut trail, row.place)?;
-    Ok(trail)
+    clear(queue, trail, row.place)?;
+    Ok(())
 }

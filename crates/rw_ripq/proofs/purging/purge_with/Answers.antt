@@ -1,6 +1,6 @@
 use Rattle.std.proofs.Common.{rules}
 use Rattle.rw_ripq.proofs.Laws.{purged}
-use Rattle.rw_ripq.proofs.purging.purge.Goals as goal
+use Rattle.rw_ripq.proofs.purging.purge_with.Goals as goal
 
 pub returns-clause-kept : goal.returns-clause-kept
 returns-clause-kept c = (purged c.args.queue.now c.clear.new.queue c.args.object c.requires.well_formed c.requires.resident (search rules)).well_formed

@@ -3,7 +3,7 @@ use Rattle.rw_ripq.specs.Work.{Work}
 use Rattle.rw_ripq.specs.Insert.{insert_at}
 use Rattle.rw_ripq.proofs.Laws.{insertable, insertion}
 use Rattle.rw_ripq.proofs.Weights.{insert-short}
-use Rattle.rw_ripq.proofs.insertion.insert.Goals as goal
+use Rattle.rw_ripq.proofs.insertion.insert_with.Goals as goal
 
 pub insert_at-requires-clause-insertable : goal.insert_at-requires-clause-insertable
 insert_at-requires-clause-insertable c = insertable _ _ _ c.requires.well_formed c.requires.new c.requires.some c.requires.small
@@ -22,7 +22,7 @@ returns-clause-tally c =
 pub returns-clause-short : goal.returns-clause-short
 returns-clause-short c =
     insert-short c.args.queue.now c.args.object c.args.size c.target-section.result _ _ _
-    (insertable _ _ _ c.requires.well_formed c.requires.new c.requires.some c.requires.small) c.target-section.ensures.there c.new-change.ensures.trail c.in_ok-insert_at.ensures.effect c.in_ok-insert_at.ensures.spends
+    (insertable _ _ _ c.requires.well_formed c.requires.new c.requires.some c.requires.small) c.target-section.ensures.there c.requires.none c.in_ok-insert_at.ensures.effect c.in_ok-insert_at.ensures.spends
 
 pub returns-clause-kept : goal.returns-clause-kept
 returns-clause-kept c =

@@ -2,15 +2,15 @@ use Rattle.std.proofs.Common.{length, refl, ◌∙◌, sym, ap, arith}
 use Rattle.std.specs.Prelude.{not}
 use Rattle.rw_ripq.proofs.Moves.{resident}
 use Rattle.rw_ripq.proofs.Laws.{promotion, promotion-changed}
-use Rattle.rw_ripq.proofs.promotion.promote_row.Goals as goal
+use Rattle.rw_ripq.proofs.promotion.promote_with.Goals as goal
 
 pub returns-clause-leads : goal.returns-clause-leads
 returns-clause-leads c =
-    c.in_ok-changed.ensures.leads c.args.queue.now (rw c.new-trail.ensures (record { can = tt; back = refl }))
+    c.in_ok-changed.ensures.leads c.args.queue.now (rw c.requires.none (record { can = tt; back = refl }))
 
 -- the trail was empty, and has at most three marks more
 pub returns-clause-short : goal.returns-clause-short
-returns-clause-short c = omega (arith, c.in_ok-changed.ensures.marks, ap length c.new-trail.ensures)
+returns-clause-short c = omega (arith, c.in_ok-changed.ensures.marks, ap length c.requires.none)
 
 pub returns-clause-kept : goal.returns-clause-kept
 returns-clause-kept c =
