@@ -16,7 +16,7 @@ pub enum Measure {
 }
 
 /// How far a run has come, shown as the text of its line: behind what is done stands how long the rest takes if it goes as what
-/// went before did, as `M:SS` or `H:MM:SS`, once anything is done.
+/// went before did, as `M:SS` or `H:MM:SS`, where something is done and not all.
 #[derive(Clone, Copy, Debug)]
 pub struct Standing<'a> {
     name: &'a str,
@@ -75,12 +75,12 @@ fn percent(done: u64, of: u64) -> u64
     (u128::from(done) * 100 / u128::from(of)) as u64
 }
 
-/// How many whole seconds the rest takes if it goes as what is done did; None where nothing is done.
+/// How many whole seconds the rest takes if it goes as what is done did; None where nothing is done, or all.
 fn seconds_left(spent: Duration, done: u64, of: u64) -> Option<u64>
     requires { done ≤ of }
-    ensures { IsSome result ↔ (0 < done) }
+    ensures { IsSome result ↔ ((0 < done) × (done < of)) }
 {
-    if done == 0 {
+    if done == 0 || done == of {
         return None;
     }
     let rest = spent.as_millis().saturating_mul(u128::from(of - done));
