@@ -5,6 +5,7 @@ use crate::lines::write_line;
 use crate::source::Source;
 use clap::ArgMatches;
 use rw_import::{Column, Dealing, Imported, Layout, LeftOut, Options, import_csv, import_oracle};
+use rw_progress::Silent;
 use rw_ripqwarp::Out;
 use std::alloc::Global;
 use std::io::Write;
@@ -21,8 +22,8 @@ pub(crate) fn import<S: Source, W: Write, E: Write>(
     let layout = layout(alloc, options)?;
     let log = read(alloc, options, "log", source)?;
     let imported = match options.get_str("from") {
-        Some("oracle-general") => import_oracle(alloc, log.as_slice(), &reading),
-        _ => import_csv(alloc, log.as_slice(), &layout, &reading),
+        Some("oracle-general") => import_oracle(alloc, log.as_slice(), &reading, &mut Silent),
+        _ => import_csv(alloc, log.as_slice(), &layout, &reading, &mut Silent),
     };
     let imported = imported.map_err(Fault::Import)?;
     write(imported.text.as_slice(), out)?;

@@ -20,9 +20,11 @@ use crate::fault::{Flaw, ImportFault, Part};
 use crate::layout::{Column, Layout, Places};
 use crate::options::{MAX_EDGES, Options};
 use crate::oracle::finish;
+use crate::reading::Reading;
 use crate::sheet::{Sheet, add, blank_sheet, ticks_since};
 use csv::{ByteRecord, Error, ErrorKind, Reader, ReaderBuilder};
 use indexmap::IndexSet;
+use rw_progress::Progress;
 use rw_trace::MAX_TIME;
 use std::alloc::Global;
 
@@ -186,11 +188,12 @@ fn lesser(least: Option<u128>, said: Result<Entry, Flaw>) -> Option<u128>
 }
 
 /// The least time that the records left say, or 0 where none says one.
-fn least_left(
+fn least_left<P: Progress>(
     reader: &mut Reader<&[u8]>,
     fields: &mut ByteRecord,
     places: Places,
     edges: u32,
+    reading: &mut Reading<'_, P>,
 ) -> Result<u128, ImportFault>
     requires { Steady reader.old }
     ensures least { IfOk result (λ t.
@@ -198,7 +201,8 @@ fn least_left(
     ensures refused { IfErr result (λ e. e ≡ Memory) }
 {
     let mut least = None;
-    for _row in 0..u64::MAX {
+    for row in 0..u64::MAX {
+        reading.come_to(row, reader.position().byte());
         if !next(reader, fields)? {
             return Ok(least.unwrap_or(0));
         }
@@ -208,12 +212,13 @@ fn least_left(
 }
 
 /// The least time that a log's rows say, or 0 where none says one.
-fn first_of(
+fn first_of<P: Progress>(
     alloc: Global,
     bytes: &[u8],
     layout: &Layout,
     options: Options,
     edges: u32,
+    progress: &mut P,
 ) -> Result<u128, ImportFault>
     requires { edges ≡ edges_of layout.now options }
     ensures least { IfOk result (λ t. t ≡ first_time (csv_said layout.now options bytes.now)) }
@@ -223,7 +228,8 @@ fn first_of(
     let mut reader = open(alloc, bytes, layout);
     let mut fields = ByteRecord::new(alloc);
     let places = start(&mut reader, &mut fields, layout)?;
-    least_left(&mut reader, &mut fields, places, edges)
+    let mut reading = Reading::first(progress, bytes.len());
+    least_left(&mut reader, &mut fields, places, edges, &mut reading)
 }
 
 /// The number of a text among those so far and it.
@@ -290,7 +296,7 @@ fn judge(
 }
 
 /// Of the records left, those that are kept, in order, and the counts of those that are left out.
-fn rows_left(
+fn rows_left<P: Progress>(
     alloc: Global,
     reader: &mut Reader<&[u8]>,
     fields: &mut ByteRecord,
@@ -298,6 +304,7 @@ fn rows_left(
     edges: u32,
     options: Options,
     least: u128,
+    reading: &mut Reading<'_, P>,
 ) -> Result<Sheet, ImportFault>
     requires steady { Steady reader.old }
     requires edges { places.edge ≡ None → options.edges ≡ edges }
@@ -309,6 +316,7 @@ fn rows_left(
     let mut texts = IndexSet::new(alloc);
     let mut sheet = blank_sheet(alloc);
     for row in 0..u64::MAX {
+        reading.come_to(row, reader.position().byte());
         if !next(reader, fields)? {
             return Ok(sheet);
         }
@@ -320,13 +328,14 @@ fn rows_left(
 }
 
 /// The rows of a log that are kept, in order, and the counts of those that are left out.
-fn collect(
+fn collect<P: Progress>(
     alloc: Global,
     bytes: &[u8],
     layout: &Layout,
     options: Options,
     edges: u32,
     least: u128,
+    progress: &mut P,
 ) -> Result<Sheet, ImportFault>
     requires edges { edges ≡ edges_of layout.now options }
     requires least { least ≡ first_time (csv_said layout.now options bytes.now) }
@@ -339,6 +348,7 @@ fn collect(
     let mut reader = open(alloc, bytes, layout);
     let mut fields = ByteRecord::new(alloc);
     let places = start(&mut reader, &mut fields, layout)?;
+    let mut reading = Reading::second(progress, bytes.len());
     rows_left(
         alloc,
         &mut reader,
@@ -347,6 +357,7 @@ fn collect(
         edges,
         options,
         least,
+        &mut reading,
     )
 }
 
@@ -363,18 +374,20 @@ fn edges_of(layout: &Layout, options: &Options) -> u32
 /// The trace of a log of fields, as the `csv` crate parts them, with the layout's byte between two. If a column is given
 /// by its name, the first record is the header and no row. The trace is one for 256 edges where the log has a column
 /// of edges, else for as many as the options have. Objects are numbered from 0 in the order in which their texts first
-/// come among the rows that are kept. The log is read twice, and each different object's text is held.
+/// come among the rows that are kept. The log is read twice, and each different object's text is held. How many bytes are read,
+/// of twice the log's, is told to `progress`.
 ///
 /// # Errors
 ///
 /// `Header` where there is no header, `NoColumn` where it lacks a column, the first of time, edge, object, size and kind;
 /// strict, the first row that would be left out; one kept row too many for a trace, where no such row comes before it;
 /// `Memory` where a request for memory was refused: nothing is said of the log then.
-pub fn import_csv(
+pub fn import_csv<P: Progress>(
     alloc: Global,
     bytes: &[u8],
     layout: &Layout,
     options: &Options,
+    progress: &mut P,
 ) -> Result<Imported, ImportFault>
     ensures trace { IfOk result (λ i. trace_of (edges_of layout.now options.now) most_rows
         (records_of i.text.items) ≡ Ok (csv_rows layout.now options.now bytes.now)) }
@@ -394,7 +407,7 @@ pub fn import_csv(
         (columns_found layout.now (log_records layout.now bytes.now)) e) }
 {
     let edges = edges_of(layout, options);
-    let least = first_of(alloc, bytes, layout, *options, edges)?;
-    let sheet = collect(alloc, bytes, layout, *options, edges, least)?;
+    let least = first_of(alloc, bytes, layout, *options, edges, progress)?;
+    let sheet = collect(alloc, bytes, layout, *options, edges, least, progress)?;
     finish(alloc, sheet)
 }

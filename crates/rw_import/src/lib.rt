@@ -14,6 +14,7 @@ mod fault;
 mod layout;
 mod options;
 mod oracle;
+mod reading;
 mod sheet;
 mod text;
 

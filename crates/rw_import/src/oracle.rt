@@ -13,9 +13,11 @@ ghost use Rattle.rw_import.specs.declared.fault.ImportFault.TheVariants.{Memory}
 use crate::entry::{Entry, Imported};
 use crate::fault::{Flaw, ImportFault, Part};
 use crate::options::Options;
+use crate::reading::Reading;
 use crate::sheet::{Sheet, add, blank_sheet, timely};
 use crate::text::write_trace;
 use byteorder::{ByteOrder, LittleEndian};
+use rw_progress::Progress;
 use rw_trace::Kind;
 use std::alloc::Global;
 
@@ -83,11 +85,13 @@ fn earlier_of(least: Option<u128>, said: Result<(Entry, u64), Flaw>) -> Option<u
 }
 
 /// The least time that records say, or 0 where none says one.
-fn least_time(bytes: &[u8]) -> u128
+fn least_time<P: Progress>(bytes: &[u8], progress: &mut P) -> u128
     ensures { result ≡ first_time (oracle_said bytes.now) }
 {
+    let mut reading = Reading::first(progress, bytes.len());
     let mut least = None;
     for at in 0..count_pieces(bytes) {
+        reading.come_to(at as u64, (at * PIECE) as u64);
         least = earlier_of(least, read_piece(piece(bytes, at)));
     }
     least.unwrap_or(0)
@@ -104,14 +108,22 @@ fn judge(bytes: &[u8], at: usize, options: Options, least: u128) -> Result<(Entr
 }
 
 /// The records that are kept, in order, and the counts of those that are left out.
-fn collect(alloc: Global, bytes: &[u8], options: Options, least: u128) -> Result<Sheet, ImportFault>
+fn collect<P: Progress>(
+    alloc: Global,
+    bytes: &[u8],
+    options: Options,
+    least: u128,
+    progress: &mut P,
+) -> Result<Sheet, ImportFault>
     ensures sheet { IfOk result (λ s.
         IsSheetOf (λ n. n) options.edges options least (judged_all options least bytes.now) s) }
     ensures fault { IfErr result (λ e.
         e ≢ Memory → IsRowsFault options (judged_all options least bytes.now) e) }
 {
+    let mut reading = Reading::second(progress, bytes.len());
     let mut sheet = blank_sheet(alloc);
     for at in 0..count_pieces(bytes) {
+        reading.come_to(at as u64, (at * PIECE) as u64);
         add(
             &mut sheet,
             options,
@@ -145,16 +157,18 @@ pub fn finish(alloc: Global, sheet: Sheet) -> Result<Imported, ImportFault>
 
 /// The trace of a log in the oracle-general format: records of 24 bytes, the lowest byte of each number first, with a
 /// time in 4 bytes, an object in 8, a size in 4 and 8 bytes that are not used. All rows are gets, and the trace is one
-/// for as many edges as the options have. The log is read twice.
+/// for as many edges as the options have. The log is read twice. How many bytes are read, of twice the log's, is told to
+/// `progress`.
 ///
 /// # Errors
 ///
 /// Strict, the first row that would be left out; one kept row too many for a trace, where no such row comes before it;
 /// `Memory` where a request for memory was refused: nothing is said of the log then.
-pub fn import_oracle(
+pub fn import_oracle<P: Progress>(
     alloc: Global,
     bytes: &[u8],
     options: &Options,
+    progress: &mut P,
 ) -> Result<Imported, ImportFault>
     ensures trace { IfOk result (λ i. trace_of options.now.edges most_rows
         (records_of i.text.items) ≡ Ok (oracle_rows options.now bytes.now)) }
@@ -171,7 +185,7 @@ pub fn import_oracle(
     ensures fault { IfErr result (λ e.
         e ≢ Memory → IsRowsFault options.now (oracle_told options.now bytes.now) e) }
 {
-    let least = least_time(bytes);
-    let sheet = collect(alloc, bytes, *options, least)?;
+    let least = least_time(bytes, progress);
+    let sheet = collect(alloc, bytes, *options, least, progress)?;
     finish(alloc, sheet)
 }

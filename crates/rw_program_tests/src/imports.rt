@@ -2,6 +2,7 @@
 use rw_import::{
     Column, Dealing, ImportFault, Imported, Layout, Options, import_csv, import_oracle,
 };
+use rw_progress::Silent;
 use std::alloc::Global;
 use std::test::Fail;
 
@@ -31,7 +32,7 @@ fn imported(
     strict: bool,
 ) -> Result<Result<Imported, ImportFault>, Fail> {
     let options = Options::new(1000, 2, Dealing::ByRow, strict).ok_or("options")?;
-    Ok(import_oracle(alloc, log, &options))
+    Ok(import_oracle(alloc, log, &options, &mut Silent))
 }
 
 #[test]
@@ -101,7 +102,7 @@ fn fields_become_rows(rt: HostRuntime) -> Result<(), Fail> {
     let options = Options::new(1000, 2, Dealing::ByRow, false).ok_or("options")?;
     let log =
         b"size;t;o;k;e\n5;10.5;b;GET;255\n6;9;a;get;256\n7;9.0000000009;a;Purge;3\n0;9;a;get;1\n8;12.25;b;get;0\n3;x;b;get;0\n3;1;;get;0\n3;1;b;no;0\n3;1\n";
-    let answer = import_csv(rt.alloc(), log.as_slice(), &layout, &options)?;
+    let answer = import_csv(rt.alloc(), log.as_slice(), &layout, &options, &mut Silent)?;
     assert_eq!(rt;
         answer.text.as_slice(),
         b"time,edge,object,size,kind\n1500,255,0,5,get\n0,3,1,7,purge\n3250,0,0,8,get\n".as_slice()

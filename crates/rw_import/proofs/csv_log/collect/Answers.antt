@@ -14,11 +14,11 @@ use Rattle.rw_import.proofs.Collecting.{edges-asked, told-whole}
 use Rattle.rw_import.proofs.csv_log.collect.Goals as goal
 
 pub rows_left-requires-clause-edges : goal.rows_left-requires-clause-edges
-rows_left-requires-clause-edges c none =
+rows_left-requires-clause-edges g c none =
     edges-asked c.args.layout.now c.args.options (unread c.open-reader.result) c.in_ok-places.places c.args.edges c.in_ok-places.ensures.places c.requires.edges none
 
 pub returns-clause-sheet : goal.returns-clause-sheet
-returns-clause-sheet c =
+returns-clause-sheet g c =
     let o = c.args.options in
     let all = c.open-reader.ensures.all in
     let places = ap (λ (rs : List Fields). columns_found c.args.layout.now rs) (sym all) ∙ c.in_ok-places.ensures.places in
@@ -28,7 +28,7 @@ returns-clause-sheet c =
     (λ s k. subst (λ (l : List (Saying Text)). IsSheetOf (number_among (objects_in l)) c.args.edges o c.args.least l s) whole k) (λ e p. p)
 
 pub returns-clause-fault : goal.returns-clause-fault
-returns-clause-fault c =
+returns-clause-fault g c =
     let o = c.args.options in
     let all = c.open-reader.ensures.all in
     let places = ap (λ (rs : List Fields). columns_found c.args.layout.now rs) (sym all) ∙ c.in_ok-places.ensures.places in

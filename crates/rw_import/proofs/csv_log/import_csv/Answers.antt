@@ -16,10 +16,10 @@ numbered l o bytes =
     subst (λ (ns : List ℕ). HaveOneNumberEach (objects_in told) ns) (sym (rows-numbers o (first_time (csv_said l o bytes)) (number_among (objects_in told)) 0 (kept_in told))) (one-number-each (objects_in told))
 
 pub returns-in_err-least-clause-objects : goal.returns-in_err-least-clause-objects
-returns-in_err-least-clause-objects c = numbered c.args.layout.now c.args.options.now c.args.bytes.now
+returns-in_err-least-clause-objects g c = numbered c.args.layout.now c.args.options.now c.args.bytes.now
 
 pub returns-in_err-sheet-clause-objects : goal.returns-in_err-sheet-clause-objects
-returns-in_err-sheet-clause-objects c = numbered c.args.layout.now c.args.options.now c.args.bytes.now
+returns-in_err-sheet-clause-objects g c = numbered c.args.layout.now c.args.options.now c.args.bytes.now
 
 pub returns-clause-objects : goal.returns-clause-objects
-returns-clause-objects c = numbered c.args.layout.now c.args.options.now c.args.bytes.now
+returns-clause-objects g c = numbered c.args.layout.now c.args.options.now c.args.bytes.now

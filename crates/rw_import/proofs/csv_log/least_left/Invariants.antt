@@ -5,7 +5,7 @@ use Rattle.rw_import.specs.Log.{earlier}
 use Rattle.rw_import.proofs.csv_log.least_left.Given as goal
 
 abbrev pub invariant-loop-row : goal.invariant-loop-row
-invariant-loop-row l = record {
+invariant-loop-row g l = record {
   steady : Steady l.reader;
   meaning : fold earlier None (map (record_said l.places l.edges) (unread l.fn.reader)) ≡ fold earlier l.least (map (record_said l.places l.edges) (unread l.reader));
 }

@@ -12,7 +12,7 @@ use Rattle.rw_import.proofs.Collecting.{counts-none, keepable-beside, so-far-nex
 use Rattle.rw_import.proofs.csv_log.rows_left.Goals as goal
 
 pub loop-row-init : goal.loop-row-init
-loop-row-init c =
+loop-row-init g c =
     let sheet = c.blank_sheet-sheet.result in
     let made = c.blank_sheet-sheet.ensures in
     record {
@@ -23,11 +23,11 @@ loop-row-init c =
     }
 
 pub add-requires-clause-timely : goal.add-requires-clause-timely
-add-requires-clause-timely c =
+add-requires-clause-timely g c =
     timely-beside c.args.edges c.args.options c.args.least _ c.judge-judged.result c.in_ok-said.said c.in_ok-said.ensures.said c.in_ok-said.ensures.small c.judge-judged.ensures.keepable
 
 pub returns-in_err-add-clause-fault : goal.returns-in_err-add-clause-fault
-returns-in_err-add-clause-fault c =
+returns-in_err-add-clause-fault g c =
     let p = err_from_is_err_and c.from_residual-in_err-add.result c.from_residual-in_err-add.ensures.1 in
     let gives = rw c.if-not-branch.false at c.in_ok-next.ensures.gives in
     rw (p.1, p.2)
@@ -35,7 +35,7 @@ returns-in_err-add-clause-fault c =
     c.loop-row.invariant.so_far gives c.judge-judged.ensures.judged c.in_ok-said.ensures.said c.in_err-add.ensures.refuses)
 
 pub loop-row-preserved : goal.loop-row-preserved
-loop-row-preserved c =
+loop-row-preserved g c =
     let gives = rw c.if-not-branch.false at c.in_ok-next.ensures.gives in
     let told = c.in_ok-said.ensures.said in
     let fine = keepable-beside c.args.edges c.args.options c.args.least _ c.judge-judged.result c.in_ok-said.said told c.in_ok-said.ensures.small c.judge-judged.ensures.keepable in

@@ -10,7 +10,7 @@ use Rattle.rw_import.proofs.Sheets.{length-places, parted-at, row-told, itself, 
 use Rattle.rw_import.proofs.oracle.collect.Goals as goal
 
 pub loop-at-init : goal.loop-at-init
-loop-at-init c =
+loop-at-init g c =
     let counts = c.blank_sheet-sheet.ensures.left_out in
     record {
       sheet = sheet-none itself c.args.options.edges c.args.options c.args.least c.blank_sheet-sheet.result c.blank_sheet-sheet.ensures.rows counts;
@@ -18,7 +18,7 @@ loop-at-init c =
     }
 
 pub loop-at-preserved : goal.loop-at-preserved
-loop-at-preserved c =
+loop-at-preserved g c =
     let o = c.args.options in
     let f = judged_at o c.args.least c.args.bytes.now in
     let at = c.loop-at.at in
@@ -33,7 +33,7 @@ loop-at-preserved c =
     }
 
 pub returns-in_err-add-clause-fault : goal.returns-in_err-add-clause-fault
-returns-in_err-add-clause-fault c =
+returns-in_err-add-clause-fault g c =
     let p = err_from_is_err_and c.from_residual.result c.from_residual.ensures.1 in
     let o = c.args.options in
     let f = judged_at o c.args.least c.args.bytes.now in

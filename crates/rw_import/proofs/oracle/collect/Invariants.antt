@@ -6,7 +6,7 @@ use Rattle.rw_import.proofs.Sheets.{itself}
 use Rattle.rw_import.proofs.oracle.collect.Given as goal
 
 abbrev pub invariant-loop-at : goal.invariant-loop-at
-invariant-loop-at l = record {
+invariant-loop-at g l = record {
   sheet : IsSheetOf itself l.options.edges l.options l.least (map (judged_at l.options l.least l.bytes) (range_with_len 0 l.at)) l.sheet;
   counts : AreCountsOf l.at l.sheet.left_out;
 }

@@ -9,46 +9,46 @@ use Rattle.rw_import.proofs.Sheets.{fault-whole, rows-objects, sheet-trace, shee
 use Rattle.rw_import.proofs.oracle.import_oracle.Goals as goal
 
 pub returns-in_err-sheet-clause-fault : goal.returns-in_err-sheet-clause-fault
-returns-in_err-sheet-clause-fault c =
+returns-in_err-sheet-clause-fault g c =
     let p = err_from_is_err_and c.from_residual.result c.from_residual.ensures.1 in
     rw (p.1, p.2) (fault-whole c.args.options.now c.args.bytes.now c.least_time-least.result c.least_time-least.ensures _ c.in_err-sheet.ensures.fault)
 
 pub returns-in_err-sheet-clause-objects : goal.returns-in_err-sheet-clause-objects
-returns-in_err-sheet-clause-objects c =
+returns-in_err-sheet-clause-objects g c =
     rows-objects c.args.options.now (first_time (oracle_said c.args.bytes.now)) 0 (kept_in (oracle_told c.args.options.now c.args.bytes.now))
 
 pub returns-clause-objects : goal.returns-clause-objects
-returns-clause-objects c =
+returns-clause-objects g c =
     rows-objects c.args.options.now (first_time (oracle_said c.args.bytes.now)) 0 (kept_in (oracle_told c.args.options.now c.args.bytes.now))
 
 pub returns-clause-trace : goal.returns-clause-trace
-returns-clause-trace c =
+returns-clause-trace g c =
     let o = c.args.options.now in
     let k = sheet-whole o.edges o c.args.bytes.now c.least_time-least.result c.in_ok-sheet.sheet c.least_time-least.ensures c.in_ok-sheet.ensures.sheet in
     MatchResult-weaker c.finish.result c.finish.ensures.trace
     (λ i w. sheet-trace o c.args.bytes.now i.text.items c.in_ok-sheet.sheet o.some_edges o.few_edges k w) (λ e p. p)
 
 pub returns-clause-header : goal.returns-clause-header
-returns-clause-header c =
+returns-clause-header g c =
     let o = c.args.options.now in
     let k = sheet-whole o.edges o c.args.bytes.now c.least_time-least.result c.in_ok-sheet.sheet c.least_time-least.ensures c.in_ok-sheet.ensures.sheet in
     MatchResult-weaker c.finish.result c.finish.ensures.header
     (λ i w. subst (λ (rs : List Row). BeginsWithHeader (has_purge rs) i.text.items) k.rows w) (λ e p. p)
 
 pub returns-clause-kept : goal.returns-clause-kept
-returns-clause-kept c =
+returns-clause-kept g c =
     let o = c.args.options.now in
     let k = sheet-whole o.edges o c.args.bytes.now c.least_time-least.result c.in_ok-sheet.sheet c.least_time-least.ensures c.in_ok-sheet.ensures.sheet in
     MatchResult-weaker c.finish.result c.finish.ensures.kept (λ i w. w ∙ k.count) (λ e p. p)
 
 pub returns-clause-left_out : goal.returns-clause-left_out
-returns-clause-left_out c =
+returns-clause-left_out g c =
     let o = c.args.options.now in
     let k = sheet-whole o.edges o c.args.bytes.now c.least_time-least.result c.in_ok-sheet.sheet c.least_time-least.ensures c.in_ok-sheet.ensures.sheet in
     MatchResult-weaker c.finish.result c.finish.ensures.left_out (λ i w. w ∙ k.left_out) (λ e p. p)
 
 pub returns-clause-strict : goal.returns-clause-strict
-returns-clause-strict c =
+returns-clause-strict g c =
     let o = c.args.options.now in
     let k = sheet-whole o.edges o c.args.bytes.now c.least_time-least.result c.in_ok-sheet.sheet c.least_time-least.ensures c.in_ok-sheet.ensures.sheet in
     MatchResult-weaker c.finish.result c.finish.ensures.kept (λ i w. k.strict) (λ e p. p)

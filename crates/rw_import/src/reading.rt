@@ -1,0 +1,38 @@
+use rw_progress::Progress;
+
+/// Of so many rows one is told of, so that reading a clock each time costs nothing to speak of.
+const ROWS: u64 = 1024;
+
+/// One of the readings of a log, and who is told how far it has come.
+#[derive(Drop)]
+pub(crate) struct Reading<'a, P> {
+    progress: &'a mut P,
+    /// How many bytes the readings before it have read.
+    before: u64,
+}
+
+impl<'a, P: Progress> Reading<'a, P> {
+    /// The first reading of so many bytes, which are read twice.
+    pub(crate) fn first(progress: &'a mut P, length: usize) -> Reading<'a, P> {
+        progress.begin(0, (length as u64).saturating_mul(2));
+        Reading {
+            progress,
+            before: 0,
+        }
+    }
+
+    /// The second reading of so many bytes.
+    pub(crate) fn second(progress: &'a mut P, length: usize) -> Reading<'a, P> {
+        Reading {
+            progress,
+            before: length as u64,
+        }
+    }
+
+    /// Before row `row` so many bytes are read, or somewhat more.
+    pub(crate) fn come_to(&mut self, row: u64, bytes: u64) {
+        if row % ROWS == 0 {
+            self.progress.reach(self.before.saturating_add(bytes));
+        }
+    }
+}
