@@ -1,5 +1,5 @@
 -- Lists of events by the times that they have.
-use Rattle.std.proofs.Common.{◌≡◌, ℕ, ◌<◌, ◌≤◌, Bool, true, false, cond, List, [], ◌∷◌, ◌++◌, ◌⊎◌, inl, inr, refl, sym, ◌∙◌, ap, subst, arith, append_assoc, append-nil, Option, Some, None, All, IsPermutation, length, map, get_or}
+use Rattle.std.proofs.Common.{◌≡◌, ℕ, ◌<◌, ◌≤◌, Bool, true, false, cond, List, [], ◌∷◌, ◌++◌, ◌⊎◌, inl, inr, refl, sym, ◌∙◌, ap, subst, arith, append_assoc, append-nil, Option, Some, None, All, IfNone, IfSome, IsPermutation, length, map, get_or}
 use Rattle.std.specs.Prelude.{nat_le}
 use Rattle.std.specs.BinaryHeap.{IsUpperBound}
 use Rattle.std.specs.Cmp.{IsTotalOrder}
@@ -11,7 +11,7 @@ use Rattle.std.specs.declared.cmp.Reverse.{Reverse}
 use Rattle.std.proofs.lemmas.Bool.{cases_lt}
 use Rattle.std.proofs.lemmas.Bool.Decides.{nat_tests}
 use Rattle.std.proofs.lemmas.List.Elements.{All-append, All-cons, All-head, All-nil, All-push, All-tail, All-weaker}
-use Rattle.std.proofs.lemmas.List.Sorted.{All-permutation, IsPermutation-append_comm, IsPermutation-append_left, IsPermutation-append_right, IsPermutation-push_more, IsPermutation-refl, IsPermutation-sym, IsPermutation-trans, length_permutation}
+use Rattle.std.proofs.lemmas.List.Sorted.{All-permutation, IsPermutation-append_comm, IsPermutation-append_left, IsPermutation-append_right, IsPermutation-middle, IsPermutation-push_more, IsPermutation-refl, IsPermutation-sym, IsPermutation-trans, length_permutation}
 use Rattle.rw_vt.specs.declared.event.Event.{Event}
 use Rattle.rw_vt.specs.Order.{AtMost, event_cmp}
 use Rattle.rw_vt.proofs.EventOrder.{time_at_most}
@@ -174,3 +174,18 @@ put_behind xs ys vs e h = subst (λ l. IsPermutation l (xs ++ vs)) (sym (append_
 pub on_err : {T E P : Type 0} (r : Result T E) → P → OnErr r P
 on_err (Ok x) h = tt
 on_err (Err y) h = h
+
+-- one is taken of those behind others, where there is one
+pub taken_behind : {E : Type 0} (xs ys vs : List E) (next : Option E) → IfSome next (λ e. IsPermutation ys (e ∷ vs)) → IfSome next (λ e. IsPermutation (xs ++ ys) (e ∷ (xs ++ vs)))
+taken_behind xs ys vs None h = tt
+taken_behind xs ys vs (Some e) h = IsPermutation-trans (xs ++ ys) (xs ++ e ∷ vs) (e ∷ (xs ++ vs)) (IsPermutation-append_right xs ys (e ∷ vs) h) (IsPermutation-middle xs e vs)
+
+pub none_behind : {E : Type 0} (P : E → Type 0) (xs ys : List E) (next : Option E) → All P xs → IfNone next (All P ys) → IfNone next (All P (xs ++ ys))
+none_behind P xs ys None h k = All-append P xs ys h k
+none_behind P xs ys (Some e) h k = tt
+
+-- a least event that is taken has the least time
+pub taken_at_least : {B : Type 0} (t : ℕ) (xs rest : List (Event B)) (next : Option (Event B)) → All (λ e. t ≤ e.time) xs → IsLeastTime xs (Some t) → IfSome next (λ e. IsPermutation xs (e ∷ rest)) → IfSome next (λ e. All (λ f. e.time ≤ f.time) xs)
+    → IfSome next (λ e. e.time ≡ t)
+taken_at_least t xs rest None late least parts first = tt
+taken_at_least t xs rest (Some e) late least parts first = at_least t xs rest e late least parts first

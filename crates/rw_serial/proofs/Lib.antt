@@ -3,6 +3,7 @@ pub mod First
 pub mod Left
 pub mod Lists
 pub mod Midrun
+pub mod Next
 pub mod Permuted
 pub mod Queue
 pub mod Sanity

@@ -14,7 +14,7 @@ use Rattle.std.specs.List.Sorted.{IsSorted}
 use Rattle.std.proofs.lemmas.List.Recursion.{is_sum_by}
 use Rattle.std.proofs.lemmas.List.MinMax.{ranks_by}
 use Rattle.std.proofs.lemmas.List.Sorted.{sorted_far, sum_by-IsPermutation, IsPermutation-trans, IsPermutation-append_right, IsPermutation-map, IsPermutation-middle}
-use Rattle.std.proofs.lemmas.List.Elements.{All-map, All-tail, All-weaker, All-from_recursion}
+use Rattle.std.proofs.lemmas.List.Elements.{All-cons, All-map, All-nil, All-tail, All-weaker, All-from_recursion}
 use Rattle.rw_vt.specs.Order.{AtMost, one_if_same, copies}
 
 not_below : (r : Ordering) → is_lt r ≡ false → is_gt (ordering_reverse r) ≡ false
@@ -26,6 +26,17 @@ module _ {E : Type 0} {cmp : E → E → Ordering} (o : IsTotalOrder cmp) where
   -- what is not less is not exceeded
   at_most_from_not_less : (x y : E) → is_lt (cmp y x) ≡ false → AtMost cmp x y
   at_most_from_not_less x y h = ap is_gt (o.antisymm x y) ∙ not_below (cmp y x) h
+
+  at_most_self : (x : E) → AtMost cmp x x
+  at_most_self x = by_answer (cmp x x) (o.antisymm x x)
+    where
+      by_answer : (r : Ordering) → r ≡ ordering_reverse r → is_gt r ≡ false
+      by_answer Less h = refl
+      by_answer Equal h = refl
+      by_answer Greater h = cc
+
+  pub alone_least : (x : E) → All (AtMost cmp x) (x ∷ [])
+  alone_least x = All-cons (AtMost cmp x) x [] (at_most_self x) (All-nil (AtMost cmp x))
 
   -- a sorted list begins with its least element
   pub sorted_least : (x : E) (xs : List E) → IsSorted cmp (x ∷ xs) → All (AtMost cmp x) (x ∷ xs)

@@ -52,7 +52,7 @@ module _ {E : Type 0} {cmp : E → E → Ordering} (o : IsTotalOrder cmp) where
   below_all : (x y : E) (xs : List E) → AtMost cmp x y → All (AtMost cmp y) xs → All (AtMost cmp x) xs
   below_all x y xs h all = All-weaker (AtMost cmp y) (AtMost cmp x) (λ z k. upto o x y z h k) xs all
 
-  below_first : (x : E) (ys : List E) (second : Option (Bor E)) → option_copied second ≡ slice_get ys 0 → IfSome second (λ s. All (AtMost cmp s.now) ys) → IfSome second (λ s. AtMost cmp x s.now) → All (AtMost cmp x) ys
+  pub below_first : (x : E) (ys : List E) (second : Option (Bor E)) → option_copied second ≡ slice_get ys 0 → IfSome second (λ s. All (AtMost cmp s.now) ys) → IfSome second (λ s. AtMost cmp x s.now) → All (AtMost cmp x) ys
   below_first x [] second is least low = All-nil (AtMost cmp x)
   below_first x (y ∷ ys) None is least low = cc
   below_first x (y ∷ ys) (Some s) is least low = below_all x s.now (y ∷ ys) low least
@@ -101,7 +101,7 @@ module _ {B : Type 0} (order : B → B → Ordering) where
       (All-front (λ f. t ≤ f.time) taken.from_first us (subst (All (λ f. t ≤ f.time)) taken.first from))
       (All-front (λ f. t ≤ f.time) taken.from_second vs (subst (All (λ f. t ≤ f.time)) taken.second also))))
 
-  no_back : {E : Type 0} (xs ys : List E) → xs ++ ys ≡ [] → (xs ≡ []) × (ys ≡ [])
+  pub no_back : {E : Type 0} (xs ys : List E) → xs ++ ys ≡ [] → (xs ≡ []) × (ys ≡ [])
   no_back [] ys h = (refl, h)
   no_back (x ∷ xs) ys h = cc
 

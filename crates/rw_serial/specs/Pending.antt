@@ -1,5 +1,5 @@
 -- The events that are still to be executed.
-use Rattle.std.specs.Prelude.{◌≡◌, ◌<◌, ◌≤◌, ◌++◌, [], ◌∷◌, All, List, Option, Some, None, if◌then◌else◌, nat_lt, option_to_list}
+use Rattle.std.specs.Prelude.{◌≡◌, ◌<◌, ◌≤◌, ◌++◌, [], ◌∷◌, All, IfNone, IfSome, IsPermutation, List, Option, Some, None, if◌then◌else◌, nat_lt, option_to_list}
 use Rattle.std.specs.declared.cmp.Ordering.{Ordering}
 use Rattle.std.specs.declared.cmp.Reverse.{Reverse}
 use Rattle.std.specs.BinaryHeap.{IsHeap}
@@ -52,3 +52,21 @@ pub record IsTakenFromOne {B : Type 0} (xs ys : List (Event B)) (taken : Option 
   pub first : xs ≡ from_first ++ us
   pub second : ys ≡ from_second ++ vs
   pub both : from_first ++ from_second ≡ option_to_list taken
+
+-- the next time is reached: the events that were sent for it are at hand, unless an initial event comes first
+pub record IsReached {B : Type 0} (initial now later now' later' : List (Event B)) : Type 0 where
+  pub time : Time
+  pub around : AreAround time initial now' later'
+  pub due : now' ≡ [] → IsDue initial later'
+  pub moved : IsPermutation (now ++ later) (now' ++ later')
+
+-- what is given is a least event of those that wait, the initial ones, those at hand and the later ones, of which
+-- `initial'`, `now'` and `later'` are left, around its time; where none is given, nothing waits
+pub record IsNextEvent {B : Type 0} (order : B → B → Ordering) (t : Time)
+    (initial now later : List (Event B)) (next : Option (Event B))
+    (initial' now' later' : List (Event B)) : Type 0 where
+  pub none : IfNone next (initial ++ (now ++ later) ≡ [])
+  pub least : IfSome next (λ e. All (AtMost (event_cmp order) e) (initial ++ (now ++ later)))
+  pub taken : IfSome next (λ e.
+      IsPermutation (initial ++ (now ++ later)) (e ∷ (initial' ++ (now' ++ later'))))
+  pub around : AreAround (time_or next t) initial' now' later'

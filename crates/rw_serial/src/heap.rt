@@ -65,6 +65,14 @@ impl<B: Ord + Copy> Store<B> for Heap<B> {
         Ok(())
     }
 
+    fn take_one(&mut self, time: u64) -> Option<Event<B>> {
+        if is_time(self.least_time(), time) {
+            self.pop()
+        } else {
+            None
+        }
+    }
+
     fn take(&mut self, time: u64, taken: &mut Vec<Event<B>>) -> Result<(), AllocError> {
         while is_time(self.least_time(), time) {
             if let Some(event) = self.pop() {

@@ -46,9 +46,10 @@ impl<B: Ord + Copy, S: Source<B>> Initial<B, S> {
         self.first.as_ref()
     }
 
-    /// Takes the first event. `None` only where none is left.
+    /// Takes the first event, which is a least one. `None` only where none is left.
     pub fn pop(&mut self) -> Option<Event<B>>
         ensures taken { self.old ≡ option_to_list result ++ self.new }
+        ensures least { IfSome result (λ e. All (AtMost (event_cmp B.cmp) e) self.old) }
         ensures none { IfNone result (self.old ≡ []) }
     {
         mem::replace(&mut self.first, self.others.next())

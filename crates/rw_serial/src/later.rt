@@ -1,4 +1,4 @@
-ghost use Rattle.std.specs.Prelude.{◌≡◌, ◌<◌, ◌≤◌, ◌++◌, [], ◌∷◌, All, IsPermutation, List, OnErr, OnOk};
+ghost use Rattle.std.specs.Prelude.{◌≡◌, ◌<◌, ◌≤◌, ◌++◌, [], ◌∷◌, All, IfNone, IfSome, IsPermutation, List, OnErr, OnOk};
 ghost use Rattle.rw_vt.specs.declared.event.Event.{Event};
 ghost use Rattle.rw_serial.specs.Later.{AreByTime, HasMoved, IsLeastTime, IsLeft};
 
@@ -23,6 +23,13 @@ pub trait Store<B: Ord + Copy>: Drop {
         ensures added { OnOk result
             (IsPermutation (events self.old ++ event ∷ []) (events self.new)) }
         ensures unchanged { OnErr result (events self.new ≡ events self.old) };
+
+    /// Takes an event of a time, than which none is earlier. `None` only where there is none of that time.
+    fn take_one(&mut self, time: u64) -> Option<Event<B>>
+        requires { All (λ e. time ≤ e.time) (events self.old) }
+        ensures taken { IfSome result (λ e. IsPermutation (events self.old) (e ∷ events self.new)) }
+        ensures of_time { IfSome result (λ e. e.time ≡ time) }
+        ensures none { IfNone result (All (λ e. time < e.time) (events self.old)) };
 
     /// Moves the events of a time, than which none is earlier, to the end of `taken`. Where memory is refused, some events
     /// are lost.
@@ -86,6 +93,15 @@ impl<B: Ord + Copy, R: Store<B>> Store<B> for Lane<B, R> {
             Ok(())
         } else {
             self.others.put(event)
+        }
+    }
+
+    #[inline]
+    fn take_one(&mut self, time: u64) -> Option<Event<B>> {
+        if is_time(time_of(self.events.first()), time) {
+            self.events.pop()
+        } else {
+            self.others.take_one(time)
         }
     }
 
@@ -170,6 +186,19 @@ impl<B: Ord + Copy> Later<B> {
         self.lanes.put(event)?;
         self.least = earlier(self.least, Some(event.time));
         Ok(())
+    }
+
+    /// Takes an event of a time, than which none is earlier. `None` only where there is none of that time.
+    #[inline]
+    pub fn take_one(&mut self, time: u64) -> Option<Event<B>>
+        requires { All (λ e. time ≤ e.time) self.old }
+        ensures taken { IfSome result (λ e. IsPermutation self.old (e ∷ self.new)) }
+        ensures of_time { IfSome result (λ e. e.time ≡ time) }
+        ensures none { IfNone result (All (λ e. time < e.time) self.old) }
+    {
+        let event = self.lanes.take_one(time);
+        self.least = self.lanes.least_time();
+        event
     }
 
     /// Moves the events of a time, than which none is earlier, to the end of `taken`. Where memory is refused, some events

@@ -37,8 +37,8 @@ use std::alloc::Global;
 /// twice. Every event is earlier than [`rw_vt::END`], and what an event sends is later than the event, so a run ends.
 ///
 /// It costs the executions, one sort of the initial events (linear in their number where they are sorted already), and
-/// for each event a number of comparisons logarithmic in how many sent events are pending at the time. The undo records
-/// are dropped one by one.
+/// for each event a number of comparisons logarithmic in how many sent events are pending at the time. There are no undo
+/// records.
 ///
 /// # Errors
 ///
@@ -155,15 +155,19 @@ fn execute_pending<M: Model, L: Ledger<M::Body>, S: Source<M::Body>>(
         end_of_time (M.is_exhausted model.now)) }
 {
     let mut sent = Vec::new(alloc);
-    while let Some(event) = pending.pop()? {
-        execute(alloc, model, states, &event, &mut sent)?;
-        ledger.enter(event)?;
+    let mut next = None;
+    'events: loop {
+        pending.pop(&mut next)?;
+        let Some(event) = &next else {
+            return Ok(());
+        };
+        execute(alloc, model, states, event, &mut sent)?;
+        ledger.enter(*event)?;
         pending.extend(&sent)?;
     }
-    Ok(())
 }
 
-/// Executes an event at its process, and leaves in `sent` what it sends, in order.
+/// Executes an event for good at its process, and leaves in `sent` what it sends, in order.
 ///
 /// After a refusal nothing is said of `states` and `sent`.
 fn execute<M: Model>(
@@ -188,6 +192,5 @@ fn execute<M: Model>(
         → M.is_exhausted model.now s ≡ true) }
 {
     sent.clear();
-    model.execute(alloc, event.to, &mut states[event.to as usize], event, sent)?;
-    Ok(())
+    model.advance(alloc, event.to, &mut states[event.to as usize], event, sent)
 }

@@ -1,11 +1,13 @@
-ghost use Rattle.std.specs.Prelude.{◌≡◌, ◌<◌, ◌++◌, ℕ, [], ◌∷◌, false, All, IfNone, IfOk, IfSome, IsNone, IsPermutation, IsSome, IsTrue, OnErr, OnOk, option_copied, take};
+ghost use Rattle.std.specs.Prelude.{◌≡◌, ◌<◌, ◌≤◌, ◌++◌, ℕ, [], ◌∷◌, false, true, All, IfNone, IfOk, IfSome, IsNone, IsPermutation, IsSome, IsTrue, OnErr, OnOk, option_copied, take};
 ghost use Rattle.rw_vt.specs.Order.{event_cmp, AtMost};
-ghost use Rattle.rw_serial.specs.Pending.{AreAround, IsDue, IsTakenFromOne, due_of, time_or};
+ghost use Rattle.rw_serial.specs.Later.{IsLeft};
+ghost use Rattle.rw_serial.specs.Pending.{AreAround, IsDue, IsNextEvent, IsReached, IsTakenFromOne, due_of, time_or};
 
 use crate::initial::Initial;
 use crate::later::Later;
 use crate::slice::Slice;
 use crate::source::Source;
+use crate::times::is_time;
 use rw_vt::Event;
 use std::alloc::{AllocError, Global};
 use std::marker::Model;
@@ -55,27 +57,28 @@ impl<B: Ord + Copy, S: Source<B>> Pending<B, S> {
         }
     }
 
-    /// Takes a least event, whose time is then reached. `None` only where there is none.
+    /// Takes a least event, whose time is then reached, and puts it into `next`. `None` only where there is none.
     ///
     /// After a refusal of memory nothing is said of what is there.
-    pub fn pop(&mut self) -> Result<Option<Event<B>>, AllocError>
-        ensures none { IfOk result (λ next. IfNone next (self.old.events ≡ [])) }
-        ensures least { IfOk result (λ next. IfSome next (λ e.
+    #[inline]
+    pub fn pop(&mut self, next: &mut Option<Event<B>>) -> Result<(), AllocError>
+        ensures none { OnOk result (IfNone next.new (self.old.events ≡ [])) }
+        ensures least { OnOk result (IfSome next.new (λ e.
             All (AtMost (event_cmp B.cmp) e) self.old.events)) }
-        ensures taken { IfOk result (λ next. IfSome next (λ e.
+        ensures taken { OnOk result (IfSome next.new (λ e.
             IsPermutation self.old.events (e ∷ self.new.events))) }
-        ensures reached { IfOk result (λ next. IfSome next (λ e. self.new.time ≡ e.time)) }
+        ensures reached { OnOk result (IfSome next.new (λ e. self.new.time ≡ e.time)) }
     {
-        self.time = reach(
+        take_least(
             self.time,
-            &self.initial,
+            &mut self.initial,
             &mut self.now,
             &mut self.later,
             &mut self.room,
+            next,
         )?;
-        let next = take_first(&mut self.initial, &mut self.now);
-        self.time = time_or(&next, self.time);
-        Ok(next)
+        self.time = time_or(next, self.time);
+        Ok(())
     }
 
     /// Adds events that were sent, in any order. They are later than the time that is reached.
@@ -89,35 +92,133 @@ impl<B: Ord + Copy, S: Source<B>> Pending<B, S> {
     }
 }
 
+/// Takes a least event of all into `next`. `None` only where there is none.
+///
+/// After a refusal of memory some events may be lost.
+#[inline]
+fn take_least<B: Ord + Copy, S: Source<B>>(
+    time: u64,
+    initial: &mut Initial<B, S>,
+    now: &mut Slice<B>,
+    later: &mut Later<B>,
+    room: &mut Vec<Event<B>>,
+    next: &mut Option<Event<B>>,
+) -> Result<(), AllocError>
+    requires { AreAround time initial.old now.old later.old }
+    ensures next { OnOk result (IsNextEvent B.cmp time initial.old now.old later.old next.new
+        initial.new now.new later.new) }
+    ensures lost { OnErr result (AreAround time initial.new now.new later.new) }
+{
+    if reach(time, initial, now, later, room, next)? {
+        return Ok(());
+    }
+    *next = take_first(initial, now);
+    Ok(())
+}
+
 /// Where nothing is left of the events that were sent for the time that is reached, goes on to the next time of such events,
-/// unless an initial event is before it: moves them from `later` to `now`, by way of `room`. Gives the time that is then
-/// reached.
+/// unless an initial event is before it. An event that is alone in its time is taken into `next` at once, as the answer then
+/// says; of several, those that were sent move from `later` to `now`, by way of `room`.
 ///
 /// After a refusal of memory some events may be lost.
 #[inline]
 fn reach<B: Ord + Copy, S: Source<B>>(
     time: u64,
-    initial: &Initial<B, S>,
+    initial: &mut Initial<B, S>,
     now: &mut Slice<B>,
     later: &mut Later<B>,
     room: &mut Vec<Event<B>>,
-) -> Result<u64, AllocError>
-    requires { AreAround time initial.now now.old later.old }
-    ensures moved { OnOk result (IsPermutation (now.old ++ later.old) (now.new ++ later.new)) }
-    ensures around { IfOk result (λ t. AreAround t initial.now now.new later.new) }
-    ensures due { OnOk result (now.new ≡ [] → IsDue initial.now later.new) }
-    ensures lost { OnErr result (AreAround time initial.now now.new later.new) }
+    next: &mut Option<Event<B>>,
+) -> Result<bool, AllocError>
+    requires { AreAround time initial.old now.old later.old }
+    ensures taken { IfOk result (λ taken. taken ≡ true
+        → IsNextEvent B.cmp time initial.old now.old later.old next.new
+        initial.new now.new later.new) }
+    ensures reached { IfOk result (λ taken. taken ≡ false
+        → (initial.new ≡ initial.old)
+        × IsReached initial.old now.old later.old now.new later.new) }
+    ensures lost { OnErr result (AreAround time initial.new now.new later.new) }
 {
     if now.first().is_some() {
-        return Ok(time);
+        return Ok(false);
     }
-    let Some(next) = due(initial.first(), later.least_time()) else {
-        return Ok(time);
+    let Some(first) = take_due(initial, later) else {
+        *next = initial.pop();
+        return Ok(true);
     };
+    if is_time(later.least_time(), first.time) {
+        gather(first, now, later, room)?;
+        return Ok(false);
+    }
+    take_lesser(first, initial, now, next)?;
+    Ok(true)
+}
+
+/// Takes one of the earliest events that were sent. `None` only where there is none, or an initial event is before them.
+#[inline]
+fn take_due<B: Ord + Copy, S: Source<B>>(
+    initial: &Initial<B, S>,
+    later: &mut Later<B>,
+) -> Option<Event<B>>
+    ensures taken { IfSome result (λ e. IsPermutation later.old (e ∷ later.new)) }
+    ensures least { IfSome result (λ e. All (λ f. e.time ≤ f.time) later.old
+        × All (λ f. e.time ≤ f.time) initial.now) }
+    ensures none { IfNone result ((later.new ≡ later.old) × IsDue initial.now later.old) }
+{
+    let Some(time) = due(initial.first(), later.least_time()) else {
+        return None;
+    };
+    later.take_one(time)
+}
+
+/// Takes the lesser of the first initial event and an event that was sent, the only one for its time. Where that is not the
+/// event that was sent, it is put at hand, where nothing is.
+#[inline]
+fn take_lesser<B: Ord + Copy, S: Source<B>>(
+    sent: Event<B>,
+    initial: &mut Initial<B, S>,
+    now: &mut Slice<B>,
+    next: &mut Option<Event<B>>,
+) -> Result<(), AllocError>
+    requires { now.old ≡ [] }
+    ensures taken { OnOk result
+        (IsTakenFromOne initial.old (sent ∷ []) next.new initial.new now.new) }
+    ensures least { OnOk result (IfSome next.new (λ e.
+        All (AtMost (event_cmp B.cmp) e) initial.old
+        × All (AtMost (event_cmp B.cmp) e) (sent ∷ []))) }
+    ensures some { OnOk result (IsSome next.new) }
+    ensures lost { OnErr result ((initial.new ≡ initial.old) × (now.new ≡ [])) }
+{
+    if is_initial_next(initial.first(), Some(&sent)) {
+        now.put(sent)?;
+        *next = initial.pop();
+    } else {
+        *next = Some(sent);
+    }
+    Ok(())
+}
+
+/// Moves an event and all that were sent for its time to `now`, where nothing is left, by way of `room`.
+///
+/// After a refusal of memory some events may be lost.
+fn gather<B: Ord + Copy>(
+    first: Event<B>,
+    now: &mut Slice<B>,
+    later: &mut Later<B>,
+    room: &mut Vec<Event<B>>,
+) -> Result<(), AllocError>
+    requires none { now.old ≡ [] }
+    requires least { All (λ e. first.time ≤ e.time) later.old }
+    ensures moved { OnOk result (IsPermutation (first ∷ later.old) (now.new ++ later.new)) }
+    ensures times { OnOk result (All (λ e. e.time ≡ first.time) now.new
+        × All (λ e. first.time < e.time) later.new) }
+    ensures lost { OnErr result ((now.new ≡ []) × IsLeft later.old later.new) }
+{
     room.clear();
-    later.take(next, room)?;
+    room.push(first)?;
+    later.take(first.time, room)?;
     now.fill(room);
-    Ok(next)
+    Ok(())
 }
 
 /// The least time of the events that were sent, unless there is an initial event, and it is before that.
@@ -156,6 +257,7 @@ fn take_first<B: Ord + Copy, S: Source<B>>(
 }
 
 /// Whether the next event is the first of the initial ones, and not the first of those that were sent.
+#[inline]
 fn is_initial_next<B: Ord + Copy>(initial: Option<&Event<B>>, sent: Option<&Event<B>>) -> bool
     ensures some { IsTrue result → IsSome initial.entry }
     ensures only { IsNone sent.entry → IsSome initial.entry → IsTrue result }

@@ -1,8 +1,8 @@
-ghost use Rattle.std.specs.Prelude.{◌≡◌, ◌++◌, [], All, IfNone, IfSome, IsPermutation, option_copied, option_to_list, slice_get};
+ghost use Rattle.std.specs.Prelude.{◌≡◌, ◌++◌, [], ◌∷◌, All, IfNone, IfSome, IsPermutation, OnErr, OnOk, option_copied, option_to_list, slice_get};
 ghost use Rattle.rw_vt.specs.Order.{event_cmp, AtMost};
 
 use rw_vt::Event;
-use std::alloc::Global;
+use std::alloc::{AllocError, Global};
 use std::marker::Model;
 use std::mem;
 
@@ -57,6 +57,18 @@ impl<B: Ord + Copy> Slice<B> {
         let event = *self.events.get(self.taken)?;
         self.taken += 1;
         Some(event)
+    }
+
+    /// Takes this event in, where none is left. Where memory is refused, nothing has changed.
+    pub fn put(&mut self, event: Event<B>) -> Result<(), AllocError>
+        requires { self.old ≡ [] }
+        ensures put { OnOk result (self.new ≡ event ∷ []) }
+        ensures unchanged { OnErr result (self.new ≡ []) }
+    {
+        self.events.clear();
+        self.taken = 0;
+        self.events.push(event)?;
+        Ok(())
     }
 
     /// Takes these events in, where none is left, and sorts them.

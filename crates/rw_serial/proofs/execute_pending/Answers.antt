@@ -10,8 +10,8 @@ use Rattle.rw_serial.proofs.Midrun.{length-states, midrun_start, next_valid, nex
 use Rattle.rw_serial.proofs.Waiting.{taken_at, least_at, none_at, reached_at}
 use Rattle.rw_serial.proofs.execute_pending.Goals as goal
 
-pub loop-sent-init : goal.loop-sent-init
-loop-sent-init g c =
+pub events-init : goal.events-init
+events-init g c =
     let laws = laws_of g.met.M.Model g.met.M.Body.Ord.total in
     let m = c.args.model.now in
     let starts = c.args.states.now.items in
@@ -20,58 +20,58 @@ loop-sent-init g c =
 
 pub execute-requires-clause-process : goal.execute-requires-clause-process
 execute-requires-clause-process g c =
-    let inside = next_inside c.loop-sent.invariant.2 (taken_at c.in-Some.is c.in_ok-event.ensures.taken) (least_at (event_cmp g.M.Body.Ord.cmp) c.loop-sent.pending.events c.in-Some.is c.in_ok-event.ensures.least) in
+    let inside = next_inside c.events.invariant.2 (taken_at c.in-Some.is c.in_ok-pop.ensures.taken) (least_at (event_cmp g.M.Body.Ord.cmp) c.events.pending.events c.in-Some.is c.in_ok-pop.ensures.least) in
     subst (λ n. c.in-Some.event.to < n) c.requires.ready.enough inside.to
 
 pub execute-requires-clause-enough : goal.execute-requires-clause-enough
-execute-requires-clause-enough g c = length-states c.loop-sent.invariant.2 ∙ c.requires.ready.enough
+execute-requires-clause-enough g c = length-states c.events.invariant.2 ∙ c.requires.ready.enough
 
 pub execute-requires-clause-well_formed : goal.execute-requires-clause-well_formed
-execute-requires-clause-well_formed g c = next_well_formed c.loop-sent.invariant.2 (taken_at c.in-Some.is c.in_ok-event.ensures.taken) (least_at (event_cmp g.M.Body.Ord.cmp) c.loop-sent.pending.events c.in-Some.is c.in_ok-event.ensures.least)
+execute-requires-clause-well_formed g c = next_well_formed c.events.invariant.2 (taken_at c.in-Some.is c.in_ok-pop.ensures.taken) (least_at (event_cmp g.M.Body.Ord.cmp) c.events.pending.events c.in-Some.is c.in_ok-pop.ensures.least)
 
 pub execute-requires-clause-valid : goal.execute-requires-clause-valid
-execute-requires-clause-valid g c = next_valid c.loop-sent.invariant.2 (taken_at c.in-Some.is c.in_ok-event.ensures.taken) (least_at (event_cmp g.M.Body.Ord.cmp) c.loop-sent.pending.events c.in-Some.is c.in_ok-event.ensures.least)
+execute-requires-clause-valid g c = next_valid c.events.invariant.2 (taken_at c.in-Some.is c.in_ok-pop.ensures.taken) (least_at (event_cmp g.M.Body.Ord.cmp) c.events.pending.events c.in-Some.is c.in_ok-pop.ensures.least)
 
 pub enter-requires : goal.enter-requires
 enter-requires g c =
-    let run = c.loop-sent.invariant.2 in
-    let inside = next_inside run (taken_at c.in-Some.is c.in_ok-event.ensures.taken) (least_at (event_cmp g.M.Body.Ord.cmp) c.loop-sent.pending.events c.in-Some.is c.in_ok-event.ensures.least) in
-    (c.loop-sent.invariant.0, c.loop-sent.invariant.1, subst (λ n. c.in-Some.event.to < n) (sym run.count) inside.to)
+    let run = c.events.invariant.2 in
+    let inside = next_inside run (taken_at c.in-Some.is c.in_ok-pop.ensures.taken) (least_at (event_cmp g.M.Body.Ord.cmp) c.events.pending.events c.in-Some.is c.in_ok-pop.ensures.least) in
+    (c.events.invariant.0, c.events.invariant.1, subst (λ n. c.in-Some.event.to < n) (sym run.count) inside.to)
 
-pub loop-sent-smaller : goal.loop-sent-smaller
-loop-sent-smaller g c =
-    let journals = c.loop-sent.invariant.0 in
+pub events-smaller : goal.events-smaller
+events-smaller g c =
+    let journals = c.events.invariant.0 in
     let x = c.in-Some.event in
-    midrun_falls c.loop-sent.invariant.2 (taken_at c.in-Some.is c.in_ok-event.ensures.taken) (least_at (event_cmp g.M.Body.Ord.cmp) c.loop-sent.pending.events c.in-Some.is c.in_ok-event.ensures.least)
+    midrun_falls c.events.invariant.2 (taken_at c.in-Some.is c.in_ok-pop.ensures.taken) (least_at (event_cmp g.M.Body.Ord.cmp) c.events.pending.events c.in-Some.is c.in_ok-pop.ensures.least)
     c.execute.new.states.items (slice_set journals x.to (get_or journals x.to [] ++ x ∷ [])) c.execute.new.sent.items c.extend.new.self.events
     c.in_ok-execute.ensures.states refl c.in_ok-execute.ensures.sends (search rules) (2 ^ 40) (λ e inside. inside.time)
 
-pub loop-sent-preserved : goal.loop-sent-preserved
-loop-sent-preserved g c =
-    let journals = c.loop-sent.invariant.0 in
+pub events-preserved : goal.events-preserved
+events-preserved g c =
+    let journals = c.events.invariant.0 in
     let x = c.in-Some.event in
     let entered = slice_set journals x.to (get_or journals x.to [] ++ x ∷ []) in (
       entered,
-      c.in_ok-enter.ensures journals c.loop-sent.invariant.1,
-      midrun_step_by c.loop-sent.invariant.2 (taken_at c.in-Some.is c.in_ok-event.ensures.taken) (least_at (event_cmp g.M.Body.Ord.cmp) c.loop-sent.pending.events c.in-Some.is c.in_ok-event.ensures.least)
+      c.in_ok-enter.ensures journals c.events.invariant.1,
+      midrun_step_by c.events.invariant.2 (taken_at c.in-Some.is c.in_ok-pop.ensures.taken) (least_at (event_cmp g.M.Body.Ord.cmp) c.events.pending.events c.in-Some.is c.in_ok-pop.ensures.least)
           c.execute.new.states.items entered c.execute.new.sent.items c.extend.new.self.events
           c.in_ok-execute.ensures.states refl c.in_ok-execute.ensures.sends (search rules),
     )
 
 pub returns-in_err-execute-clause-exhausted : goal.returns-in_err-execute-clause-exhausted
 returns-in_err-execute-clause-exhausted g c =
-    let run = c.loop-sent.invariant.2 in
-    let inside = next_inside run (taken_at c.in-Some.is c.in_ok-event.ensures.taken) (least_at (event_cmp g.M.Body.Ord.cmp) c.loop-sent.pending.events c.in-Some.is c.in_ok-event.ensures.least) in
-    let meets = midrun_meets run (taken_at c.in-Some.is c.in_ok-event.ensures.taken) (least_at (event_cmp g.M.Body.Ord.cmp) c.loop-sent.pending.events c.in-Some.is c.in_ok-event.ensures.least) (2 ^ 40) inside.time (g.M.Model.is_exhausted c.args.model.now) in
+    let run = c.events.invariant.2 in
+    let inside = next_inside run (taken_at c.in-Some.is c.in_ok-pop.ensures.taken) (least_at (event_cmp g.M.Body.Ord.cmp) c.events.pending.events c.in-Some.is c.in_ok-pop.ensures.least) in
+    let meets = midrun_meets run (taken_at c.in-Some.is c.in_ok-pop.ensures.taken) (least_at (event_cmp g.M.Body.Ord.cmp) c.events.pending.events c.in-Some.is c.in_ok-pop.ensures.least) (2 ^ 40) inside.time (g.M.Model.is_exhausted c.args.model.now) in
     let p = err_from_is_err_and c.from_residual-in_err-execute.result c.from_residual-in_err-execute.ensures.1 in
     rw (p.1, p.2) (λ e. meets (λ s there. c.in_err-execute.ensures.exhausted e s there))
 
-pub returns-clause-outcome : goal.returns-clause-outcome
-returns-clause-outcome g c = (c.loop-sent.invariant.0, c.loop-sent.invariant.1, midrun_done c.loop-sent.invariant.2 (2 ^ 40) (2 ^ 40 - 1) refl (λ e inside. inside.time) (none_at c.in_default.is c.in_ok-event.ensures.none))
+pub returns-in_default-clause-outcome : goal.returns-in_default-clause-outcome
+returns-in_default-clause-outcome g c = (c.events.invariant.0, c.events.invariant.1, midrun_done c.events.invariant.2 (2 ^ 40) (2 ^ 40 - 1) refl (λ e inside. inside.time) (none_at c.in_default.is c.in_ok-pop.ensures.none))
 
 pub extend-requires : goal.extend-requires
 extend-requires g c =
     let x = c.in-Some.event in
-    let later = next_sends_later c.loop-sent.invariant.2 (taken_at c.in-Some.is c.in_ok-event.ensures.taken) (least_at (event_cmp g.M.Body.Ord.cmp) c.loop-sent.pending.events c.in-Some.is c.in_ok-event.ensures.least) c.execute.new.sent.items c.in_ok-execute.ensures.sends in
+    let later = next_sends_later c.events.invariant.2 (taken_at c.in-Some.is c.in_ok-pop.ensures.taken) (least_at (event_cmp g.M.Body.Ord.cmp) c.events.pending.events c.in-Some.is c.in_ok-pop.ensures.least) c.execute.new.sent.items c.in_ok-execute.ensures.sends in
     subst (All (λ e. c.pop.new.self.time < e.time)) (sym c.deref.ensures.value)
-    (subst (λ t. All (λ e. t < e.time) c.execute.new.sent.items) (sym (reached_at c.in-Some.is c.in_ok-event.ensures.reached)) later)
+    (subst (λ t. All (λ e. t < e.time) c.execute.new.sent.items) (sym (reached_at c.in-Some.is c.in_ok-pop.ensures.reached)) later)

@@ -5,12 +5,12 @@ use Rattle.rw_serial.proofs.Left.{left}
 use Rattle.rw_serial.proofs.Midrun.{IsMidrun}
 use Rattle.rw_serial.proofs.execute_pending.Given as goal
 
-abbrev pub invariant-loop-sent : goal.invariant-loop-sent
-invariant-loop-sent g l =
+abbrev pub invariant-events : goal.invariant-events
+invariant-events g l =
     (journals : _)
     × g.L.Ledger.StandsFor l.ledger journals
     × IsMidrun (system g.M.Model g.M.Body.Ord.cmp l.model l.fn.states.items l.fn.pending.events) (g.M.Model.IsWellFormed l.model) l.states.items journals l.pending.events
 
-abbrev pub decreases-loop-sent : goal.decreases-loop-sent
-decreases-loop-sent g l =
+abbrev pub decreases-events : goal.decreases-events
+decreases-events g l =
     left (event_cmp g.M.Body.Ord.cmp) (flatten (map_from 0 (λ q _. journal_below (system g.M.Model g.M.Body.Ord.cmp l.model l.fn.states.items l.fn.pending.events) (2 ^ 40) q) l.fn.states.items)) l.pending.events

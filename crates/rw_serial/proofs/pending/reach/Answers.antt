@@ -1,26 +1,50 @@
-use Rattle.std.proofs.Common.{◌∙◌, subst, sym}
-use Rattle.rw_serial.specs.Later.{IsLeastTime}
-use Rattle.rw_serial.proofs.ByTime.{on_err}
-use Rattle.rw_serial.proofs.Waiting.{all_from, around_left, around_refilled, due_some, no_first, refilled, some_moved}
+use Rattle.std.proofs.Common.{◌≤◌, [], ◌∷◌, ◌∙◌, refl, subst, sym, true≢false}
+use Rattle.rw_serial.specs.Pending.{AreAround, IsNextEvent}
+use Rattle.rw_serial.proofs.ByTime.{all_later, late_left, left_same, on_err}
+use Rattle.rw_serial.proofs.Next.{lost_after, next_initial, next_reached, not_none, reached_alone, reached_gathered}
+use Rattle.rw_serial.proofs.Waiting.{no_first}
 use Rattle.rw_serial.proofs.pending.reach.Goals as goal
 
-pub returns-in_err-take-clause-lost : goal.returns-in_err-take-clause-lost
-returns-in_err-take-clause-lost g c = on_err c.from_residual.result (around_left c.args.time c.args.initial.now c.args.now.now c.args.later.now c.take.new.self c.requires c.in_err-take.ensures.left)
+pub returns-in_default-clause-taken : goal.returns-in_default-clause-taken
+returns-in_default-clause-taken g c =
+    let none = c.in_default.ensures.none in
+    let hand = no_first c.first.result c.args.now.now c.first.ensures.first (sym c.is_some.ensures ∙ c.if-is_some.false) in
+    λ _. subst (IsNextEvent g.B.Ord.cmp c.args.time c.args.initial.now c.args.now.now c.args.later.now c.pop.result c.pop.new.self c.args.now.now) (sym none.0)
+    (next_initial g.B.Ord.cmp c.args.time c.args.initial.now c.args.now.now c.args.later.now c.pop.new.self c.pop.result c.requires hand none.1 c.pop.ensures.taken c.pop.ensures.least c.pop.ensures.none)
 
-pub fill-requires : goal.fill-requires
-fill-requires g c = no_first c.first.result c.args.now.now c.first.ensures.first (sym c.is_some.ensures ∙ c.if-is_some.false)
+pub gather-requires-clause-none : goal.gather-requires-clause-none
+gather-requires-clause-none g c = no_first c.first.result c.args.now.now c.first.ensures.first (sym c.is_some.ensures ∙ c.if-is_some.false)
 
-pub returns-clause-moved : goal.returns-clause-moved
-returns-clause-moved g c =
-    refilled c.in_ok-take.ensures.moved c.clear.ensures.items c.fill.ensures c.args.now.now (no_first c.first.result c.args.now.now c.first.ensures.first (sym c.is_some.ensures ∙ c.if-is_some.false))
+pub returns-in_err-gather-clause-lost : goal.returns-in_err-gather-clause-lost
+returns-in_err-gather-clause-lost g c =
+    let lost = c.in_err-gather.ensures.lost in
+    on_err c.from_residual.result
+    (lost_after c.args.time c.args.initial.now c.args.now.now c.args.later.now c.take_due.new.later c.gather.new.later c.gather.new.now c.in-Some.first c.requires c.in-Some.ensures.taken lost.0 lost.1)
 
-pub returns-clause-around : goal.returns-clause-around
-returns-clause-around g c =
-    let due = due_some g.B.Ord.cmp _ c.least_time.result c.in-Some.next (sym c.due.ensures ∙ c.in-Some.is) in
-    around_refilled c.in_ok-take.ensures.moved c.clear.ensures.items c.fill.ensures c.args.initial.now
-    (all_from g.B.Ord.cmp c.args.initial.now c.first-2.result c.in-Some.next c.first-2.ensures.first c.first-2.ensures.least due.1)
+pub returns-then-is_time-clause-reached : goal.returns-then-is_time-clause-reached
+returns-then-is_time-clause-reached g c =
+    let hand = no_first c.first.result c.args.now.now c.first.ensures.first (sym c.is_some.ensures ∙ c.if-is_some.false) in
+    let went = c.in_ok-gather.ensures in
+    λ _. (refl, reached_gathered hand c.in-Some.ensures.taken c.in-Some.ensures.least.1 went.moved went.times.0 went.times.1)
 
-pub returns-clause-due : goal.returns-clause-due
-returns-clause-due g c =
-    let due = due_some g.B.Ord.cmp _ c.least_time.result c.in-Some.next (sym c.due.ensures ∙ c.in-Some.is) in
-    λ none. absurd (some_moved c.in_ok-take.ensures.moved c.clear.ensures.items c.fill.ensures (subst (IsLeastTime c.args.later.now) due.0 c.least_time.ensures) none)
+pub take_lesser-requires : goal.take_lesser-requires
+take_lesser-requires g c = no_first c.first.result c.args.now.now c.first.ensures.first (sym c.is_some.ensures ∙ c.if-is_some.false)
+
+pub returns-in_err-take_lesser-clause-lost : goal.returns-in_err-take_lesser-clause-lost
+returns-in_err-take_lesser-clause-lost g c =
+    let lost = c.in_err-take_lesser.ensures.lost in
+    let mid = c.take_due.new.later in
+    on_err c.from_residual-in_err-take_lesser.result
+    (subst (λ xs. AreAround c.args.time xs c.take_lesser.new.now mid) (sym lost.0)
+    (lost_after c.args.time c.args.initial.now c.args.now.now c.args.later.now mid mid c.take_lesser.new.now c.in-Some.first c.requires c.in-Some.ensures.taken lost.1 (left_same mid)))
+
+pub returns-clause-taken : goal.returns-clause-taken
+returns-clause-taken g c =
+    let hand = no_first c.first.result c.args.now.now c.first.ensures.first (sym c.is_some.ensures ∙ c.if-is_some.false) in
+    let first = c.in-Some.first in
+    let mid = c.take_due.new.later in
+    let due = c.in-Some.ensures in
+    let late = late_left (λ e. first.time ≤ e.time) c.args.later.now (first ∷ []) mid due.taken due.least.0 in
+    let past = all_later mid c.least_time.result first.time c.least_time.ensures late (λ is. true≢false (sym (c.is_time.ensures.1 is) ∙ c.if-is_time.false)) in
+    let went = c.in_ok-take_lesser.ensures in
+    λ _. next_reached g.B.Ord.cmp c.args.time c.take_lesser.new.next (reached_alone hand due.taken due.least.1 past) went.taken went.least (not_none _ c.take_lesser.new.next went.some)

@@ -1,0 +1,12 @@
+use Rattle.std.proofs.lemmas.Option.{IfSome_then}
+use Rattle.rw_vt.proofs.EventOrder.{events_total}
+use Rattle.rw_serial.proofs.Queue.{alone_least}
+use Rattle.rw_serial.proofs.Waiting.{below_first}
+use Rattle.rw_serial.proofs.pending.take_lesser.Goals as goal
+
+pub returns-else-is_initial_next-clause-least : goal.returns-else-is_initial_next-clause-least
+returns-else-is_initial_next-clause-least g c =
+    let o = events_total g.met.B.Ord.total in (
+      below_first o c.args.sent c.args.initial.now c.first.result c.first.ensures.first c.first.ensures.least (IfSome_then c.first.result c.is_initial_next.ensures.greater (λ i h. h c.if-is_initial_next.false)),
+      alone_least o c.args.sent,
+    )
