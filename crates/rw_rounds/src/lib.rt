@@ -26,7 +26,7 @@ mod worker;
 
 pub use plan::Plan;
 pub use round::{Gate, Open, run_round};
-pub use running::run;
+pub use running::{run, run_and_tell};
 pub use rw_board::{Board, Seat};
 pub use rw_exchange::Port;
 pub use rw_lp::Lp;

@@ -11,6 +11,7 @@ use crate::round::{Gate, run_round};
 use crate::sim::{Sim, Traffic};
 use crate::stop::Stop;
 use rw_lp::Lp;
+use rw_progress::{Progress, Silent};
 use rw_vt::{END, Model as VtModel, NoMemory, Outcome};
 use rw_world::{World, every_sound_world};
 use std::alloc::Global;
@@ -50,6 +51,31 @@ where
         (map (λ j. j.items) r.0.journals.items) r.0.states.items) }
     ensures plan { (result ≡ Err Stop.BadPlan) ↔ (IsInRanges plan → ⊥) }
 {
+    run_and_tell(rt, alloc, world, plan, gate, &mut Silent)
+}
+
+/// [`run`], which tells `progress` after each round but the last up to which time all is final: the round's floor (global virtual
+/// time: Jefferson 1985), which never goes back. Where the run goes from and to, the caller tells.
+pub fn run_and_tell<M, G, P, R>(
+    rt: &R,
+    alloc: Global,
+    world: World<M>,
+    plan: Plan,
+    gate: &G,
+    progress: &mut P,
+) -> Result<(Outcome<M>, Traffic), Stop>
+where
+    M: VtModel + Drop + Sync,
+    M::State: Send,
+    M::Body: Send,
+    M::Undo: Send,
+    G: Gate + Sync,
+    P: Progress,
+    R: Threads + Wait + Sync,
+    ensures outcome { IfOk result (λ r. IsOutcome (system_of M.Model M.Body.cmp world) end_of_time
+        (map (λ j. j.items) r.0.journals.items) r.0.states.items) }
+    ensures plan { (result ≡ Err Stop.BadPlan) ↔ (IsInRanges plan → ⊥) }
+{
     let mut sim = Sim::open(world, plan)?;
     let mut pace = Pace::new();
     for _round in 0..plan.max_rounds {
@@ -65,6 +91,7 @@ where
         let undone = traffic.undone.wrapping_sub(before.undone);
         let moved = sim.floor().saturating_sub(floor);
         pace.note(&plan, moved, executed, undone);
+        progress.reach(sim.floor());
     }
     Err(Stop::RoundsUsed)
 }

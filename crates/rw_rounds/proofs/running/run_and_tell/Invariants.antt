@@ -1,5 +1,5 @@
 use Rattle.std.proofs.Common.{◌≡◌}
-use Rattle.rw_rounds.proofs.running.run.Given as goal
+use Rattle.rw_rounds.proofs.running.run_and_tell.Given as goal
 
 abbrev pub invariant-loop-round : goal.invariant-loop-round
 invariant-loop-round g l = record {

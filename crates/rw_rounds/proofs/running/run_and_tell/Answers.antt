@@ -1,7 +1,7 @@
 use Rattle.std.proofs.Common.{ap, arith}
 use Rattle.rw_world.specs.WorldState.{floor}
 use Rattle.rw_rounds.proofs.Stopping.{memory-is-no-plan}
-use Rattle.rw_rounds.proofs.running.run.Goals as goal
+use Rattle.rw_rounds.proofs.running.run_and_tell.Goals as goal
 
 -- a run that was opened has a plan in its ranges
 pub returns-then-floor-eq-END-clause-plan : goal.returns-then-floor-eq-END-clause-plan
