@@ -1,4 +1,5 @@
 pub mod Complete
+pub mod Counting
 pub mod First
 pub mod Left
 pub mod Lists

@@ -44,7 +44,7 @@ map_from_own k f (x ∷ xs) h = joined (sym (h k x)) (map_from_own (k + 1) f xs 
     joined : {C : Type 0} {a b : C} {ys bs : List C} → a ≡ b → ys ≡ bs → (a ∷ ys) ≡ (b ∷ bs)
     joined p q = cc
 
-has_length : {E : Type 0} (cmp : E → E → Ordering) (xs : List E) (x : E) → Has cmp xs x → 0 < length xs
+pub has_length : {E : Type 0} (cmp : E → E → Ordering) (xs : List E) (x : E) → Has cmp xs x → 0 < length xs
 has_length cmp [] x h = absurd (omega arith)
 has_length cmp (y ∷ ys) x h = omega arith
 
@@ -115,7 +115,7 @@ module _ {S B : Type 0} {y : System S B} {WellFormed : ℕ → S → Type 0} {ss
   so_far q = complete y run.law (at_list js) P run.mid x.time late early q
 
   -- what is to come at each process
-  to_come : (t : ℕ) → x.time < t → (q : ℕ) → (rest : List (Event B)) × (journal_below y t q ≡ (at_list js q ++ slice y P x.time q) ++ rest)
+  pub to_come : (t : ℕ) → x.time < t → (q : ℕ) → (rest : List (Event B)) × (journal_below y t q ≡ (at_list js q ++ slice y P x.time q) ++ rest)
   to_come t l q =
       let more = below_more y run.law (suc x.time) (t - suc x.time) q in
       let e : t ≡ (t - suc x.time) + suc x.time = omega arith in
@@ -174,7 +174,7 @@ module _ {S B : Type 0} {y : System S B} {WellFormed : ℕ → S → Type 0} {ss
   pub next_well_formed : (s : S) → slice_get ss x.to ≡ Some s → WellFormed x.to s
   next_well_formed s m = subst (λ w. WellFormed x.to w) (sym (state_is s m)) (well_formed_after law.rules x.to start_of.0 (at_list js x.to) (law.starts x.to start_of.0 start_of.1) (run.mid.story.fit x.to))
 
-  slice_has : Has y.rules.order (slice y P x.time x.to) x
+  pub slice_has : Has y.rules.order (slice y P x.time x.to) x
   slice_has = let same = slice_copies run x next_there next_least in let some = next_there in omega arith
 
   pub midrun_meets : (t : ℕ) → x.time < t → (test : S → Bool) → ((s : S) → slice_get ss x.to ≡ Some s → test s ≡ true) → Meets y t test

@@ -1,10 +1,12 @@
 -- What comes of a run does not depend on the order in which its initial events are listed.
-use Rattle.std.proofs.Common.{◌≡◌, ℕ, zero, suc, cond, ◌&&◌, ◌==◌, List, ◌++◌, filter, refl, sym, ◌∙◌, ap, arith}
+use Rattle.std.proofs.Common.{◌≡◌, ℕ, zero, suc, cond, ◌&&◌, ◌==◌, List, ◌++◌, filter, length, refl, sym, ◌∙◌, ap, arith}
+use Rattle.std.specs.List.{sum_by}
 use Rattle.std.specs.List.Sorted.{IsPermutation}
 use Rattle.rw_vt.specs.declared.event.Event.{Event}
 use Rattle.rw_vt.specs.Order.{copies, in_order}
 use Rattle.rw_vt.specs.System.{System, Rules, state_after, sends_of, map_from, flatten, all_sent, slice, journal_below, IsOutcome, Meets}
 use Rattle.rw_vt.proofs.Sorting.{IsExactOrder, IsAscending-in_order, ascending_settled, copies-append, copies-filter, copies-in_order}
+use Rattle.rw_serial.specs.Counts.{events_below}
 use Rattle.rw_serial.proofs.Lists.{map_from_same}
 use Rattle.rw_serial.proofs.Queue.{copies-IsPermutation}
 
@@ -58,3 +60,8 @@ module _ {S B : Type 0} (rules : Rules S B) (o : IsExactOrder rules.order) (star
     on_the_way = same_journals t met.process ∙ met.on_the_way;
     passes = met.passes;
   }
+
+  -- and so are as many events
+  pub same_events : (t : ℕ) → events_below (with_initial rules starts xs) t ≡ events_below (with_initial rules starts ys) t
+  same_events t =
+      ap (sum_by length) (map_from_same 0 (λ q _. journal_below (with_initial rules starts xs) t q) (λ q _. journal_below (with_initial rules starts ys) t q) starts (λ i j s m h. same_journals t j))

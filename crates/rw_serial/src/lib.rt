@@ -18,12 +18,13 @@ mod slice;
 mod source;
 mod times;
 
-ghost use Rattle.std.specs.Prelude.{◌≡◌, ◌<◌, ◌++◌, true, [], ◌∷◌, List, IfOk, IfErr, OnOk, length, map, replicate, slice_get, slice_index_or, slice_set};
+ghost use Rattle.std.specs.Prelude.{◌≡◌, ◌<◌, ◌≤◌, ◌++◌, ℕ, false, true, [], ◌∷◌, List, IfNone, IfOk, IfErr, IfSome, OnOk, length, map, replicate, slice_get, slice_index_or, slice_set};
 ghost use Rattle.rw_vt.specs.Limits.{end_of_time};
 ghost use Rattle.rw_vt.specs.System.{system, IsOutcome, IsReady, Meets};
 ghost use Rattle.rw_vt.specs.declared.event.Event.{Event};
+ghost use Rattle.rw_serial.specs.Counts.{events_below};
 
-use ledger::{Ledger, NoJournals};
+use ledger::{Count, Ledger, NoJournals};
 use pending::Pending;
 use rw_vt::empty_lists;
 pub use rw_vt::{Event, Model, Outcome, Refusal};
@@ -108,7 +109,72 @@ pub fn last_states_from<M: Model, S: Source<M::Body>>(
     Ok(states)
 }
 
-/// Executes all events in order, from the states given, and enters each in `ledger`.
+/// [`last_states`] of a run that may be given up: it executes at most `limit` events, and tells how many they were. `None`
+/// exactly where all events are more than that.
+///
+/// It costs a counter more than `last_states`, and is refused as that is; where the limit is used up, no later refusal comes
+/// about.
+pub fn last_states_within<M: Model>(
+    alloc: Global,
+    model: &M,
+    starts: Vec<M::State>,
+    initial: Vec<Event<M::Body>>,
+    limit: u64,
+) -> Result<Option<(Vec<M::State>, u64)>, Refusal>
+    requires ready { IsReady M.Model model.now starts.items initial.items }
+    ensures outcome { IfOk result (λ ran. IfSome ran (λ done.
+        (journals : List (List (Event M.Body)))
+        × IsOutcome (system M.Model M.Body.cmp model.now starts.items initial.items) end_of_time
+        journals done.0.items)) }
+    ensures count { IfOk result (λ ran. IfSome ran (λ done.
+        (done.1 ≡ events_below
+        (system M.Model M.Body.cmp model.now starts.items initial.items) end_of_time)
+        × (done.1 ≤ limit))) }
+    ensures used_up { IfOk result (λ ran. IfNone ran (limit < events_below
+        (system M.Model M.Body.cmp model.now starts.items initial.items) end_of_time)) }
+    ensures exhausted { IfErr result (λ r. r ≡ Refusal.Exhausted
+        → Meets (system M.Model M.Body.cmp model.now starts.items initial.items) end_of_time
+        (M.is_exhausted model.now)) }
+{
+    last_states_within_from(alloc, model, starts, Sorted::new(initial)?, limit)
+}
+
+/// [`last_states_within`] where the initial events come from a source, so that they need not be there all at once.
+///
+/// None of them is sorted here. Otherwise it costs what `last_states_within` costs, and is refused as that is.
+pub fn last_states_within_from<M: Model, S: Source<M::Body>>(
+    alloc: Global,
+    model: &M,
+    starts: Vec<M::State>,
+    source: S,
+    limit: u64,
+) -> Result<Option<(Vec<M::State>, u64)>, Refusal>
+    requires ready { IsReady M.Model model.now starts.items (S.left source) }
+    ensures outcome { IfOk result (λ ran. IfSome ran (λ done.
+        (journals : List (List (Event M.Body)))
+        × IsOutcome (system M.Model M.Body.cmp model.now starts.items (S.left source)) end_of_time
+        journals done.0.items)) }
+    ensures count { IfOk result (λ ran. IfSome ran (λ done.
+        (done.1 ≡ events_below
+        (system M.Model M.Body.cmp model.now starts.items (S.left source)) end_of_time)
+        × (done.1 ≤ limit))) }
+    ensures used_up { IfOk result (λ ran. IfNone ran (limit < events_below
+        (system M.Model M.Body.cmp model.now starts.items (S.left source)) end_of_time)) }
+    ensures exhausted { IfErr result (λ r. r ≡ Refusal.Exhausted
+        → Meets (system M.Model M.Body.cmp model.now starts.items (S.left source)) end_of_time
+        (M.is_exhausted model.now)) }
+{
+    let mut states = starts;
+    let mut count = Count::up_to(limit);
+    if execute_all(alloc, model, &mut states, &mut count, source)? {
+        Ok(Some((states, count.entered)))
+    } else {
+        Ok(None)
+    }
+}
+
+/// Executes all events in order, from the states given, and enters each in `ledger`. Answers whether it had room for all; an
+/// event that it had no room for is not executed.
 ///
 /// After a refusal nothing is said of `states` and `ledger`.
 fn execute_all<M: Model, L: Ledger<M::Body>, S: Source<M::Body>>(
@@ -117,13 +183,19 @@ fn execute_all<M: Model, L: Ledger<M::Body>, S: Source<M::Body>>(
     states: &mut Vec<M::State>,
     ledger: &mut L,
     source: S,
-) -> Result<(), Refusal>
+) -> Result<bool, Refusal>
     requires ready { IsReady M.Model model.now states.old.items (S.left source) }
-    requires none { L.StandsFor ledger.old (replicate (length states.old.items) []) }
-    ensures outcome { OnOk result ((journals : List (List (Event M.Body)))
-        × L.StandsFor ledger.new journals
+    requires none { (limit : ℕ)
+        × L.StandsFor ledger.old limit (replicate (length states.old.items) []) }
+    ensures outcome { IfOk result (λ all. all ≡ true → (limit : ℕ)
+        → L.StandsFor ledger.old limit (replicate (length states.old.items) [])
+        → (journals : List (List (Event M.Body))) × L.StandsFor ledger.new limit journals
         × IsOutcome (system M.Model M.Body.cmp model.now states.old.items (S.left source))
         end_of_time journals states.new.items) }
+    ensures used_up { IfOk result (λ all. all ≡ false → (limit : ℕ)
+        → L.StandsFor ledger.old limit (replicate (length states.old.items) [])
+        → limit < events_below
+        (system M.Model M.Body.cmp model.now states.old.items (S.left source)) end_of_time) }
     ensures exhausted { IfErr result (λ r.
         r ≡ Refusal.Exhausted
         → Meets (system M.Model M.Body.cmp model.now states.old.items (S.left source)) end_of_time
@@ -134,6 +206,7 @@ fn execute_all<M: Model, L: Ledger<M::Body>, S: Source<M::Body>>(
 }
 
 /// Executes all events that are pending, and those that are sent, in order, from the states given, and enters each in `ledger`.
+/// Answers whether it had room for all; an event that it had no room for is not executed.
 ///
 /// After a refusal nothing is said of `states`, `ledger` and `pending`.
 fn execute_pending<M: Model, L: Ledger<M::Body>, S: Source<M::Body>>(
@@ -142,13 +215,19 @@ fn execute_pending<M: Model, L: Ledger<M::Body>, S: Source<M::Body>>(
     states: &mut Vec<M::State>,
     ledger: &mut L,
     pending: &mut Pending<M::Body, S>,
-) -> Result<(), Refusal>
+) -> Result<bool, Refusal>
     requires ready { IsReady M.Model model.now states.old.items pending.old.events }
-    requires none { L.StandsFor ledger.old (replicate (length states.old.items) []) }
-    ensures outcome { OnOk result ((journals : List (List (Event M.Body)))
-        × L.StandsFor ledger.new journals
+    requires none { (limit : ℕ)
+        × L.StandsFor ledger.old limit (replicate (length states.old.items) []) }
+    ensures outcome { IfOk result (λ all. all ≡ true → (limit : ℕ)
+        → L.StandsFor ledger.old limit (replicate (length states.old.items) [])
+        → (journals : List (List (Event M.Body))) × L.StandsFor ledger.new limit journals
         × IsOutcome (system M.Model M.Body.cmp model.now states.old.items pending.old.events)
         end_of_time journals states.new.items) }
+    ensures used_up { IfOk result (λ all. all ≡ false → (limit : ℕ)
+        → L.StandsFor ledger.old limit (replicate (length states.old.items) [])
+        → limit < events_below
+        (system M.Model M.Body.cmp model.now states.old.items pending.old.events) end_of_time) }
     ensures exhausted { IfErr result (λ r.
         r ≡ Refusal.Exhausted
         → Meets (system M.Model M.Body.cmp model.now states.old.items pending.old.events)
@@ -159,10 +238,12 @@ fn execute_pending<M: Model, L: Ledger<M::Body>, S: Source<M::Body>>(
     'events: loop {
         pending.pop(&mut next)?;
         let Some(event) = &next else {
-            return Ok(());
+            return Ok(true);
         };
+        if !ledger.enter(*event)? {
+            return Ok(false);
+        }
         execute(alloc, model, states, event, &mut sent)?;
-        ledger.enter(*event)?;
         pending.extend(&sent)?;
     }
 }

@@ -1,4 +1,4 @@
-use Rattle.std.proofs.Common.{◌^◌}
+use Rattle.std.proofs.Common.{◌^◌, ℕ, [], length, replicate}
 use Rattle.rw_vt.specs.Order.{event_cmp}
 use Rattle.rw_vt.specs.System.{system, map_from, flatten, journal_below}
 use Rattle.rw_serial.proofs.Left.{left}
@@ -8,7 +8,7 @@ use Rattle.rw_serial.proofs.execute_pending.Given as goal
 abbrev pub invariant-events : goal.invariant-events
 invariant-events g l =
     (journals : _)
-    × g.L.Ledger.StandsFor l.ledger journals
+    × ((limit : ℕ) → g.L.Ledger.StandsFor l.fn.ledger limit (replicate (length l.fn.states.items) []) → g.L.Ledger.StandsFor l.ledger limit journals)
     × IsMidrun (system g.M.Model g.M.Body.Ord.cmp l.model l.fn.states.items l.fn.pending.events) (g.M.Model.IsWellFormed l.model) l.states.items journals l.pending.events
 
 abbrev pub decreases-events : goal.decreases-events
