@@ -7,11 +7,14 @@
 //!
 //! Worked examples: `rw_round_tests/src/phold_runs.rt`, and the program `phold`.
 
+mod alone;
 mod how;
 mod running;
 
+pub use alone::{run_alone, run_alone_from};
 pub use how::{How, Ran};
 pub use running::run_in;
 pub use rw_rounds::{Plan, Stop, Traffic};
+pub use rw_serial::Source;
 pub use rw_vt::{END, Event, Model, NoMemory, Refusal};
 pub use rw_world::{Answer, Step, World};

@@ -6,6 +6,7 @@ ghost use Rattle.rw_world.specs.Calls.{MeetsAt};
 ghost use Rattle.rw_world.specs.WorldState.{opening_world};
 ghost use Rattle.rw_engine.specs.Runs.{IsByBadPlan, ComesToExhaustion, IsOfAnyRun, MayStopFor, HasRun};
 
+use crate::alone::run_alone;
 use crate::how::{How, Ran};
 use rw_rounds::{Open, Plan, Stop, Traffic};
 use rw_serial::last_states;
@@ -73,7 +74,7 @@ fn in_order<M: VtModel>(
     Ok(Ran::Finished(states, Traffic::default()))
 }
 
-/// The states after all events, executed in rounds of workers.
+/// The states after all events, executed in rounds of workers. One worker executes them in order.
 fn in_rounds<M, R>(
     rt: &R,
     alloc: Global,
@@ -93,6 +94,10 @@ where
         (HasRun M.Model M.Body.cmp model starts.items initial.items (How.InRounds plan)) }
     ensures plan { (result ≡ Err Stop.BadPlan) ↔ (IsInRanges plan → ⊥) }
 {
+    if plan.workers == 1 {
+        let (states, traffic) = run_alone(alloc, &model, starts, initial, plan)?;
+        return Ok(Ran::Finished(states, traffic));
+    }
     if !plan.is_valid() {
         return Err(Stop::BadPlan);
     }

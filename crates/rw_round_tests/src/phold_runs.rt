@@ -1,6 +1,7 @@
 // PHOLD through the engine's door: in order, in rounds and by steps.
-use rw_engine::{END, How, Plan, Ran, Step, Stop, run_in};
+use rw_engine::{END, How, Plan, Ran, Step, Stop, Traffic, run_alone, run_alone_from, run_in};
 use rw_phold::{Holder, Phold, Report, beginning, report_of};
+use rw_serial::{Sorted, last_states_within, last_states_within_from};
 use std::alloc::Global;
 use std::sync::Wait;
 use std::test::Fail;
@@ -44,6 +45,53 @@ fn balls_come_to_the_same_in_order_and_in_rounds(rt: HostRuntime) -> Result<(), 
     assert!(rt; reported(&rt, rt.alloc(), How::InRounds(plan(1, false)))? == expected);
     assert!(rt; reported(&rt, rt.alloc(), How::InRounds(plan(3, false)))? == expected);
     assert!(rt; reported(&rt, rt.alloc(), How::InRounds(plan(2, true)))? == expected);
+    Ok(())
+}
+
+// A round of that plan has room for 256 events, so 41004 of them need 161 rounds.
+#[test]
+fn one_worker_makes_as_many_rounds_as_events_need(rt: HostRuntime) -> Result<(), Fail> {
+    let phold = Phold::new(16, 32768, 8, 24, 4000).ok_or("setting")?;
+    let expected = Traffic {
+        rounds: 161,
+        executed: 41004,
+        undone: 0,
+        ring: 0,
+        kept: 0,
+    };
+    let (starts, initial) = beginning(rt.alloc(), &phold, 200, 7)?;
+    let (states, traffic) = run_alone(rt.alloc(), &phold, starts, initial, plan(1, false))?;
+    assert_eq!(rt; report_of(states.as_slice()).events, 41004);
+    assert!(rt; traffic == expected);
+    let (starts, initial) = beginning(rt.alloc(), &phold, 200, 7)?;
+    let source = Sorted::new(initial)?;
+    let few = Plan {
+        max_rounds: 160,
+        ..plan(1, false)
+    };
+    match run_alone_from(rt.alloc(), &phold, starts, source, few) {
+        Err(Stop::RoundsUsed) => Ok(()),
+        _ => Err(Fail::from("160 rounds had room for all events")),
+    }
+}
+
+#[test]
+fn a_run_is_given_up_where_there_are_more_events_than_its_limit(
+    rt: HostRuntime,
+) -> Result<(), Fail> {
+    let phold = Phold::new(16, 32768, 8, 24, 4000).ok_or("setting")?;
+    let (starts, initial) = beginning(rt.alloc(), &phold, 200, 7)?;
+    let ran = last_states_within(rt.alloc(), &phold, starts, initial, 41004)?;
+    let (states, executed) = ran.ok_or("41004 events are too few")?;
+    assert_eq!(rt;
+        report_of(states.as_slice()).checksum,
+        0xafec_247c_1e93_e9ba
+    );
+    assert_eq!(rt; executed, 41004);
+    let (starts, initial) = beginning(rt.alloc(), &phold, 200, 7)?;
+    let source = Sorted::new(initial)?;
+    let ran = last_states_within_from(rt.alloc(), &phold, starts, source, 41003)?;
+    assert!(rt; ran.is_none());
     Ok(())
 }
 

@@ -1,0 +1,32 @@
+-- What rounds of one worker come to.
+use Rattle.std.specs.Prelude.{◌≡◌, ◌≤◌, ◌*◌, ℕ}
+use Rattle.rw_rounds.specs.declared.plan.Plan.{Plan}
+use Rattle.rw_rounds.specs.declared.sim.Traffic.{Traffic}
+use Rattle.rw_rounds.specs.declared.stop.Stop.{Stop}
+use Rattle.rw_rounds.specs.declared.stop.Stop.TheVariants as stop
+use Rattle.rw_rounds.specs.Plans.{IsInRanges}
+
+-- how many events the rounds of a plan have room for, where each has one worker
+abbrev pub most_events : Plan → ℕ
+most_events plan = plan.max_rounds * (plan.turns * plan.batch)
+
+-- so many rounds of one worker execute these events: one at least, and no more than have room for them
+pub record AreRoundsOf (plan : Plan) (events rounds : ℕ) : Type 0 where
+  pub one : 1 ≤ rounds
+  pub enough : events ≤ rounds * (plan.turns * plan.batch)
+  pub fewest : (fewer : ℕ) → 1 ≤ fewer → events ≤ fewer * (plan.turns * plan.batch)
+      → rounds ≤ fewer
+
+-- what rounds of one worker did: each event was executed once, none was undone, and no letter left the worker
+pub record IsTrafficAlone (plan : Plan) (events : ℕ) (traffic : Traffic) : Type 0 where
+  pub rounds : AreRoundsOf plan events traffic.rounds
+  pub executed : traffic.executed ≡ events
+  pub undone : traffic.undone ≡ 0
+  pub letters : (traffic.ring ≡ 0) × (traffic.kept ≡ 0)
+
+-- what rounds of one worker may stop for: that there is no thread is no reason, and want of memory may come anywhere
+abbrev pub MayStopAlone : Plan → Stop → Type 0
+MayStopAlone plan stop.Memory = Unit {0}
+MayStopAlone plan stop.BadPlan = IsInRanges plan → ⊥
+MayStopAlone plan stop.NoThread = ⊥
+MayStopAlone plan _ = IsInRanges plan
