@@ -1,12 +1,12 @@
 -- A run of rows on one thread.
-use Rattle.std.proofs.Common.{◌≡◌, ℕ, ◌+◌, List, Result, Ok, Err, refl, sym, ◌∙◌, ap, subst, length}
+use Rattle.std.proofs.Common.{◌≡◌, ℕ, ◌+◌, List, Result, Ok, Err, refl, sym, ◌∙◌, subst, length}
 use Rattle.std.proofs.lemmas.List.FromFn.{length-map-range_with_len}
-use Rattle.std.specs.Result.{IfErr, IfOk, IsErrAnd}
+use Rattle.std.specs.Result.{IfErr, IsErrAnd}
 use Rattle.rw_vt.specs.declared.event.Event.{Event}
 use Rattle.rw_vt.specs.declared.refusal.Refusal.{Refusal}
 use Rattle.rw_vt.specs.declared.refusal.Refusal.TheVariants.{Memory, Exhausted}
 use Rattle.rw_vt.specs.Limits.{end_of_time}
-use Rattle.rw_vt.specs.System.{IsOutcome, Meets, System, map_from, system}
+use Rattle.rw_vt.specs.System.{IsOutcome, map_from, system}
 use Rattle.rw_trace.specs.declared.Row.{Row}
 use Rattle.rw_photo.specs.declared.body.Body.{Body}
 use Rattle.rw_photo.specs.declared.config.Config.{Config}

@@ -5,3 +5,4 @@ pub mod Words
 pub mod Journals
 pub mod Ways
 pub mod InOrder
+pub mod OneWorker

@@ -7,6 +7,7 @@
 //!
 //! Worked examples: `rw_program_tests/src/reports.rt`, and the cases of `rw_cases`.
 
+mod alone;
 mod headline;
 mod journal_text;
 mod mode;

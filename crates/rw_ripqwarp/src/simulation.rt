@@ -12,6 +12,7 @@ ghost use Rattle.rw_ripqwarp.specs.Sink.{AppendsBeginning};
 ghost use Rattle.rw_ripqwarp.specs.Simulate.{IsBeginningOf, IsReportOf, IsTextOf, IsWarp, HasGoodPlan, IsRunFault, IsBeginningFault};
 ghost use Rattle.rw_ripqwarp.specs.Headline.{HasWritten, HasWrittenBeginning};
 
+use crate::alone::alone_text;
 use crate::journal_text::journal;
 use crate::mode::Mode;
 use crate::output::Out;
@@ -78,6 +79,7 @@ fn text_of<R: Threads + Wait + Sync>(
 {
     match mode {
         Mode::Serial => Ok((serial_text(alloc, bytes, config)?, Traffic::default())),
+        Mode::Warp(plan) if plan.workers == 1 => alone_text(alloc, bytes, config, plan),
         mode => engine_text(rt, alloc, bytes, config, mode),
     }
 }
@@ -180,7 +182,7 @@ pub fn last_states_of_rows(
 }
 
 /// Each cache as it starts.
-fn starts(alloc: Global, photo: &Photo) -> Result<Vec<CacheState>, NoMemory>
+pub(crate) fn starts(alloc: Global, photo: &Photo) -> Result<Vec<CacheState>, NoMemory>
     ensures states { IfOk result (λ states. states.items ≡ starts_of photo.now.config) }
     ensures well_formed { IfOk result (λ states.
         (p : ℕ) (s : Cache) → slice_get states.items p ≡ Some s

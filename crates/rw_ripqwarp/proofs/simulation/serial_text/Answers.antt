@@ -1,6 +1,4 @@
-use Rattle.std.proofs.Common.{◌∙◌, ap, length, subst}
-use Rattle.rw_vt.specs.System.{IsOutcome}
-use Rattle.rw_photo.specs.Simulation.{simulation}
+use Rattle.std.proofs.Common.{◌∙◌, ap, length}
 use Rattle.rw_ripqwarp.proofs.InOrder.{length-of-caches}
 use Rattle.rw_ripqwarp.proofs.simulation.serial_text.Goals as goal
 

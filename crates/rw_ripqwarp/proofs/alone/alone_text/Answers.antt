@@ -1,0 +1,38 @@
+use Rattle.std.proofs.Common.{◌≡◌, ◌∙◌, ◌^◌, List, Ok, ap, length, map, subst}
+use Rattle.rw_vt.specs.Limits.{end_of_time}
+use Rattle.rw_vt.specs.System.{IsOutcome}
+use Rattle.rw_trace.specs.declared.Row.{Row}
+use Rattle.rw_trace.specs.Trace.{trace_of}
+use Rattle.rw_trace.specs.Unread.{records_of}
+use Rattle.rw_photo.specs.Cache.{Cache}
+use Rattle.rw_photo.specs.Simulation.{simulation}
+use Rattle.rw_photo.specs.declared.config.Config.{Config}
+use Rattle.rw_ripqwarp.specs.Report.{report_text}
+use Rattle.rw_ripqwarp.proofs.OneWorker.{stop-is-fault-alone}
+use Rattle.rw_ripqwarp.proofs.InOrder.{length-of-caches}
+use Rattle.rw_ripqwarp.proofs.alone.alone_text.Goals as goal
+
+pub report_of_states-requires : goal.report_of_states-requires
+report_of_states-requires c =
+    let outcome = c.in_ok-states.ensures.outcome in
+    ap length c.as_slice-2.ensures.value ∙ length-of-caches c.args.config.now c.as_slice.result.now outcome.0 c.in_ok-states.states.items outcome.1
+
+pub returns-in_err-states-clause-fault : goal.returns-in_err-states-clause-fault
+returns-in_err-states-clause-fault c =
+    let accepted = subst (λ n. trace_of n (2 ^ 24) (records_of c.args.bytes.now) ≡ Ok c.in_ok-trace.trace.items) c.edges.ensures c.in_ok-trace.ensures.rows in
+    stop-is-fault-alone c.from_residual-in_err-states.result c.args.config.now c.args.bytes.now c.args.plan c.in_err-states.field-0.0 (record { rows = c.in_ok-trace.trace.items; accepted = accepted }) c.in_err-states.ensures.stops c.from_residual-in_err-states.ensures.1
+
+pub returns-clause-text : goal.returns-clause-text
+returns-clause-text c =
+    let config : Config = c.args.config.now in
+    let rows : List Row = c.in_ok-trace.trace.items in
+    let states : List Cache = c.in_ok-states.states.items in
+    let last = c.in_ok-states.ensures.outcome in
+    record {
+      rows = rows;
+      journals = last.0;
+      states = states;
+      accepted = subst (λ n. trace_of n (2 ^ 24) (records_of c.args.bytes.now) ≡ Ok rows) c.edges.ensures c.in_ok-trace.ensures.rows;
+      outcome = subst (λ rs. IsOutcome (simulation config rs) end_of_time last.0 states) c.as_slice.ensures.value last.1;
+      told = c.in_ok-text.ensures ∙ ap (λ (ss : List Cache). report_text config (map (λ s. s.counters) ss)) c.as_slice-2.ensures.value;
+    }
