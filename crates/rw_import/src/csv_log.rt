@@ -20,7 +20,7 @@ use crate::fault::{Flaw, ImportFault, Part};
 use crate::layout::{Column, Layout, Places};
 use crate::options::{MAX_EDGES, Options};
 use crate::oracle::finish;
-use crate::reading::Reading;
+use crate::reading::{Reading, begin};
 use crate::sheet::{Sheet, add, blank_sheet, ticks_since};
 use csv::{ByteRecord, Error, ErrorKind, Reader, ReaderBuilder};
 use indexmap::IndexSet;
@@ -228,7 +228,7 @@ fn first_of<P: Progress>(
     let mut reader = open(alloc, bytes, layout);
     let mut fields = ByteRecord::new(alloc);
     let places = start(&mut reader, &mut fields, layout)?;
-    let mut reading = Reading::first(progress, bytes.len());
+    let mut reading = Reading::new(progress, 0);
     least_left(&mut reader, &mut fields, places, edges, &mut reading)
 }
 
@@ -348,7 +348,7 @@ fn collect<P: Progress>(
     let mut reader = open(alloc, bytes, layout);
     let mut fields = ByteRecord::new(alloc);
     let places = start(&mut reader, &mut fields, layout)?;
-    let mut reading = Reading::second(progress, bytes.len());
+    let mut reading = Reading::new(progress, bytes.len());
     rows_left(
         alloc,
         &mut reader,
@@ -407,6 +407,7 @@ pub fn import_csv<P: Progress>(
         (columns_found layout.now (log_records layout.now bytes.now)) e) }
 {
     let edges = edges_of(layout, options);
+    begin(progress, bytes.len());
     let least = first_of(alloc, bytes, layout, *options, edges, progress)?;
     let sheet = collect(alloc, bytes, layout, *options, edges, least, progress)?;
     finish(alloc, sheet)

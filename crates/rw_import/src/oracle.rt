@@ -13,7 +13,7 @@ ghost use Rattle.rw_import.specs.declared.fault.ImportFault.TheVariants.{Memory}
 use crate::entry::{Entry, Imported};
 use crate::fault::{Flaw, ImportFault, Part};
 use crate::options::Options;
-use crate::reading::Reading;
+use crate::reading::{Reading, begin};
 use crate::sheet::{Sheet, add, blank_sheet, timely};
 use crate::text::write_trace;
 use byteorder::{ByteOrder, LittleEndian};
@@ -85,13 +85,11 @@ fn earlier_of(least: Option<u128>, said: Result<(Entry, u64), Flaw>) -> Option<u
 }
 
 /// The least time that records say, or 0 where none says one.
-fn least_time<P: Progress>(bytes: &[u8], progress: &mut P) -> u128
+fn least_time(bytes: &[u8]) -> u128
     ensures { result ≡ first_time (oracle_said bytes.now) }
 {
-    let mut reading = Reading::first(progress, bytes.len());
     let mut least = None;
     for at in 0..count_pieces(bytes) {
-        reading.come_to(at as u64, (at * PIECE) as u64);
         least = earlier_of(least, read_piece(piece(bytes, at)));
     }
     least.unwrap_or(0)
@@ -120,7 +118,7 @@ fn collect<P: Progress>(
     ensures fault { IfErr result (λ e.
         e ≢ Memory → IsRowsFault options (judged_all options least bytes.now) e) }
 {
-    let mut reading = Reading::second(progress, bytes.len());
+    let mut reading = Reading::new(progress, bytes.len());
     let mut sheet = blank_sheet(alloc);
     for at in 0..count_pieces(bytes) {
         reading.come_to(at as u64, (at * PIECE) as u64);
@@ -185,7 +183,8 @@ pub fn import_oracle<P: Progress>(
     ensures fault { IfErr result (λ e.
         e ≢ Memory → IsRowsFault options.now (oracle_told options.now bytes.now) e) }
 {
-    let least = least_time(bytes, progress);
+    begin(progress, bytes.len());
+    let least = least_time(bytes);
     let sheet = collect(alloc, bytes, *options, least, progress)?;
     finish(alloc, sheet)
 }

@@ -3,6 +3,11 @@ use rw_progress::Progress;
 /// Of so many rows one is told of, so that reading a clock each time costs nothing to speak of.
 const ROWS: u64 = 1024;
 
+/// The readings of a log of so many bytes begin, which is read twice.
+pub(crate) fn begin<P: Progress>(progress: &mut P, length: usize) {
+    progress.begin(0, (length as u64).saturating_mul(2));
+}
+
 /// One of the readings of a log, and who is told how far it has come.
 #[derive(Drop)]
 pub(crate) struct Reading<'a, P> {
@@ -12,20 +17,11 @@ pub(crate) struct Reading<'a, P> {
 }
 
 impl<'a, P: Progress> Reading<'a, P> {
-    /// The first reading of so many bytes, which are read twice.
-    pub(crate) fn first(progress: &'a mut P, length: usize) -> Reading<'a, P> {
-        progress.begin(0, (length as u64).saturating_mul(2));
+    /// A reading that begins when so many bytes are read.
+    pub(crate) fn new(progress: &'a mut P, before: usize) -> Reading<'a, P> {
         Reading {
             progress,
-            before: 0,
-        }
-    }
-
-    /// The second reading of so many bytes.
-    pub(crate) fn second(progress: &'a mut P, length: usize) -> Reading<'a, P> {
-        Reading {
-            progress,
-            before: length as u64,
+            before: before as u64,
         }
     }
 

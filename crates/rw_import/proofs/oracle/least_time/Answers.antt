@@ -8,7 +8,7 @@ use Rattle.rw_import.specs.Oracle.{piece_at, piece_said}
 use Rattle.rw_import.proofs.oracle.least_time.Goals as goal
 
 pub loop-at-preserved : goal.loop-at-preserved
-loop-at-preserved g c =
+loop-at-preserved c =
     let f = λ (n : ℕ). piece_said (piece_at c.args.bytes.now n) in
     let at = c.loop-at.at in
     let before = fold earlier None (map f (range_with_len 0 at)) in
