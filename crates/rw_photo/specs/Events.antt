@@ -111,7 +111,7 @@ miss_happening c p s t o z g =
     if is_stored s o
     then serving s o (hit c.policy s.queue o z) (event_from p s (t + c.down) g (Fill o z) ∷ [])
     else serving s o (backend_store c s o z)
-        (event_from p s (t + c.down + c.back) g (Fill o z) ∷ [])
+    (event_from p s (t + c.down + c.back) g (Fill o z) ∷ [])
 
 -- a fill at an edge, which answers the requests that wait for it, if any, and stores what the edge lacks
 abbrev pub fill_happening : Config → Cache → Object → Size → Happening

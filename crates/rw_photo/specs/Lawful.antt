@@ -41,19 +41,19 @@ placed policy q o z =
 abbrev pub requested_if : Config → Process → Cache → Time → Object → Size → Bool → Happening
 requested_if c p s t o z there =
     if there then serving s o (hit c.policy s.queue o z) []
-        else edge_miss c p s t o z (waiting_for s o)
+    else edge_miss c p s t o z (waiting_for s o)
 
 abbrev pub asked_if : Config → Process → Cache → Time → Object → Size → Process → Bool → Happening
 asked_if c p s t o z g there =
     if there
     then serving s o (hit c.policy s.queue o z) (event_from p s (t + c.down) g (Fill o z) ∷ [])
     else serving s o (backend_store c s o z)
-        (event_from p s (t + c.down + c.back) g (Fill o z) ∷ [])
+    (event_from p s (t + c.down + c.back) g (Fill o z) ∷ [])
 
 abbrev pub filled_if : Config → Cache → Object → Size → Bool → Happening
 filled_if c s o z there =
     let k : QueueAndCounts = if there then same_queue s.queue no_counts
-        else store c.policy s.queue o z in
+    else store c.policy s.queue o z in
     let late = unwrap_or (waiting_for s o) 0 in
     record { queue = k.queue; waiting = None; counts = with_late late k.counts; sent = [] }
 
@@ -148,7 +148,7 @@ stored-at c p Lru q o z is at new some =
     placed-at c p Lru q o z (λ off. let h : Lru ≡ Off = sym is ∙ off in cc) at new some
 stored-at c p (Slru levels) q o z is at new some =
     placed-at c p (Slru levels) q o z
-        (λ off. let h : Slru levels ≡ Off = sym is ∙ off in cc) at new some
+    (λ off. let h : Slru levels ≡ Off = sym is ∙ off in cc) at new some
 
 -- the number of requests that wait fits its type
 abbrev pub WaitFew : Option ℕ → Type 0
@@ -182,7 +182,7 @@ asks c p s t o z n v = let r = c.in_range in (refl, omega arith, grind (arith, n
 -- an edge is answered by a valid fill, at once or after the backend
 answers-at_once : (c : Config) (p : ℕ) (s : Cache) (t o z g : ℕ) → s.sends < 2 ^ 64
     → may_happen c t p (Miss o z g) ≡ true
-        → Follows c p t (event_from p s (t + c.down) g (Fill o z))
+    → Follows c p t (event_from p s (t + c.down) g (Fill o z))
 answers-at_once c p s t o z g n v =
     let r = c.in_range in (refl, omega arith, grind (arith, nat_tests))
 
