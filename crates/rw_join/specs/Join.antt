@@ -30,8 +30,8 @@ HasJoined texts asked text =
 abbrev pub JoinOfPartsIsTheSweep : Type 0
 JoinOfPartsIsTheSweep =
     (a : Axes) (bytes : List ℕ) (parts : Count) (indices : List ℕ) (texts : List (List ℕ))
-        (count : Count) (text : List ℕ)
+    (count : Count) (text : List ℕ)
     → 0 < parts → HasEachOnce parts indices
-        → AllZip (λ index t. IsPartSweepOf a index parts bytes t) indices texts
+    → AllZip (λ index t. IsPartSweepOf a index parts bytes t) indices texts
     → length (combinations a) ≤ most_configurations → IsJoinOf texts count text
-        → IsSweepOf a bytes text
+    → IsSweepOf a bytes text

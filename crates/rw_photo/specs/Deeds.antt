@@ -22,7 +22,7 @@ list_of c p n (Clears t o g) = clears_of c p n t o g
 -- of what happens to object o at process p, the queue and who waits have changed, and the deed has the rest
 pub record HasDone
     (c : Config) (p : Process) (h : Happening) (before : Cache) (o : Object) (deed : Deed)
-        (after : Cache)
+    (after : Cache)
     : Type 0 where
   pub changed :
       after ≡ record before { queue = h.queue; awaited = with_waiting before.awaited o h.waiting }

@@ -53,7 +53,7 @@ EveryReverse =
 abbrev pub AnySchedule : Type 0
 AnySchedule = (k : Setting model.ghosts) (steps : List Step)
     → IsInOrder (system_in order.ghosts.cmp k)
-        (run (system_in order.ghosts.cmp k) (opening_world (system_in order.ghosts.cmp k)) steps)
+    (run (system_in order.ghosts.cmp k) (opening_world (system_in order.ghosts.cmp k)) steps)
 
 -- A finished run in threads, by whatever plan, writes the report of the run on one thread, byte for byte
 abbrev pub ThreadsWriteTheReport : Type 0

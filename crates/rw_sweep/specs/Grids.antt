@@ -31,7 +31,7 @@ combinations a =
     along a.blocks.items (λ block.
     along a.edge_blocks.items (λ edge_blocks.
     map (λ origin_blocks.
-        choice_of policy sections block edge_blocks origin_blocks) a.origin_blocks.items))))
+    choice_of policy sections block edge_blocks origin_blocks) a.origin_blocks.items))))
 
 -- a choice makes a configuration: what all have in common is in its ranges, and so are both shapes
 pub record IsInGridRanges (a : Axes) (x : Choice) : Type 0 where

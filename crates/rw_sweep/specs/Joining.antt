@@ -59,6 +59,6 @@ pub record MakeTheSweep (a : Axes) (bytes : List ℕ) (texts : List (List ℕ)) 
 abbrev pub PartsMakeTheSweep : Type 0
 PartsMakeTheSweep =
     (a : Axes) (bytes : List ℕ) (count : Count) (indices : List ℕ) (texts : List (List ℕ))
-        → 0 < count → HasEachOnce count indices
+    → 0 < count → HasEachOnce count indices
     → AllZip (λ index text. IsPartSweepOf a index count bytes text) indices texts
-        → MakeTheSweep a bytes texts
+    → MakeTheSweep a bytes texts

@@ -88,7 +88,7 @@ abbrev pub HasSweptPartBeginning : Axes → ℕ → Count → List ℕ → Optio
     → Type 0
 HasSweptPartBeginning a index count bytes before after =
     (text : List ℕ) × IsPartSweepOfFirst a index count bytes text
-        × AppendsBeginning before after text
+    × AppendsBeginning before after text
 
 -- the trace in these bytes is accepted, and executing it in order of time under one of the combinations of the part
 -- comes to a cache that can take no further event

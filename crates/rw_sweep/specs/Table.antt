@@ -70,7 +70,7 @@ abbrev pub counts_of : Counters → List Count
 counts_of k =
     k.requests ∷ k.hits ∷ k.misses ∷ k.coalesced ∷ k.late ∷ k.bypassed ∷ k.inserted ∷ k.evicted
     ∷ k.reinserted ∷ k.promoted ∷ k.writes ∷ k.splits ∷ k.merges ∷ k.hit_bytes ∷ k.request_bytes
-        ∷ []
+    ∷ []
 
 -- the columns that say which configuration
 abbrev pub choice_columns : Choice → List ℕ
