@@ -1,3 +1,4 @@
+pub mod Happenings
 pub mod OrderedRows
 pub mod Reversing
 pub mod ValidRows

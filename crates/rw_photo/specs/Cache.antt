@@ -12,7 +12,7 @@ use Rattle.rw_ripq.specs.Limits.{exhaustion}
 use Rattle.rw_ripq.specs.declared.Policy.TheVariants.{Off}
 use Rattle.rw_photo.specs.declared.config.Config.{Config}
 use Rattle.rw_photo.specs.declared.counters.Counters.{Counters}
-use Rattle.rw_photo.specs.Counts.{AreCounts, no_counts}
+use Rattle.rw_photo.specs.Counts.{AreCounts, no_counts, plus}
 
 -- a cache: its queue on flash; for each object on its way how many requests wait for it, by rising object; how many
 -- events it has sent; what it has counted
@@ -48,6 +48,11 @@ waiting_in awaited o = lookup (is_at (nat_cmp o)) awaited
 
 abbrev pub waiting_for : Cache → Object → Option Count
 waiting_for s o = waiting_in s.awaited o
+
+-- how many requests wait for an object once one more does
+abbrev pub waiting_more : Option Count → Count
+waiting_more (Some n) = plus n 1
+waiting_more None = 1
 
 -- the awaited objects once n requests wait for object o, or once it is awaited no more
 abbrev pub with_waiting : List (Object × Count) → Object → Option Count → List (Object × Count)

@@ -1,32 +1,34 @@
--- For the contracts inside the crate: what the code of an event does to a cache before it counts.
-use Rattle.std.specs.Prelude.{◌≡◌, List, [], ◌∷◌}
-use Rattle.rw_vt.specs.Words.{Count, Process}
+-- For the contracts inside the crate: what the code of an event does to a cache.
+use Rattle.std.specs.Prelude.{◌≡◌, ◌++◌, List, Bool, if◌then◌else◌}
 use Rattle.rw_vt.specs.declared.event.Event.{Event}
-use Rattle.rw_blocks.specs.Words.{Object}
+use Rattle.rw_blocks.specs.Words.{Object, Size}
+use Rattle.rw_blocks.specs.declared.Mark.{Mark}
+use Rattle.rw_blocks.specs.State.{QueueState}
+use Rattle.rw_ripq.specs.declared.Policy.{Policy}
 use Rattle.rw_ripq.specs.Trail.{Leads}
 use Rattle.rw_ripq.specs.Weight.{IsShort}
 use Rattle.rw_photo.specs.declared.body.Body.{Body}
-use Rattle.rw_photo.specs.declared.config.Config.{Config}
-use Rattle.rw_photo.specs.declared.photo.Deed.{Deed}
-use Rattle.rw_photo.specs.declared.photo.Sends.{Sends}
-use Rattle.rw_photo.specs.declared.photo.Sends.TheVariants.{Nothing, One, Clears}
-use Rattle.rw_photo.specs.Cache.{Cache, with_waiting}
-use Rattle.rw_photo.specs.Events.{Happening, clears_of}
+use Rattle.rw_photo.specs.Counts.{no_counts, sum_of}
+use Rattle.rw_photo.specs.Cache.{Cache}
+use Rattle.rw_photo.specs.Storing.{QueueAndCounts, same_queue, store}
+use Rattle.rw_photo.specs.Events.{Happening, cache_after}
 
--- what process p of a configuration sends, which has sent n events before
-abbrev pub list_of : Config → Process → Count → Sends → List (Event Body)
-list_of c p n Nothing = []
-list_of c p n (One e) = e ∷ []
-list_of c p n (Clears t o g) = clears_of c p n t o g
+-- the cache once its queue is what was made of it, and that is counted
+abbrev pub once_made : Cache → QueueAndCounts → Cache
+once_made s made =
+    record s { queue = made.queue; counters = sum_of s.counters made.counts }
 
--- of what happens to object o at process p, the queue and who waits have changed, and the deed has the rest
-pub record HasDone
-    (c : Config) (p : Process) (h : Happening) (before : Cache) (o : Object) (deed : Deed)
-    (after : Cache)
+-- what storing an object makes of a queue, where it may be there already
+abbrev pub stored_if : Policy → QueueState → Object → Size → Bool → QueueAndCounts
+stored_if policy q o z there = if there then same_queue q no_counts else store policy q o z
+
+-- what happens to object o has been done: the cache has changed, what is sent stands behind what was sent before, and
+-- the trail leads the queue back
+pub record HasHappened
+    (h : Happening) (before : Cache) (o : Object) (after : Cache) (told now : List (Event Body))
+    (ms : List Mark)
     : Type 0 where
-  pub changed :
-      after ≡ record before { queue = h.queue; awaited = with_waiting before.awaited o h.waiting }
-  pub counted : deed.change.counts ≡ h.counts
-  pub sent : list_of c p before.sends deed.sends ≡ h.sent
-  pub leads : Leads deed.change.trail before.queue after.queue
-  pub short : IsShort deed.change.trail before.queue after.queue
+  pub changed : after ≡ cache_after before o h
+  pub sent : now ≡ told ++ h.sent
+  pub leads : Leads ms before.queue after.queue
+  pub short : IsShort ms before.queue after.queue

@@ -1,6 +1,6 @@
 // The objects on their way.
-ghost use Rattle.std.specs.Prelude.{◌≡◌, [], OnOk};
-ghost use Rattle.rw_photo.specs.Cache.{waiting_in, with_waiting};
+ghost use Rattle.std.specs.Prelude.{◌≡◌, [], OnOk, IfOk, None, Some};
+ghost use Rattle.rw_photo.specs.Cache.{waiting_more, waiting_in, with_waiting};
 
 use rw_vt::NoMemory;
 use std::alloc::Global;
@@ -40,6 +40,38 @@ impl Awaited {
         self.counts.get(&object).copied()
     }
 
+    /// One request more waits for an object. Hands back how many waited before, where it was awaited. After a refusal of
+    /// memory nothing is said of what is there.
+    pub(crate) fn join(&mut self, object: u64) -> Result<Option<u64>, NoMemory>
+        ensures before { IfOk result (λ before. before ≡ waiting_in self.old object) }
+        ensures joined { OnOk result
+            (self.new ≡ with_waiting self.old object
+            (Some (waiting_more (waiting_in self.old object)))) }
+    {
+        let before = self.put(object, 1)?;
+        if let Some(others) = before {
+            self.put(object, others.wrapping_add(1))?;
+        }
+        Ok(before)
+    }
+
+    /// So many requests wait for an object. Hands back how many waited before, where it was awaited. After a refusal of
+    /// memory nothing is said of what is there.
+    fn put(&mut self, object: u64, count: u64) -> Result<Option<u64>, NoMemory>
+        ensures before { IfOk result (λ before. before ≡ waiting_in self.old object) }
+        ensures put { OnOk result (self.new ≡ with_waiting self.old object (Some count)) }
+    {
+        Ok(self.counts.insert(object, count)?)
+    }
+
+    /// An object is awaited no more. Hands back how many requests waited for it, where it was.
+    pub(crate) fn end(&mut self, object: u64) -> Option<u64>
+        ensures before { result ≡ waiting_in self.old object }
+        ensures ended { self.new ≡ with_waiting self.old object None }
+    {
+        self.counts.remove(&object)
+    }
+
     /// Sets how many requests wait for an object; `None`: it is not awaited. After a refusal of memory nothing is said
     /// of what is there.
     pub(crate) fn set(&mut self, object: u64, waiting: Option<u64>) -> Result<(), NoMemory>
@@ -47,7 +79,7 @@ impl Awaited {
     {
         match waiting {
             Some(count) => {
-                self.counts.insert(object, count)?;
+                self.put(object, count)?;
             }
             None => {
                 self.counts.remove(&object);

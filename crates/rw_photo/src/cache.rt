@@ -1,18 +1,20 @@
-ghost use Rattle.std.specs.Prelude.{◌≡◌, ◌≢◌, ◌+◌, ◌<◌, ◌≤◌, ◌^◌, false, None, Some, OnOk, IfOk};
+ghost use Rattle.std.specs.Prelude.{◌≡◌, ◌≢◌, ◌+◌, ◌<◌, ◌≤◌, ◌^◌, ◌++◌, ◌∷◌, [], false, None, Some, OnOk, IfOk, unwrap_or};
 ghost use Rattle.rw_blocks.specs.State.{row_at};
 ghost use Rattle.rw_blocks.specs.Loose.{IsWellFormedQueue};
 ghost use Rattle.rw_ripq.specs.Limits.{exhaustion};
 ghost use Rattle.rw_ripq.specs.Trail.{IsRewindable, Leads, rewind_of};
 ghost use Rattle.rw_ripq.specs.Weight.{IsShort};
-ghost use Rattle.rw_photo.specs.Cache.{is_stored, start_in, waiting_for, with_waiting};
-ghost use Rattle.rw_photo.specs.Counts.{sum_of, minus, plus, difference_of};
+ghost use Rattle.rw_ripq.specs.Work.{no_tally};
+ghost use Rattle.rw_photo.specs.Cache.{is_stored, waiting_more, start_in, waiting_for, with_waiting};
+ghost use Rattle.rw_photo.specs.Counts.{AreCounts, sum_of, minus, plus, difference_of};
+ghost use Rattle.rw_photo.specs.Deeds.{once_made, stored_if};
 ghost use Rattle.rw_photo.specs.Events.{event_from};
 ghost use Rattle.rw_photo.specs.Storing.{hit, purge_if_stored, store};
 
 use crate::awaited::Awaited;
 use crate::body::Body;
 use crate::counters::Counters;
-use rw_ripq::{Change, Place, Policy, Queue, Shape, Trail};
+use rw_ripq::{Change, Place, Policy, Queue, Shape, Tally, Trail};
 use rw_vt::{Event, NoMemory, Refusal};
 use std::alloc::Global;
 use std::marker::Model;
@@ -97,6 +99,26 @@ impl CacheState {
         self.awaited.get(object)
     }
 
+    /// One request more waits for an object. Hands back how many waited before, where it was awaited.
+    pub(crate) fn join(&mut self, object: u64) -> Result<Option<u64>, NoMemory>
+        ensures before { IfOk result (λ before. before ≡ waiting_for self.old object) }
+        ensures joined { OnOk result (self.new ≡ record self.old {
+          awaited = with_waiting self.old.awaited object
+              (Some (waiting_more (waiting_for self.old object)));
+        }) }
+    {
+        self.awaited.join(object)
+    }
+
+    /// An object is awaited no more. Hands back how many requests waited for it, 0 where it was not awaited.
+    pub(crate) fn answer(&mut self, object: u64) -> u64
+        ensures answered { result ≡ unwrap_or (waiting_for self.old object) 0 }
+        ensures ended { self.new
+            ≡ record self.old { awaited = with_waiting self.old.awaited object None } }
+    {
+        self.awaited.end(object).unwrap_or(0)
+    }
+
     /// Sets how many requests wait for an object; `None`: it is not awaited.
     pub(crate) fn set_waiting(&mut self, object: u64, waiting: Option<u64>) -> Result<(), NoMemory>
         ensures { OnOk result (self.new
@@ -105,90 +127,117 @@ impl CacheState {
         self.awaited.set(object, waiting)
     }
 
-    /// A hit, by a request for `size` bytes, of an object that is stored and whose row is `row`: it is promoted. Hands
-    /// back what that did and counts.
+    /// A hit, by a request for `size` bytes, of an object that is stored and whose row is `row`: it is promoted, and
+    /// counted. `trail` has no mark yet.
     pub(crate) fn hit(
         &mut self,
-        alloc: Global,
         policy: Policy,
         object: u64,
         size: u64,
         row: Place,
-    ) -> Result<Change<Counters>, NoMemory>
+        trail: &mut Trail,
+    ) -> Result<(), NoMemory>
         requires well_formed { IsWellFormedQueue self.old.queue }
         requires stores { policy ≢ Policy.Off }
         requires row { row_at self.old.queue object ≡ Some row }
         requires fresh { self.old.queue.next < exhaustion }
-        ensures queue { OnOk result (self.new
-            ≡ record self.old { queue = (hit policy self.old.queue object size).queue }) }
-        ensures counts { IfOk result (λ change.
-            change.counts ≡ (hit policy self.old.queue object size).counts) }
-        ensures leads { IfOk result (λ change. Leads change.trail self.old.queue self.new.queue) }
-        ensures short { IfOk result (λ change. IsShort change.trail self.old.queue self.new.queue) }
+        requires none { trail.old ≡ [] }
+        ensures state { OnOk result
+            (self.new ≡ once_made self.old (hit policy self.old.queue object size)) }
+        ensures leads { OnOk result (Leads trail.new self.old.queue self.new.queue) }
+        ensures short { OnOk result (IsShort trail.new self.old.queue self.new.queue) }
     {
-        let promoted = rw_ripq::promote_row(alloc, &mut self.queue, policy, object, row);
-        let (trail, moved) = match promoted {
-            Ok(done) => done,
+        let promoted = rw_ripq::promote_with(&mut self.queue, trail, policy, object, row);
+        let moved = match promoted {
+            Ok(moved) => moved,
             Err(Refusal::Memory) => return Err(NoMemory),
             Err(Refusal::Exhausted) => unreachable!(),
         };
-        let counts = Counters::of_hit(moved, size);
-        Ok(Change { trail, counts })
+        self.count(&Counters::of_hit(moved, size));
+        Ok(())
     }
 
-    /// Stores an object of `size` bytes that is not stored, where it fits a block and the policy is not `Off`. Hands
-    /// back what that did and counts.
+    /// Stores an object of `size` bytes that is not stored, where it fits a block and the policy is not `Off`, and counts
+    /// that. `change` has no mark and no count yet.
     #[tactic(auto, using(crate::proofs::Stores::store_laws))]
     pub(crate) fn store(
         &mut self,
-        alloc: Global,
         policy: Policy,
         object: u64,
         size: u64,
-    ) -> Result<Change<Counters>, NoMemory>
+        change: &mut Change<Tally>,
+    ) -> Result<(), NoMemory>
         requires well_formed { IsWellFormedQueue self.old.queue }
+        requires counts { AreCounts self.old.counters }
         requires new { is_stored self.old object ≡ false }
         requires some { 1 ≤ size }
         requires fresh { self.old.queue.next < exhaustion }
-        ensures queue { OnOk result (self.new
-            ≡ record self.old { queue = (store policy self.old.queue object size).queue }) }
-        ensures counts { IfOk result (λ change.
-            change.counts ≡ (store policy self.old.queue object size).counts) }
-        ensures leads { IfOk result (λ change. Leads change.trail self.old.queue self.new.queue) }
-        ensures short { IfOk result (λ change. IsShort change.trail self.old.queue self.new.queue) }
+        requires none { change.old.trail ≡ [] }
+        requires uncounted { change.old.counts ≡ no_tally }
+        ensures state { OnOk result
+            (self.new ≡ once_made self.old (store policy self.old.queue object size)) }
+        ensures leads { OnOk result (Leads change.new.trail self.old.queue self.new.queue) }
+        ensures short { OnOk result (IsShort change.new.trail self.old.queue self.new.queue) }
     {
         if policy == Policy::Off {
-            return Ok(Change::new(alloc, Counters::default()));
+            return Ok(());
         }
         if size > self.queue.block_size() {
-            return Ok(Change::new(alloc, Counters::of_bypass()));
+            self.count(&Counters::of_bypass());
+            return Ok(());
         }
-        let inserted = rw_ripq::insert(alloc, &mut self.queue, policy, object, size, 1);
-        let (trail, tally) = match inserted {
-            Ok(done) => done,
+        let inserted = rw_ripq::insert_with(&mut self.queue, change, policy, object, size, 1);
+        match inserted {
+            Ok(()) => {}
             Err(Refusal::Memory) => return Err(NoMemory),
             Err(Refusal::Exhausted) => unreachable!(),
-        };
-        let counts = Counters::of_insertion(tally);
-        Ok(Change { trail, counts })
+        }
+        self.count(&Counters::of_insertion(change.counts));
+        Ok(())
     }
 
-    /// Lets an object go, where it is stored. Hands back what that did and counts.
-    pub(crate) fn purge(&mut self, alloc: Global, object: u64) -> Result<Change<Counters>, NoMemory>
+    /// [`CacheState::store`] of an object that may be stored already: it then stays as it is.
+    pub(crate) fn store_lacking(
+        &mut self,
+        policy: Policy,
+        object: u64,
+        size: u64,
+        change: &mut Change<Tally>,
+    ) -> Result<(), NoMemory>
         requires well_formed { IsWellFormedQueue self.old.queue }
-        ensures queue { OnOk result (self.new
-            ≡ record self.old { queue = (purge_if_stored self.old.queue object).queue }) }
-        ensures counts { IfOk result (λ change.
-            change.counts ≡ (purge_if_stored self.old.queue object).counts) }
-        ensures leads { IfOk result (λ change. Leads change.trail self.old.queue self.new.queue) }
-        ensures short { IfOk result (λ change. IsShort change.trail self.old.queue self.new.queue) }
+        requires counts { AreCounts self.old.counters }
+        requires some { 1 ≤ size }
+        requires fresh { self.old.queue.next < exhaustion }
+        requires none { change.old.trail ≡ [] }
+        requires uncounted { change.old.counts ≡ no_tally }
+        ensures state { OnOk result (self.new ≡ once_made self.old
+            (stored_if policy self.old.queue object size (is_stored self.old object))) }
+        ensures leads { OnOk result (Leads change.new.trail self.old.queue self.new.queue) }
+        ensures short { OnOk result (IsShort change.new.trail self.old.queue self.new.queue) }
+    {
+        if self.is_stored(object) {
+            return Ok(());
+        }
+        self.store(policy, object, size, change)?;
+        Ok(())
+    }
+
+    /// Lets an object go, where it is stored, and counts the purge. `trail` has no mark yet.
+    pub(crate) fn purge(&mut self, object: u64, trail: &mut Trail) -> Result<(), NoMemory>
+        requires well_formed { IsWellFormedQueue self.old.queue }
+        requires none { trail.old ≡ [] }
+        ensures state { OnOk result
+            (self.new ≡ once_made self.old (purge_if_stored self.old.queue object)) }
+        ensures leads { OnOk result (Leads trail.new self.old.queue self.new.queue) }
+        ensures short { OnOk result (IsShort trail.new self.old.queue self.new.queue) }
     {
         if !self.is_stored(object) {
-            return Ok(Change::new(alloc, Counters::of_purge(false)));
+            self.count(&Counters::of_purge(false));
+            return Ok(());
         }
-        let trail = rw_ripq::purge(alloc, &mut self.queue, object)?;
-        let counts = Counters::of_purge(true);
-        Ok(Change { trail, counts })
+        rw_ripq::purge_with(&mut self.queue, trail, object)?;
+        self.count(&Counters::of_purge(true));
+        Ok(())
     }
 
     /// Takes back what happened to the queue, by its trail.
@@ -215,18 +264,30 @@ impl CacheState {
         self.counters.take_off(counted);
     }
 
-    /// The event that process `process` is to send, with the number of events that it has sent before.
-    pub(crate) fn sending(&self, process: u32, time: u64, to: u32, body: Body) -> Event<Body>
+    /// Sends an event from process `process`: it is appended to `out`, with the number of events that the process has
+    /// sent before, and counted.
+    pub(crate) fn send(
+        &mut self,
+        process: u32,
+        time: u64,
+        to: u32,
+        body: Body,
+        out: &mut Vec<Event<Body>>,
+    ) -> Result<(), NoMemory>
         requires { process + 1 < 2 ^ 32 }
-        ensures { result ≡ event_from process self.now time to body }
+        ensures sent { OnOk result
+            (out.new.items ≡ out.old.items ++ event_from process self.old time to body ∷ []) }
+        ensures count { OnOk result (self.new ≡ record self.old { sends = plus self.old.sends 1 }) }
     {
-        Event {
+        out.push(Event {
             time,
             source: process + 1,
             number: self.sends,
             to,
             body,
-        }
+        })?;
+        self.count_sends(1);
+        Ok(())
     }
 
     /// Counts `sent` events more as sent.

@@ -2,8 +2,9 @@ ghost use Rattle.std.specs.Prelude.{◌≡◌, ◌≤◌, IfOk, OnOk, [], ◌++�
 ghost use Rattle.rw_vt.specs.Limits.{end_of_time};
 ghost use Rattle.rw_trace.specs.Limits.{greatest_size};
 ghost use Rattle.rw_ripq.specs.Limits.{exhaustion};
-ghost use Rattle.rw_photo.specs.Cache.{IsWellFormed, is_edge, shape_at, start, waiting_for};
-ghost use Rattle.rw_photo.specs.Deeds.{HasDone, list_of};
+ghost use Rattle.rw_ripq.specs.Work.{no_tally};
+ghost use Rattle.rw_photo.specs.Cache.{IsWellFormed, is_edge, shape_at, start};
+ghost use Rattle.rw_photo.specs.Deeds.{HasHappened};
 ghost use Rattle.rw_photo.specs.Events.{clears_of, miss_happening, fill_happening, happening, purge_happening, is_origin, is_valid, object_of, origin_of, request_happening};
 
 use crate::body::Body;
@@ -11,7 +12,7 @@ use crate::cache::CacheState;
 use crate::config::Config;
 use crate::counters::Counters;
 use crate::undo::Undo;
-use rw_ripq::{Change, EXHAUSTED};
+use rw_ripq::{Change, EXHAUSTED, Tally};
 use rw_trace::{MAX_SIZE, MAX_TIME};
 use rw_vt::{Event, Model as VtModel, NoMemory, Refusal};
 use std::alloc::Global;
@@ -21,24 +22,6 @@ use std::alloc::Global;
 pub struct Photo {
     /// The caches and the delays between them.
     pub config: Config,
-}
-
-/// What an event did to a cache, beside changing how many requests wait for its object.
-struct Deed {
-    /// What it did to the queue, and what it counts.
-    change: Change<Counters>,
-    /// What it sends.
-    sends: Sends,
-}
-
-/// What an event sends. It is no list, since most events send one event or none.
-enum Sends {
-    /// Nothing.
-    Nothing,
-    /// One event.
-    One(Event<Body>),
-    /// To each edge but one, at a time, that it let go of an object.
-    Clears { time: u64, object: u64, edge: u32 },
 }
 
 impl Photo {
@@ -90,40 +73,43 @@ impl Photo {
     }
 }
 
-/// What each event does to the cache that it goes to, but for what is counted and sent. The event is valid there.
+/// What each event does to the cache that it goes to, where it is valid: to the state, to `out`, to which what it sends is
+/// appended in order, and to `change`, which has no mark and no count yet and gets the marks of what it does to the queue.
 impl Photo {
-    /// Does what the event does, by its kind. So many requests wait for its object.
+    /// Does what the event does, by its kind.
     fn happen(
         &self,
-        alloc: Global,
         process: u32,
         state: &mut CacheState,
         event: &Event<Body>,
-        waiting: Option<u64>,
-    ) -> Result<Deed, NoMemory>
+        change: &mut Change<Tally>,
+        out: &mut Vec<Event<Body>>,
+    ) -> Result<(), NoMemory>
         requires well_formed { IsWellFormed self.now.config process state.old }
         requires fresh { state.old.queue.next < exhaustion }
-        requires waiting { waiting ≡ waiting_for state.old (object_of event.now.body) }
         requires valid { is_valid self.now.config event.now ≡ true }
         requires here { event.now.to ≡ process }
-        ensures { IfOk result (λ deed. HasDone self.now.config process
+        requires none { change.old.trail ≡ [] }
+        requires uncounted { change.old.counts ≡ no_tally }
+        ensures { OnOk result (HasHappened
             (happening self.now.config process state.old event.now.time event.now.body)
-            state.old (object_of event.now.body) deed state.new) }
+            state.old (object_of event.now.body) state.new
+            out.old.items out.new.items change.new.trail) }
     {
         let time = event.time;
         match event.body {
             Body::Request { object, size } => {
-                self.request(alloc, process, state, time, object, size, waiting)
+                self.request(process, state, time, object, size, change, out)
             }
             Body::Miss { object, size, edge } => {
-                self.miss(alloc, process, state, time, object, size, edge)
+                self.miss(process, state, time, object, size, edge, change, out)
             }
-            Body::Fill { object, size } => self.fill(alloc, process, state, object, size, waiting),
-            Body::Purge { object } => self.purge(alloc, process, state, time, object),
+            Body::Fill { object, size } => { self.fill(process, state, object, size, change, out) }
+            Body::Purge { object } => self.purge(process, state, time, object, change, out),
             Body::Drop { object, edge } => {
-                self.drop_object(alloc, process, state, time, object, edge)
+                self.drop_object(process, state, time, object, edge, change, out)
             }
-            Body::Clear { object } => self.clear(alloc, process, state, object),
+            Body::Clear { object } => self.clear(process, state, object, change, out),
         }
     }
 
@@ -131,69 +117,66 @@ impl Photo {
     /// the first that waits asks the origin.
     fn request(
         &self,
-        alloc: Global,
         process: u32,
         state: &mut CacheState,
         time: u64,
         object: u64,
         size: u64,
-        waiting: Option<u64>,
-    ) -> Result<Deed, NoMemory>
-        requires waiting { waiting ≡ waiting_for state.old object }
+        change: &mut Change<Tally>,
+        out: &mut Vec<Event<Body>>,
+    ) -> Result<(), NoMemory>
         requires well_formed { IsWellFormed self.now.config process state.old }
         requires fresh { state.old.queue.next < exhaustion }
         requires early { time < end_of_time }
         requires process { process < self.now.config.edges }
-        ensures { IfOk result (λ deed. HasDone self.now.config process
+        requires none { change.old.trail ≡ [] }
+        requires uncounted { change.old.counts ≡ no_tally }
+        ensures { OnOk result (HasHappened
             (request_happening self.now.config process state.old time object size)
-            state.old object deed state.new) }
+            state.old object state.new out.old.items out.new.items change.new.trail) }
     {
         if let Some(row) = state.row(object) {
-            return Ok(Deed {
-                change: state.hit(alloc, self.config.policy, object, size, row)?,
-                sends: Sends::Nothing,
-            });
+            state.hit(self.config.policy, object, size, row, &mut change.trail)?;
+            return Ok(());
         }
-        if let Some(others) = waiting {
-            state.set_waiting(object, Some(others.wrapping_add(1)))?;
-            return Ok(Deed {
-                change: Change::new(alloc, Counters::of_coalesced(size)),
-                sends: Sends::Nothing,
-            });
+        if let Some(_others) = state.join(object)? {
+            state.count(&Counters::of_coalesced(size));
+            return Ok(());
         }
-        state.set_waiting(object, Some(1))?;
+        state.count(&Counters::default().with_miss(size));
         let question = Body::Miss {
             object,
             size,
             edge: process,
         };
         let origin = self.origin_of(object);
-        Ok(Deed {
-            change: Change::new(alloc, Counters::default().with_miss(size)),
-            sends: Sends::One(state.sending(process, time + self.config.up, origin, question)),
-        })
+        state.send(process, time + self.config.up, origin, question, out)?;
+        Ok(())
     }
 
     /// A miss at an origin. A hit promotes its object; what the origin lacks is fetched from the backend and stored.
     /// The edge is sent a fill.
     fn miss(
         &self,
-        alloc: Global,
         process: u32,
         state: &mut CacheState,
         time: u64,
         object: u64,
         size: u64,
         edge: u32,
-    ) -> Result<Deed, NoMemory>
+        change: &mut Change<Tally>,
+        out: &mut Vec<Event<Body>>,
+    ) -> Result<(), NoMemory>
         requires well_formed { IsWellFormed self.now.config process state.old }
         requires fresh { state.old.queue.next < exhaustion }
         requires early { time < end_of_time }
         requires process { process < self.now.config.edges + self.now.config.origins }
         requires some { 1 ≤ size }
-        ensures { IfOk result (λ deed. HasDone self.now.config process
+        requires none { change.old.trail ≡ [] }
+        requires uncounted { change.old.counts ≡ no_tally }
+        ensures { OnOk result (HasHappened
             (miss_happening self.now.config process state.old time object size edge)
-            state.old object deed state.new) }
+            state.old object state.new out.old.items out.new.items change.new.trail) }
     {
         let Config {
             policy,
@@ -203,54 +186,39 @@ impl Photo {
         } = self.config;
         let answer = Body::Fill { object, size };
         if let Some(row) = state.row(object) {
-            let change = state.hit(alloc, policy, object, size, row)?;
-            return Ok(Deed {
-                change,
-                sends: Sends::One(state.sending(process, time + down, edge, answer)),
-            });
+            state.hit(policy, object, size, row, &mut change.trail)?;
+            state.send(process, time + down, edge, answer, out)?;
+            return Ok(());
         }
-        let Change { trail, counts } = state.store(alloc, policy, object, size)?;
-        Ok(Deed {
-            change: Change {
-                trail,
-                counts: counts.with_miss(size),
-            },
-            sends: Sends::One(state.sending(process, time + down + back, edge, answer)),
-        })
+        state.store(policy, object, size, change)?;
+        state.count(&Counters::default().with_miss(size));
+        state.send(process, time + down + back, edge, answer, out)?;
+        Ok(())
     }
 
     /// A fill at an edge. It answers the requests that wait for it, if any, and what the edge lacks is stored.
     fn fill(
         &self,
-        alloc: Global,
         process: u32,
         state: &mut CacheState,
         object: u64,
         size: u64,
-        waiting: Option<u64>,
-    ) -> Result<Deed, NoMemory>
-        requires waiting { waiting ≡ waiting_for state.old object }
+        change: &mut Change<Tally>,
+        out: &mut Vec<Event<Body>>,
+    ) -> Result<(), NoMemory>
         requires well_formed { IsWellFormed self.now.config process state.old }
         requires fresh { state.old.queue.next < exhaustion }
         requires some { 1 ≤ size }
-        ensures { IfOk result (λ deed. HasDone self.now.config process
+        requires none { change.old.trail ≡ [] }
+        requires uncounted { change.old.counts ≡ no_tally }
+        ensures { OnOk result (HasHappened
             (fill_happening self.now.config state.old object size)
-            state.old object deed state.new) }
+            state.old object state.new out.old.items out.new.items change.new.trail) }
     {
-        let answered = waiting.unwrap_or(0);
-        let Change { trail, counts } = if state.is_stored(object) {
-            Change::new(alloc, Counters::default())
-        } else {
-            state.store(alloc, self.config.policy, object, size)?
-        };
-        state.set_waiting(object, None)?;
-        Ok(Deed {
-            change: Change {
-                trail,
-                counts: counts.with_late(answered),
-            },
-            sends: Sends::Nothing,
-        })
+        let answered = state.answer(object);
+        state.store_lacking(self.config.policy, object, size, change)?;
+        state.count(&Counters::default().with_late(answered));
+        Ok(())
     }
 }
 
@@ -260,106 +228,82 @@ impl Photo {
     /// A purge at an edge, which tells the origin.
     fn purge(
         &self,
-        alloc: Global,
         process: u32,
         state: &mut CacheState,
         time: u64,
         object: u64,
-    ) -> Result<Deed, NoMemory>
+        change: &mut Change<Tally>,
+        out: &mut Vec<Event<Body>>,
+    ) -> Result<(), NoMemory>
         requires well_formed { IsWellFormed self.now.config process state.old }
         requires early { time < end_of_time }
         requires process { process < self.now.config.edges }
-        ensures { IfOk result (λ deed. HasDone self.now.config process
+        requires none { change.old.trail ≡ [] }
+        requires uncounted { change.old.counts ≡ no_tally }
+        ensures { OnOk result (HasHappened
             (happening self.now.config process state.old time (Body.Purge object))
-            state.old object deed state.new) }
+            state.old object state.new out.old.items out.new.items change.new.trail) }
     {
-        let change = state.purge(alloc, object)?;
+        state.purge(object, &mut change.trail)?;
         let order = Body::Drop {
             object,
             edge: process,
         };
         let origin = self.origin_of(object);
-        Ok(Deed {
-            change,
-            sends: Sends::One(state.sending(process, time + self.config.up, origin, order)),
-        })
+        state.send(process, time + self.config.up, origin, order, out)?;
+        Ok(())
     }
 
     /// A drop at an origin, which tells every edge but the one that told it.
     fn drop_object(
         &self,
-        alloc: Global,
         process: u32,
         state: &mut CacheState,
         time: u64,
         object: u64,
         edge: u32,
-    ) -> Result<Deed, NoMemory>
+        change: &mut Change<Tally>,
+        out: &mut Vec<Event<Body>>,
+    ) -> Result<(), NoMemory>
         requires well_formed { IsWellFormed self.now.config process state.old }
         requires early { time < end_of_time }
-        ensures { IfOk result (λ deed. HasDone self.now.config process
+        requires process { process + 1 < 2 ^ 32 }
+        requires none { change.old.trail ≡ [] }
+        requires uncounted { change.old.counts ≡ no_tally }
+        ensures { OnOk result (HasHappened
             (happening self.now.config process state.old time (Body.Drop object edge))
-            state.old object deed state.new) }
+            state.old object state.new out.old.items out.new.items change.new.trail) }
     {
-        Ok(Deed {
-            change: state.purge(alloc, object)?,
-            sends: Sends::Clears {
-                time: time + self.config.down,
-                object,
-                edge,
-            },
-        })
+        state.purge(object, &mut change.trail)?;
+        let first = state.sends();
+        let time = time + self.config.down;
+        let sent = self.send_clears(process, first, time, object, edge, out)?;
+        state.count_sends(sent);
+        Ok(())
     }
 
     /// A clear at an edge, which tells nobody.
     fn clear(
         &self,
-        alloc: Global,
         process: u32,
         state: &mut CacheState,
         object: u64,
-    ) -> Result<Deed, NoMemory>
-        requires well_formed { IsWellFormed self.now.config process state.old }
-        ensures { IfOk result (λ deed. HasDone self.now.config process
-            (purge_happening state.old object [])
-            state.old object deed state.new) }
-    {
-        Ok(Deed {
-            change: state.purge(alloc, object)?,
-            sends: Sends::Nothing,
-        })
-    }
-}
-
-/// Sending, by a process that has sent `first` events before.
-impl Photo {
-    /// Appends to `out` what an event sends, in order. Hands back how many events that are.
-    fn send(
-        &self,
-        process: u32,
-        first: u64,
-        sends: Sends,
+        change: &mut Change<Tally>,
         out: &mut Vec<Event<Body>>,
-    ) -> Result<u64, NoMemory>
-        requires process { process + 1 < 2 ^ 32 }
-        ensures sent { OnOk result (out.new.items
-            ≡ out.old.items ++ list_of self.now.config process first sends) }
-        ensures count { IfOk result (λ count.
-            count ≡ length (list_of self.now.config process first sends)) }
+    ) -> Result<(), NoMemory>
+        requires well_formed { IsWellFormed self.now.config process state.old }
+        requires none { change.old.trail ≡ [] }
+        requires uncounted { change.old.counts ≡ no_tally }
+        ensures { OnOk result (HasHappened
+            (purge_happening state.old object [])
+            state.old object state.new out.old.items out.new.items change.new.trail) }
     {
-        match sends {
-            Sends::Nothing => Ok(0),
-            Sends::One(event) => {
-                out.push(event)?;
-                Ok(1)
-            }
-            Sends::Clears { time, object, edge } => {
-                self.send_clears(process, first, time, object, edge, out)
-            }
-        }
+        state.purge(object, &mut change.trail)?;
+        Ok(())
     }
 
-    /// Tells every edge but one to let go of an object, in rising number. Hands back how many it told.
+    /// Tells every edge but one to let go of an object, in rising number. Hands back how many it told. The process has
+    /// sent `first` events before.
     fn send_clears(
         &self,
         process: u32,
@@ -472,16 +416,34 @@ impl VtModel for Photo {
             return Err(Refusal::Exhausted);
         }
         let waiting = state.waiting(event.body.object());
-        let first = state.sends();
-        let Deed { change, sends } = self.happen(alloc, process, state, event, waiting)?;
-        state.count(&change.counts);
-        let sent = self.send(process, first, sends, out)?;
-        state.count_sends(sent);
+        let before = state.counters();
+        let told = out.len();
+        let mut change = Change::new(alloc, Tally::default());
+        self.happen(process, state, event, &mut change, out)?;
+        let Change { trail, .. } = change;
+        let mut counts = state.counters();
+        counts.take_off(&before);
         Ok(Undo {
-            change,
-            sent,
+            change: Change { trail, counts },
+            sent: (out.len() - told) as u64,
             waiting,
         })
+    }
+
+    fn advance(
+        &self,
+        alloc: Global,
+        process: u32,
+        state: &mut CacheState,
+        event: &Event<Body>,
+        out: &mut Vec<Event<Body>>,
+    ) -> Result<(), Refusal> {
+        if self.exhausted(state) {
+            return Err(Refusal::Exhausted);
+        }
+        let mut dropped = Change::new(alloc, Tally::default());
+        self.happen(process, state, event, &mut dropped, out)?;
+        Ok(())
     }
 
     fn reverse(

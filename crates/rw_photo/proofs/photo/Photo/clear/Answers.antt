@@ -1,10 +1,9 @@
-use Rattle.std.proofs.Common.{rules, refl, []}
-use Rattle.rw_photo.specs.Events.{purge_happening}
-use Rattle.rw_photo.proofs.Reversing.{queue_deed}
+use Rattle.rw_photo.specs.Storing.{purge_if_stored}
+use Rattle.rw_photo.proofs.Happenings.{served_alone}
 use Rattle.rw_photo.proofs.photo.Photo.clear.Goals as goal
 
 pub returns : goal.returns
 returns c =
     let s = c.args.state.now in
-    queue_deed c.args.self.now.config c.args.process (purge_happening s c.args.object []) s c.purge.new.self c.args.object _ c.requires.well_formed.ascending refl
-    (search rules) (search rules) refl (search rules) (search rules)
+    served_alone s c.purge.new.self c.args.object (purge_if_stored s.queue c.args.object) _ _ c.requires.well_formed.ascending c.requires.well_formed.sends
+    c.in_ok-purge.ensures.state c.in_ok-purge.ensures.leads c.in_ok-purge.ensures.short

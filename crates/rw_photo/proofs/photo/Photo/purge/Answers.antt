@@ -1,7 +1,8 @@
 use Rattle.std.proofs.Common.{rules, refl, ◌+◌, [], ◌∷◌}
 use Rattle.rw_photo.specs.declared.body.Body.TheVariants.{Drop}
-use Rattle.rw_photo.specs.Events.{event_from, origin_of, purge_happening}
-use Rattle.rw_photo.proofs.Reversing.{queue_deed}
+use Rattle.rw_photo.specs.Events.{event_from, origin_of}
+use Rattle.rw_photo.specs.Storing.{purge_if_stored}
+use Rattle.rw_photo.proofs.Happenings.{served}
 use Rattle.rw_photo.proofs.photo.Photo.purge.Goals as goal
 
 pub returns : goal.returns
@@ -10,5 +11,5 @@ returns c =
     let k = c.args.self.now.config in
     let p = c.args.process in
     let o = c.args.object in
-    queue_deed k p (purge_happening s o (event_from p s (c.args.time + k.up) (origin_of k o) (Drop o p) ∷ [])) s c.purge.new.self o _ c.requires.well_formed.ascending refl
-    (search rules) (search rules) (search rules) (search rules) (search rules)
+    served s c.purge.new.self c.send.new.self o 1 (purge_if_stored s.queue o) (event_from p s (c.args.time + k.up) (origin_of k o) (Drop o p) ∷ []) _ _ _ c.requires.well_formed.ascending
+    c.in_ok-purge.ensures.state c.in_ok-send.ensures.count refl (search rules) c.in_ok-purge.ensures.leads c.in_ok-purge.ensures.short
