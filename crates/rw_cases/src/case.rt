@@ -4,6 +4,7 @@ use serde_json::Value;
 use std::alloc::{AllocError, Global};
 use std::sync::Wait;
 use std::thread::Threads;
+use std::time::Clock;
 
 /// One run of the program and what is expected of it.
 #[derive(Drop)]
@@ -26,7 +27,7 @@ impl Case {
 
     /// Runs the case, and tells whether the program does what it says. Where the case says nothing of standard error,
     /// as of the line that tells what rounds did, any will do.
-    pub fn agrees<R: Threads + Wait + Sync>(
+    pub fn agrees<R: Threads + Wait + Clock + Sync>(
         &self,
         rt: &R,
         alloc: Global,

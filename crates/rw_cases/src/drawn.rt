@@ -4,6 +4,7 @@ use crate::tally::Tally;
 use std::alloc::{AllocError, Global};
 use std::sync::Wait;
 use std::thread::Threads;
+use std::time::Clock;
 
 /// How rounds are run: few letters at a time, many, with all held back but the next, and more workers than caches.
 const ROUNDS: [&str; 6] = [
@@ -16,7 +17,7 @@ const ROUNDS: [&str; 6] = [
 ];
 
 /// Runs the trace of each of so many seeds in rounds, and counts the runs that agree with the run on one thread.
-pub fn compare<R: Threads + Wait + Sync>(
+pub fn compare<R: Threads + Wait + Clock + Sync>(
     rt: &R,
     alloc: Global,
     seeds: u64,
@@ -29,7 +30,7 @@ pub fn compare<R: Threads + Wait + Sync>(
 }
 
 /// Runs a drawn trace in rounds of each kind, and counts the runs that agree with the run on one thread.
-fn compare_rounds<R: Threads + Wait + Sync>(
+fn compare_rounds<R: Threads + Wait + Clock + Sync>(
     rt: &R,
     alloc: Global,
     drawn: &Drawn,
@@ -62,7 +63,7 @@ impl Drawn {
     }
 
     /// What the program writes on standard output under a command; None where it ends with a fault.
-    fn report<R: Threads + Wait + Sync>(
+    fn report<R: Threads + Wait + Clock + Sync>(
         &self,
         rt: &R,
         alloc: Global,

@@ -20,6 +20,7 @@ use std::alloc::Global;
 use std::fs;
 use std::sync::Wait;
 use std::thread::Threads;
+use std::time::Clock;
 use tally::Tally;
 
 /// How many traces are drawn.
@@ -36,7 +37,11 @@ fn main(rt: HostRuntime) -> Result<()> {
 }
 
 /// Runs the cases of a text, one a line, and counts those that agree.
-fn stored<R: Print + Threads + Wait + Sync>(rt: &R, alloc: Global, text: &str) -> Result<Tally> {
+fn stored<R: Print + Threads + Wait + Clock + Sync>(
+    rt: &R,
+    alloc: Global,
+    text: &str,
+) -> Result<Tally> {
     let mut tally = Tally::default();
     for line in text.lines() {
         tally.count(agrees(rt, alloc, line)?);
@@ -45,7 +50,11 @@ fn stored<R: Print + Threads + Wait + Sync>(rt: &R, alloc: Global, text: &str) -
 }
 
 /// Runs the case of a line, and tells whether the program does what it says. Prints its name where not.
-fn agrees<R: Print + Threads + Wait + Sync>(rt: &R, alloc: Global, line: &str) -> Result<bool> {
+fn agrees<R: Print + Threads + Wait + Clock + Sync>(
+    rt: &R,
+    alloc: Global,
+    line: &str,
+) -> Result<bool> {
     let case = Case::parse(alloc, line).context("parsing a case")?;
     let agrees = case.agrees(rt, alloc)?;
     if !agrees {

@@ -3,6 +3,7 @@ use rw_command::{Out, command};
 use std::alloc::Global;
 use std::sync::Wait;
 use std::thread::Threads;
+use std::time::Clock;
 
 /// What a run of the program wrote, and its exit status.
 #[derive(Drop)]
@@ -14,7 +15,7 @@ pub struct Run {
 
 impl Run {
     /// Runs the program with these words, its name first, and these bytes on standard input.
-    pub fn of<R: Threads + Wait + Sync>(
+    pub fn of<R: Threads + Wait + Clock + Sync>(
         rt: &R,
         alloc: Global,
         words: Vec<String>,

@@ -9,11 +9,13 @@ use crate::sweeping::sweep;
 use crate::values::{config, plan};
 use clap::ArgMatches;
 use clap::error::ErrorKind;
-use rw_ripqwarp::{Mode, Out, SimFault, Traffic, schedule, simulate};
+use rw_progress::{Line, Measure, Progress};
+use rw_ripqwarp::{Mode, Out, SimFault, Traffic, schedule, simulate_and_tell};
 use std::alloc::Global;
 use std::io::Write;
 use std::sync::Wait;
 use std::thread::Threads;
+use std::time::Clock;
 
 /// Does what the program's words ask, its name first, and answers the exit status.
 ///
@@ -31,7 +33,7 @@ use std::thread::Threads;
 /// | 6 | all rounds of the plan are used, or the start of a thread was refused |
 /// | 7 | a cache is exhausted |
 /// | 8 | output failed |
-pub fn command<S: Source, W: Write, E: Write, R: Threads + Wait + Sync>(
+pub fn command<S: Source, W: Write, E: Write, R: Threads + Wait + Clock + Sync>(
     rt: &R,
     alloc: Global,
     words: Vec<String>,
@@ -42,8 +44,9 @@ pub fn command<S: Source, W: Write, E: Write, R: Threads + Wait + Sync>(
     command_at(rt, alloc, words, source, out, err, false)
 }
 
-/// The same, where `err` may be a terminal: there a sweep shows how much of it is done.
-pub fn command_at<S: Source, W: Write, E: Write, R: Threads + Wait + Sync>(
+/// The same, where `err` may be a terminal: there one line shows how far `serial`, `warp`, `import` and `sweep` have come, unless the
+/// words ask for quiet. It is taken away before anything else goes to `out` or `err`, which may be the same terminal.
+pub fn command_at<S: Source, W: Write, E: Write, R: Threads + Wait + Clock + Sync>(
     rt: &R,
     alloc: Global,
     words: Vec<String>,
@@ -62,7 +65,7 @@ pub fn command_at<S: Source, W: Write, E: Write, R: Threads + Wait + Sync>(
 }
 
 /// Does what the words ask.
-fn attempt<S: Source, W: Write, E: Write, R: Threads + Wait + Sync>(
+fn attempt<S: Source, W: Write, E: Write, R: Threads + Wait + Clock + Sync>(
     rt: &R,
     alloc: Global,
     words: &[String],
@@ -79,7 +82,7 @@ fn attempt<S: Source, W: Write, E: Write, R: Threads + Wait + Sync>(
 }
 
 /// Does what `clap` has understood.
-fn carry_out<S: Source, W: Write, E: Write, R: Threads + Wait + Sync>(
+fn carry_out<S: Source, W: Write, E: Write, R: Threads + Wait + Clock + Sync>(
     rt: &R,
     alloc: Global,
     matches: &ArgMatches<'_>,
@@ -92,16 +95,16 @@ fn carry_out<S: Source, W: Write, E: Write, R: Threads + Wait + Sync>(
         return Err(Fault::Plan);
     };
     match name {
-        "import" => import(alloc, options, source, out, err),
+        "import" => import(rt, alloc, options, source, out, err, terminal),
         "sweep" => sweep(rt, alloc, options, source, out, err, terminal),
         "join" => join(alloc, options, source, out),
         "plot" => plot(alloc, options, source, out),
-        _ => simulation(rt, alloc, name, options, source, out, err),
+        _ => simulation(rt, alloc, name, options, source, out, err, terminal),
     }
 }
 
 /// Runs a trace, and tells what the rounds of a run in rounds did.
-fn simulation<S: Source, W: Write, E: Write, R: Threads + Wait + Sync>(
+fn simulation<S: Source, W: Write, E: Write, R: Threads + Wait + Clock + Sync>(
     rt: &R,
     alloc: Global,
     name: &str,
@@ -109,10 +112,15 @@ fn simulation<S: Source, W: Write, E: Write, R: Threads + Wait + Sync>(
     source: &mut S,
     out: &mut Out<W>,
     err: &mut E,
+    terminal: bool,
 ) -> Result<(), Fault> {
     let mode = mode(alloc, name, options)?;
     let is_warp = matches!(mode, Mode::Warp(_));
-    let traffic = run(rt, alloc, options, mode, source, out)?;
+    let is_journal = matches!(mode, Mode::Journal(_));
+    let shown = terminal && !is_journal && !options.get_flag("quiet");
+    let mut line = Line::new(err, rt, name, Measure::Time, shown);
+    let traffic = run(rt, alloc, options, mode, source, &mut line, out)?;
+    drop(line);
     if is_warp {
         tell_traffic(&traffic, err);
     }
@@ -133,19 +141,20 @@ fn mode(alloc: Global, name: &str, options: &ArgMatches<'_>) -> Result<Mode, Fau
 }
 
 /// Runs the trace that a command names, through the caches that its options say.
-fn run<S: Source, W: Write, R: Threads + Wait + Sync>(
+fn run<S: Source, P: Progress, W: Write, R: Threads + Wait + Sync>(
     rt: &R,
     alloc: Global,
     options: &ArgMatches<'_>,
     mode: Mode,
     source: &mut S,
+    progress: &mut P,
     out: &mut Out<W>,
 ) -> Result<Traffic, Fault> {
     let Some(config) = config(options) else {
         return Err(Fault::Plan);
     };
     let bytes = read(alloc, options, "trace", source)?;
-    simulate(rt, alloc, bytes.as_slice(), &config, mode, out).map_err(Fault::Run)
+    simulate_and_tell(rt, alloc, bytes.as_slice(), &config, mode, progress, out).map_err(Fault::Run)
 }
 
 /// All bytes of the file that an argument names.

@@ -5,26 +5,32 @@ use crate::lines::write_line;
 use crate::source::Source;
 use clap::ArgMatches;
 use rw_import::{Column, Dealing, Imported, Layout, LeftOut, Options, import_csv, import_oracle};
-use rw_progress::Silent;
+use rw_progress::{Line, Measure};
 use rw_ripqwarp::Out;
 use std::alloc::Global;
 use std::io::Write;
+use std::time::Clock;
 
 /// Reads the log that the options name, writes its trace, and tells what was left out of it.
-pub(crate) fn import<S: Source, W: Write, E: Write>(
+pub(crate) fn import<S: Source, W: Write, E: Write, C: Clock>(
+    clock: &C,
     alloc: Global,
     options: &ArgMatches<'_>,
     source: &mut S,
     out: &mut Out<W>,
     err: &mut E,
+    terminal: bool,
 ) -> Result<(), Fault> {
     let reading = reading(options).ok_or(Fault::Plan)?;
     let layout = layout(alloc, options)?;
     let log = read(alloc, options, "log", source)?;
+    let shown = terminal && !options.get_flag("quiet");
+    let mut line = Line::new(err, clock, "import", Measure::Bytes, shown);
     let imported = match options.get_str("from") {
-        Some("oracle-general") => import_oracle(alloc, log.as_slice(), &reading, &mut Silent),
-        _ => import_csv(alloc, log.as_slice(), &layout, &reading, &mut Silent),
+        Some("oracle-general") => import_oracle(alloc, log.as_slice(), &reading, &mut line),
+        _ => import_csv(alloc, log.as_slice(), &layout, &reading, &mut line),
     };
+    drop(line);
     let imported = imported.map_err(Fault::Import)?;
     write(imported.text.as_slice(), out)?;
     tell(&imported, err);

@@ -22,14 +22,6 @@ pub(crate) fn write_line<E: Write, D: Display + Drop>(err: &mut E, line: D) {
     }
 }
 
-/// Writes a text over the line that a terminal stands in, and flushes the writer, as [`write_line`] does.
-pub(crate) fn write_over<E: Write, D: Display + Drop>(err: &mut E, text: D) {
-    let mut held = Held::new(err);
-    if write!(held, "\r\x1b[K{text}").is_ok() {
-        let _ = held.send();
-    }
-}
-
 /// What is still to go out.
 #[derive(Drop)]
 struct Held<W> {

@@ -33,7 +33,7 @@ fn with_command<'a>(
 /// The command that runs a trace on one thread.
 fn serial<'a>(alloc: Global) -> Result<Command<'a>, AllocError> {
     let about = "Runs a trace on one thread and prints the counters of each cache";
-    let command = command(alloc, "serial", about, &[TRACE])?;
+    let command = command(alloc, "serial", about, &[TRACE, QUIET])?;
     with_arguments(alloc, command, &CACHES)
 }
 
@@ -113,6 +113,12 @@ const TRACE: Argument = Argument::File {
 const TRACE_HELP: &str =
     "The trace: CSV under time,edge,object,size and, for purges, kind; - is standard input";
 
+/// Whether nothing is to be shown of how far a run has come.
+const QUIET: Argument = Argument::Flag {
+    name: "quiet",
+    help: "Do not show on a terminal how much is done",
+};
+
 /// The steps by which a trace is run.
 const SCHEDULE: Argument = Argument::Required {
     name: "schedule",
@@ -126,8 +132,9 @@ pub(crate) const POLICIES: [&str; 9] = [
 ];
 
 /// The trace, then how the work of a round is shared out, and how far rounds go.
-const ROUNDS: [Argument; 8] = [
+const ROUNDS: [Argument; 9] = [
     TRACE,
+    QUIET,
     Argument::Number {
         name: "workers",
         kind: Kind::Count,
@@ -251,7 +258,7 @@ const CACHES: [Argument; 10] = [
 ];
 
 /// A log, how it is read, and how its rows become a trace's.
-const LOG: [Argument; 12] = [
+const LOG: [Argument; 13] = [
     Argument::File {
         name: "log",
         value: "LOG",
@@ -323,6 +330,7 @@ const LOG: [Argument; 12] = [
         name: "strict",
         help: "Refuse the log at the first row that cannot be used, which else is left out and counted",
     },
+    QUIET,
 ];
 
 /// What a sweep varies, as lists, and what all its runs have in common.
@@ -378,10 +386,7 @@ const GRID: [Argument; 15] = [
         most: 64,
         help: "Runs side by side, 1 to 64; by default as many as there are processors",
     },
-    Argument::Flag {
-        name: "quiet",
-        help: "Do not show on a terminal how many runs are done",
-    },
+    QUIET,
     Argument::Number {
         name: "edges",
         kind: Kind::Count,

@@ -1,23 +1,21 @@
 // One trace through many configurations.
 use crate::command_line::{read, write};
 use crate::fault::Fault;
-use crate::lines::write_over;
 use crate::lists::{ListFault, numbers, policies};
 use crate::source::Source;
 use clap::ArgMatches;
 use rw_photo::Shape;
+use rw_progress::{Line, Measure};
 use rw_ripqwarp::Out;
-use rw_sweep::{
-    Axes, Grid, GridFault, MAX_CONFIGURATIONS, MAX_WORKERS, Part, Progress, list, sweep_part,
-};
+use rw_sweep::{Axes, Grid, GridFault, MAX_CONFIGURATIONS, MAX_WORKERS, Part, list, sweep_part};
 use std::alloc::Global;
 use std::io::Write;
 use std::thread::{Threads, available_parallelism};
+use std::time::Clock;
 
 /// Runs the trace that the options name through every combination of what they list, or through those of a part, and writes
-/// the table, the lines of each as they are done; or only lists them. On a terminal one line of `err` shows how many are done,
-/// unless the options ask for quiet; it is taken away before lines go out, which may stand on the same terminal.
-pub(crate) fn sweep<S: Source, W: Write, E: Write, R: Threads + Sync>(
+/// the table, the lines of each as they are done; or only lists them.
+pub(crate) fn sweep<S: Source, W: Write, E: Write, R: Threads + Clock + Sync>(
     rt: &R,
     alloc: Global,
     options: &ArgMatches<'_>,
@@ -33,14 +31,13 @@ pub(crate) fn sweep<S: Source, W: Write, E: Write, R: Threads + Sync>(
     }
     let workers = workers(rt, options);
     let trace = read(alloc, options, "trace", source)?;
-    let terminal = terminal && !options.get_flag("quiet");
-    let mut shown = Shown { err, terminal };
+    let shown = terminal && !options.get_flag("quiet");
+    let mut line = Line::new(err, rt, "sweep", Measure::Pieces, shown);
     let bytes = trace.as_slice();
     let swept = match part {
-        Some(part) => sweep_part(rt, alloc, bytes, &grid, part, workers, &mut shown, out),
-        None => rw_sweep::sweep(rt, alloc, bytes, &grid, workers, &mut shown, out),
+        Some(part) => sweep_part(rt, alloc, bytes, &grid, part, workers, &mut line, out),
+        None => rw_sweep::sweep(rt, alloc, bytes, &grid, workers, &mut line, out),
     };
-    shown.clear();
     swept.map_err(Fault::Run)
 }
 
@@ -123,33 +120,5 @@ fn workers<R: Threads>(rt: &R, options: &ArgMatches<'_>) -> u32 {
     match available_parallelism(rt) {
         Ok(processors) => (processors.get() as u64).min(u64::from(MAX_WORKERS)) as u32,
         Err(_) => 1,
-    }
-}
-
-/// What standard error shows of a sweep: a line that is written anew, where that is a terminal.
-#[derive(Drop)]
-struct Shown<'a, E> {
-    err: &'a mut E,
-    terminal: bool,
-}
-
-impl<E: Write> Shown<'_, E> {
-    /// Takes the line away.
-    fn clear(&mut self) {
-        if self.terminal {
-            write_over(self.err, "");
-        }
-    }
-}
-
-impl<E: Write> Progress for Shown<'_, E> {
-    fn done(&mut self, done: u64, of: u64) {
-        if self.terminal {
-            write_over(self.err, format_args!("sweep {done} of {of}"));
-        }
-    }
-
-    fn about_to_write(&mut self) {
-        self.clear();
     }
 }

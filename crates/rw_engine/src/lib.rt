@@ -13,7 +13,7 @@ mod running;
 
 pub use alone::{run_alone, run_alone_from};
 pub use how::{How, Ran};
-pub use running::run_in;
+pub use running::{run_in, run_in_and_tell};
 pub use rw_rounds::{Plan, Stop, Traffic};
 pub use rw_serial::Source;
 pub use rw_vt::{END, Event, Model, NoMemory, Refusal};

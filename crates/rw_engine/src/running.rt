@@ -8,7 +8,8 @@ ghost use Rattle.rw_engine.specs.Runs.{IsByBadPlan, ComesToExhaustion, IsOfAnyRu
 
 use crate::alone::run_alone;
 use crate::how::{How, Ran};
-use rw_rounds::{Open, Plan, Stop, Traffic};
+use rw_progress::{Progress, Silent};
+use rw_rounds::{Open, Plan, Stop, Traffic, run_and_tell};
 use rw_serial::last_states;
 use rw_vt::{Event, Model as VtModel, Outcome};
 use rw_world::{Step, World};
@@ -48,9 +49,39 @@ where
         (M.is_exhausted model) how.entry }
     ensures only { IfErr result (MayStopFor how.entry) }
 {
+    run_in_and_tell(rt, alloc, model, starts, initial, how, &mut Silent)
+}
+
+/// [`run_in`], which tells `progress` in rounds up to which time all is final, as [`rw_rounds::run_and_tell`] does; in order and by
+/// steps it tells nothing.
+pub fn run_in_and_tell<M, P, R>(
+    rt: &R,
+    alloc: Global,
+    model: M,
+    starts: Vec<M::State>,
+    initial: Vec<Event<M::Body>>,
+    how: How<'_>,
+    progress: &mut P,
+) -> Result<Ran<M>, Stop>
+where
+    M: VtModel + Drop + Sync,
+    M::State: Send,
+    M::Body: Send,
+    M::Undo: Send,
+    P: Progress,
+    R: Threads + Wait + Sync,
+    requires { IsReady M.Model model starts.items initial.items }
+    ensures ran { IfOk result
+        (HasRun M.Model M.Body.cmp model starts.items initial.items how.entry) }
+    ensures plan { (result ≡ Err Stop.BadPlan) ↔ IsByBadPlan how.entry }
+    ensures exhausted { result ≡ Err Stop.Exhausted
+        → ComesToExhaustion (system M.Model M.Body.cmp model starts.items initial.items)
+        (M.is_exhausted model) how.entry }
+    ensures only { IfErr result (MayStopFor how.entry) }
+{
     match how {
         How::InOrder => in_order(alloc, &model, starts, initial),
-        How::InRounds(plan) => in_rounds(rt, alloc, model, starts, initial, plan),
+        How::InRounds(plan) => in_rounds(rt, alloc, model, starts, initial, plan, progress),
         How::BySteps(steps) => by_steps(alloc, model, starts, initial, steps),
     }
 }
@@ -75,19 +106,21 @@ fn in_order<M: VtModel>(
 }
 
 /// The states after all events, executed in rounds of workers. One worker executes them in order.
-fn in_rounds<M, R>(
+fn in_rounds<M, P, R>(
     rt: &R,
     alloc: Global,
     model: M,
     starts: Vec<M::State>,
     initial: Vec<Event<M::Body>>,
     plan: Plan,
+    progress: &mut P,
 ) -> Result<Ran<M>, Stop>
 where
     M: VtModel + Drop + Sync,
     M::State: Send,
     M::Body: Send,
     M::Undo: Send,
+    P: Progress,
     R: Threads + Wait + Sync,
     requires { IsReady M.Model model starts.items initial.items }
     ensures ran { IfOk result
@@ -102,7 +135,7 @@ where
         return Err(Stop::BadPlan);
     }
     let world = World::open(alloc, model, starts, initial)?;
-    let (outcome, traffic) = rw_rounds::run(rt, alloc, world, plan, &Open)?;
+    let (outcome, traffic) = run_and_tell(rt, alloc, world, plan, &Open, progress)?;
     let Outcome {
         journals: _,
         states,

@@ -6,6 +6,7 @@ use std::alloc::{AllocError, Global};
 use std::io::Write;
 use std::sync::Wait;
 use std::thread::Threads;
+use std::time::Clock;
 
 /// The trace of one request; its report with nothing stored has 409 bytes, as that of a trace without one.
 const TRACE: &[u8] = b"time,edge,object,size\n5,0,7,4\n";
@@ -55,7 +56,7 @@ impl Source for Given {
 }
 
 /// Does what `text`, a command line, asks of a trace; its exit status, and how many bytes are then written.
-fn ripqwarp<E: Write, R: Threads + Wait + Sync>(
+fn ripqwarp<E: Write, R: Threads + Wait + Clock + Sync>(
     rt: &R,
     alloc: Global,
     text: &str,
@@ -172,7 +173,7 @@ fn a_failing_standard_error_is_ignored(rt: HostRuntime) -> Result<(), AllocError
 
 /// The exit status of these words, where the line on standard error is the one that this status has: for a fault of the
 /// command line one that begins like this, and for want of memory `memory`.
-fn told<R: Threads + Wait + Sync>(
+fn told<R: Threads + Wait + Clock + Sync>(
     rt: &R,
     alloc: Global,
     words: &str,

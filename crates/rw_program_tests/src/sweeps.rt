@@ -1,8 +1,9 @@
 // Tables of a trace over a grid, by one worker and by more, and faults.
 use crate::pipe::Pipe;
 use rw_photo::{Levels, Policy};
+use rw_progress::{Progress, Silent};
 use rw_ripqwarp::{Out, SimFault};
-use rw_sweep::{Axes, Grid, GridFault, Progress, Silent, sweep};
+use rw_sweep::{Axes, Grid, GridFault, sweep};
 use rw_trace::TraceFault;
 use std::alloc::{AllocError, Global};
 use std::test::Fail;
@@ -53,18 +54,24 @@ fn three_policies_over_two_requests(rt: HostRuntime) {
     }
 }
 
-/// How often somebody was told, and what last.
+/// How often somebody was told, what last, and of how many.
 #[derive(Drop)]
 struct Told {
     times: u64,
-    last: (u64, u64),
+    last: u64,
+    of: u64,
     writes: u64,
 }
 
 impl Progress for Told {
-    fn done(&mut self, done: u64, of: u64) {
+    fn begin(&mut self, from: u64, to: u64) {
+        self.last = from;
+        self.of = to;
+    }
+
+    fn reach(&mut self, at: u64) {
         self.times = self.times.saturating_add(1);
-        self.last = (done, of);
+        self.last = at;
     }
 
     fn about_to_write(&mut self) {
@@ -79,12 +86,13 @@ fn one_worker_tells_of_each_configuration(rt: HostRuntime) -> Result<(), Fail> {
     let mut out = Out::new(Pipe::new(alloc, 1000, 9, false));
     let mut told = Told {
         times: 0,
-        last: (0, 0),
+        last: 0,
+        of: 0,
         writes: 0,
     };
     let swept = sweep(&rt, alloc, TRACE, &grid, 1, &mut told, &mut out);
     assert!(rt; swept.is_ok() && grid.len() == 3 && !grid.is_empty());
-    assert!(rt; told.times == 6 && told.last == (3, 3) && told.writes == 3);
+    assert!(rt; told.times == 6 && told.last == 3 && told.of == 3 && told.writes == 3);
     Ok(())
 }
 

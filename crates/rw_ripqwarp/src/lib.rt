@@ -16,6 +16,7 @@ mod report_text;
 mod schedule_text;
 mod sim_fault;
 mod simulation;
+mod telling;
 
 pub use headline::{any_schedule, every_reverse, one_report};
 pub use mode::Mode;
@@ -27,4 +28,6 @@ pub use rw_trace::TraceFault;
 pub use rw_vt::{Event, NoMemory, Outcome, Refusal};
 pub use schedule_text::{ScheduleFault, schedule};
 pub use sim_fault::SimFault;
-pub use simulation::{beginning, beginning_of_rows, last_states_of_rows, simulate};
+pub use simulation::{
+    beginning, beginning_of_rows, last_states_of_rows, simulate, simulate_and_tell,
+};

@@ -18,8 +18,10 @@ use crate::mode::Mode;
 use crate::output::Out;
 use crate::report_text::report_of_states;
 use crate::sim_fault::SimFault;
-use rw_engine::{Ran, Traffic, run_in};
+use crate::telling::{Telling, begin_events, begin_rows};
+use rw_engine::{Ran, Traffic, run_in_and_tell};
 use rw_photo::{Body, CacheState, Config, OrderedRequests, Photo, requests};
+use rw_progress::{Progress, Silent};
 use rw_serial::{last_states, last_states_from};
 use rw_trace::{Row, read};
 use rw_vt::{Event, Model as VtModel, NoMemory, Refusal};
@@ -55,7 +57,33 @@ pub fn simulate<W: Write, R: Threads + Wait + Sync>(
         (W.contents out.old.writer) (W.contents out.new.writer) }
     ensures nothing { IfErr result (λ e. e ≢ SimFault.Output → out.new ≡ out.old) }
 {
-    let (text, traffic) = text_of(rt, alloc, bytes, config, mode)?;
+    simulate_and_tell(rt, alloc, bytes, config, mode, &mut Silent, out)
+}
+
+/// [`simulate`], which tells `progress` how far it has come, in ticks of the trace's virtual time: up to which time all is final.
+/// By a schedule, and of a trace on one thread whose rows do not stand in order of time, nothing is told.
+pub fn simulate_and_tell<W: Write, P: Progress, R: Threads + Wait + Sync>(
+    rt: &R,
+    alloc: Global,
+    bytes: &[u8],
+    config: &Config,
+    mode: Mode,
+    progress: &mut P,
+    out: &mut Out<W>,
+) -> Result<Traffic, SimFault>
+    ensures report { OnOk result (HasWritten mode config.now bytes.now
+        (W.contents out.old.writer) (W.contents out.new.writer)) }
+    ensures still { IfOk result (λ traffic. (IsWarp mode → ⊥) → traffic ≡ no_traffic) }
+    ensures in_range { OnOk result (HasGoodPlan mode) }
+    ensures fault { IfErr result (IsRunFault mode config.now bytes.now) }
+    ensures output { (result ≡ Err SimFault.Output) ↔ (out.new.failures ≢ out.old.failures) }
+    ensures cut_off { result ≡ Err SimFault.Output
+        → HasWrittenBeginning mode config.now bytes.now
+        (W.contents out.old.writer) (W.contents out.new.writer) }
+    ensures nothing { IfErr result (λ e. e ≢ SimFault.Output → out.new ≡ out.old) }
+{
+    let (text, traffic) = text_of(rt, alloc, bytes, config, mode, progress)?;
+    progress.about_to_write();
     if out.write_text(text.as_slice()) {
         Ok(traffic)
     } else {
@@ -64,12 +92,13 @@ pub fn simulate<W: Write, R: Threads + Wait + Sync>(
 }
 
 /// The text of a run, and what its rounds did.
-fn text_of<R: Threads + Wait + Sync>(
+fn text_of<P: Progress, R: Threads + Wait + Sync>(
     rt: &R,
     alloc: Global,
     bytes: &[u8],
     config: &Config,
     mode: Mode,
+    progress: &mut P,
 ) -> Result<(Vec<u8>, Traffic), SimFault>
     ensures text { IfOk result (λ r. IsTextOf mode config.now bytes.now r.0.items) }
     ensures still { IfOk result (λ r. (IsWarp mode → ⊥) → r.1 ≡ no_traffic) }
@@ -78,30 +107,41 @@ fn text_of<R: Threads + Wait + Sync>(
     ensures unwritten { IfErr result (λ e. e ≢ SimFault.Output) }
 {
     match mode {
-        Mode::Serial => Ok((serial_text(alloc, bytes, config)?, Traffic::default())),
-        Mode::Warp(plan) if plan.workers == 1 => alone_text(alloc, bytes, config, plan),
-        mode => engine_text(rt, alloc, bytes, config, mode),
+        Mode::Serial => {
+            let text = serial_text(alloc, bytes, config, progress)?;
+            Ok((text, Traffic::default()))
+        }
+        Mode::Warp(plan) if plan.workers == 1 => {
+            alone_text(alloc, bytes, config, plan, progress)
+        }
+        mode => engine_text(rt, alloc, bytes, config, mode, progress),
     }
 }
 
 /// The report of a run on one thread. The requests of a trace whose rows stand in order of time are not there all at once.
-fn serial_text(alloc: Global, bytes: &[u8], config: &Config) -> Result<Vec<u8>, SimFault>
+fn serial_text<P: Progress>(
+    alloc: Global,
+    bytes: &[u8],
+    config: &Config,
+    progress: &mut P,
+) -> Result<Vec<u8>, SimFault>
     ensures text { IfOk result (λ text. IsReportOf config.now bytes.now text.items) }
     ensures fault { IfErr result (IsRunFault Mode.Serial config.now bytes.now) }
     ensures unwritten { IfErr result (λ e. e ≢ SimFault.Output) }
 {
     let trace = read(alloc, bytes, config.edges())?;
-    let states = last_states_of_rows(alloc, trace.as_slice(), config)?;
+    let states = last_states_and_tell(alloc, trace.as_slice(), config, progress)?;
     Ok(report_of_states(alloc, config, states.as_slice())?)
 }
 
 /// The text of a run that the engine makes, in any mode, and what its rounds did.
-fn engine_text<R: Threads + Wait + Sync>(
+fn engine_text<P: Progress, R: Threads + Wait + Sync>(
     rt: &R,
     alloc: Global,
     bytes: &[u8],
     config: &Config,
     mode: Mode,
+    progress: &mut P,
 ) -> Result<(Vec<u8>, Traffic), SimFault>
     ensures text { IfOk result (λ r. IsTextOf mode config.now bytes.now r.0.items) }
     ensures still { IfOk result (λ r. (IsWarp mode → ⊥) → r.1 ≡ no_traffic) }
@@ -111,7 +151,8 @@ fn engine_text<R: Threads + Wait + Sync>(
 {
     let (starts, initial) = beginning(alloc, bytes, config)?;
     let photo = Photo::new(*config);
-    match run_in(rt, alloc, photo, starts, initial, mode.way())? {
+    begin_events(initial.as_slice(), progress);
+    match run_in_and_tell(rt, alloc, photo, starts, initial, mode.way(), progress)? {
         Ran::Finished(states, traffic) => {
             let text = report_of_states(alloc, config, states.as_slice())?;
             Ok((text, traffic))
@@ -172,12 +213,34 @@ pub fn last_states_of_rows(
     ensures exhausted { IfErr result (λ r. r ≡ Refusal.Exhausted
         → Meets (simulation config.now rows.now) end_of_time is_exhausted) }
 {
+    last_states_and_tell(alloc, rows, config, &mut Silent)
+}
+
+/// [`last_states_of_rows`], which tells `progress` how far it has come where the rows stand in order of time.
+fn last_states_and_tell<P: Progress>(
+    alloc: Global,
+    rows: &[Row],
+    config: &Config,
+    progress: &mut P,
+) -> Result<Vec<CacheState>, Refusal>
+    requires { All (IsRow config.now.edges) rows.now }
+    ensures outcome { IfOk result (λ states. (journals : List (List (Event Body)))
+        × IsOutcome (simulation config.now rows.now) end_of_time journals states.items) }
+    ensures exhausted { IfErr result (λ r. r ≡ Refusal.Exhausted
+        → Meets (simulation config.now rows.now) end_of_time is_exhausted) }
+{
     let photo = Photo::new(*config);
     let Some(source) = OrderedRequests::new(rows) else {
         let (starts, initial) = beginning_of_rows(alloc, rows, config)?;
         return last_states(alloc, &photo, starts, initial);
     };
     let starts = starts(alloc, &photo)?;
+    begin_rows(rows, progress);
+    let source = Telling {
+        source,
+        progress,
+        given: 0,
+    };
     last_states_from(alloc, &photo, starts, source)
 }
 

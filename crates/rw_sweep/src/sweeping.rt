@@ -9,9 +9,9 @@ ghost use Rattle.rw_sweep.specs.Working.{CanRun, HasTaken, HasTakenFirst, IsAcce
 use crate::grid::{Grid, MAX_CONFIGURATIONS};
 use crate::part::{Part, points_of_part};
 use crate::point::Point;
-use crate::progress::Progress;
 use crate::table::{header_text, part_header};
 use crate::waves::write_all;
+use rw_progress::Progress;
 use rw_ripqwarp::{Out, SimFault};
 use rw_trace::read;
 use std::alloc::Global;

@@ -5,9 +5,9 @@ ghost use Rattle.rw_sweep.specs.Working.{AreSlots, CanRun, HasTaken, HasTakenFir
 
 use crate::entry::Lines;
 use crate::point::Point;
-use crate::progress::{Progress, Reached};
 use crate::running::run_one;
 use crate::working::run_all;
+use rw_progress::Progress;
 use rw_ripqwarp::Out;
 use rw_trace::Row;
 use rw_vt::Refusal;
@@ -47,14 +47,12 @@ pub(crate) fn write_all<W: Write, P: Progress, R: Threads + Sync>(
     if !out.write_text(header) {
         return Ok(false);
     }
+    progress.begin(0, points.len() as u64);
     let mut rest = points;
     while !rest.is_empty() {
         let (wave, later) = rest.split_at(workers.max(1).min(rest.len()));
-        let reached = Reached {
-            done: points.len().saturating_sub(rest.len()) as u64,
-            of: points.len() as u64,
-        };
-        if !write_wave(rt, alloc, rows, wave, reached, workers, progress, out)? {
+        let before = points.len().saturating_sub(rest.len()) as u64;
+        if !write_wave(rt, alloc, rows, wave, before, workers, progress, out)? {
             return Ok(false);
         }
         rest = later;
@@ -62,13 +60,14 @@ pub(crate) fn write_all<W: Write, P: Progress, R: Threads + Sync>(
     Ok(true)
 }
 
-/// Runs some configurations side by side, and writes the lines of each, in order; whether the writer took all of them.
+/// Runs some configurations side by side, `before` having been run before, and writes the lines of each, in order; whether the
+/// writer took all of them.
 fn write_wave<W: Write, P: Progress, R: Threads + Sync>(
     rt: &R,
     alloc: Global,
     rows: &[Row],
     wave: &[Point],
-    reached: Reached,
+    before: u64,
     workers: usize,
     progress: &mut P,
     out: &mut Out<W>,
@@ -89,10 +88,10 @@ fn write_wave<W: Write, P: Progress, R: Threads + Sync>(
         (λ _. out.new.failures ≡ out.old.failures) }
 {
     let workers = workers.min(wave.len());
-    let slots = run_all(rt, alloc, rows, wave, reached, workers, progress)?;
+    let slots = run_all(rt, alloc, rows, wave, before, workers, progress)?;
     progress.about_to_write();
     let whole = write_slots(alloc, rows, wave, slots.as_slice(), out)?;
-    progress.done(reached.done.saturating_add(wave.len() as u64), reached.of);
+    progress.reach(before.saturating_add(wave.len() as u64));
     Ok(whole)
 }
 

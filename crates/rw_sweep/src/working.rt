@@ -4,8 +4,8 @@ ghost use Rattle.rw_sweep.specs.Working.{AreSlots, CanRun, IsEntryOf};
 
 use crate::entry::{Entry, Lines};
 use crate::point::Point;
-use crate::progress::{Progress, Reached, Silent};
 use crate::running::run_one;
+use rw_progress::{Progress, Silent};
 use rw_trace::Row;
 use rw_vt::NoMemory;
 use std::alloc::{AllocError, Global};
@@ -18,17 +18,16 @@ use std::thread::{Threads, join, map_indices};
 struct Pace {
     next: AtomicUsize,
     done: AtomicU64,
-    of: u64,
 }
 
 /// Runs the configurations side by side by so many workers, the calling thread being one of them, and gives what became of each
-/// that was taken up. Where no thread can be made there are fewer workers. So far has the sweep come before.
+/// that was taken up. Where no thread can be made there are fewer workers. The sweep has run `before` configurations before.
 pub(crate) fn run_all<P: Progress, R: Threads + Sync>(
     rt: &R,
     alloc: Global,
     rows: &[Row],
     points: &[Point],
-    reached: Reached,
+    before: u64,
     workers: usize,
     progress: &mut P,
 ) -> Result<Vec<Option<Lines>>, NoMemory>
@@ -37,8 +36,7 @@ pub(crate) fn run_all<P: Progress, R: Threads + Sync>(
 {
     let pace = Pace {
         next: AtomicUsize::new(0),
-        done: AtomicU64::new(reached.done),
-        of: reached.of,
+        done: AtomicU64::new(before),
     };
     let mut slots = empty_slots(alloc, points.len())?;
     let others = workers.saturating_sub(1);
@@ -108,7 +106,7 @@ fn work<P: Progress>(
         let lines = run_one(alloc, rows, &points[index]);
         entries.push(Entry { index, lines })?;
         let done = pace.done.fetch_add(1, Ordering::SeqCst);
-        progress.done(done.saturating_add(1), pace.of);
+        progress.reach(done.saturating_add(1));
     }
     Ok(entries)
 }

@@ -13,17 +13,17 @@ use Rattle.rw_ripqwarp.proofs.InOrder.{length-of-caches}
 use Rattle.rw_ripqwarp.proofs.alone.alone_text.Goals as goal
 
 pub report_of_states-requires : goal.report_of_states-requires
-report_of_states-requires c =
+report_of_states-requires g c =
     let outcome = c.in_ok-states.ensures.outcome in
     ap length c.as_slice-2.ensures.value ∙ length-of-caches c.args.config.now c.as_slice.result.now outcome.0 c.in_ok-states.states.items outcome.1
 
 pub returns-in_err-states-clause-fault : goal.returns-in_err-states-clause-fault
-returns-in_err-states-clause-fault c =
+returns-in_err-states-clause-fault g c =
     let accepted = subst (λ n. trace_of n (2 ^ 24) (records_of c.args.bytes.now) ≡ Ok c.in_ok-trace.trace.items) c.edges.ensures c.in_ok-trace.ensures.rows in
     stop-is-fault-alone c.from_residual-in_err-states.result c.args.config.now c.args.bytes.now c.args.plan c.in_err-states.field-0.0 (record { rows = c.in_ok-trace.trace.items; accepted = accepted }) c.in_err-states.ensures.stops c.from_residual-in_err-states.ensures.1
 
 pub returns-clause-text : goal.returns-clause-text
-returns-clause-text c =
+returns-clause-text g c =
     let config : Config = c.args.config.now in
     let rows : List Row = c.in_ok-trace.trace.items in
     let states : List Cache = c.in_ok-states.states.items in

@@ -13,10 +13,10 @@ use Rattle.rw_ripqwarp.proofs.Runs.{ready, ready-at}
 use Rattle.rw_ripqwarp.proofs.alone.run_rows_alone.Goals as goal
 
 pub run_alone-requires : goal.run_alone-requires
-run_alone-requires c = record { ready = ready-at c.args.config.now c.new-photo.result c.in_ok-starts.starts.items c.in_ok-starts.initial.items c.new-photo.ensures c.in_ok-starts.ensures.ready }
+run_alone-requires g c = record { ready = ready-at c.args.config.now c.new-photo.result c.in_ok-starts.starts.items c.in_ok-starts.initial.items c.new-photo.ensures c.in_ok-starts.ensures.ready }
 
 pub run_alone_from-requires : goal.run_alone_from-requires
-run_alone_from-requires c =
+run_alone_from-requires g c =
     let config : Config = c.args.config.now in
     let starts : List Cache = c.in_ok-starts-2.starts.items in
     let are : starts ≡ starts_of config = c.in_ok-starts-2.ensures.states ∙ ap starts_of c.new-photo.ensures in
@@ -25,19 +25,19 @@ run_alone_from-requires c =
     record { ready = ready-at config c.new-photo.result starts c.in-Some.source c.new-photo.ensures (ready config starts c.in-Some.source are well (c.in-Some.ensures.valid config c.requires)) }
 
 pub returns-in_default-clause-outcome : goal.returns-in_default-clause-outcome
-returns-in_default-clause-outcome c =
+returns-in_default-clause-outcome g c =
     let made = c.in_ok-starts.ensures in
     subst (λ (y : System Cache Body). IfOk c.run_alone.result (λ r. AreLastStates y r.0.items))
     (runs-rows c.args.config.now c.new-photo.result c.args.rows.now c.in_ok-starts.starts.items c.in_ok-starts.initial.items c.new-photo.ensures made.starts made.initial) c.run_alone.ensures.states
 
 pub returns-in_default-clause-in_range : goal.returns-in_default-clause-in_range
-returns-in_default-clause-in_range c = good-plan c.run_alone.result c.args.plan c.run_alone.ensures.plan
+returns-in_default-clause-in_range g c = good-plan c.run_alone.result c.args.plan c.run_alone.ensures.plan
 
 pub returns-clause-outcome : goal.returns-clause-outcome
-returns-clause-outcome c =
+returns-clause-outcome g c =
     subst (λ (y : System Cache Body). IfOk c.run_alone_from.result (λ r. AreLastStates y r.0.items))
     (runs-rows c.args.config.now c.new-photo.result c.args.rows.now c.in_ok-starts-2.starts.items c.in-Some.source c.new-photo.ensures (c.in_ok-starts-2.ensures.states ∙ ap starts_of c.new-photo.ensures) c.in-Some.ensures.events)
     c.run_alone_from.ensures.states
 
 pub returns-clause-in_range : goal.returns-clause-in_range
-returns-clause-in_range c = good-plan c.run_alone_from.result c.args.plan c.run_alone_from.ensures.plan
+returns-clause-in_range g c = good-plan c.run_alone_from.result c.args.plan c.run_alone_from.ensures.plan

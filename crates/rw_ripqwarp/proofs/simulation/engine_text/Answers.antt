@@ -11,8 +11,8 @@ use Rattle.rw_ripqwarp.proofs.Runs.{ready-at}
 use Rattle.rw_ripqwarp.proofs.Ways.{journaled, last-states, length-last, reported, stepped, stop-is-fault}
 use Rattle.rw_ripqwarp.proofs.simulation.engine_text.Goals as goal
 
-pub run_in-requires-after_bounds : goal.run_in-requires-after_bounds
-run_in-requires-after_bounds g c κs within =
+pub run_in_and_tell-requires-after_bounds : goal.run_in_and_tell-requires-after_bounds
+run_in_and_tell-requires-after_bounds g c κs within =
     ready-at c.args.config.now c.new-photo.result c.in_ok-starts.starts.items c.in_ok-starts.initial.items c.new-photo.ensures c.in_ok-starts.ensures.beginning.ready
 
 pub returns-in_err-states-clause-fault : goal.returns-in_err-states-clause-fault
@@ -29,7 +29,7 @@ report_of_states-requires g c =
     let initial = c.in_ok-starts.initial.items in
     let states = c.in-Finished.states in
     let ran = subst (λ r. HasRun model.ghosts order.ghosts.cmp photo starts initial c.way.result r) c.in-Finished.is c.in_ok-states.ensures.ran in
-    ap length c.as_slice.ensures.value
+    ap length c.as_slice-in-Finished.ensures.value
     ∙ length-last c.args.config.now photo c.args.bytes.now starts initial states.items c.in_ok-starts.ensures.beginning (last-states photo starts initial c.way.result states c.in-Finished.traffic ran)
 
 pub returns-in-Finished-clause-text : goal.returns-in-Finished-clause-text
@@ -41,7 +41,7 @@ returns-in-Finished-clause-text g c =
     let ran = subst (λ r. HasRun model.ghosts order.ghosts.cmp photo starts initial c.way.result r) c.in-Finished.is c.in_ok-states.ensures.ran in
     reported config photo c.args.bytes.now c.in_ok-text-in-Finished.text.items starts initial c.args.mode c.way.result c.in-Finished.states c.in-Finished.traffic c.new-photo.ensures
     c.in_ok-starts.ensures.beginning c.way.ensures ran
-    (c.in_ok-text-in-Finished.ensures ∙ ap (λ (ss : List Cache). report_text config (map (λ s. s.counters) ss)) c.as_slice.ensures.value)
+    (c.in_ok-text-in-Finished.ensures ∙ ap (λ (ss : List Cache). report_text config (map (λ s. s.counters) ss)) c.as_slice-in-Finished.ensures.value)
 
 pub returns-clause-text : goal.returns-clause-text
 returns-clause-text g c =

@@ -4,13 +4,13 @@ use Rattle.rw_photo.specs.declared.config.Config.{Config}
 use Rattle.rw_photo.specs.Cache.{Cache, IsWellFormed}
 use Rattle.rw_photo.specs.Simulation.{starts_of}
 use Rattle.rw_ripqwarp.proofs.Runs.{ready, ready-at}
-use Rattle.rw_ripqwarp.proofs.simulation.last_states_of_rows.Goals as goal
+use Rattle.rw_ripqwarp.proofs.simulation.last_states_and_tell.Goals as goal
 
 pub last_states-requires : goal.last_states-requires
-last_states-requires c = record { ready = ready-at c.args.config.now c.new-photo.result c.in_ok-starts.starts.items c.in_ok-starts.initial.items c.new-photo.ensures c.in_ok-starts.ensures.ready }
+last_states-requires g c = record { ready = ready-at c.args.config.now c.new-photo.result c.in_ok-starts.starts.items c.in_ok-starts.initial.items c.new-photo.ensures c.in_ok-starts.ensures.ready }
 
 pub last_states_from-requires : goal.last_states_from-requires
-last_states_from-requires c =
+last_states_from-requires g c =
     let config : Config = c.args.config.now in
     let starts : List Cache = c.in_ok-starts-2.starts.items in
     let are : starts ≡ starts_of config = c.in_ok-starts-2.ensures.states ∙ ap starts_of c.new-photo.ensures in

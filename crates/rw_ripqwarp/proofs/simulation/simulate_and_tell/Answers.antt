@@ -1,5 +1,5 @@
 use Rattle.std.proofs.Common.{refl, arith}
-use Rattle.rw_ripqwarp.proofs.simulation.simulate.Goals as goal
+use Rattle.rw_ripqwarp.proofs.simulation.simulate_and_tell.Goals as goal
 
 -- the writer failed: there is no report, and there was a failure more
 pub returns-clause-report : goal.returns-clause-report
