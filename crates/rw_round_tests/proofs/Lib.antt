@@ -1,1 +1,2 @@
 pub mod LaterPorts
+pub mod Sourced
