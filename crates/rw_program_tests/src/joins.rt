@@ -2,8 +2,9 @@
 use crate::pipe::Pipe;
 use rw_join::{join, join_of_parts};
 use rw_photo::Policy;
+use rw_progress::Silent;
 use rw_ripqwarp::Out;
-use rw_sweep::{Axes, Grid, Part, Silent, list, parts_make_the_sweep, sweep, sweep_part};
+use rw_sweep::{Axes, Grid, Part, list, parts_make_the_sweep, sweep, sweep_part};
 use std::alloc::{AllocError, Global};
 use std::test::Fail;
 use std::thread::Threads;

@@ -15,6 +15,8 @@ mod pipe;
 #[cfg(test)]
 mod plots;
 #[cfg(test)]
+mod progress;
+#[cfg(test)]
 mod reports;
 #[cfg(test)]
 mod sweeps;
