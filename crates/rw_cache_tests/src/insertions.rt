@@ -96,10 +96,7 @@ fn follow<R: Abort>(
         rt,
         "the condition holds",
     );
-    assert_eq!(rt;
-        (answer, trail.marks().len()),
-        (example.answer, example.marks)
-    );
+    assert_eq!(rt; (answer, trail.len()), (example.answer, example.marks));
     must_read(rt, alloc, queue, example.after)?;
     Ok(trail)
 }

@@ -1,5 +1,5 @@
 // The undo record of an operation: the marks of its primitives.
-ghost use Rattle.std.specs.Prelude.{◌≡◌, [], ◌∷◌, ◌++◌, OnOk, IfSome, IsNone};
+ghost use Rattle.std.specs.Prelude.{◌≡◌, [], ◌∷◌, ◌++◌, OnOk, IfSome, IsNone, length};
 ghost use Rattle.rw_blocks.specs.State.{QueueState};
 ghost use Rattle.rw_ripq.specs.Trail.{rewind_of, IsRewindable, Leads};
 
@@ -11,19 +11,23 @@ use std::marker::Model;
 /// The marks of an operation's primitives, the first one first. Contracts see it as that list.
 ///
 /// It holds one mark of fixed size for each primitive, and no part of the queue: its length is bounded by what the
-/// operation changed.
+/// operation changed. Most operations have one mark, which stands in the trail itself and takes no memory.
 #[derive(Drop)]
 pub struct Trail {
-    marks: Vec<Mark>,
+    first: Option<Mark>,
+    others: Vec<Mark>,
 }
 
 impl Model for Trail {
-    ghost use Rattle.std.specs.Prelude.{List};
+    ghost use Rattle.std.specs.Prelude.{◌≡◌, ◌++◌, List, [], None, option_to_list};
     ghost use Rattle.rw_blocks.specs.declared.Mark.{Mark};
 
     ghost Value = { List Mark };
 
-    ghost view = { λ t. t.marks.items };
+    ghost view = { λ t. option_to_list t.first ++ t.others.items };
+
+    // there are others only behind a first one
+    ghost invariant = { λ t. t.first ≡ None → t.others.items ≡ [] };
 }
 
 impl Trail {
@@ -32,7 +36,8 @@ impl Trail {
         ensures { result ≡ [] }
     {
         Trail {
-            marks: Vec::new(alloc),
+            first: None,
+            others: Vec::new(alloc),
         }
     }
 
@@ -40,7 +45,11 @@ impl Trail {
     pub(crate) fn push(&mut self, mark: Mark) -> Result<(), NoMemory>
         ensures { OnOk result (self.new ≡ self.old ++ mark ∷ []) }
     {
-        self.marks.push(mark)?;
+        if self.first.is_none() {
+            self.first = Some(mark);
+            return Ok(());
+        }
+        self.others.push(mark)?;
         Ok(())
     }
 
@@ -49,14 +58,17 @@ impl Trail {
         ensures some { IfSome result (λ mark. self.old ≡ self.new ++ mark ∷ []) }
         ensures none { IsNone result → self.old ≡ [] }
     {
-        self.marks.pop()
+        if let Some(mark) = self.others.pop() {
+            return Some(mark);
+        }
+        self.first.take()
     }
 
-    /// The marks, the first one first.
-    pub fn marks(&self) -> &[Mark]
-        ensures { result.now ≡ self.now }
+    /// How many marks there are. Takes no memory.
+    pub fn len(&self) -> usize
+        ensures { result ≡ length self.now }
     {
-        self.marks.as_slice()
+        usize::from(self.first.is_some()) + self.others.len()
     }
 }
 
