@@ -5,6 +5,7 @@ use Rattle.rw_vt.specs.Limits.{end_of_time}
 use Rattle.rw_vt.specs.declared.event.Event.{Event}
 use Rattle.rw_vt.specs.declared.model.Model.{Ghosts}
 use Rattle.rw_vt.specs.System.{IsOutcome, Meets, System, system}
+pub use Rattle.rw_vt.specs.Rest.{AreLastStates}
 use Rattle.rw_rounds.specs.Plans.{IsInRanges}
 use Rattle.rw_rounds.specs.declared.stop.Stop.{Stop}
 use Rattle.rw_rounds.specs.declared.stop.Stop.TheVariants as stop
@@ -23,11 +24,6 @@ use Rattle.rw_engine.specs.declared.how.Ran.TheVariants.{Finished, Stepped}
 -- no round was run
 abbrev pub no_traffic : Traffic
 no_traffic = record { rounds = 0; executed = 0; undone = 0; ring = 0; kept = 0 }
-
--- these are the states that executing all events in order of time leaves
-abbrev pub AreLastStates : {S B : Type 0} → System S B → List S → Type 0
-AreLastStates {B = B} y states =
-    (journals : List (List (Event B))) × IsOutcome y end_of_time journals states
 
 -- the steps lead from the world in which nothing is done to this one, with these answers; it is sound, and what is
 -- committed there is what executing all events in order of time would have done

@@ -1,4 +1,3 @@
-pub mod Complete
 pub mod Counting
 pub mod First
 pub mod Left

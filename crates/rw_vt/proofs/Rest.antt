@@ -1,0 +1,1 @@
+-- A run that is left off, and its rest.
