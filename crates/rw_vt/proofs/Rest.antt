@@ -1,5 +1,5 @@
 -- A run that is left off: from the states and the events that it leaves, it ends as it would have.
-use Rattle.std.proofs.Common.{◌≡◌, ℕ, zero, suc, ◌+◌, ◌<◌, ◌≤◌, Bool, true, cond, ◌&&◌, ◌==◌, List, [], ◌∷◌, ◌++◌, length, refl, sym, ◌∙◌, ap, subst, arith, Some, filter, inl, inr, zero-add}
+use Rattle.std.proofs.Common.{◌≡◌, ℕ, zero, suc, ◌+◌, ◌<◌, true, cond, ◌&&◌, ◌==◌, List, [], ◌∷◌, ◌++◌, length, refl, sym, ◌∙◌, ap, subst, arith, Some, filter, inl, inr, zero-add}
 use Rattle.std.proofs.lemmas.Bool.{cases_lt}
 use Rattle.std.proofs.lemmas.Bool.Decides.{nat_tests}
 use Rattle.std.proofs.lemmas.List.Elements.{All-weaker}
@@ -10,7 +10,7 @@ use Rattle.rw_vt.specs.Limits.{end_of_time}
 use Rattle.rw_vt.specs.declared.event.Event.{Event}
 use Rattle.rw_vt.specs.Valid.{IsInRange}
 use Rattle.rw_vt.specs.Order.{AtMost, copies, Has, IsAscending}
-use Rattle.rw_vt.specs.System.{Rules, System, state_after, sends_of, map_from, flatten, all_sent, slice, journal_below, IsOutcome}
+use Rattle.rw_vt.specs.System.{Rules, System, state_after, sends_of, map_from, flatten, all_sent, slice, journal_below}
 use Rattle.rw_vt.specs.Rest.{AreLastStates, EndsAs, MayCome, IsRestOf}
 use Rattle.rw_vt.proofs.Sorting.{IsExactOrder, at_most_itself, at_most_chain, IsAscending-append, IsAscending-in_order, copies-append, copies-filter, copies-in_order, absent, Has-append, Has-head, Has-tail, each_of_all}
 use Rattle.rw_vt.proofs.Runs.{AreLawful, IsLawful, Fits_at, earlier_at_most, each_sent, outs-append, after-append, well_formed_after}
@@ -27,19 +27,16 @@ made_twice : {A C D : Type 0} (k : ℕ) (f : ℕ → A → C) (g : ℕ → C →
 made_twice k f g [] = refl
 made_twice k f g (x ∷ xs) = ap (λ l. g k (f k x) ∷ l) (made_twice (k + 1) f g xs)
 
+joined : {C : Type 0} {a b : C} {ys bs : List C} → a ≡ b → ys ≡ bs → (a ∷ ys) ≡ (b ∷ bs)
+joined p q = cc
+
 made_alike : {A C : Type 0} (k : ℕ) (f g : ℕ → A → C) (xs : List A) → ((q : ℕ) (x : A) → f q x ≡ g q x) → map_from k f xs ≡ map_from k g xs
 made_alike k f g [] h = refl
 made_alike k f g (x ∷ xs) h = joined (h k x) (made_alike (k + 1) f g xs h)
-  where
-    joined : {C : Type 0} {a b : C} {ys bs : List C} → a ≡ b → ys ≡ bs → (a ∷ ys) ≡ (b ∷ bs)
-    joined p q = cc
 
 made_itself : {A : Type 0} (k : ℕ) (f : ℕ → A → A) (xs : List A) → ((q : ℕ) (x : A) → f q x ≡ x) → xs ≡ map_from k f xs
 made_itself k f [] h = refl
 made_itself k f (x ∷ xs) h = joined (sym (h k x)) (made_itself (k + 1) f xs h)
-  where
-    joined : {C : Type 0} {a b : C} {ys bs : List C} → a ≡ b → ys ≡ bs → (a ∷ ys) ≡ (b ∷ bs)
-    joined p q = cc
 
 -- what stands at i is made of what stood there
 made_of : {A C : Type 0} (k i : ℕ) (f : ℕ → A → C) (xs : List A) (c : C) → slice_get (map_from k f xs) i ≡ Some c → (x : A) × (slice_get xs i ≡ Some x) × (c ≡ f (k + i) x)
@@ -227,8 +224,16 @@ module _ {S B : Type 0} (y : System S B) {WellFormed : ℕ → S → Type 0} (la
         let parts = copies_in_parts o e 0 both here there y.starts (λ p s. outs-append (y.rules.step p) s (J p) (journal_below (left y J P) t p)) in
         let same = ap (λ l. copies y.rules.order e (flatten l)) (made_twice 0 (λ q s. state_after (y.rules.step q) s (J q)) late y.starts) in
         copies-append o e (J e.to) (journal_below (left y J P) t e.to)
-        ∙ omega (arith, parts, same, mid.balance e, done.exact e l,
-        copies-append o e y.initial (flatten (map_from 0 here y.starts)), copies-append o e y.initial (flatten (map_from 0 both y.starts)), copies-append o e P (flatten (map_from 0 late (states_by y J))))
+        ∙ omega (
+          arith,
+          parts,
+          same,
+          mid.balance e,
+          done.exact e l,
+          copies-append o e y.initial (flatten (map_from 0 here y.starts)),
+          copies-append o e y.initial (flatten (map_from 0 both y.starts)),
+          copies-append o e P (flatten (map_from 0 late (states_by y J))),
+        )
 
     -- the journals of a run are those midway, and then those of what is left
     rest_follows : (q : ℕ) → J q ++ journal_below (left y J P) t q ≡ journal_below y t q
@@ -246,7 +251,7 @@ module _ {S B : Type 0} (y : System S B) {WellFormed : ℕ → S → Type 0} (la
   pub rest_ends : (J : ℕ → List (Event B)) (P : List (Event B)) → IsMidway y J P → EndsAs (record y { starts = states_by y J; initial = P }) y
   rest_ends J P mid last h = (
     map_from 0 (λ q _. journal_below y end_of_time q) y.starts,
-    record { journals_are = refl; states_are = h.1.states_are ∙ rest_states J P mid end_of_time (λ e v. (law.inside e v).time) }
+    record { journals_are = refl; states_are = h.1.states_are ∙ rest_states J P mid end_of_time (λ e v. (law.inside e v).time) },
   )
 
   -- valid events more from outside
@@ -308,7 +313,7 @@ module _ {S B : Type 0} (y : System S B) where
     record {
       journals_are = refl;
       states_are = made_itself 0 (λ q s. state_after (y.rules.step q) s (journal_below (record y { initial = [] }) end_of_time q)) y.starts (λ q s. ap (state_after (y.rules.step q) s) (none_done end_of_time q));
-    }
+    },
   )
 
 -- Ends
