@@ -1,8 +1,9 @@
 -- A round keeps the parts whole, and what the board gave may be collected.
-use Rattle.std.proofs.Common.{◌≡◌, ℕ, ◌^◌, ◌<◌, ◌≤◌, max, true, List, [], ◌∷◌, ◌++◌, map, refl, sym, ap, ◌∙◌, subst, arith, Option, Some, None}
+use Rattle.std.proofs.Common.{◌≡◌, ℕ, ◌^◌, ◌<◌, ◌≤◌, max, min, true, List, [], ◌∷◌, ◌++◌, map, refl, sym, ap, ◌∙◌, subst, arith, Option, Some, None}
 use Rattle.std.specs.Prelude.{◌/◌, ◌%◌, nat_le, slice_get}
 use Rattle.std.specs.Option.{option_map}
 use Rattle.std.specs.declared.cmp.Ordering.{Ordering}
+use Rattle.std.proofs.Math.Nat.{min-le_left}
 use Rattle.std.proofs.lemmas.Bool.{le-leb}
 use Rattle.std.proofs.lemmas.Option.{slice_get-map}
 use Rattle.rw_vt.specs.declared.event.Event.{Event}
@@ -25,7 +26,7 @@ use Rattle.rw_world.specs.Calls.{Simulation, system_of, simulation_of, with_worl
 use Rattle.rw_rounds.specs.declared.plan.Plan.{Plan}
 use Rattle.rw_rounds.specs.Plans.{IsInRanges}
 use Rattle.rw_rounds.specs.Turns.{IsInPlace}
-use Rattle.rw_rounds.specs.Rounds.{role, Round, SimState, Rounded}
+use Rattle.rw_rounds.specs.Rounds.{role, Round, SimState, Rounded, RoundedUntil}
 use Rattle.rw_rounds.proofs.Stepping.{number_of}
 use Rattle.rw_rounds.proofs.Joining.{owned, closed, workers_exchanged}
 use Rattle.rw_rounds.proofs.Outstanding.{floor_end, quiet_after}
@@ -78,6 +79,25 @@ module _ {M S B U : Type 0} {model : Ghosts M S B U} {order : B → B → Orderi
   -- a round keeps the parts whole, and nothing outstanding is before what the board gave
   pub round_keeps : IsWhole model order z × (least ≤ floor (world_of z))
   round_keeps = (whole_after, floor_after)
+
+  -- so it may be collected up to any time before that
+  pub collects_up_to : (t : ℕ) → t ≤ least → apply (system_of model order (simulation_of z)) (world_of z) (Collect t) ≡ (record { processes = map (process.collect t) (world_of z).processes; letters = z.letters.items; collected = max z.collected t }, Done)
+  collects_up_to t below = let test : nat_le t (floor (world_of z)) ≡ true = le-leb t (floor (world_of z)) (omega (arith, below, floor_after)) in rw test refl
+
+  -- a round, with the collecting of what is before another time too, is as it should be
+  pub rounded_until : (until : ℕ) (u v : SimState M S B) → u.simulation ≡ simulation_of x → u.plan ≡ plan → v.simulation ≡ with_world (simulation_of z) (apply (system_of model order (simulation_of z)) (world_of z) (Collect (min least until))).0 → v.plan ≡ plan → v.floor ≡ least → RoundedUntil until u v
+  rounded_until until u v before plan_before after plan_after floor_is = record {
+    model_is = ap (λ (s : Simulation M S B). s.model) after ∙ round.model_is ∙ sym (ap (λ (s : Simulation M S B). s.model) before);
+    starts_are = ap (λ (s : Simulation M S B). s.starts) after ∙ ap (λ ss. ss.value.items) round.starts_are ∙ sym (ap (λ (s : Simulation M S B). s.starts) before);
+    initial_are = ap (λ (s : Simulation M S B). s.initial) after ∙ ap (λ es. es.value.items) round.initial_are ∙ sym (ap (λ (s : Simulation M S B). s.initial) before);
+    plan_is = plan_after ∙ sym plan_before;
+    collected =
+        ap (λ (s : Simulation M S B). s.world.collected) after
+        ∙ ap (λ a. a.0.collected) (collects_up_to (min least until) (min-le_left least until))
+        ∙ ap (λ g. max g (min least until)) round.collected_is
+        ∙ ap (λ (s : Simulation M S B). max s.world.collected (min least until)) (sym before)
+        ∙ ap (λ f. max u.simulation.world.collected (min f until)) (sym floor_is);
+  }
 
   -- the joined world, collected up to there
   abbrev collected_world : WorldState S B

@@ -8,3 +8,4 @@ pub mod Seated
 pub mod Setting
 pub mod Gathering
 pub mod Working
+pub mod Stretches

@@ -1,5 +1,5 @@
 -- A round: each worker takes its turns and closes, and then all are joined.
-use Rattle.std.specs.Prelude.{◌≡◌, ℕ, zero, suc, ◌+◌, ◌*◌, ◌/◌, ◌%◌, ◌<◌, ◌≤◌, max, List, [], ◌∷◌, ◌++◌, length, map, filter, slice_get, Some}
+use Rattle.std.specs.Prelude.{◌≡◌, ℕ, zero, suc, ◌+◌, ◌*◌, ◌/◌, ◌%◌, ◌<◌, ◌≤◌, max, min, List, [], ◌∷◌, ◌++◌, length, map, filter, slice_get, Some}
 use Rattle.std.specs.declared.cmp.Ordering.{Ordering}
 use Rattle.rw_vt.specs.Limits.{end_of_time}
 use Rattle.rw_vt.specs.Words.{Count, Position, Process, Time, Worker}
@@ -143,3 +143,12 @@ pub record Rounded {M S B U : Type 0} (model : Ghosts M S B U) (order : B → B 
       → slice_get x.simulation.world.processes q ≡ Some a
       → slice_get z.simulation.world.processes q ≡ Some b
       → (rest : _) × (a.committed ++ rest ≡ b.committed)
+
+-- what a round promises that commits nothing from the time `until` on
+pub record RoundedUntil {M S B : Type 0} (until : Time) (x z : SimState M S B) : Type 0 where
+  pub model_is : z.simulation.model ≡ x.simulation.model
+  pub starts_are : z.simulation.starts ≡ x.simulation.starts
+  pub initial_are : z.simulation.initial ≡ x.simulation.initial
+  pub plan_is : z.plan ≡ x.plan
+  pub collected : z.simulation.world.collected
+      ≡ max x.simulation.world.collected (min z.floor until)

@@ -21,9 +21,11 @@ mod running;
 mod setting_up;
 mod sim;
 mod stop;
+mod stretch;
 mod threads;
 mod worker;
 
+pub use pace::Pace;
 pub use plan::Plan;
 pub use round::{Gate, Open, run_round};
 pub use running::{run, run_and_tell};
@@ -34,4 +36,5 @@ pub use rw_vt::{Letter, Model, Outcome, Refusal};
 pub use rw_world::World;
 pub use sim::{Sim, Traffic};
 pub use stop::Stop;
+pub use stretch::{Stretch, run_stretch};
 pub use worker::Worker;

@@ -22,7 +22,7 @@ const TRIAL: u64 = 4;
 /// The plan is the bound of it all, and the first round is the plan's as it is; a plan of one worker stays as it is. No
 /// theorem rests on the pace.
 #[derive(Clone, Copy, Debug)]
-pub(crate) struct Pace {
+pub struct Pace {
     /// How far the floor moves in a round of all workers, in ticks: a mean, of which the last round is a quarter. `None`
     /// before the first round.
     advance: Option<u64>,
@@ -42,7 +42,7 @@ pub(crate) struct Pace {
 
 impl Pace {
     /// The pace before the first round. Takes no memory.
-    pub(crate) fn new() -> Pace {
+    pub fn new() -> Pace {
         Pace {
             advance: None,
             useful: 0,
@@ -78,21 +78,37 @@ impl Pace {
         }
     }
 
+    /// For how many rounds one worker is to go on alone, where it is. Takes no memory.
+    pub fn alone(&self) -> Option<u64> {
+        if self.alone {
+            Some(self.patience.saturating_sub(self.rounds).max(1))
+        } else {
+            None
+        }
+    }
+
+    /// One worker went on alone, for as many rounds as `rounds` says. Takes no memory.
+    pub fn note_alone(&mut self, rounds: u64) {
+        self.made = self.made.saturating_add(rounds);
+        self.rounds = self.rounds.saturating_add(rounds);
+        if self.rounds >= self.patience {
+            self.alone = false;
+            self.rounds = 0;
+        }
+    }
+
     /// A round of a run within `bounds` was made: its floor moved by `moved` ticks, and of `executed` events `undone` were
     /// undone. Takes no memory.
     pub(crate) fn note(&mut self, bounds: &Plan, moved: u64, executed: u64, undone: u64) {
         if bounds.workers == 1 {
             return;
         }
-        self.made = self.made.saturating_add(1);
-        self.rounds = self.rounds.saturating_add(1);
         if self.alone {
-            if self.rounds >= self.patience {
-                self.alone = false;
-                self.rounds = 0;
-            }
+            self.note_alone(1);
             return;
         }
+        self.made = self.made.saturating_add(1);
+        self.rounds = self.rounds.saturating_add(1);
         self.measure(moved, executed, undone);
         self.decide(self.least_worthwhile(bounds));
     }

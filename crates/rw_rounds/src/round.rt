@@ -1,7 +1,7 @@
 ghost use Rattle.std.specs.Prelude.{◌≡◌, IfOk, IfErr};
 ghost use Rattle.rw_world.specs.Calls.{IsWhole};
 ghost use Rattle.rw_rounds.specs.Plans.{IsInRanges};
-ghost use Rattle.rw_rounds.specs.Rounds.{Round, Rounded};
+ghost use Rattle.rw_rounds.specs.Rounds.{Round, Rounded, RoundedUntil};
 ghost use Rattle.rw_rounds.specs.Stops.{EndsRound};
 
 use crate::gathering::{all_done, gather};
@@ -73,6 +73,46 @@ where
         world,
         plan,
         floor,
+        traffic,
+    })
+}
+
+/// [`run_round`], which commits nothing from the time `until` on, in ticks: so more initial events may still come from
+/// outside, none of them earlier than that.
+pub(crate) fn run_round_until<M, G, R>(
+    rt: &R,
+    alloc: Global,
+    sim: Sim<M>,
+    gate: &G,
+    until: u64,
+) -> Result<Sim<M>, Stop>
+where
+    M: VtModel + Drop + Sync,
+    M::State: Send,
+    M::Body: Send,
+    M::Undo: Send,
+    G: Gate + Sync,
+    R: Threads + Wait + Sync,
+    ensures round { IfOk result (λ next. RoundedUntil until sim next) }
+    ensures others { IfErr result (λ stop. EndsRound stop) }
+{
+    let Sim {
+        world,
+        plan,
+        floor: _,
+        mut traffic,
+    } = sim;
+    // What the world promises of every world of the model.
+    every_exchange::<M>();
+    every_floor::<M>();
+    every_sound_world::<M>();
+    every_step::<M>();
+    let (parts, reached) = go_round(rt, alloc, world.take(), &plan, gate, &mut traffic)?;
+    let (world, _answer) = World::put(parts).apply(alloc, Step::Collect(reached.min(until)))?;
+    Ok(Sim {
+        world,
+        plan,
+        floor: reached,
         traffic,
     })
 }

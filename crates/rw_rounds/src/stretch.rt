@@ -1,0 +1,87 @@
+ghost use Rattle.std.specs.Prelude.{◌≡◌, ◌≤◌, ◌↔◌, IfOk};
+ghost use Rattle.rw_rounds.specs.Plans.{IsInRanges};
+ghost use Rattle.rw_rounds.specs.Stretches.{IsSameSystem};
+
+use crate::pace::Pace;
+use crate::plan::Plan;
+use crate::round::{Gate, run_round_until};
+use crate::sim::{Sim, Traffic};
+use crate::stop::Stop;
+use rw_progress::Progress;
+use rw_vt::Model as VtModel;
+use rw_world::World;
+use std::alloc::Global;
+use std::sync::Wait;
+use std::thread::Threads;
+
+/// Where a stretch of rounds has come to.
+#[derive(Drop)]
+pub struct Stretch<M: VtModel> {
+    /// The world after the last round.
+    pub world: World<M>,
+    /// What the last round gave as its floor, in ticks: nothing outstanding is earlier.
+    pub floor: u64,
+    /// What the rounds did, in counts.
+    pub traffic: Traffic,
+}
+
+/// Makes rounds, at least one and at most as many as `rounds` says, until their floor is `until` or later, or the pace would
+/// have one worker go on alone. Nothing is committed from the time `until` on, in ticks: so initial events of that time or
+/// later may still come from outside.
+///
+/// Each round is by a plan within `plan`, as the pace says, which goes on from stretch to stretch. `progress` is told up to
+/// which time all is final after each round but the last.
+///
+/// # Errors
+///
+/// `BadPlan` exactly where a field of the plan is out of its range; else those of [`run_round`](crate::run_round).
+pub fn run_stretch<M, G, P, R>(
+    rt: &R,
+    alloc: Global,
+    world: World<M>,
+    plan: Plan,
+    gate: &G,
+    until: u64,
+    rounds: u32,
+    pace: &mut Pace,
+    progress: &mut P,
+) -> Result<Stretch<M>, Stop>
+where
+    M: VtModel + Drop + Sync,
+    M::State: Send,
+    M::Body: Send,
+    M::Undo: Send,
+    G: Gate + Sync,
+    P: Progress,
+    R: Threads + Wait + Sync,
+    requires before { world.world.collected ≤ until }
+    ensures system { IfOk result (λ s. IsSameSystem world s.world) }
+    ensures before { IfOk result (λ s. s.world.world.collected ≤ until) }
+    ensures plan { (result ≡ Err Stop.BadPlan) ↔ (IsInRanges plan → ⊥) }
+{
+    let mut floor = world.floor();
+    let mut sim = Sim::open(world, plan)?;
+    for _round in 0..rounds {
+        let before = sim.traffic();
+        sim = run_round_until(rt, alloc, sim.by(pace.plan(&plan)), gate, until)?;
+        let traffic = sim.traffic();
+        let moved = sim.floor().saturating_sub(floor);
+        floor = sim.floor();
+        if floor >= until {
+            break;
+        }
+        let executed = traffic.executed.wrapping_sub(before.executed);
+        let undone = traffic.undone.wrapping_sub(before.undone);
+        pace.note(&plan, moved, executed, undone);
+        progress.reach(floor);
+        if pace.alone().is_some() {
+            break;
+        }
+    }
+    let traffic = sim.traffic();
+    Ok(Stretch {
+        world: sim.into_world(),
+        floor,
+        traffic,
+    })
+}
