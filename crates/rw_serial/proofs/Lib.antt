@@ -4,6 +4,7 @@ pub mod Left
 pub mod Lists
 pub mod Midrun
 pub mod Next
+pub mod Onward
 pub mod Permuted
 pub mod Queue
 pub mod Sanity

@@ -17,6 +17,7 @@ module _ {B : Type 0} (order : B → B → Ordering) where
       → IsTakenFromOne xs vs next us ws → IfSome next (λ e. All (AtMost (event_cmp order) e) xs × All (AtMost (event_cmp order) e) vs) → IfNone next ((xs ≡ []) × (vs ≡ [])) → IsNextEvent order t xs ys later next us ws left
   next_is t s xs ys later us vs ws left next around due moved taken least none = record {
     none = nothing_waits order xs ys later vs left next none due moved;
+    none_left = nothing_left next taken none;
     least = least_of_all order s xs ys later us vs ws left next least after moved;
     taken = taken_from_all order xs ys later us vs ws left next moved taken;
     around = by_next next taken none after;
@@ -24,6 +25,14 @@ module _ {B : Type 0} (order : B → B → Ordering) where
     where
       after : AreAround (time_or next s) us ws left
       after = around_after order s xs vs left us ws next around due taken least
+
+      nothing_left : (n : Option (Event B)) → IsTakenFromOne xs vs n us ws → IfNone n ((xs ≡ []) × (vs ≡ [])) → IfNone n (us ++ (ws ++ left) ≡ [])
+      nothing_left (Some e) taken none = tt
+      nothing_left None taken none =
+          let us_none = no_back order taken.from_first us (sym taken.first ∙ none.0) in
+          let ws_none = no_back order taken.from_second ws (sym taken.second ∙ none.1) in
+          let left_none : left ≡ [] = subst (λ l. IsDue l left) none.0 (due none.1) in
+          ap (λ l. l ++ (ws ++ left)) us_none.1 ∙ ap (λ l. l ++ left) ws_none.1 ∙ left_none
 
       by_next : (n : Option (Event B)) → IsTakenFromOne xs vs n us ws → IfNone n ((xs ≡ []) × (vs ≡ [])) → AreAround (time_or n s) us ws left → AreAround (time_or n t) us ws left
       by_next (Some e) taken none after = after

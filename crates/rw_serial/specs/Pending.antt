@@ -66,6 +66,7 @@ pub record IsNextEvent {B : Type 0} (order : B → B → Ordering) (t : Time)
     (initial now later : List (Event B)) (next : Option (Event B))
     (initial' now' later' : List (Event B)) : Type 0 where
   pub none : IfNone next (initial ++ (now ++ later) ≡ [])
+  pub none_left : IfNone next (initial' ++ (now' ++ later') ≡ [])
   pub least : IfSome next (λ e. All (AtMost (event_cmp order) e) (initial ++ (now ++ later)))
   pub taken : IfSome next (λ e.
       IsPermutation (initial ++ (now ++ later)) (e ∷ (initial' ++ (now' ++ later'))))

@@ -8,6 +8,8 @@ use std::mem;
 
 /// What is left of the initial events: a source, whose next event stands before it to be looked at. Contracts see them as a
 /// list in order.
+///
+/// So an engine that goes on with a run may take from it the events before some time, and leave the others where they are.
 #[derive(Drop)]
 pub struct Initial<B: Ord + Copy, S: Source<B>> {
     first: Option<Event<B>>,

@@ -213,4 +213,14 @@ impl<B: Ord + Copy> Later<B> {
         self.least = self.lanes.least_time();
         result
     }
+
+    /// Moves all events to the end of `rest`, in order of time. Where memory is refused, some events are lost.
+    pub fn move_to(&mut self, rest: &mut Vec<Event<B>>) -> Result<(), AllocError>
+        ensures { OnOk result (IsPermutation (rest.old.items ++ self.old) rest.new.items) }
+    {
+        while let Some(time) = self.least_time() {
+            self.take(time, rest)?;
+        }
+        Ok(())
+    }
 }

@@ -6,6 +6,9 @@
 //! Warp (Jefferson 1985) is measured by: whatever its schedule, a parallel run is to leave the very journals and states
 //! that this one leaves.
 //!
+//! A run need not be one piece: [`go_on`] goes on from wherever a run stands, executes so many events, and leaves where the
+//! run then stands, so that another engine may go on from there, and it again.
+//!
 //! Worked examples: `rw_program_tests/src/reports.rt`, and the cases of `rw_cases`.
 
 mod fifo;
@@ -20,12 +23,14 @@ mod times;
 
 ghost use Rattle.std.specs.Prelude.{◌≡◌, ◌<◌, ◌≤◌, ◌++◌, ℕ, false, true, [], ◌∷◌, List, IfNone, IfOk, IfErr, IfSome, OnOk, length, map, replicate, slice_get, slice_index_or, slice_set};
 ghost use Rattle.rw_vt.specs.Limits.{end_of_time};
+ghost use Rattle.rw_vt.specs.Rest.{EndsAs};
 ghost use Rattle.rw_vt.specs.System.{system, IsOutcome, IsReady, Meets};
 ghost use Rattle.rw_vt.specs.declared.event.Event.{Event};
 ghost use Rattle.rw_serial.specs.Counts.{events_below};
 
+pub use initial::Initial;
 use ledger::{Count, Ledger, NoJournals};
-use pending::Pending;
+pub use pending::Pending;
 use rw_vt::empty_lists;
 pub use rw_vt::{Event, Model, Outcome, Refusal};
 pub use source::{Sorted, Source};
@@ -171,6 +176,53 @@ pub fn last_states_within_from<M: Model, S: Source<M::Body>>(
     } else {
         Ok(None)
     }
+}
+
+/// Goes on with a run from where it stands: executes the pending events and those that are sent, in order, at most `limit` of
+/// them, and answers how many they were.
+///
+/// `states` has the state of each process. What is then left, the states and what is still pending, ends as the run itself:
+/// whatever engine goes on with it, this one among them, leaves the same states. Nothing is left pending where fewer than
+/// `limit` were executed. [`Pending::resume`] begins where another engine stands, and [`Pending::into_left`] hands over to one.
+///
+/// It costs what [`last_states_from`] costs. There are no journals and no undo records.
+///
+/// # Errors
+///
+/// [`Refusal::Exhausted`] only where some process, on the way to the outcome of all events, would execute an event in a state
+/// that can take no further one, and [`Refusal::Memory`] only where memory was refused. Nothing is said of `states` and
+/// `pending` then.
+pub fn go_on<M: Model, S: Source<M::Body>>(
+    alloc: Global,
+    model: &M,
+    states: &mut Vec<M::State>,
+    pending: &mut Pending<M::Body, S>,
+    limit: u64,
+) -> Result<u64, Refusal>
+    requires ready { IsReady M.Model model.now states.old.items pending.old.events }
+    ensures rest { OnOk result (EndsAs
+        (system M.Model M.Body.cmp model.now states.new.items pending.new.events)
+        (system M.Model M.Body.cmp model.now states.old.items pending.old.events)) }
+    ensures ready { OnOk result
+        (IsReady M.Model model.now states.new.items pending.new.events) }
+    ensures count { IfOk result (λ n. n ≤ limit) }
+    ensures all { IfOk result (λ n. n < limit → pending.new.events ≡ []) }
+    ensures exhausted { IfErr result (λ r.
+        r ≡ Refusal.Exhausted
+        → Meets (system M.Model M.Body.cmp model.now states.old.items pending.old.events)
+        end_of_time (M.is_exhausted model.now)) }
+{
+    let mut sent = Vec::new(alloc);
+    let mut next = None;
+    for executed in 0..limit {
+        pending.pop(&mut next)?;
+        let Some(event) = &next else {
+            return Ok(executed);
+        };
+        execute(alloc, model, states, event, &mut sent)?;
+        pending.extend(&sent)?;
+    }
+    Ok(limit)
 }
 
 /// Executes all events in order, from the states given, and enters each in `ledger`. Answers whether it had room for all; an

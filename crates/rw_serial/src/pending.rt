@@ -57,12 +57,61 @@ impl<B: Ord + Copy, S: Source<B>> Pending<B, S> {
         }
     }
 
+    /// The events that wait where a run was left off, by whatever engine: those that stand in a list, in any order, and what
+    /// is left of the initial ones.
+    ///
+    /// It costs a sort of the list, which is linear where that is in order, and an error is a refusal of memory.
+    pub fn resume(
+        alloc: Global,
+        events: Vec<Event<B>>,
+        initial: Initial<B, S>,
+    ) -> Result<Self, AllocError>
+        ensures { IfOk result (λ p. IsPermutation (events.items ++ initial) p.events) }
+    {
+        let mut events = events;
+        events.sort_unstable();
+        let mut later = Later::new(alloc);
+        put_all(&mut later, &events)?;
+        let mut now = Slice::new(alloc);
+        let mut room = Vec::new(alloc);
+        later.take(0, &mut room)?;
+        now.fill(&mut room);
+        Ok(Pending {
+            initial,
+            now,
+            later,
+            room,
+            time: 0,
+        })
+    }
+
+    /// The events that wait, for another engine to go on with: those that are no longer among the initial ones, in order of
+    /// time, and what is left of the initial ones.
+    ///
+    /// It costs what taking each of the first does, and an error is a refusal of memory.
+    pub fn into_left(self) -> Result<(Vec<Event<B>>, Initial<B, S>), AllocError>
+        ensures { IfOk result (λ left. IsPermutation self.events (left.0.items ++ left.1)) }
+    {
+        let Pending {
+            initial,
+            mut now,
+            mut later,
+            mut room,
+            ..
+        } = self;
+        room.clear();
+        now.move_to(&mut room)?;
+        later.move_to(&mut room)?;
+        Ok((room, initial))
+    }
+
     /// Takes a least event, whose time is then reached, and puts it into `next`. `None` only where there is none.
     ///
     /// After a refusal of memory nothing is said of what is there.
     #[inline]
     pub fn pop(&mut self, next: &mut Option<Event<B>>) -> Result<(), AllocError>
         ensures none { OnOk result (IfNone next.new (self.old.events ≡ [])) }
+        ensures none_left { OnOk result (IfNone next.new (self.new.events ≡ [])) }
         ensures least { OnOk result (IfSome next.new (λ e.
             All (AtMost (event_cmp B.cmp) e) self.old.events)) }
         ensures taken { OnOk result (IfSome next.new (λ e.

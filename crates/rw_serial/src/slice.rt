@@ -59,6 +59,16 @@ impl<B: Ord + Copy> Slice<B> {
         Some(event)
     }
 
+    /// Moves all events to the end of `rest`. Where memory is refused, some events are lost.
+    pub fn move_to(&mut self, rest: &mut Vec<Event<B>>) -> Result<(), AllocError>
+        ensures { OnOk result (rest.new.items ≡ rest.old.items ++ self.old) }
+    {
+        while let Some(event) = self.pop() {
+            rest.push(event)?;
+        }
+        Ok(())
+    }
+
     /// Takes this event in, where none is left. Where memory is refused, nothing has changed.
     pub fn put(&mut self, event: Event<B>) -> Result<(), AllocError>
         requires { self.old ≡ [] }
