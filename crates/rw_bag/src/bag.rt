@@ -1,4 +1,4 @@
-ghost use Rattle.std.specs.Prelude.{◌≡◌, List, [], IfOk, OnOk, OnErr, MatchOption, false};
+ghost use Rattle.std.specs.Prelude.{◌≡◌, ◌++◌, List, [], IfOk, OnOk, OnErr, MatchOption, false};
 ghost use Rattle.rw_vt.specs.Limits.{end_of_time};
 ghost use Rattle.rw_vt.specs.Order.{event_cmp, in_order, insert_in_order, copies, has, without, IsAscending, IsFirst, IsLeastOf};
 ghost use Rattle.rw_vt.specs.declared.event.Event.{Event};
@@ -90,6 +90,18 @@ impl<M: VtModel> Bag<M> {
         let taken = stored.stock.take(event);
         stored.first = stored.stock.first();
         taken
+    }
+
+    /// Moves all events to the end of `out`, in order. Where memory is refused, some are lost.
+    pub fn move_to(&mut self, out: &mut Vec<Event<M::Body>>) -> Result<(), AllocError>
+        ensures { OnOk result (out.new.items ≡ out.old.items ++ self.old) }
+    {
+        'events: while let Some(first) = self.first() {
+            let event = *first;
+            out.push(event)?;
+            let _taken = self.take(event);
+        }
+        Ok(())
     }
 
     /// Whether a copy of the event is there.

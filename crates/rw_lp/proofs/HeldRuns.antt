@@ -256,6 +256,13 @@ antis_more {B} hs i d old out new within is more =
     more ∙ ap (λ l. l ++ one) is ∙ append_assoc old (letters_of true (held_messages (take i hs))) one
     ∙ ap (λ l. old ++ l) (sym (ap (letters_of true) (messages_more hs i d within) ∙ letters_push true (held_messages (take i hs)) (get_or hs i d).message))
 
+pub given_more : {B : Type 0} (hs : List (Held B)) (i : ℕ) (d : Held B) (old out new : List (Event B)) → i < length hs → out ≡ old ++ held_messages (take i hs) → new ≡ out ++ (get_or hs i d).message ∷ []
+    → new ≡ old ++ held_messages (take (i + 1) hs)
+given_more {B} hs i d old out new within is more =
+    let one : List (Event B) = (get_or hs i d).message ∷ [] in
+    more ∙ ap (λ l. l ++ one) is ∙ append_assoc old (held_messages (take i hs)) one
+    ∙ ap (λ l. old ++ l) (sym (messages_more hs i d within))
+
 pub pairs_more : {B : Type 0} (e : Event B) (ms : List (Event B)) (i : ℕ) (d : Event B) → i < length ms → held_of e (take (i + 1) ms) ≡ held_of e (take i ms) ++ record { undone = e; message = get_or ms i d } ∷ []
 pairs_more e [] i d h = absurd (omega arith)
 pairs_more e (m ∷ ms) zero d h = refl

@@ -162,6 +162,13 @@ impl<M: VtModel> HeldBack<M> {
         Ok(())
     }
 
+    /// Appends the messages, and lets all go.
+    pub fn move_to(self, out: &mut Vec<Event<M::Body>>) -> Result<(), AllocError>
+        ensures { OnOk result (out.new.items ≡ out.old.items ++ held_messages self) }
+    {
+        give_messages(out, self.kept.pairs.as_slice())
+    }
+
     /// Lets the first pair with this message go, and answers whether there was one.
     fn release(&mut self, message: Event<M::Body>) -> bool
         ensures there { result ≡ holds (event_cmp M.Body.cmp) message self.old }
@@ -236,6 +243,16 @@ fn give_antis<B: Copy>(out: &mut Vec<Letter<B>>, pairs: &[Held<B>]) -> Result<()
             event: pair.message,
             anti: true,
         })?;
+    }
+    Ok(())
+}
+
+/// Appends the messages.
+fn give_messages<B: Copy>(out: &mut Vec<Event<B>>, pairs: &[Held<B>]) -> Result<(), AllocError>
+    ensures { OnOk result (out.new.items ≡ out.old.items ++ held_messages pairs.now) }
+{
+    for pair in pairs {
+        out.push(pair.message)?;
     }
     Ok(())
 }

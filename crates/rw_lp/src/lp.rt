@@ -412,6 +412,32 @@ impl<M: VtModel> Lp<M> {
         self.history.state()
     }
 
+    /// The state, by value, of a process that is left off. What is pending is appended to `there`, in order, and what is owed or
+    /// held, and so is not to be executed, to `owed`.
+    pub fn into_left(
+        self,
+        there: &mut Vec<Event<M::Body>>,
+        owed: &mut Vec<Event<M::Body>>,
+    ) -> Result<M::State, AllocError>
+        ensures state { IfOk result (λ s. s ≡ self.process.state) }
+        ensures there { OnOk result
+            (there.new.items ≡ there.old.items ++ self.process.pending) }
+        ensures owed { OnOk result (owed.new.items
+            ≡ owed.old.items ++ (self.process.debts ++ held_messages self.process.held)) }
+    {
+        let Lp {
+            history,
+            mut pending,
+            mut debts,
+            held,
+        } = self;
+        pending.move_to(there)?;
+        debts.move_to(owed)?;
+        held.move_to(owed)?;
+        let (_journal, state) = history.into_outcome();
+        Ok(state)
+    }
+
     /// The committed events and the state, by value. Takes no memory.
     pub fn into_outcome(self) -> (Vec<Event<M::Body>>, M::State)
         ensures journal { result.0.items ≡ self.process.committed }

@@ -1,0 +1,9 @@
+use Rattle.std.proofs.Common.{arith, ap, ◌∙◌, ◌++◌, ◌∷◌, []}
+use Rattle.rw_lp.proofs.HeldRuns.{given_more}
+use Rattle.rw_lp.specs.declared.held.Held.{Held}
+use Rattle.rw_lp.proofs.held_back.give_messages.Goals as goal
+
+pub loop-pair-preserved : goal.loop-pair-preserved
+loop-pair-preserved g c =
+    given_more c.args.pairs.now c.loop-pair.pair-index c.pair-item.result c.args.out.now.items c.loop-pair.out.items c.push.new.self.items (omega (arith, c.loop-pair-test.true)) c.loop-pair.invariant
+    (c.in_ok-push.ensures.items ∙ ap (λ (p : Held g.row.B.Denot). c.loop-pair.out.items ++ p.message ∷ []) c.pair-item.is)
