@@ -27,7 +27,7 @@ module _ {S B : Type 0} (y : System S B) {WellFormed : ℕ → S → Type 0} (la
       go None h = Each-nil law.rules.exact (Stands y.rules q)
       go (Some x) h = Each-append law.rules.exact (Stands y.rules q) x.committed x.processed (sound.each q x h).committed_stand (sound.each q x h).processed_stand
 
-  story : IsStory y.rules (done_of w.processes)
+  pub story : IsStory y.rules (done_of w.processes)
   story = record { fit = λ p a h. ((done_stands p a h).here, (done_stands p a h).valid); up = done_sorted }
 
   -- where nothing outstanding is before t, each event before t was done as often as it was sent

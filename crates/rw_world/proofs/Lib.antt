@@ -24,3 +24,4 @@ pub mod Openings
 pub mod Exactly
 pub mod Quiet
 pub mod Floors
+pub mod Leaving
