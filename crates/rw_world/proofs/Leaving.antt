@@ -8,18 +8,17 @@ use Rattle.std.proofs.lemmas.List.{length-map}
 use Rattle.std.proofs.lemmas.List.Elements.{All-nil, All-cons}
 use Rattle.rw_vt.specs.declared.event.Event.{Event}
 use Rattle.rw_vt.specs.declared.model.Model.{Ghosts}
-use Rattle.rw_vt.specs.Order.{event_cmp, copies, Has, Each}
+use Rattle.rw_vt.specs.Order.{event_cmp, copies, Has}
 use Rattle.rw_vt.specs.Letters.{messages, antis}
 use Rattle.rw_vt.specs.System.{System, Setting, IsReady, system_in, state_after, map_from, flatten}
 use Rattle.rw_vt.specs.Rest.{IsRestOf}
 use Rattle.rw_vt.proofs.Sorting.{IsExactOrder, copies-append, absent, Has-head, Has-tail}
-use Rattle.rw_vt.proofs.Bags.{none_if, Each-nil}
+use Rattle.rw_vt.proofs.Bags.{none_if}
 use Rattle.rw_vt.proofs.Runs.{IsLawful, earlier_at_most}
 use Rattle.rw_vt.proofs.Laws.{Laws, lawful}
 use Rattle.rw_vt.proofs.Complete.{IsMidway}
 use Rattle.rw_vt.proofs.Rest.{states_by, rest_lawful, rest_of}
 use Rattle.rw_lp.specs.Process.{ProcessState, done}
-use Rattle.rw_lp.specs.Sound.{Stands, SoundAt}
 use Rattle.rw_world.specs.WorldState.{WorldState}
 use Rattle.rw_world.specs.Sound.{Sound, list_at, done_of, pending_of, debts_of, held_in}
 use Rattle.rw_world.proofs.Lookups.{map-places}
@@ -83,9 +82,9 @@ module _ {S B : Type 0} (y : System S B) {WellFormed : ℕ → S → Type 0} (la
 
   states_are : states_by y (done_of w.processes) ≡ map (λ x. x.state) w.processes
   states_are = sym (
-    map-places (λ x. x.start) (λ x. x.state) (λ q s. state_after (y.rules.step q) s (done_of w.processes q)) 0 w.processes (λ i j x h q. state_is j x (at i j x h q))
-    ∙ ap (map_from 0 (λ q s. state_after (y.rules.step q) s (done_of w.processes q))) sound.starts
-  )
+      map-places (λ x. x.start) (λ x. x.state) (λ q s. state_after (y.rules.step q) s (done_of w.processes q)) 0 w.processes (λ i j x h q. state_is j x (at i j x h q))
+      ∙ ap (map_from 0 (λ q s. state_after (y.rules.step q) s (done_of w.processes q))) sound.starts
+      )
     where
       at : (i j : ℕ) (x : ProcessState S B) → slice_get w.processes i ≡ Some x → j ≡ 0 + i → slice_get w.processes j ≡ Some x
       at i j x h q = let e : j ≡ i = omega arith in ap (slice_get w.processes) e ∙ h
