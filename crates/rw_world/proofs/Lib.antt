@@ -15,6 +15,7 @@ pub mod Growing
 pub mod Sums
 pub mod Rounds
 pub mod Made
+pub mod Undoing
 pub mod Wholes
 pub mod Collects
 pub mod Inboxes
@@ -25,3 +26,5 @@ pub mod Exactly
 pub mod Quiet
 pub mod Floors
 pub mod Leaving
+pub mod Resting
+pub mod Handing

@@ -6,3 +6,4 @@ pub mod Rounds
 pub mod Calls
 pub mod Drawn
 pub mod Laws
+pub mod Leaving

@@ -14,12 +14,14 @@ mod drawing;
 mod least;
 mod opening;
 mod parts;
+mod rest;
 mod step;
 mod world;
 
 pub use drawing::{draw, draw_mixed};
 pub use least::least_of_processes;
 pub use parts::Parts;
+pub use rest::Rest;
 pub use rw_lp::{Answer, Lp, StepFault};
 pub use rw_vt::{Event, Letter, Model, NoMemory, Refusal};
 pub use step::Step;

@@ -1,9 +1,10 @@
-ghost use Rattle.std.specs.Prelude.{◌≡◌, ◌≤◌, ℕ, true, IfOk, IfErr, OnOk, map, slice_get, Some};
+ghost use Rattle.std.specs.Prelude.{◌≡◌, ◌<◌, ◌≤◌, ℕ, true, IfOk, IfErr, OnOk, length, map, slice_get, Some};
 ghost use Rattle.rw_vt.specs.Order.{event_cmp, Each};
 ghost use Rattle.rw_vt.specs.declared.refusal.Refusal.TheVariants.{Memory};
 ghost use Rattle.rw_lp.specs.Calls.{LogicalProcess};
 ghost use Rattle.rw_world.specs.WorldState.{floor};
 ghost use Rattle.rw_world.specs.Calls.{after_collecting, world_of, IsWhole, ExecutesAt, Made};
+ghost use Rattle.rw_world.specs.Leaving.{AreOfOneRun, HasNothingProcessed, KeepsOthersUndone};
 
 use crate::least::{least_of_letters, least_of_processes};
 use crate::step::Step;
@@ -137,6 +138,36 @@ impl<M: VtModel> Parts<M> {
         collect_all(&mut self.processes, time)?;
         self.collected = self.collected.max(time);
         Ok(Answer::Done)
+    }
+
+    /// Every process takes back what is processed. On `Err` the parts are only good for dropping.
+    pub(crate) fn undo_all(&mut self, alloc: Global) -> Result<(), Refusal>
+        requires whole { IsWhole M.Model M.Body.cmp self.old }
+        ensures whole { OnOk result (IsWhole M.Model M.Body.cmp self.new) }
+        ensures run { OnOk result (AreOfOneRun self.old self.new) }
+        ensures none { OnOk result ((p : ℕ) → HasNothingProcessed p self.new) }
+        ensures memory { IfErr result (λ e. e ≡ Memory) }
+    {
+        for number in 0..self.model.processes() {
+            self.undo_process(alloc, number)?;
+        }
+        Ok(())
+    }
+
+    /// Process `p`, which is there, takes back what is processed. On `Err` the parts are only good for dropping.
+    fn undo_process(&mut self, alloc: Global, p: u32) -> Result<(), Refusal>
+        requires whole { IsWhole M.Model M.Body.cmp self.old }
+        requires there { p < length self.old.processes.items }
+        ensures whole { OnOk result (IsWhole M.Model M.Body.cmp self.new) }
+        ensures run { OnOk result (AreOfOneRun self.old self.new) }
+        ensures others { OnOk result (KeepsOthersUndone p self.old self.new) }
+        ensures none { OnOk result (HasNothingProcessed p self.new) }
+        ensures memory { IfErr result (λ e. e ≡ Memory) }
+    {
+        'undoing: while !self.processes[p as usize].processed().is_empty() {
+            let _answer = self.undo(alloc, p)?;
+        }
+        Ok(())
     }
 
     /// The least time of all that is outstanding, or the end of time.

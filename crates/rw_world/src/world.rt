@@ -2,6 +2,7 @@ ghost use Rattle.std.specs.Prelude.{◌≡◌, ◌↔◌, ◌<◌, ◌≤◌, �
 ghost use Rattle.rw_vt.specs.Limits.{end_of_time};
 ghost use Rattle.rw_vt.specs.Order.{event_cmp};
 ghost use Rattle.rw_vt.specs.System.{state_after, journal_below, system, IsOutcome, IsReady};
+ghost use Rattle.rw_vt.specs.Rest.{IsRestOf};
 ghost use Rattle.rw_vt.specs.declared.refusal.Refusal.TheVariants.{Memory};
 ghost use Rattle.rw_lp.specs.Process.{done};
 ghost use Rattle.rw_lp.specs.declared.answer.Answer.TheVariants.{Refused};
@@ -14,6 +15,7 @@ ghost use Rattle.rw_world.specs.Calls.{Simulation, system_of, with_world, simula
 
 use crate::opening::open_processes;
 use crate::parts::Parts;
+use crate::rest::{Rest, sort_letters, take_apart, without_owed};
 use crate::step::Step;
 use rw_lp::Answer;
 use rw_vt::{END, Event, Model as VtModel, Refusal};
@@ -174,6 +176,40 @@ impl<M: VtModel + Drop> World<M> {
             (done_of self.now.world.processes p) }
     {
         self.parts.processes[p as usize].state()
+    }
+
+    /// Leaves the run off: takes back what is processed and not committed, and hands over from where it goes on, by whatever
+    /// engine. It ends as it would have, also with further initial events, where none is before the greatest time collected.
+    /// The committed events are dropped.
+    ///
+    /// Refused only as `Memory`.
+    pub fn into_rest(self, alloc: Global) -> Result<Rest<M>, Refusal>
+        ensures rest { IfOk result (λ r. IsRestOf (system_of M.Model M.Body.cmp self)
+            self.world.collected r.states.items r.events.items) }
+        ensures ready { IfOk result (λ r. IsReady M.Model r.model r.states.items r.events.items) }
+        ensures model { IfOk result (λ r. r.model ≡ self.model) }
+        ensures memory { IfErr result (λ e. e ≡ Memory) }
+    {
+        let mut parts = self.parts;
+        parts.undo_all(alloc)?;
+        let mut there = Vec::new(alloc);
+        let mut owed = Vec::new(alloc);
+        sort_letters(parts.letters.as_slice(), &mut there, &mut owed)?;
+        let Parts {
+            model,
+            processes,
+            letters: _,
+            collected: _,
+            starts: _,
+            initial: _,
+        } = parts;
+        let states = take_apart(alloc, processes, &mut there, &mut owed)?;
+        let events = without_owed::<M>(alloc, there, owed)?;
+        Ok(Rest {
+            model,
+            states,
+            events,
+        })
     }
 
     /// The world's parts: the model, the processes, the letters on their way, and the greatest time collected. Takes no
