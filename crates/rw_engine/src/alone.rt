@@ -95,7 +95,7 @@ fn limit_of(plan: &Plan) -> Result<u64, Stop>
 }
 
 /// How many events a round of one worker has room for.
-fn events_of_round(plan: &Plan) -> u64
+pub(crate) fn events_of_round(plan: &Plan) -> u64
     requires { IsInRanges plan.now }
     ensures { result ≡ plan.now.turns * plan.now.batch }
 {
@@ -103,7 +103,7 @@ fn events_of_round(plan: &Plan) -> u64
 }
 
 /// What rounds of one worker do where they execute so many events.
-fn traffic_of(plan: &Plan, executed: u64) -> Traffic
+pub(crate) fn traffic_of(plan: &Plan, executed: u64) -> Traffic
     requires { IsInRanges plan.now }
     ensures { IsTrafficAlone plan.now executed result }
 {

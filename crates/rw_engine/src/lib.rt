@@ -10,6 +10,7 @@
 mod alone;
 mod how;
 mod running;
+mod stretches;
 
 pub use alone::{run_alone, run_alone_from};
 pub use how::{How, Ran};
@@ -18,3 +19,4 @@ pub use rw_rounds::{Plan, Stop, Traffic};
 pub use rw_serial::Source;
 pub use rw_vt::{END, Event, Model, NoMemory, Refusal};
 pub use rw_world::{Answer, Step, World};
+pub use stretches::{run_in_rounds, run_in_rounds_from};

@@ -6,12 +6,12 @@ ghost use Rattle.rw_world.specs.Calls.{MeetsAt};
 ghost use Rattle.rw_world.specs.WorldState.{opening_world};
 ghost use Rattle.rw_engine.specs.Runs.{IsByBadPlan, ComesToExhaustion, IsOfAnyRun, MayStopFor, HasRun};
 
-use crate::alone::run_alone;
 use crate::how::{How, Ran};
+use crate::stretches::run_in_rounds;
 use rw_progress::{Progress, Silent};
-use rw_rounds::{Open, Plan, Stop, Traffic, run_and_tell};
+use rw_rounds::{Plan, Stop, Traffic};
 use rw_serial::last_states;
-use rw_vt::{Event, Model as VtModel, Outcome};
+use rw_vt::{Event, Model as VtModel};
 use rw_world::{Step, World};
 use std::alloc::Global;
 use std::sync::Wait;
@@ -52,7 +52,7 @@ where
     run_in_and_tell(rt, alloc, model, starts, initial, how, &mut Silent)
 }
 
-/// [`run_in`], which tells `progress` in rounds up to which time all is final, as [`rw_rounds::run_and_tell`] does; in order and by
+/// [`run_in`], which tells `progress` in rounds up to which time all is final, as [`run_in_rounds`](crate::run_in_rounds) does; in order and by
 /// steps it tells nothing.
 pub fn run_in_and_tell<M, P, R>(
     rt: &R,
@@ -127,19 +127,7 @@ where
         (HasRun M.Model M.Body.cmp model starts.items initial.items (How.InRounds plan)) }
     ensures plan { (result ≡ Err Stop.BadPlan) ↔ (IsInRanges plan → ⊥) }
 {
-    if plan.workers == 1 {
-        let (states, traffic) = run_alone(alloc, &model, starts, initial, plan)?;
-        return Ok(Ran::Finished(states, traffic));
-    }
-    if !plan.is_valid() {
-        return Err(Stop::BadPlan);
-    }
-    let world = World::open(alloc, model, starts, initial)?;
-    let (outcome, traffic) = run_and_tell(rt, alloc, world, plan, &Open, progress)?;
-    let Outcome {
-        journals: _,
-        states,
-    } = outcome;
+    let (states, traffic) = run_in_rounds(rt, alloc, model, starts, initial, plan, progress)?;
     Ok(Ran::Finished(states, traffic))
 }
 

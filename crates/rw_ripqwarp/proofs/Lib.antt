@@ -1,8 +1,8 @@
+pub mod InOrder
+pub mod Journals
 pub mod Lines
 pub mod Runs
-pub mod Written
-pub mod Words
-pub mod Journals
+pub mod Stopping
 pub mod Ways
-pub mod InOrder
-pub mod OneWorker
+pub mod Words
+pub mod Written

@@ -7,12 +7,12 @@
 //!
 //! Worked examples: `rw_program_tests/src/reports.rt`, and the cases of `rw_cases`.
 
-mod alone;
 mod headline;
 mod journal_text;
 mod mode;
 mod output;
 mod report_text;
+mod rounds;
 mod schedule_text;
 mod sim_fault;
 mod simulation;

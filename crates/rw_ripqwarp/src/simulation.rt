@@ -12,11 +12,11 @@ ghost use Rattle.rw_ripqwarp.specs.Sink.{AppendsBeginning};
 ghost use Rattle.rw_ripqwarp.specs.Simulate.{IsBeginningOf, IsReportOf, IsTextOf, IsWarp, HasGoodPlan, IsRunFault, IsBeginningFault};
 ghost use Rattle.rw_ripqwarp.specs.Headline.{HasWritten, HasWrittenBeginning};
 
-use crate::alone::alone_text;
 use crate::journal_text::journal;
 use crate::mode::Mode;
 use crate::output::Out;
 use crate::report_text::report_of_states;
+use crate::rounds::rounds_text;
 use crate::sim_fault::SimFault;
 use crate::telling::{Telling, begin_events, begin_rows};
 use rw_engine::{Ran, Traffic, run_in_and_tell};
@@ -111,9 +111,7 @@ fn text_of<P: Progress, R: Threads + Wait + Sync>(
             let text = serial_text(alloc, bytes, config, progress)?;
             Ok((text, Traffic::default()))
         }
-        Mode::Warp(plan) if plan.workers == 1 => {
-            alone_text(alloc, bytes, config, plan, progress)
-        }
+        Mode::Warp(plan) => rounds_text(rt, alloc, bytes, config, plan, progress),
         mode => engine_text(rt, alloc, bytes, config, mode, progress),
     }
 }

@@ -114,7 +114,7 @@ pub struct Traffic {
 
 impl Traffic {
     /// Adds the counts of `more`.
-    pub(crate) fn add(&mut self, more: &Traffic) {
+    pub fn add(&mut self, more: &Traffic) {
         self.rounds = self.rounds.wrapping_add(more.rounds);
         self.executed = self.executed.wrapping_add(more.executed);
         self.undone = self.undone.wrapping_add(more.undone);

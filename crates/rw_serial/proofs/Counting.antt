@@ -1,13 +1,16 @@
--- How many events are executed: while one is pending, those so far are fewer than all.
+-- How many events are executed: while one is pending, those so far are fewer than all, and with those of what is left they
+-- are all.
 use Rattle.std.proofs.Common.{◌≡◌, ℕ, zero, suc, ◌+◌, ◌<◌, ◌≤◌, Bool, true, false, List, [], ◌∷◌, ◌++◌, refl, sym, ◌∙◌, ap, subst, arith, add-zero, zero-add, length, get_or, length-append, replicate, Option, Some, None, All, IfNone, IsPermutation}
 use Rattle.std.specs.List.{sum_by}
 use Rattle.std.proofs.lemmas.List.Sums.{sum_by-cons, sum_by-set}
 use Rattle.std.specs.List.{slice_set}
 use Rattle.rw_vt.specs.declared.event.Event.{Event}
+use Rattle.rw_vt.specs.Limits.{end_of_time}
 use Rattle.rw_vt.specs.Order.{AtMost}
-use Rattle.rw_vt.specs.System.{System, map_from, slice, journal_below}
+use Rattle.rw_vt.specs.System.{System, map_from, slice, journal_below, state_after}
+use Rattle.rw_vt.proofs.Rest.{rest_follows, states_by}
 use Rattle.rw_serial.specs.Counts.{IsCountOf, events_below}
-use Rattle.rw_serial.proofs.Lists.{at_list}
+use Rattle.rw_serial.proofs.Lists.{at_list, length-map_from}
 use Rattle.rw_serial.proofs.Midrun.{IsMidrun, has_length, next_inside, next_least, next_there, slice_has, to_come}
 
 length_of_parts : {E : Type 0} (a b c : List E) → length ((a ++ b) ++ c) ≡ (length a + length b) + length c
@@ -61,6 +64,42 @@ module _ {S B : Type 0} {y : System S B} {WellFormed : ℕ → S → Type 0} {ss
           let c = coming t l x.to in
           let some = has_length y.rules.order (slice y P x.time x.to) x (slice_has run taken least) in
           omega (arith, ap length c.1, length_of_parts (at_list js x.to) (slice y P x.time x.to) c.0, some)
+
+-- what is in lists, and what a family adds to each, is what is in the joined ones
+lengths_joined : {A C E : Type 0} (k : ℕ) (js : List (List E)) (xs : List A) (ys : List C) (f g : ℕ → List E) → length js ≡ length xs → length ys ≡ length xs → ((j : ℕ) → get_or js j [] ++ g (k + j) ≡ f (k + j))
+    → sum_by length js + sum_by length (map_from k (λ q _. g q) ys) ≡ sum_by length (map_from k (λ q _. f q) xs)
+lengths_joined k [] [] [] f g n m h = refl
+lengths_joined k [] [] (y ∷ ys) f g n m h = cc
+lengths_joined k [] (x ∷ xs) ys f g n m h = cc
+lengths_joined k (j ∷ js) [] ys f g n m h = cc
+lengths_joined k (j ∷ js) (x ∷ xs) [] f g n m h = cc
+lengths_joined k (j ∷ js) (x ∷ xs) (y ∷ ys) f g n m h =
+    let rest = lengths_joined (k + 1) js xs ys f g (omega arith) (omega arith) (λ i. subst (λ w. get_or js i [] ++ g w ≡ f w) (one_further k i) (h (suc i))) in
+    let here = subst (λ w. j ++ g w ≡ f w) (add-zero k) (h 0) in
+    omega (
+      arith,
+      rest,
+      ap length here,
+      length-append j (g k),
+      sum_by-cons length j js,
+      sum_by-cons length (g k) (map_from (k + 1) (λ q _. g q) ys),
+      sum_by-cons length (f k) (map_from (k + 1) (λ q _. f q) xs),
+    )
+
+-- the events so far and those of what is left are all
+pub midrun_counts : {S B : Type 0} {y : System S B} {WellFormed : ℕ → S → Type 0} {ss : List S} {js : List (List (Event B))} {P : List (Event B)} (run : IsMidrun y WellFormed ss js P) (t : ℕ) → ((e : Event B) → y.rules.valid e ≡ true → e.time < t)
+    → sum_by length js + events_below (record y { starts = ss; initial = P }) t ≡ events_below y t
+midrun_counts {y} {ss} {js} {P} run t times =
+    let states = states_by y (at_list js) in
+    subst (λ l. sum_by length js + events_below (record y { starts = l; initial = P }) t ≡ events_below y t) (sym run.states_are)
+    (lengths_joined 0 js y.starts states (journal_below y t) (journal_below (record y { starts = states; initial = P }) t) run.count
+    (length-map_from 0 (λ q s. state_after (y.rules.step q) s (at_list js q)) y.starts)
+    (λ q. subst (λ w. at_list js q ++ journal_below (record y { starts = states; initial = P }) t w ≡ journal_below y t w) (sym (zero-add q)) (rest_follows y run.law (at_list js) P run.mid t times q)))
+
+pub midrun_counted : {S B : Type 0} {y : System S B} {WellFormed : ℕ → S → Type 0} {ss : List S} {js : List (List (Event B))} {P : List (Event B)} (run : IsMidrun y WellFormed ss js P) (n : ℕ) → n ≡ sum_by length js
+    → n + events_below (record y { starts = ss; initial = P }) end_of_time ≡ events_below y end_of_time
+midrun_counted {y} {ss} {P} run n is =
+    subst (λ k. k + events_below (record y { starts = ss; initial = P }) end_of_time ≡ events_below y end_of_time) (sym is) (midrun_counts run end_of_time (λ e v. (run.law.inside e v).time))
 
 -- one more is entered
 pub count_entered : {E : Type 0} (js : List (List E)) (p : ℕ) (e : E) (n : ℕ) → p < length js → n ≡ sum_by length js → n + 1 ≡ sum_by length (slice_set js p (get_or js p [] ++ e ∷ []))

@@ -1,19 +1,23 @@
 -- A run that goes on: where it begins, and what is left of it where it ends.
-use Rattle.std.proofs.Common.{◌≡◌, ℕ, ◌<◌, true, List, [], ◌∷◌, ◌++◌, sym, subst, ◌∙◌, arith, All, IsPermutation, append_assoc, length, length-append, Option, Some, None, IfNone}
+use Rattle.std.proofs.Common.{◌≡◌, ℕ, ◌+◌, ◌<◌, ◌≤◌, true, List, [], ◌∷◌, ◌++◌, refl, sym, subst, ap, ◌∙◌, arith, All, IsPermutation, append_assoc, append-nil, length, length-append, replicate, Option, Some, None, Bor, IfNone, IfSome}
+use Rattle.std.specs.List.{slice_get}
+use Rattle.std.specs.Option.{option_copied, option_map}
 use Rattle.std.specs.declared.cmp.Ordering.{Ordering}
-use Rattle.std.proofs.lemmas.List.Elements.{All-cons, All-nil}
+use Rattle.std.proofs.lemmas.List.Elements.{All-cons, All-head, All-nil, All-weaker}
 use Rattle.std.proofs.lemmas.List.Sorted.{All-permutation, IsPermutation-append_comm, IsPermutation-append_left, IsPermutation-append_right, IsPermutation-sym, IsPermutation-trans, length_permutation}
 use Rattle.rw_vt.specs.declared.event.Event.{Event}
 use Rattle.rw_vt.specs.declared.model.Model.{Ghosts}
-use Rattle.rw_vt.specs.Order.{Has}
+use Rattle.rw_vt.specs.Order.{AtMost, Has, event_cmp}
 use Rattle.rw_vt.specs.Rest.{EndsAs}
 use Rattle.rw_vt.specs.System.{System, system, IsReady}
+use Rattle.rw_vt.proofs.EventOrder.{time_at_most}
 use Rattle.rw_vt.proofs.Rest.{rest_ends, rest_lawful}
 use Rattle.rw_vt.proofs.Runs.{IsLawful}
 use Rattle.rw_vt.proofs.Sorting.{IsExactOrder, Has-head, Has-tail}
 use Rattle.rw_serial.specs.Later.{HasMoved, IsLeastTime}
+use Rattle.rw_serial.specs.Pending.{HasMovedOn}
 use Rattle.rw_serial.proofs.Lists.{at_list}
-use Rattle.rw_serial.proofs.Midrun.{IsMidrun, length-states}
+use Rattle.rw_serial.proofs.Midrun.{IsMidrun, length-states, midrun_start}
 
 all_of_each : {E : Type 0} {cmp : E → E → Ordering} → IsExactOrder cmp → (P : E → Type 0) (xs : List E) → ((a : E) → Has cmp xs a → P a) → All P xs
 all_of_each o P [] h = All-nil P
@@ -22,6 +26,10 @@ all_of_each o P (x ∷ xs) h = All-cons P x xs (h x (Has-head o x xs)) (all_of_e
 -- what is left of a run ends as the run
 pub midrun_rest : {S B : Type 0} {y : System S B} {WellFormed : ℕ → S → Type 0} {ss : List S} {js : List (List (Event B))} {P : List (Event B)} → IsMidrun y WellFormed ss js P → EndsAs (record y { starts = ss; initial = P }) y
 midrun_rest {y} {js} {P} run = subst (λ l. EndsAs (record y { starts = l; initial = P }) y) (sym run.states_are) (rest_ends y run.law (at_list js) P run.mid)
+
+-- the initial events may be in any order
+pub rest_permuted : {S B : Type 0} (y : System S B) {WellFormed : ℕ → S → Type 0} → IsLawful y WellFormed → (P : List (Event B)) → IsPermutation y.initial P → EndsAs (record y { initial = P }) y
+rest_permuted y law P moved = midrun_rest (midrun_start y law (replicate (length y.starts) []) P refl moved)
 
 midrun_lawful : {S B : Type 0} {y : System S B} {WellFormed : ℕ → S → Type 0} {ss : List S} {js : List (List (Event B))} {P : List (Event B)} → IsMidrun y WellFormed ss js P → IsLawful (record y { starts = ss; initial = P }) WellFormed
 midrun_lawful {y} {WellFormed} {js} {P} run = subst (λ l. IsLawful (record y { starts = l; initial = P }) WellFormed) (sym run.states_are) (rest_lawful y run.law (at_list js) P run.mid)
@@ -57,18 +65,69 @@ module _ {B : Type 0} {t : ℕ} {before left taken all : List (Event B)} (h : Ha
       (subst (λ l. IsPermutation (taken ++ before) (l ++ left)) (sym h.behind)
       (subst (IsPermutation (taken ++ before)) (sym (append_assoc taken h.moved left)) (IsPermutation-append_right taken before (h.moved ++ left) h.parts)))
 
--- What waits where a run begins anew, and what is left of it
+-- The first events of a list move to the end of another
 
-pub resumed : {E : Type 0} {events sorted given old later mid : List E} (initial : List E) → IsPermutation events sorted → given ≡ sorted → old ≡ [] → IsPermutation (old ++ given) later → IsPermutation later mid → IsPermutation (events ++ initial) (initial ++ mid)
-resumed {events} {sorted} {given} {old} {later} {mid} initial in_order same none put at_hand =
-    let put_sorted : IsPermutation sorted later = subst (λ l. IsPermutation l later) same (subst (λ l. IsPermutation (l ++ given) later) none put) in
-    IsPermutation-trans (events ++ initial) (mid ++ initial) (initial ++ mid)
-    (IsPermutation-append_left initial events mid (IsPermutation-trans events later mid (IsPermutation-trans events sorted later in_order put_sorted) at_hand))
-    (IsPermutation-append_comm mid initial)
+module _ {B : Type 0} where
+  pub moved_none : (before taken : List (Event B)) → HasMovedOn before before taken taken
+  moved_none before taken = record { moved = []; parts = refl; behind = sym (append-nil taken) }
 
-pub handed_over : {E : Type 0} (initial now later : List E) {room first rest : List E} → room ≡ [] → first ≡ room ++ now → IsPermutation (first ++ later) rest → IsPermutation (initial ++ (now ++ later)) (rest ++ initial)
-handed_over initial now later {room} {first} {rest} clear front moved =
-    let same : first ≡ now = subst (λ l. first ≡ l ++ now) clear front in
-    IsPermutation-trans (initial ++ (now ++ later)) ((now ++ later) ++ initial) (rest ++ initial)
-    (IsPermutation-append_comm initial (now ++ later))
-    (IsPermutation-append_left initial (now ++ later) rest (subst (λ l. IsPermutation (l ++ later) rest) same moved))
+  pub moved_one_more : {before mid left taken all : List (Event B)} (x : Event B) → HasMovedOn before mid taken all → mid ≡ x ∷ left → HasMovedOn before left taken (all ++ x ∷ [])
+  moved_one_more {left} {taken} x h is = record {
+    moved = h.moved ++ x ∷ [];
+    parts = h.parts ∙ ap (λ l. h.moved ++ l) is ∙ sym (append_assoc h.moved (x ∷ []) left);
+    behind = ap (λ l. l ++ x ∷ []) h.behind ∙ append_assoc taken h.moved (x ∷ []);
+  }
+
+  joined_same : {before left taken all : List (Event B)} → HasMovedOn before left taken all → taken ++ before ≡ all ++ left
+  joined_same {left} {taken} h = ap (λ l. taken ++ l) h.parts ∙ sym (append_assoc taken h.moved left) ∙ ap (λ l. l ++ left) (sym h.behind)
+
+  -- what is taken out and what is left are what waited
+  pub taken_out : {initial sent first mid taken left at_hand others none : List (Event B)} (now later : List (Event B)) → none ≡ [] → IsPermutation (none ++ (now ++ later)) sent → HasMovedOn initial mid sent first → HasMovedOn mid left first taken
+      → (at_hand ≡ []) × (others ≡ []) → IsPermutation (initial ++ (now ++ later)) (taken ++ (left ++ (at_hand ++ others)))
+  taken_out {initial} {sent} {taken} {left} {at_hand} {others} now later empty moved some more gone =
+      let all : sent ++ initial ≡ taken ++ left = joined_same some ∙ joined_same more in
+      let rest : left ++ (at_hand ++ others) ≡ left = ap (λ l. left ++ (l ++ others)) gone.0 ∙ ap (λ l. left ++ l) gone.1 ∙ append-nil left in
+      subst (λ l. IsPermutation (initial ++ (now ++ later)) (taken ++ l)) (sym rest)
+      (subst (IsPermutation (initial ++ (now ++ later))) all
+      (IsPermutation-trans (initial ++ (now ++ later)) ((now ++ later) ++ initial) (sent ++ initial)
+      (IsPermutation-append_comm initial (now ++ later))
+      (IsPermutation-append_left initial (now ++ later) sent (subst (λ l. IsPermutation (l ++ (now ++ later)) sent) empty moved))))
+
+  -- and nothing is left where they are fewer than were asked for
+  pub taken_enough : {first mid taken left at_hand others : List (Event B)} (sent : List (Event B)) (count : ℕ) → (length first < length sent + count → mid ≡ []) → HasMovedOn mid left first taken
+      → (at_hand ≡ []) × (others ≡ []) → length taken < count → left ++ (at_hand ++ others) ≡ []
+  taken_enough {first} {mid} {taken} {left} {at_hand} {others} sent count enough more gone fewer =
+      let long = ap length more.behind ∙ length-append first more.moved in
+      let none : mid ≡ [] = enough (omega arith) in
+      let nothing : left ≡ [] = no_rest more.moved left (sym more.parts ∙ none) in
+      ap (λ l. l ++ (at_hand ++ others)) nothing ∙ ap (λ l. l ++ others) gone.0 ∙ gone.1
+    where
+      no_rest : (xs ys : List (Event B)) → xs ++ ys ≡ [] → ys ≡ []
+      no_rest [] ys h = h
+      no_rest (x ∷ xs) ys h = cc
+
+-- What is put back waits with what did
+
+pub put_in_again : {E : Type 0} (initial now later events : List E) {sent sorted given none waiting mid : List E} → IsPermutation (events ++ (now ++ later)) sent → IsPermutation sent sorted → given ≡ sorted → none ≡ [] → IsPermutation (none ++ given) waiting → IsPermutation waiting mid
+    → IsPermutation ((initial ++ (now ++ later)) ++ events) (initial ++ mid)
+put_in_again initial now later events {sent} {sorted} {given} {none} {waiting} {mid} moved in_order same empty put at_hand =
+    let put_sorted : IsPermutation sorted waiting = subst (λ l. IsPermutation l waiting) same (subst (λ l. IsPermutation (l ++ given) waiting) empty put) in
+    let whole : IsPermutation (events ++ (now ++ later)) mid =
+    IsPermutation-trans (events ++ (now ++ later)) sent mid moved (IsPermutation-trans sent sorted mid in_order (IsPermutation-trans sorted waiting mid put_sorted at_hand)) in
+    IsPermutation-trans ((initial ++ (now ++ later)) ++ events) (initial ++ (events ++ (now ++ later))) (initial ++ mid)
+    (subst (λ l. IsPermutation l (initial ++ (events ++ (now ++ later)))) (sym (append_assoc initial (now ++ later) events))
+    (IsPermutation-append_right initial ((now ++ later) ++ events) (events ++ (now ++ later)) (IsPermutation-append_comm (now ++ later) events)))
+    (IsPermutation-append_right initial (events ++ (now ++ later)) mid whole)
+
+-- What stands first in order has the least time
+
+pub least_of_first : {B : Type 0} (order : B → B → Ordering) (xs : List (Event B)) (first : Option (Bor (Event B))) → option_copied first ≡ slice_get xs 0 → IfSome first (λ f. All (AtMost (event_cmp order) f.now) xs)
+    → IsLeastTime xs (option_map (λ e. e.time) (option_copied first))
+least_of_first order [] None is least = refl
+least_of_first order [] (Some f) is least = cc
+least_of_first order (x ∷ xs) None is least = cc
+least_of_first order (x ∷ xs) (Some f) is least =
+    let same : f.now.time ≡ x.time = cc in (
+      All-weaker (AtMost (event_cmp order) f.now) (λ e. f.now.time ≤ e.time) (λ e h. time_at_most order f.now e h) (x ∷ xs) least,
+      λ all. let later = All-head (λ e. f.now.time < e.time) x xs all in absurd (omega arith),
+    )

@@ -71,3 +71,9 @@ pub record IsNextEvent {B : Type 0} (order : B → B → Ordering) (t : Time)
   pub taken : IfSome next (λ e.
       IsPermutation (initial ++ (now ++ later)) (e ∷ (initial' ++ (now' ++ later'))))
   pub around : AreAround (time_or next t) initial' now' later'
+
+-- the first events of a list have moved behind `taken`, and the others are left
+pub record HasMovedOn {B : Type 0} (before left taken all : List (Event B)) : Type 0 where
+  pub moved : List (Event B)
+  pub parts : before ≡ moved ++ left
+  pub behind : all ≡ taken ++ moved

@@ -21,14 +21,13 @@ mod slice;
 mod source;
 mod times;
 
-ghost use Rattle.std.specs.Prelude.{◌≡◌, ◌<◌, ◌≤◌, ◌++◌, ℕ, false, true, [], ◌∷◌, List, IfNone, IfOk, IfErr, IfSome, OnOk, length, map, replicate, slice_get, slice_index_or, slice_set};
+ghost use Rattle.std.specs.Prelude.{◌≡◌, ◌+◌, ◌<◌, ◌≤◌, ◌++◌, ℕ, false, true, [], ◌∷◌, List, IfNone, IfOk, IfErr, IfSome, OnOk, length, map, replicate, slice_get, slice_index_or, slice_set};
 ghost use Rattle.rw_vt.specs.Limits.{end_of_time};
 ghost use Rattle.rw_vt.specs.Rest.{EndsAs};
 ghost use Rattle.rw_vt.specs.System.{system, IsOutcome, IsReady, Meets};
 ghost use Rattle.rw_vt.specs.declared.event.Event.{Event};
 ghost use Rattle.rw_serial.specs.Counts.{events_below};
 
-pub use initial::Initial;
 use ledger::{Count, Ledger, NoJournals};
 pub use pending::Pending;
 use rw_vt::empty_lists;
@@ -183,7 +182,7 @@ pub fn last_states_within_from<M: Model, S: Source<M::Body>>(
 ///
 /// `states` has the state of each process. What is then left, the states and what is still pending, ends as the run itself:
 /// whatever engine goes on with it, this one among them, leaves the same states. Nothing is left pending where fewer than
-/// `limit` were executed. [`Pending::resume`] begins where another engine stands, and [`Pending::into_left`] hands over to one.
+/// `limit` were executed. [`Pending::take_out`] hands over to another engine, and [`Pending::put_back`] takes what it left.
 ///
 /// It costs what [`last_states_from`] costs. There are no journals and no undo records.
 ///
@@ -205,7 +204,12 @@ pub fn go_on<M: Model, S: Source<M::Body>>(
         (system M.Model M.Body.cmp model.now states.old.items pending.old.events)) }
     ensures ready { OnOk result
         (IsReady M.Model model.now states.new.items pending.new.events) }
-    ensures count { IfOk result (λ n. n ≤ limit) }
+    ensures count { IfOk result (λ n.
+        (n ≤ limit)
+        × (n + events_below
+        (system M.Model M.Body.cmp model.now states.new.items pending.new.events) end_of_time
+        ≡ events_below
+        (system M.Model M.Body.cmp model.now states.old.items pending.old.events) end_of_time)) }
     ensures all { IfOk result (λ n. n < limit → pending.new.events ≡ []) }
     ensures exhausted { IfErr result (λ r.
         r ≡ Refusal.Exhausted

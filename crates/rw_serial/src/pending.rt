@@ -1,16 +1,17 @@
-ghost use Rattle.std.specs.Prelude.{◌≡◌, ◌<◌, ◌≤◌, ◌++◌, ℕ, [], ◌∷◌, false, true, All, IfNone, IfOk, IfSome, IsNone, IsPermutation, IsSome, IsTrue, OnErr, OnOk, option_copied, take};
+ghost use Rattle.std.specs.Prelude.{◌≡◌, ◌+◌, ◌<◌, ◌≤◌, ◌++◌, ℕ, [], ◌∷◌, false, true, All, IfNone, IfOk, IfSome, IsNone, IsPermutation, IsSome, IsTrue, OnErr, OnOk, length, option_copied, take};
 ghost use Rattle.rw_vt.specs.Order.{event_cmp, AtMost};
-ghost use Rattle.rw_serial.specs.Later.{IsLeft};
-ghost use Rattle.rw_serial.specs.Pending.{AreAround, IsDue, IsNextEvent, IsReached, IsTakenFromOne, due_of, time_or};
+ghost use Rattle.rw_serial.specs.Later.{IsLeastTime, IsLeft};
+ghost use Rattle.rw_serial.specs.Pending.{AreAround, HasMovedOn, IsDue, IsNextEvent, IsReached, IsTakenFromOne, due_of, time_or};
 
 use crate::initial::Initial;
 use crate::later::Later;
 use crate::slice::Slice;
 use crate::source::Source;
-use crate::times::is_time;
+use crate::times::{earlier, is_time, time_of};
 use rw_vt::Event;
 use std::alloc::{AllocError, Global};
 use std::marker::Model;
+use std::mem;
 
 /// The events that are still to be executed. Contracts see the time that is reached, and the events as a list, in no
 /// particular order.
@@ -57,52 +58,50 @@ impl<B: Ord + Copy, S: Source<B>> Pending<B, S> {
         }
     }
 
-    /// The events that wait where a run was left off, by whatever engine: those that stand in a list, in any order, and what
-    /// is left of the initial ones.
-    ///
-    /// It costs a sort of the list, which is linear where that is in order, and an error is a refusal of memory.
-    pub fn resume(
-        alloc: Global,
-        events: Vec<Event<B>>,
-        initial: Initial<B, S>,
-    ) -> Result<Self, AllocError>
-        ensures { IfOk result (λ p. IsPermutation (events.items ++ initial) p.events) }
+    /// The least time of an event, in ticks. `None` only where there is no event. Takes no memory.
+    pub fn least_time(&self) -> Option<u64>
+        ensures { IsLeastTime self.entry.now.events result }
     {
-        let mut events = events;
-        events.sort_unstable();
-        let mut later = Later::new(alloc);
-        put_all(&mut later, &events)?;
-        let mut now = Slice::new(alloc);
-        let mut room = Vec::new(alloc);
-        later.take(0, &mut room)?;
-        now.fill(&mut room);
-        Ok(Pending {
-            initial,
-            now,
-            later,
-            room,
-            time: 0,
-        })
+        let sent = earlier(time_of(self.now.first()), self.later.least_time());
+        earlier(time_of(self.initial.first()), sent)
     }
 
-    /// The events that wait, for another engine to go on with: those that are no longer among the initial ones, in order of
-    /// time, and what is left of the initial ones.
+    /// Takes events out, for another engine to go on with: all that were sent, and of the initial ones as many as `count` says,
+    /// with all others of the last one's time. Where fewer initial events are left, none remains.
     ///
-    /// It costs what taking each of the first does, and an error is a refusal of memory.
-    pub fn into_left(self) -> Result<(Vec<Event<B>>, Initial<B, S>), AllocError>
-        ensures { IfOk result (λ left. IsPermutation self.events (left.0.items ++ left.1)) }
+    /// It costs what taking each of them does. After a refusal of memory some events are lost.
+    pub fn take_out(&mut self, alloc: Global, count: usize) -> Result<Vec<Event<B>>, AllocError>
+        ensures parts { IfOk result (λ taken.
+            IsPermutation self.old.events (taken.items ++ self.new.events)) }
+        ensures enough { IfOk result (λ taken.
+            length taken.items < count → self.new.events ≡ []) }
     {
-        let Pending {
-            initial,
-            mut now,
-            mut later,
-            mut room,
-            ..
-        } = self;
-        room.clear();
-        now.move_to(&mut room)?;
-        later.move_to(&mut room)?;
-        Ok((room, initial))
+        self.time = 0;
+        let mut taken = Vec::new(alloc);
+        move_sent(alloc, &mut self.now, &mut self.later, &mut taken)?;
+        let last = move_first(&mut self.initial, count, &mut taken)?;
+        move_at(&mut self.initial, last, &mut taken)?;
+        Ok(taken)
+    }
+
+    /// Adds events that another engine left, of any time and in any order.
+    ///
+    /// It costs a sort of them and of those that were sent before, which is linear where they are in order. After a refusal of
+    /// memory some events are lost.
+    pub fn put_back(&mut self, alloc: Global, events: Vec<Event<B>>) -> Result<(), AllocError>
+        ensures { OnOk result (IsPermutation (self.old.events ++ events.items) self.new.events) }
+    {
+        self.time = 0;
+        let mut sent = events;
+        move_sent(alloc, &mut self.now, &mut self.later, &mut sent)?;
+        sent.sort_unstable();
+        let mut later = Later::new(alloc);
+        put_all(&mut later, &sent)?;
+        self.room.clear();
+        later.take(0, &mut self.room)?;
+        self.now.fill(&mut self.room);
+        self.later = later;
+        Ok(())
     }
 
     /// Takes a least event, whose time is then reached, and puts it into `next`. `None` only where there is none.
@@ -341,6 +340,64 @@ fn put_all<B: Ord + Copy>(later: &mut Later<B>, events: &[Event<B>]) -> Result<(
 {
     for event in events {
         later.put(*event)?;
+    }
+    Ok(())
+}
+
+/// Moves all events that were sent to the end of `taken`. Where memory is refused, some events are lost.
+fn move_sent<B: Ord + Copy>(
+    alloc: Global,
+    now: &mut Slice<B>,
+    later: &mut Later<B>,
+    taken: &mut Vec<Event<B>>,
+) -> Result<(), AllocError>
+    ensures none { (now.new ≡ []) × (later.new ≡ []) }
+    ensures moved { OnOk result
+        (IsPermutation (taken.old.items ++ (now.old ++ later.old)) taken.new.items) }
+{
+    let mut at_hand = mem::replace(now, Slice::new(alloc));
+    let mut others = mem::replace(later, Later::new(alloc));
+    at_hand.move_to(taken)?;
+    others.move_to(taken)
+}
+
+/// Moves as many initial events as `count` says to the end of `taken`, or all where there are fewer, and answers the time of
+/// the last one, or else 0. Where memory is refused, some events are lost.
+fn move_first<B: Ord + Copy, S: Source<B>>(
+    initial: &mut Initial<B, S>,
+    count: usize,
+    taken: &mut Vec<Event<B>>,
+) -> Result<u64, AllocError>
+    ensures moved { OnOk result
+        (HasMovedOn initial.old initial.new taken.old.items taken.new.items) }
+    ensures enough { OnOk result
+        (length taken.new.items < length taken.old.items + count → initial.new ≡ []) }
+{
+    let mut last = 0;
+    for _ in 0..count {
+        let Some(event) = initial.pop() else {
+            return Ok(last);
+        };
+        taken.push(event)?;
+        last = event.time;
+    }
+    Ok(last)
+}
+
+/// Moves the first initial events to the end of `taken`, while they are of this time. Where memory is refused, some events are
+/// lost.
+fn move_at<B: Ord + Copy, S: Source<B>>(
+    initial: &mut Initial<B, S>,
+    time: u64,
+    taken: &mut Vec<Event<B>>,
+) -> Result<(), AllocError>
+    ensures moved { OnOk result
+        (HasMovedOn initial.old initial.new taken.old.items taken.new.items) }
+{
+    while is_time(time_of(initial.first()), time) {
+        if let Some(event) = initial.pop() {
+            taken.push(event)?;
+        }
     }
     Ok(())
 }

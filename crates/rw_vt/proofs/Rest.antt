@@ -236,7 +236,7 @@ module _ {S B : Type 0} (y : System S B) {WellFormed : ℕ → S → Type 0} (la
         )
 
     -- the journals of a run are those midway, and then those of what is left
-    rest_follows : (q : ℕ) → J q ++ journal_below (left y J P) t q ≡ journal_below y t q
+    pub rest_follows : (q : ℕ) → J q ++ journal_below (left y J P) t q ≡ journal_below y t q
     rest_follows q =
         sym (before_all law.rules t (J q ++ journal_below (left y J P) t q) (up q) (soon q))
         ∙ agree_below y law (λ p. J p ++ journal_below (left y J P) t p) (record { fit = fit; up = up }) t exact t (omega arith) q

@@ -1,11 +1,15 @@
-use Rattle.std.proofs.Common.{rules, All, ◌<◌, ◌^◌, sym, subst, refl, [], ◌∷◌, ◌++◌, ◌∙◌, get_or, length, replicate}
+use Rattle.std.proofs.Common.{rules, arith, All, ◌≡◌, ◌+◌, ◌<◌, ◌^◌, sym, subst, refl, [], ◌∷◌, ◌++◌, ◌∙◌, get_or, length, replicate}
 use Rattle.std.specs.List.{slice_set}
 use Rattle.std.proofs.lemmas.List.Sorted.{IsPermutation-refl}
 use Rattle.std.proofs.lemmas.Result.{err_from_is_err_and}
+use Rattle.rw_vt.specs.declared.event.Event.{Event}
+use Rattle.rw_vt.specs.Limits.{end_of_time}
 use Rattle.rw_vt.specs.Order.{event_cmp}
 use Rattle.rw_vt.specs.Rest.{EndsAs}
 use Rattle.rw_vt.specs.System.{system, IsReady}
 use Rattle.rw_vt.proofs.Laws.{lawful, laws_of}
+use Rattle.rw_serial.specs.Counts.{events_below}
+use Rattle.rw_serial.proofs.Counting.{count_entered, count_none, midrun_counted}
 use Rattle.rw_serial.proofs.Midrun.{length-states, midrun_start, next_valid, next_inside, next_well_formed, midrun_step_by, midrun_meets, next_sends_later}
 use Rattle.rw_serial.proofs.Onward.{midrun_ready, midrun_rest, none_still}
 use Rattle.rw_serial.proofs.Waiting.{taken_at, least_at, reached_at}
@@ -16,8 +20,11 @@ loop-executed-init g c =
     let laws = laws_of g.met.M.Model g.met.M.Body.Ord.total in
     let m = c.args.model.now in
     let starts = c.args.states.now.items in
-    let law = lawful laws m starts c.args.pending.now.events c.requires.ready in
-    (replicate (length starts) [], midrun_start (system g.M.Model g.M.Body.Ord.cmp m starts c.args.pending.now.events) law (replicate (length starts) []) c.args.pending.now.events refl (IsPermutation-refl c.args.pending.now.events))
+    let law = lawful laws m starts c.args.pending.now.events c.requires.ready in (
+      replicate (length starts) [],
+      midrun_start (system g.M.Model g.M.Body.Ord.cmp m starts c.args.pending.now.events) law (replicate (length starts) []) c.args.pending.now.events refl (IsPermutation-refl c.args.pending.now.events),
+      count_none (Event _) (length starts),
+    )
 
 pub execute-requires-clause-process : goal.execute-requires-clause-process
 execute-requires-clause-process g c =
@@ -44,11 +51,16 @@ pub loop-executed-preserved : goal.loop-executed-preserved
 loop-executed-preserved g c =
     let journals = c.loop-executed.invariant.0 in
     let x = c.in-Some.event in
+    let run = c.loop-executed.invariant.1 in
+    let taken = taken_at c.in-Some.is c.in_ok-pop.ensures.taken in
+    let least = least_at (event_cmp g.M.Body.Ord.cmp) c.loop-executed.pending.events c.in-Some.is c.in_ok-pop.ensures.least in
+    let inside = next_inside run taken least in
     let entered = slice_set journals x.to (get_or journals x.to [] ++ x ∷ []) in (
       entered,
-      midrun_step_by c.loop-executed.invariant.1 (taken_at c.in-Some.is c.in_ok-pop.ensures.taken) (least_at (event_cmp g.M.Body.Ord.cmp) c.loop-executed.pending.events c.in-Some.is c.in_ok-pop.ensures.least)
+      midrun_step_by run taken least
           c.execute.new.states.items entered c.execute.new.sent.items c.extend.new.self.events
           c.in_ok-execute.ensures.states refl c.in_ok-execute.ensures.sends (search rules),
+      count_entered journals x.to x c.loop-executed.executed (subst (λ n. x.to < n) (sym run.count) inside.to) c.loop-executed.invariant.2,
     )
 
 pub returns-in_err-execute-clause-exhausted : goal.returns-in_err-execute-clause-exhausted
@@ -77,3 +89,18 @@ returns-clause-rest g c = midrun_rest c.loop-executed.invariant.1
 
 pub returns-clause-ready : goal.returns-clause-ready
 returns-clause-ready g c = midrun_ready g.M.Model g.M.Body.Ord.cmp c.args.model.now c.args.states.now.items c.args.pending.now.events c.requires.ready c.loop-executed.invariant.1
+
+pub returns-in_default-clause-count : goal.returns-in_default-clause-count
+returns-in_default-clause-count g c =
+    let y = system g.M.Model g.M.Body.Ord.cmp c.args.model.now c.args.states.now.items c.args.pending.now.events in
+    let n = c.loop-executed.executed in (
+      omega arith,
+      subst (λ es. n + events_below (system g.M.Model g.M.Body.Ord.cmp c.args.model.now c.loop-executed.states.items es) end_of_time ≡ events_below y end_of_time)
+          (none_still c.in_default.is c.in_ok-pop.ensures.none c.in_ok-pop.ensures.none_left)
+          (midrun_counted c.loop-executed.invariant.1 n c.loop-executed.invariant.2),
+    )
+
+pub returns-clause-count : goal.returns-clause-count
+returns-clause-count g c =
+    let all : c.args.limit ≡ c.loop-executed.executed = omega arith in
+    (omega arith, midrun_counted c.loop-executed.invariant.1 c.args.limit (all ∙ c.loop-executed.invariant.2))

@@ -8,9 +8,9 @@ use Rattle.rw_photo.specs.Cache.{Cache}
 use Rattle.rw_photo.specs.Simulation.{simulation}
 use Rattle.rw_photo.specs.declared.config.Config.{Config}
 use Rattle.rw_ripqwarp.specs.Report.{report_text}
-use Rattle.rw_ripqwarp.proofs.OneWorker.{stop-is-fault-alone}
+use Rattle.rw_ripqwarp.proofs.Stopping.{stop-is-fault-in-rounds}
 use Rattle.rw_ripqwarp.proofs.InOrder.{length-of-caches}
-use Rattle.rw_ripqwarp.proofs.alone.alone_text.Goals as goal
+use Rattle.rw_ripqwarp.proofs.rounds.rounds_text.Goals as goal
 
 pub report_of_states-requires : goal.report_of_states-requires
 report_of_states-requires g c =
@@ -20,7 +20,7 @@ report_of_states-requires g c =
 pub returns-in_err-states-clause-fault : goal.returns-in_err-states-clause-fault
 returns-in_err-states-clause-fault g c =
     let accepted = subst (λ n. trace_of n (2 ^ 24) (records_of c.args.bytes.now) ≡ Ok c.in_ok-trace.trace.items) c.edges.ensures c.in_ok-trace.ensures.rows in
-    stop-is-fault-alone c.from_residual-in_err-states.result c.args.config.now c.args.bytes.now c.args.plan c.in_err-states.field-0.0 (record { rows = c.in_ok-trace.trace.items; accepted = accepted }) c.in_err-states.ensures.stops c.from_residual-in_err-states.ensures.1
+    stop-is-fault-in-rounds c.from_residual-in_err-states.result c.args.config.now c.args.bytes.now c.args.plan c.in_err-states.field-0.0 (record { rows = c.in_ok-trace.trace.items; accepted = accepted }) c.in_err-states.ensures.stops c.from_residual-in_err-states.ensures.1
 
 pub returns-clause-text : goal.returns-clause-text
 returns-clause-text g c =

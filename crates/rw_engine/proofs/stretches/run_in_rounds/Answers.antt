@@ -1,0 +1,17 @@
+use Rattle.std.proofs.lemmas.Result.{IfOk-weaker}
+use Rattle.rw_vt.specs.Rest.{AreLastStates}
+use Rattle.rw_vt.specs.System.{system}
+use Rattle.rw_vt.proofs.Laws.{laws_of}
+use Rattle.rw_engine.proofs.Onward.{like_itself, moved_ends, moved_ready}
+use Rattle.rw_engine.proofs.stretches.run_in_rounds.Goals as goal
+
+pub run_in_rounds_from-requires-clause-ready : goal.run_in_rounds_from-requires-clause-ready
+run_in_rounds_from-requires-clause-ready g c κs within = moved_ready g.M.Model g.M.Body.Ord.cmp c.requires.ready c.in_ok-source.ensures
+
+pub returns-clause-states : goal.returns-clause-states
+returns-clause-states g c =
+    let laws = laws_of (g.met.M.Model g.world.𝓛 g.world.𝓜 g.world.𝓡 (like_itself _ _)) (g.met.M.Body.Ord g.world.𝓛 g.world.𝓜 g.world.𝓡 (like_itself _ _)).total in
+    let from = system g.M.Model g.M.Body.Ord.cmp c.args.model c.args.starts.items in
+    IfOk-weaker c.run_in_rounds_from.result (λ r. AreLastStates (from c.in_ok-source.source) r.0.items) (λ r. AreLastStates (from c.args.initial.items) r.0.items)
+    (λ r last. moved_ends g.M.Model g.M.Body.Ord.cmp laws c.requires.ready c.in_ok-source.ensures last)
+    c.run_in_rounds_from.ensures.states
