@@ -1,8 +1,8 @@
-ghost use Rattle.std.specs.Prelude.{◌≡◌, ◌+◌, ◌<◌, ◌++◌, ℕ, [], All, None, IfOk, OnOk, length, map, slice_get, vec_capacity};
+ghost use Rattle.std.specs.Prelude.{◌≡◌, ◌≢◌, ◌+◌, ◌<◌, ◌∷◌, ◌++◌, ℕ, List, [], All, None, IfOk, OnOk, length, map, slice_get, vec_capacity};
 ghost use Rattle.std.specs.VecDeque.{deque_capacity};
 ghost use Rattle.rw_vt.specs.declared.event.Letter.{Letter};
 ghost use Rattle.rw_vt.specs.System.{flatten};
-ghost use Rattle.rw_exchange.specs.Ports.{entry, IsOpening};
+ghost use Rattle.rw_exchange.specs.Ports.{entry, IsOpening, received_between, sent_between};
 ghost use Rattle.rw_rounds.specs.Bags.{weigh, sum_below};
 ghost use Rattle.rw_rounds.specs.Gathering.{IsGathered, of_shares};
 ghost use Rattle.rw_rounds.specs.Rounds.{weigh_left};
@@ -17,11 +17,11 @@ use rw_vt::{Letter, Model as VtModel, NoMemory, Refusal};
 use std::alloc::Global;
 use std::collections::VecDeque;
 
-/// The workers, or the refusal of the lowest one that was refused.
-pub(crate) fn all_done<M: VtModel>(
+/// The workers, or the refusal of the lowest one that was refused. What a worker is does not matter here.
+pub(crate) fn all_done<W: Drop>(
     alloc: Global,
-    results: Vec<Result<Worker<M>, Refusal>>,
-) -> Result<Vec<Worker<M>>, Refusal>
+    results: Vec<Result<W, Refusal>>,
+) -> Result<Vec<W>, Refusal>
     ensures { IfOk result (λ workers. map (λ w. Ok w) workers.items ≡ results.items) }
 {
     let mut workers = Vec::with_capacity(alloc, results.len())?;
@@ -69,14 +69,32 @@ pub(crate) fn gather<M: VtModel>(
         seats,
     } = take_apart(alloc, workers, traffic)?;
     let floor = rw_board::close(board, seats);
-    let left = rw_exchange::settle(alloc, ports)?;
-    let letters = join_letters(alloc, &left, &kept, &aside)?;
+    let letters = letters_left(alloc, ports, kept, aside)?;
     let processes = join_processes(alloc, count, shares)?;
     Ok(Gathered {
         processes,
         letters,
         floor,
     })
+}
+
+/// The letters that are on their way: those left in the rings between all these ports, those kept, and those set aside.
+fn letters_left<B: Copy>(
+    alloc: Global,
+    ports: Vec<Port<B>>,
+    kept: Vec<Vec<Letter<B>>>,
+    aside: Vec<Vec<Letter<B>>>,
+) -> Result<Vec<Letter<B>>, NoMemory>
+    requires opening { IsOpening ports.items }
+    ensures left { IfOk result (λ all. (left : ℕ → ℕ → List (Letter B))
+        × ((i k : ℕ) → i < length ports.items → k < length ports.items
+        → received_between ports.items i k ++ left i k ≡ sent_between ports.items i k)
+        × ((h : Letter B → ℕ) → weigh h all.items ≡ weigh_left (length ports.items) h left
+        + weigh h (flatten (map (λ k. k.items) kept.items))
+        + weigh h (flatten (map (λ a. a.items) aside.items)))) }
+{
+    let left = rw_exchange::settle(alloc, ports)?;
+    join_letters(alloc, &left, &kept, &aside)
 }
 
 /// What the workers of a round hold at its end, by worker.
@@ -158,12 +176,13 @@ fn take_apart<M: VtModel>(
     Ok(holdings)
 }
 
-/// The `count` processes in the order of their numbers: the shares give one each, round and round.
-fn join_processes<M: VtModel>(
+/// The `count` processes in the order of their numbers: the shares give one each, round and round. What a process is does
+/// not matter here.
+fn join_processes<P: Drop>(
     alloc: Global,
     count: usize,
-    shares: VecDeque<VecDeque<Lp<M>>>,
-) -> Result<Vec<Lp<M>>, NoMemory>
+    shares: VecDeque<VecDeque<P>>,
+) -> Result<Vec<P>, NoMemory>
     requires some { 0 < length shares.items }
     requires complete { (q : ℕ) → q < count
         → of_shares (length shares.items) (map (λ h. h.items) shares.items) q ≡ None → ⊥ }
@@ -175,16 +194,22 @@ fn join_processes<M: VtModel>(
     let mut shares = shares;
     let mut processes = Vec::with_capacity(alloc, count)?;
     for _process in 0..count {
-        let Some(mut share) = shares.pop_front() else {
-            unreachable!()
-        };
-        let Some(process) = share.pop_front() else {
-            unreachable!()
-        };
-        processes.push(process)?;
+        let mut share = first_of(&mut shares);
+        processes.push(first_of(&mut share))?;
         shares.push_back(share)?;
     }
     Ok(processes)
+}
+
+/// Takes the first item, of which there is one. Takes no memory.
+pub(crate) fn first_of<T: Drop>(items: &mut VecDeque<T>) -> T
+    requires some { items.old.items ≢ [] }
+    ensures first { items.old.items ≡ result ∷ items.new.items }
+{
+    let Some(first) = items.pop_front() else {
+        unreachable!()
+    };
+    first
 }
 
 /// The letters that are on their way: those left in the rings, by sender and then by receiver, those kept, and those

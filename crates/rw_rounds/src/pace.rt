@@ -1,6 +1,7 @@
 ghost use Rattle.rw_rounds.specs.Plans.{IsInRanges};
 
 use crate::plan::Plan;
+use crate::sim::Traffic;
 
 /// As many events a worker, executed for good, make a round worth its threads.
 const WORTHWHILE: u64 = 64;
@@ -97,9 +98,24 @@ impl Pace {
         }
     }
 
+    /// A round of a run within `bounds` was made, which took the floor from `from` to `to`, in ticks, and the counts from
+    /// `before` to `after`. Takes no memory.
+    pub(crate) fn note_round(
+        &mut self,
+        bounds: &Plan,
+        from: u64,
+        to: u64,
+        before: &Traffic,
+        after: &Traffic,
+    ) {
+        let executed = after.executed.wrapping_sub(before.executed);
+        let undone = after.undone.wrapping_sub(before.undone);
+        self.note(bounds, to.saturating_sub(from), executed, undone);
+    }
+
     /// A round of a run within `bounds` was made: its floor moved by `moved` ticks, and of `executed` events `undone` were
     /// undone. Takes no memory.
-    pub(crate) fn note(&mut self, bounds: &Plan, moved: u64, executed: u64, undone: u64) {
+    fn note(&mut self, bounds: &Plan, moved: u64, executed: u64, undone: u64) {
         if bounds.workers == 1 {
             return;
         }

@@ -4,7 +4,7 @@ ghost use Rattle.rw_rounds.specs.Plans.{IsInRanges};
 ghost use Rattle.rw_rounds.specs.Rounds.{Round, Rounded, RoundedUntil};
 ghost use Rattle.rw_rounds.specs.Stops.{EndsRound};
 
-use crate::gathering::{all_done, gather};
+use crate::gathering::gather;
 use crate::plan::Plan;
 use crate::setting_up::set_up;
 use crate::sim::{Sim, Traffic};
@@ -158,8 +158,7 @@ where
     };
     // On this rests that a worker may move.
     may_move::<Port<M::Body>>();
-    let results = run_each(rt, alloc, workers, &work)?;
-    let workers = all_done(alloc, results)?;
+    let workers = run_each(rt, alloc, workers, &work)?;
     let gathered = gather(alloc, count, board, workers, traffic)?;
     traffic.rounds = traffic.rounds.wrapping_add(1);
     let parts = Parts {

@@ -83,15 +83,13 @@ where
         let before = sim.traffic();
         sim = run_round(rt, alloc, sim.by(pace.plan(&plan)), gate)?;
         let traffic = sim.traffic();
-        if sim.floor() == END {
+        let reached = sim.floor();
+        if reached == END {
             let outcome = outcome(alloc, sim.into_world())?;
             return Ok((outcome, traffic));
         }
-        let executed = traffic.executed.wrapping_sub(before.executed);
-        let undone = traffic.undone.wrapping_sub(before.undone);
-        let moved = sim.floor().saturating_sub(floor);
-        pace.note(&plan, moved, executed, undone);
-        progress.reach(sim.floor());
+        pace.note_round(&plan, floor, reached, &before, &traffic);
+        progress.reach(reached);
     }
     Err(Stop::RoundsUsed)
 }

@@ -1,8 +1,11 @@
-ghost use Rattle.std.specs.Prelude.{◌≡◌, ◌+◌, ◌*◌, ◌%◌, ◌<◌, ◌≤◌, ◌==◌, ℕ, [], IfOk, All, filter, length, map, slice_get, slice_index_or};
+ghost use Rattle.std.specs.Prelude.{◌≡◌, ◌≢◌, ◌+◌, ◌*◌, ◌%◌, ◌<◌, ◌≤◌, ◌==◌, ◌∷◌, ℕ, [], IfOk, All, filter, length, map, slice_get, slice_index_or};
+ghost use Rattle.rw_exchange.specs.Ports.{IsNew, IsOpening, StayAnOpening};
+ghost use Rattle.rw_board.specs.Seats.{new_seat};
 ghost use Rattle.rw_rounds.specs.Plans.{IsInRanges};
 ghost use Rattle.rw_rounds.specs.Rounds.{role};
 ghost use Rattle.rw_rounds.specs.Setting.{AreSetUp};
 
+use crate::gathering::first_of;
 use crate::plan::Plan;
 use crate::worker::Worker;
 use rw_board::{Board, Seat};
@@ -10,6 +13,18 @@ use rw_exchange::Port;
 use rw_lp::Lp;
 use rw_vt::{Letter, Model as VtModel, NoMemory, empty_lists};
 use std::alloc::Global;
+use std::collections::VecDeque;
+
+/// What the workers of a round begin with, in the order of their numbers.
+#[derive(Drop)]
+struct Supply<P, B> {
+    /// The processes of each.
+    shares: VecDeque<Vec<P>>,
+    /// The letters on their way to each.
+    inboxes: VecDeque<Vec<Letter<B>>>,
+    ports: VecDeque<Port<B>>,
+    seats: VecDeque<Seat>,
+}
 
 /// Sets up a round: opens its board and its rings, and splits processes and letters among its workers.
 ///
@@ -25,20 +40,53 @@ pub(crate) fn set_up<M: VtModel>(
     ensures { IfOk result (λ r.
         AreSetUp plan.now collected processes.items letters.items r.0 r.1.items) }
 {
-    let ports = rw_exchange::open(alloc, plan.workers as usize, plan.ring as usize)?;
-    let (board, seats) = rw_board::open(alloc, plan.workers as usize)?;
-    let shares = split_processes(alloc, plan.workers, processes)?;
-    let inboxes = split_letters(alloc, plan.workers, &letters)?;
-    let workers = make_workers(alloc, plan, collected, shares, inboxes, ports, seats)?;
+    let (board, supply) = supplies(alloc, plan, processes, letters)?;
+    let workers = make_workers(alloc, plan, collected, supply)?;
     Ok((board, workers))
 }
 
-/// Each worker's share of the processes, in order: process q goes to worker q modulo `workers`.
-fn split_processes<M: VtModel>(
+/// The board of a round, and what its workers begin with. What a process is does not matter here.
+fn supplies<P: Drop, B: Copy>(
+    alloc: Global,
+    plan: &Plan,
+    processes: Vec<P>,
+    letters: Vec<Letter<B>>,
+) -> Result<(Board, Supply<P, B>), NoMemory>
+    requires { IsInRanges plan.now }
+    ensures shares { IfOk result (λ r. (length r.1.shares.items ≡ plan.now.workers)
+        × ((i place : ℕ) → i < plan.now.workers
+        → slice_get (slice_index_or (map (λ h. h.items) r.1.shares.items) i []) place
+        ≡ slice_get processes.items (i + place * plan.now.workers))) }
+    ensures inboxes { IfOk result (λ r. (length r.1.inboxes.items ≡ plan.now.workers)
+        × ((i : ℕ) → i < plan.now.workers
+        → slice_index_or (map (λ b. b.items) r.1.inboxes.items) i []
+        ≡ filter (λ l. l.event.to % plan.now.workers == i) letters.items)) }
+    ensures ports { IfOk result (λ r. (length r.1.ports.items ≡ plan.now.workers)
+        × IsOpening r.1.ports.items × StayAnOpening r.1.ports.items × All IsNew r.1.ports.items) }
+    ensures seats { IfOk result (λ r. (length r.1.seats.items ≡ plan.now.workers)
+        × (r.0.seats ≡ plan.now.workers) × All (λ s. s ≡ new_seat r.0.board) r.1.seats.items) }
+{
+    let workers = plan.workers as usize;
+    let shares = split_processes(alloc, plan.workers, processes)?;
+    let inboxes = split_letters(alloc, plan.workers, &letters)?;
+    let ports = rw_exchange::open(alloc, workers, plan.ring as usize)?;
+    let (board, seats) = rw_board::open(alloc, workers)?;
+    let supply = Supply {
+        shares: VecDeque::from(shares),
+        inboxes: VecDeque::from(inboxes),
+        ports: VecDeque::from(ports),
+        seats: VecDeque::from(seats),
+    };
+    Ok((board, supply))
+}
+
+/// Each worker's share of the processes, in order: process q goes to worker q modulo `workers`. What a process is does not
+/// matter here.
+fn split_processes<P: Drop>(
     alloc: Global,
     workers: u32,
-    processes: Vec<Lp<M>>,
-) -> Result<Vec<Vec<Lp<M>>>, NoMemory>
+    processes: Vec<P>,
+) -> Result<Vec<Vec<P>>, NoMemory>
     requires workers { 1 ≤ workers }
     ensures count { IfOk result (λ shares. length shares.items ≡ workers) }
     ensures each { IfOk result (λ shares. (i place : ℕ) → i < workers
@@ -78,36 +126,58 @@ fn make_workers<M: VtModel>(
     alloc: Global,
     plan: &Plan,
     collected: u64,
-    shares: Vec<Vec<Lp<M>>>,
-    inboxes: Vec<Vec<Letter<M::Body>>>,
-    ports: Vec<Port<M::Body>>,
-    seats: Vec<Seat>,
+    supply: Supply<Lp<M>, M::Body>,
 ) -> Result<Vec<Worker<M>>, NoMemory>
-    requires as_many { (length inboxes.items ≡ length shares.items)
-        × (length ports.items ≡ length shares.items)
-        × (length seats.items ≡ length shares.items) }
-    requires few { length shares.items ≤ 16 }
-    ensures count { IfOk result (λ workers. length workers.items ≡ length shares.items) }
-    ensures roles { IfOk result (λ workers. (i : ℕ) → i < length shares.items
+    requires shares { length supply.shares.items ≡ plan.now.workers }
+    requires inboxes { length supply.inboxes.items ≡ plan.now.workers }
+    requires ports { length supply.ports.items ≡ plan.now.workers }
+    requires seats { length supply.seats.items ≡ plan.now.workers }
+    ensures count { IfOk result (λ workers. length workers.items ≡ plan.now.workers) }
+    ensures roles { IfOk result (λ workers. (i : ℕ) → i < plan.now.workers
         → slice_get (map (λ w. w.role) workers.items) i ≡ Some (role plan.now collected i)) }
     ensures processes { IfOk result (λ workers.
-        map (λ w. w.processes) workers.items ≡ map (λ h. h.items) shares.items) }
+        map (λ w. w.processes) workers.items ≡ map (λ h. h.items) supply.shares.items) }
     ensures inboxes { IfOk result (λ workers.
-        map (λ w. w.inbox) workers.items ≡ map (λ b. b.items) inboxes.items) }
-    ensures ports { IfOk result (λ workers. map (λ w. w.port) workers.items ≡ ports.items) }
-    ensures seats { IfOk result (λ workers. map (λ w. w.seat) workers.items ≡ seats.items) }
+        map (λ w. w.inbox) workers.items ≡ map (λ b. b.items) supply.inboxes.items) }
+    ensures ports { IfOk result (λ workers.
+        map (λ w. w.port) workers.items ≡ supply.ports.items) }
+    ensures seats { IfOk result (λ workers.
+        map (λ w. w.seat) workers.items ≡ supply.seats.items) }
     ensures none { IfOk result (λ workers.
         All (λ w. (w.kept ≡ []) × (w.aside ≡ [])) workers.items) }
 {
-    let mut workers = Vec::with_capacity(alloc, shares.len())?;
-    let loads = shares.into_iter().zip(inboxes);
-    let places = ports.into_iter().zip(seats);
-    let mut number = 0;
-    for ((processes, inbox), (port, seat)) in loads.zip(places) {
-        workers.push_reserved(Worker::new(
-            alloc, number, plan, processes, inbox, port, seat, collected,
-        ));
-        number += 1;
+    let mut supply = supply;
+    let mut workers = Vec::with_capacity(alloc, plan.workers as usize)?;
+    for number in 0..plan.workers {
+        workers.push_reserved(next_worker(alloc, number, plan, collected, &mut supply));
     }
     Ok(workers)
+}
+
+/// Worker `number`, with what is next in the supply. Takes no memory.
+fn next_worker<M: VtModel>(
+    alloc: Global,
+    number: u32,
+    plan: &Plan,
+    collected: u64,
+    supply: &mut Supply<Lp<M>, M::Body>,
+) -> Worker<M>
+    requires shares { supply.old.shares.items ≢ [] }
+    requires inboxes { supply.old.inboxes.items ≢ [] }
+    requires ports { supply.old.ports.items ≢ [] }
+    requires seats { supply.old.seats.items ≢ [] }
+    ensures role { result.role ≡ role plan.now collected number }
+    ensures processes { map (λ h. h.items) supply.old.shares.items
+        ≡ result.processes ∷ map (λ h. h.items) supply.new.shares.items }
+    ensures inbox { map (λ b. b.items) supply.old.inboxes.items
+        ≡ result.inbox ∷ map (λ b. b.items) supply.new.inboxes.items }
+    ensures port { supply.old.ports.items ≡ result.port ∷ supply.new.ports.items }
+    ensures seat { supply.old.seats.items ≡ result.seat ∷ supply.new.seats.items }
+    ensures none { (result.kept ≡ []) × (result.aside ≡ []) }
+{
+    let processes = first_of(&mut supply.shares);
+    let inbox = first_of(&mut supply.inboxes);
+    let port = first_of(&mut supply.ports);
+    let seat = first_of(&mut supply.seats);
+    Worker::new(alloc, number, plan, processes, inbox, port, seat, collected)
 }

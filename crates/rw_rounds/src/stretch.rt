@@ -64,15 +64,12 @@ where
     for _round in 0..rounds {
         let before = sim.traffic();
         sim = run_round_until(rt, alloc, sim.by(pace.plan(&plan)), gate, until)?;
-        let traffic = sim.traffic();
-        let moved = sim.floor().saturating_sub(floor);
+        let from = floor;
         floor = sim.floor();
         if floor >= until {
             break;
         }
-        let executed = traffic.executed.wrapping_sub(before.executed);
-        let undone = traffic.undone.wrapping_sub(before.undone);
-        pace.note(&plan, moved, executed, undone);
+        pace.note_round(&plan, from, floor, &before, &sim.traffic());
         progress.reach(floor);
         if pace.alone().is_some() {
             break;

@@ -2,6 +2,7 @@ ghost use Rattle.std.specs.Prelude.{◌≡◌, ◌<◌, ℕ, IfOk, IfErr, All, l
 ghost use Rattle.std.specs.Thread.{IsSend};
 ghost use Rattle.rw_rounds.specs.Stops.{EndsRound};
 
+use crate::gathering::all_done;
 use crate::stop::Stop;
 use rw_vt::Refusal;
 use std::alloc::Global;
@@ -42,30 +43,30 @@ impl<J: Job<T>, T> Promise<Result<T, Refusal>> for Began<J, T> {
     ghost kept_by = { λ p r. IfOk r (λ done. J.Gives p.job.value p.input.value done) };
 }
 
-/// Does the job with each input in a thread of its own, and gives what came of each, in order. The last one is done in
-/// the calling thread, so one input alone starts no thread.
+/// Does the job with each input in a thread of its own, and gives what became of the inputs, in order. The last one is done
+/// in the calling thread, so one input alone starts no thread.
 ///
 /// # Errors
 ///
-/// `Memory` where memory was refused, and `NoThread` where the start of a thread was.
+/// `Memory` where memory was refused, and `NoThread` where the start of a thread was; else the refusal of the lowest input
+/// whose job was refused.
 pub(crate) fn run_each<J, T, R>(
     rt: &R,
     alloc: Global,
     inputs: Vec<T>,
     job: &J,
-) -> Result<Vec<Result<T, Refusal>>, Stop>
+) -> Result<Vec<T>, Stop>
 where
     J: Job<T> + Sync,
     T: Send + Drop,
     R: Threads + Wait + Sync,
     requires takes { All (λ t. J.Takes job.now t) inputs.items }
-    ensures count { IfOk result (λ rs. length rs.items ≡ length inputs.items) }
-    ensures each { IfOk result (λ rs. (i : ℕ) (d : _) (e : _) → i < length inputs.items
-        → IfOk (slice_index_or rs.items i e)
-        (λ done. J.Gives job.now (slice_index_or inputs.items i d) done)) }
+    ensures count { IfOk result (λ done. length done.items ≡ length inputs.items) }
+    ensures each { IfOk result (λ done. (i : ℕ) (d : _) (e : _) → i < length inputs.items
+        → J.Gives job.now (slice_index_or inputs.items i d) (slice_index_or done.items i e)) }
     ensures others { IfErr result (λ stop. EndsRound stop) }
 {
-    thread::scope(
+    let results = thread::scope(
         thread::scope_env(),
         rt,
         move |scope| -> Result<Vec<Result<T, Refusal>>, Stop>
@@ -102,7 +103,9 @@ where
             };
             Ok(results)
         },
-    )
+    )?;
+    let done = all_done(alloc, results)?;
+    Ok(done)
 }
 
 /// A value of type `T` may move to another thread: a fact for the proofs of those who call it. Does nothing.

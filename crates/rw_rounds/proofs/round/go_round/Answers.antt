@@ -3,8 +3,7 @@ use denote.Param.Send.{param_send}
 use Rattle.rw_vt.specs.System.{flatten}
 use Rattle.rw_vt.proofs.Laws.{Laws}
 use Rattle.rw_rounds.specs.Bags.{weigh, sum_below}
-use Rattle.rw_rounds.specs.Rounds.{TookRound}
-use Rattle.rw_rounds.proofs.Gathered.{AllTook, set_up_from, some_of, pairs, all_seated, opening_after, seats_after, there_after, from_hands_after, begins_at, joined, settled, floor_after, kept_after}
+use Rattle.rw_rounds.proofs.Gathered.{AllTook, set_up_from, some_of, all_seated, opening_after, seats_after, there_after, from_hands_after, begins_at, joined, settled, floor_after, kept_after}
 use Rattle.rw_rounds.proofs.Sending.{worker_may_move}
 use Rattle.rw_rounds.proofs.round.go_round.Given as given
 use Rattle.rw_rounds.proofs.round.go_round.Goals as goal
@@ -18,9 +17,7 @@ laws g =
 
 -- each of them has made its round
 went : (g : given.Over) (c : In_ok-workers g) → AllTook g.M.Model g.M.Body.Ord.cmp c.args.parts.model c.args.plan.now.turns c.in_ok-board.workers.items c.in_ok-workers.workers.items
-went g c =
-    let p = pairs (λ a b. TookRound g.M.Model g.M.Body.Ord.cmp c.args.parts.model c.args.plan.now.turns a b) c.in_ok-board.workers.items c.in_ok-workers.workers.items c.in_ok-results.results.items c.in_ok-workers.ensures c.in_ok-results.ensures.each c.in_ok-results.ensures.count in
-    record { long = p.0; went = p.1 }
+went g c = record { long = c.in_ok-workers.ensures.count; went = c.in_ok-workers.ensures.each }
 
 -- a worker may move to a thread of its own
 pub run_each-requires-send-T : goal.run_each-requires-send-T

@@ -4,8 +4,8 @@ use Rattle.rw_rounds.proofs.Stopping.{memory-is-no-plan}
 use Rattle.rw_rounds.proofs.running.run_and_tell.Goals as goal
 
 -- a run that was opened has a plan in its ranges
-pub returns-then-floor-eq-END-clause-plan : goal.returns-then-floor-eq-END-clause-plan
-returns-then-floor-eq-END-clause-plan g c = ((λ is. cc), λ out. (let refused = c.in_ok-sim.ensures.plan.1 out in cc))
+pub returns-then-reached-eq-END-clause-plan : goal.returns-then-reached-eq-END-clause-plan
+returns-then-reached-eq-END-clause-plan g c = ((λ is. cc), λ out. (let refused = c.in_ok-sim.ensures.plan.1 out in cc))
 
 -- want of memory is no bad plan
 pub returns-in_err-outcome-clause-plan : goal.returns-in_err-outcome-clause-plan
@@ -18,9 +18,9 @@ returns-in_err-outcome-clause-plan g c = (
 pub outcome-requires-clause-floor : goal.outcome-requires-clause-floor
 outcome-requires-clause-floor g c =
     let same = ap (λ s. floor s.world) c.into_world.ensures.world in
-    omega (arith, same, c.in_ok-sim-2.ensures.round.below_floor, c.floor.ensures.floor)
+    omega (arith, same, c.in_ok-sim-2.ensures.round.below_floor, c.floor-reached.ensures.floor)
 
 pub outcome-requires-clause-collected : goal.outcome-requires-clause-collected
 outcome-requires-clause-collected g c =
     let same = ap (λ s. s.world.collected) c.into_world.ensures.world in
-    omega (arith, same, c.in_ok-sim-2.ensures.round.collected, c.floor.ensures.floor)
+    omega (arith, same, c.in_ok-sim-2.ensures.round.collected, c.floor-reached.ensures.floor)

@@ -1,6 +1,6 @@
-use Rattle.std.proofs.Common.{◌≡◌, ◌<◌, [], length, map, get_or, ap, ◌∙◌, arith}
+use Rattle.std.proofs.Common.{◌≡◌, ◌<◌, [], length, map, get_or, sym, ap, ◌∙◌, arith}
 use Rattle.std.specs.Prelude.{◌%◌}
-use Rattle.std.proofs.lemmas.List.{length-set, length-map}
+use Rattle.std.proofs.lemmas.List.{length-set, length-map, length-replicate, get_or-replicate}
 use Rattle.rw_rounds.proofs.Shares.{pushed_at, sorted_more}
 use Rattle.rw_rounds.proofs.setting_up.split_letters.Goals as goal
 
@@ -20,3 +20,18 @@ loop-letter-preserved g c =
       long = length-set inboxes (x.event.to % n) c.push.new.self ∙ known.long;
       sorted_out = λ q at. ap (λ l. get_or l q []) pushed ∙ sorted_more (λ a. a.event.to % n) boxes n c.args.letters.now c.loop-letter.letter-index x long small c.loop-letter-test.true c.letter-item.is known.sorted_out q at;
     }
+
+pub loop-letter-init : goal.loop-letter-init
+loop-letter-init g c =
+    let inboxes = c.in_ok-inboxes.inboxes.items in
+    let n = c.args.workers in
+    record {
+      long = sym (length-map inboxes (λ b. b.items)) ∙ ap length c.in_ok-inboxes.ensures ∙ length-replicate n [];
+      sorted_out = λ q at. ap (λ l. get_or l q []) c.in_ok-inboxes.ensures ∙ get_or-replicate n q [] [] at;
+    }
+
+pub index_mut-requires : goal.index_mut-requires
+index_mut-requires g c = omega (arith, c.loop-letter.invariant.long, c.requires.workers)
+
+pub returns-clause-count : goal.returns-clause-count
+returns-clause-count g c = c.loop-letter.invariant.long

@@ -1,7 +1,7 @@
 use Rattle.std.proofs.Common.{◌≡◌, ◌+◌, ◌<◌, ◌++◌, ◌∷◌, [], Some, map, length, ap, ◌∙◌, sym, subst, arith, vec_len, get_or, IfOk, inl, inr, length-append}
 use Rattle.std.proofs.lemmas.Bool.{cases_lt}
 use Rattle.std.proofs.lemmas.List.{length-map, get_or-map, get_or_append_left}
-use Rattle.std.proofs.lemmas.List.Elements.{All-rest, All-same, All-push, All-pop}
+use Rattle.std.proofs.lemmas.List.Elements.{All-nil, All-rest, All-same, All-push, All-pop}
 use Rattle.std.proofs.Math.Seq.{get_or-append_seam}
 use Rattle.rw_rounds.proofs.Shares.{one_done, all_walked}
 use Rattle.rw_rounds.proofs.threads.fn.run_each.scope.Goals as goal
@@ -63,3 +63,18 @@ returns g c =
           ];
       others = tt;
     }
+
+pub loop-input-init : goal.loop-input-init
+loop-input-init g c =
+    let begin = c.into_iter-input-iterator.ensures.into_iter_gives.0 in
+    let none = c.in-Ok.ensures.items in
+    record {
+      room = omega (arith, c.in-Ok.ensures.exact, c.len.ensures, c.pop.new.self.ok.0, ap length begin);
+      count = omega (arith, c.in-Ok.ensures.len);
+      takes = All-same (λ t. g.J.Job.Takes c.captures.job.now t) _ _ begin (All-pop (λ t. g.J.Job.Takes c.captures.job.now t) c.captures.inputs.items c.pop.new.self.items (Some c.in-Some.own) c.in-Some.ensures.items c.requires.takes).0;
+      same = ap (λ hs. map (λ h. h.promise.input.value) hs ++ c.into_iter-input-iterator.result.rest.items) none;
+      one_job = All-same (λ h. h.promise.job.value ≡ c.captures.job.now) _ _ none (All-nil (λ h. h.promise.job.value ≡ c.captures.job.now));
+    }
+
+pub push_reserved-requires : goal.push_reserved-requires
+push_reserved-requires g c = omega (arith, c.loop-input.invariant.room, c.loop-input.invariant.count, ap length c.in-Some-input.ensures.steps.0)
