@@ -8,3 +8,13 @@ use Rattle.rw_rounds.specs.declared.stop.Stop.TheVariants.{BadPlan, Memory}
 pub memory-is-no-plan : {T : Type 0} (r : Result T Stop) → IsErrAnd r (λ s. s ≡ Memory) → r ≡ Err BadPlan → ⊥
 memory-is-no-plan (Ok t) is same = is
 memory-is-no-plan (Err s) is same = cc
+
+-- nor is what ends a round, as it is handed on
+pub end-is-no-plan : {T : Type 0} (r : Result T Stop) (e : Stop) → IsErrAnd r (λ s. s ≡ e) → (e ≡ BadPlan → ⊥) → r ≡ Err BadPlan → ⊥
+end-is-no-plan (Ok t) e is other same = is
+end-is-no-plan (Err s) e is other same = other cc
+
+-- a bad plan that is handed on
+pub still-bad-plan : {T : Type 0} (r : Result T Stop) (e : Stop) → IsErrAnd r (λ s. s ≡ e) → e ≡ BadPlan → r ≡ Err BadPlan
+still-bad-plan (Ok t) e is bad = absurd is
+still-bad-plan (Err s) e is bad = cc

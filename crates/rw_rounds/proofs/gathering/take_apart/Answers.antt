@@ -48,3 +48,38 @@ pub returns-clause-seats : goal.returns-clause-seats
 returns-clause-seats g c =
     let rest = c.loop-worker.worker-iterator.rest in
     all_walked _ (map (λ w. w.seat) rest.items) _ c.loop-worker.invariant.seats (length-map rest.items (λ w. w.seat) ∙ (sym rest.ok.0 ∙ c.in-None.ensures.steps.0))
+
+pub loop-worker-init : goal.loop-worker-init
+loop-worker-init g c =
+    let begin = c.into_iter-worker-iterator.ensures.into_iter_gives.0 in
+    let rest = c.into_iter-worker-iterator.result.rest.items in
+    let its = c.in_ok-holdings.holdings in
+    let made = c.in_ok-holdings.ensures in
+    let all = c.args.workers.ok.0 in
+    record {
+      shares_room = (omega (arith, made.room.0, c.len.ensures), omega (arith, its.shares.ok.0, ap length made.others.0, ap length begin, all));
+      kept_room = (omega (arith, made.letters_room.0, c.len.ensures), omega (arith, its.kept.ok.0, ap length made.letters.0, ap length begin, all));
+      aside_room = (omega (arith, made.letters_room.1, c.len.ensures), omega (arith, its.aside.ok.0, ap length made.letters.1, ap length begin, all));
+      ports_room = (omega (arith, made.room.1, c.len.ensures), omega (arith, its.ports.ok.0, ap length made.others.1, ap length begin, all));
+      seats_room = (omega (arith, made.room.2, c.len.ensures), omega (arith, its.seats.ok.0, ap length made.others.2, ap length begin, all));
+      shares = ap (λ z. map (λ h. h.items) z ++ map (λ w. w.processes) rest) made.others.0 ∙ ap (map (λ w. w.processes)) begin;
+      kept = ap (λ z. map (λ k. k.items) z ++ map (λ w. w.kept) rest) made.letters.0 ∙ ap (map (λ w. w.kept)) begin;
+      aside = ap (λ z. map (λ a. a.items) z ++ map (λ w. w.aside) rest) made.letters.1 ∙ ap (map (λ w. w.aside)) begin;
+      ports = ap (λ z. z ++ map (λ w. w.port) rest) made.others.1 ∙ ap (map (λ w. w.port)) begin;
+      seats = ap (λ z. z ++ map (λ w. w.seat) rest) made.others.2 ∙ ap (map (λ w. w.seat)) begin;
+    }
+
+pub push_back_reserved-requires : goal.push_back_reserved-requires
+push_back_reserved-requires g c = omega (arith, c.loop-worker.invariant.shares_room.0, c.loop-worker.invariant.shares_room.1, ap length c.in-Some.ensures.steps.0)
+
+pub push_reserved-requires : goal.push_reserved-requires
+push_reserved-requires g c = omega (arith, c.loop-worker.invariant.kept_room.0, c.loop-worker.invariant.kept_room.1, ap length c.in-Some.ensures.steps.0)
+
+pub push_reserved-requires-in-loop-worker : goal.push_reserved-requires-in-loop-worker
+push_reserved-requires-in-loop-worker g c = omega (arith, c.loop-worker.invariant.aside_room.0, c.loop-worker.invariant.aside_room.1, ap length c.in-Some.ensures.steps.0)
+
+pub push_reserved-requires-in-loop-worker-2 : goal.push_reserved-requires-in-loop-worker-2
+push_reserved-requires-in-loop-worker-2 g c = omega (arith, c.loop-worker.invariant.ports_room.0, c.loop-worker.invariant.ports_room.1, ap length c.in-Some.ensures.steps.0)
+
+pub push_reserved-requires-in-loop-worker-3 : goal.push_reserved-requires-in-loop-worker-3
+push_reserved-requires-in-loop-worker-3 g c = omega (arith, c.loop-worker.invariant.seats_room.0, c.loop-worker.invariant.seats_room.1, ap length c.in-Some.ensures.steps.0)

@@ -28,3 +28,23 @@ returns g c =
       all_walked _ (map (λ x. x.process.committed) rest.items) _ known.journals (length-map rest.items (λ x. x.process.committed) ∙ zero),
       all_walked _ (map (λ x. x.process.state) rest.items) _ known.states (length-map rest.items (λ x. x.process.state) ∙ zero),
     )
+
+pub loop-process-init : goal.loop-process-init
+loop-process-init g c =
+    let begin = c.into_iter-process-iterator.ensures.into_iter_gives.0 in
+    let rest = c.into_iter-process-iterator.result.rest.items in
+    let journals = c.in_ok-journals.ensures in
+    let states = c.in_ok-states.ensures in
+    let all = c.args.processes.ok.0 in
+    record {
+      room = (journals.exact, states.exact);
+      many = (omega (arith, journals.len, c.len-count.ensures, ap length begin, all), omega (arith, states.len, c.len-count.ensures, ap length begin, all));
+      journals = ap (λ z. map (λ j. j.items) z ++ map (λ x. x.process.committed) rest) journals.items ∙ ap (map (λ x. x.process.committed)) begin;
+      states = ap (λ z. z ++ map (λ x. x.process.state) rest) states.items ∙ ap (map (λ x. x.process.state)) begin;
+    }
+
+pub push_reserved-requires : goal.push_reserved-requires
+push_reserved-requires g c = omega (arith, c.loop-process.invariant.room.0, c.loop-process.invariant.many.0, ap length c.in-Some.ensures.steps.0)
+
+pub push_reserved-requires-in-loop-process : goal.push_reserved-requires-in-loop-process
+push_reserved-requires-in-loop-process g c = omega (arith, c.loop-process.invariant.room.1, c.loop-process.invariant.many.1, ap length c.in-Some.ensures.steps.0)

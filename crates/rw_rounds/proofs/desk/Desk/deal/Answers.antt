@@ -1,10 +1,11 @@
-use Rattle.std.proofs.Common.{[], ◌∷◌, ◌++◌, refl, sym, ap, ◌∙◌, subst, arith, append-nil}
+use Rattle.std.proofs.Common.{◌≡◌, [], ◌∷◌, ◌++◌, refl, sym, ap, ◌∙◌, subst, arith, length, length-append, append-nil}
+use Rattle.std.proofs.lemmas.List.{nil_from_length}
 use Rattle.std.specs.Prelude.{reverse}
 use Rattle.rw_vt.specs.System.{rules}
 use Rattle.rw_vt.proofs.Laws.{laws_of}
 use Rattle.rw_rounds.specs.Bags.{Every}
 use Rattle.rw_rounds.specs.Deeds.{IsFair}
-use Rattle.rw_rounds.specs.Working.{role_of, desk_of, Works, dones}
+use Rattle.rw_rounds.specs.Working.{role_of, desk_of, Works, sizes, dones}
 use Rattle.rw_rounds.proofs.Adding.{works_reordered, works_then, works_more}
 use Rattle.rw_rounds.proofs.Fits.{fit_after}
 use Rattle.rw_rounds.proofs.Sums.{every_front, every_back, weigh_reverse, every_reverse}
@@ -59,3 +60,37 @@ loop-letter-preserved g c =
       fair = every_front (IsFair (rules g.M.Model g.M.Body.Ord.cmp c.args.bench.now.model.now) c.args.self.now.collected) c.pop.new.self.items (c.in-Some.letter ∷ []) all;
       fewer = omega (arith, known.fewer, ap (λ v. dones v.items) c.in_ok-post.ensures.processes);
     }
+
+pub owns-requires : goal.owns-requires
+owns-requires g c = omega (arith, c.loop-letter.invariant.ready.worker.fit.number)
+
+pub arrive-requires-clause-ready : goal.arrive-requires-clause-ready
+arrive-requires-clause-ready g c = c.loop-letter.invariant.ready
+
+pub post-requires-clause-workers : goal.post-requires-clause-workers
+post-requires-clause-workers g c = c.loop-letter.invariant.ready.worker.fit.number
+
+pub post-requires-clause-port : goal.post-requires-clause-port
+post-requires-clause-port g c = (c.loop-letter.invariant.ready.worker.fit.port, c.loop-letter.invariant.ready.worker.fit.wide)
+
+pub post-requires-clause-board : goal.post-requires-clause-board
+post-requires-clause-board g c = c.loop-letter.invariant.ready.board
+
+pub returns-clause-works : goal.returns-clause-works
+returns-clause-works g c =
+    let known = c.loop-letter.invariant in
+    let x = c.args.self.now in
+    let none : c.loop-letter.at_hand.items ≡ [] = nil_from_length c.loop-letter.at_hand.items (omega (arith, c.in_default.ensures.cases.0, c.loop-letter.at_hand.ok.0)) in
+    record {
+      works = subst (λ ls. Works (rules g.M.Model g.M.Body.Ord.cmp c.args.bench.now.model.now) (role_of x) (desk_of x) (desk_of c.loop-letter.self) c.args.at_hand.now.items ls 0) none known.works;
+      can_work = known.ready;
+      none_left = sym (append-nil c.pop.new.self.items) ∙ (sym c.in_default.ensures.items ∙ none);
+    }
+
+pub returns-clause-fewer : goal.returns-clause-fewer
+returns-clause-fewer g c = c.loop-letter.invariant.fewer
+
+pub loop-letter-smaller : goal.loop-letter-smaller
+loop-letter-smaller g c =
+    let y = rules g.M.Model g.M.Body.Ord.cmp c.args.bench.now.model.now in
+    omega (arith, ap (λ v. sizes y v.items) c.in_ok-post.ensures.processes, ap length c.in-Some.ensures.items, length-append c.pop.new.self.items (c.in-Some.letter ∷ []))
