@@ -55,3 +55,22 @@ returns-clause-works g c =
     let known = c.loop-letter.invariant in
     let empty : c.loop-letter.letter-iterator.rest.items ≡ [] = none_left c.loop-letter.letter-iterator.rest.items (omega (arith, c.in-None.ensures.steps.0)) in
     works_offered (rules g.M.Model g.M.Body.Ord.cmp c.args.bench.now.model.now) (role_of x) (desk_of x) (desk_of c.loop-letter.self) c.requires.ready.worker.fit.kept (subst (λ ls. Works (rules g.M.Model g.M.Body.Ord.cmp c.args.bench.now.model.now) (role_of x) (record (desk_of x) { kept = [] }) (desk_of c.loop-letter.self) x.kept.items ls 0) empty known.works)
+
+pub returns-clause-ready : goal.returns-clause-ready
+returns-clause-ready g c = c.loop-letter.invariant.ready
+
+pub post-requires-clause-workers : goal.post-requires-clause-workers
+post-requires-clause-workers g c = c.loop-letter.invariant.ready.worker.fit.number
+
+pub post-requires-clause-port : goal.post-requires-clause-port
+post-requires-clause-port g c = (c.loop-letter.invariant.ready.worker.fit.port, c.loop-letter.invariant.ready.worker.fit.wide)
+
+pub post-requires-clause-other : goal.post-requires-clause-other
+post-requires-clause-other g c =
+    let x = c.args.self.now in
+    let known = c.loop-letter.invariant in
+    let others = subst (Every (λ l. owner (role_of x) l ≡ x.number → ⊥)) c.in-Some.ensures.steps.0 known.others in
+    subst (λ r. owner r c.in-Some.letter ≡ r.number → ⊥) (sym known.works.after) others.0
+
+pub post-requires-clause-board : goal.post-requires-clause-board
+post-requires-clause-board g c = c.loop-letter.invariant.ready.board
