@@ -155,6 +155,22 @@ phold_future m p s e w h t = by (comes_again m s e) refl
         (sent_well m p s e w h t g) (All-nil (λ f. IsSentBy p e f × (is_sound_ball m f ≡ true)))
     by false g = All-nil (λ f. IsSentBy p e f × (is_sound_ball m f ≡ true))
 
+-- and it comes as far ahead as is asked
+pub phold_ahead : (m : Phold) (p : ℕ) (s : Holder) (e : Event Ball) → IsHolder s
+    → is_sound_ball m e ≡ true → e.to ≡ p
+    → All (λ f. e.time + m.lookahead ≤ f.time) (phold_step m p s e).1
+phold_ahead m p s e w h t = by (comes_again m s e)
+  where
+    later : (k : ℕ) → e.time + m.lookahead ≤ e.time + m.lookahead + k
+    later k = omega arith
+
+    by : (b : Bool)
+        → All (λ f. e.time + m.lookahead ≤ f.time) (cond b (next_ball m p s e ∷ []) [])
+    by true = All-cons (λ f. e.time + m.lookahead ≤ f.time) (next_ball m p s e) []
+        (later (first_draw s / 2 ^ 32 % m.spread))
+        (All-nil (λ (f : Event Ball). e.time + m.lookahead ≤ f.time))
+    by false = All-nil (λ (f : Event Ball). e.time + m.lookahead ≤ f.time)
+
 -- numbers that compare as equal are the same
 nat_cmp_same : (m n : ℕ) → nat_cmp m n ≡ Equal → m ≡ n
 nat_cmp_same m n h =

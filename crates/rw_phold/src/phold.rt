@@ -2,7 +2,7 @@ ghost use Rattle.std.specs.Prelude.{◌≡◌, ◌≤◌, ◌<◌, ◌^◌, IfSo
 ghost use Rattle.rw_vt.specs.Limits.{end_of_time};
 ghost use Rattle.rw_phold.specs.Draws.{drawn, undrawn};
 
-use rw_vt::{END, Event, Model as VtModel, NoMemory, Refusal};
+use rw_vt::{END, Event, Lookahead, Model as VtModel, NoMemory, Refusal};
 use std::alloc::Global;
 
 /// The most processes.
@@ -211,4 +211,16 @@ impl VtModel for Phold {
     ghost same = { ball_same };
 
     ghost light = { λ _ _ _ _ _ _ _. Prim.omega arith };
+}
+
+impl Lookahead for Phold {
+    ghost use Rattle.rw_phold.specs.Balls.{phold_ahead};
+
+    ghost lookahead_of = { λ m. m.lookahead };
+
+    fn lookahead(&self) -> u64 {
+        self.lookahead
+    }
+
+    ghost ahead = { phold_ahead };
 }

@@ -1,5 +1,5 @@
 -- The events of caches: which are valid, and what each does.
-use Rattle.std.specs.Prelude.{◌+◌, ◌%◌, ◌^◌, Bool, if◌then◌else◌, nat_lt, nat_le, ◌&&◌, not, nat_eq, List, [], ◌∷◌, filter, length, Option, Some, None, unwrap_or}
+use Rattle.std.specs.Prelude.{min, ◌+◌, ◌%◌, ◌^◌, Bool, if◌then◌else◌, nat_lt, nat_le, ◌&&◌, not, nat_eq, List, [], ◌∷◌, filter, length, Option, Some, None, unwrap_or}
 use Rattle.std.specs.List.{range_with_len}
 use Rattle.rw_vt.specs.Words.{Count, Process, Time}
 use Rattle.rw_vt.specs.System.{map_from}
@@ -155,6 +155,10 @@ cache_after s o h =
       sends = plus s.sends (length h.sent);
       counters = sum_of s.counters h.counts;
     }
+
+-- the least time from an event to what it sends: the shorter way between an edge and an origin
+abbrev pub lookahead_of : Config → Time
+lookahead_of c = min c.up c.down
 
 -- the cache after an event, and what the cache sends
 abbrev pub step : Config → Process → Cache → Event Body → Cache × List (Event Body)

@@ -8,6 +8,7 @@ use Rattle.std.specs.List.{range_with_len}
 use Rattle.std.specs.Map.{keys_of, values_of}
 use Rattle.std.specs.Ordering.{nat_cmp, ordering_then}
 use Rattle.std.proofs.Common.{arith, sym, ◌∙◌, ap, true≢false}
+use Rattle.std.proofs.Math.Nat.{min-le_left, min-le_right}
 use Rattle.std.proofs.lemmas.Bool.Decides.{nat_tests}
 use Rattle.std.proofs.lemmas.Cmp.{ranked, by_ranked}
 use Rattle.std.proofs.lemmas.List.Elements.{All-cons, All-filter, All-head, All-nil, All-tail}
@@ -31,7 +32,7 @@ use Rattle.rw_photo.specs.declared.counters.Counters.{Counters}
 use Rattle.rw_photo.specs.Counts.{plus, AreCounts, sum_of, counters_by, no_counts, one_bypassed, with_late}
 use Rattle.rw_photo.specs.Cache.{Cache, IsWellFormed, is_stored, shape_at, waiting_for, with_waiting}
 use Rattle.rw_photo.specs.Storing.{QueueAndCounts, hit, insertion, store, same_queue, purge_if_stored}
-use Rattle.rw_photo.specs.Events.{Happening, clears_of, edges_but, purge_happening, backend_store, happening, is_valid, may_happen, edge_miss, origin_of, event_from, serving}
+use Rattle.rw_photo.specs.Events.{Happening, clears_of, edges_but, purge_happening, backend_store, happening, is_valid, may_happen, edge_miss, origin_of, event_from, lookahead_of, serving}
 
 -- ---- the definitions with the test that each makes as an argument, for proofs by cases
 abbrev pub placed : Policy → QueueState → Object → Size → QueueAndCounts
@@ -162,7 +163,8 @@ found-few s o None all is = tt
 
 -- what is said of one send
 abbrev pub Follows : Config → ℕ → ℕ → Event Body → Type 0
-Follows c p t f = (f.source ≡ p + 1) × (t < f.time) × (is_valid c f ≡ true)
+Follows c p t f =
+    (f.source ≡ p + 1) × (t < f.time) × (is_valid c f ≡ true) × (t + lookahead_of c ≤ f.time)
 
 -- what is said of what happens at process p at time t
 pub record IsFine (c : Config) (p t : ℕ) (h : Happening) : Type 0 where
@@ -173,30 +175,41 @@ pub record IsFine (c : Config) (p t : ℕ) (h : Happening) : Type 0 where
 one : (P : Event Body → Type 0) (f : Event Body) → P f → All P (f ∷ [])
 one P f h = All-cons P f [] h (All-nil P)
 
+-- neither way between an edge and an origin is shorter than the lookahead
+no_sooner_up : (c : Config) (t : ℕ) → t + lookahead_of c ≤ t + c.up
+no_sooner_up c t = let l = min-le_left c.up c.down in omega arith
+
+no_sooner_down : (c : Config) (t : ℕ) → t + lookahead_of c ≤ t + c.down
+no_sooner_down c t = let l = min-le_right c.up c.down in omega arith
+
 -- an origin is asked by a valid miss
 asks : (c : Config) (p : ℕ) (s : Cache) (t o z : ℕ) → s.sends < 2 ^ 64
     → may_happen c t p (Request o z) ≡ true
     → Follows c p t (event_from p s (t + c.up) (origin_of c o) (Miss o z p))
-asks c p s t o z n v = let r = c.in_range in (refl, omega arith, grind (arith, nat_tests))
+asks c p s t o z n v =
+    let r = c.in_range in (refl, omega arith, grind (arith, nat_tests), no_sooner_up c t)
 
 -- an edge is answered by a valid fill, at once or after the backend
 answers-at_once : (c : Config) (p : ℕ) (s : Cache) (t o z g : ℕ) → s.sends < 2 ^ 64
     → may_happen c t p (Miss o z g) ≡ true
     → Follows c p t (event_from p s (t + c.down) g (Fill o z))
 answers-at_once c p s t o z g n v =
-    let r = c.in_range in (refl, omega arith, grind (arith, nat_tests))
+    let r = c.in_range in (refl, omega arith, grind (arith, nat_tests), no_sooner_down c t)
 
 answers-later : (c : Config) (p : ℕ) (s : Cache) (t o z g : ℕ) → s.sends < 2 ^ 64
     → may_happen c t p (Miss o z g) ≡ true
     → Follows c p t (event_from p s (t + c.down + c.back) g (Fill o z))
 answers-later c p s t o z g n v =
-    let r = c.in_range in (refl, omega arith, grind (arith, nat_tests))
+    let r = c.in_range in
+    let soon = no_sooner_down c t in
+    (refl, omega arith, grind (arith, nat_tests), omega arith)
 
 -- an origin is told by a valid drop
 tells-origin : (c : Config) (p : ℕ) (s : Cache) (t o : ℕ) → s.sends < 2 ^ 64
     → may_happen c t p (Purge o) ≡ true
     → Follows c p t (event_from p s (t + c.up) (origin_of c o) (Drop o p))
-tells-origin c p s t o n v = let r = c.in_range in (refl, omega arith, grind (arith, nat_tests))
+tells-origin c p s t o n v =
+    let r = c.in_range in (refl, omega arith, grind (arith, nat_tests), no_sooner_up c t)
 
 -- an edge is told by a valid clear
 abbrev clear_from : ℕ → ℕ → ℕ → ℕ → ℕ → ℕ → Event Body
@@ -206,7 +219,7 @@ clear_from p n time o i edge =
 tells-edge : (c : Config) (p n t o g i edge : ℕ) → may_happen c t p (Drop o g) ≡ true
     → edge < c.edges → Follows c p t (clear_from p n (t + c.down) o i edge)
 tells-edge c p n t o g i edge v within =
-    let r = c.in_range in (refl, omega arith, grind (arith, nat_tests))
+    let r = c.in_range in (refl, omega arith, grind (arith, nat_tests), no_sooner_down c t)
 
 -- edges are below their number
 below : (a n m : ℕ) → a + n ≡ m → All (λ edge. edge < m) (range_with_len a n)

@@ -1,7 +1,8 @@
--- The laws that the trait `Model` asks of the caches: valid events are in their ranges, a step keeps a cache well
--- formed, sends are valid and later, and bodies that compare as equal are the same. They stand in specs/ with their
--- proofs since the implementation hands them to the trait as ghost members, which see no proofs/.
-use Rattle.std.specs.Prelude.{◌≡◌, ℕ, ◌+◌, ◌^◌, true, ◌&&◌, nat_lt, All}
+-- The laws that the traits `Model` and `Lookahead` ask of the caches: valid events are in their
+-- ranges, a step keeps a cache well formed, sends are valid, later, and as far ahead as is said, and
+-- bodies that compare as equal are the same. They stand in specs/ with their proofs since the
+-- implementation hands them to the traits as ghost members, which see no proofs/.
+use Rattle.std.specs.Prelude.{◌≡◌, ◌≤◌, ℕ, ◌+◌, ◌^◌, true, ◌&&◌, nat_lt, All}
 use Rattle.std.specs.declared.cmp.Ordering.TheVariants.{Equal}
 use Rattle.std.specs.Ordering.{nat_cmp, ordering_then}
 use Rattle.std.proofs.Common.{ap, arith, sym, true≢false}
@@ -14,7 +15,7 @@ use Rattle.rw_photo.specs.declared.body.Body.TheVariants.{Request, Miss, Fill, P
 use Rattle.rw_photo.specs.contracts.body.BodyOrd.TheImpl as order
 use Rattle.rw_photo.specs.declared.config.Config.{Config}
 use Rattle.rw_photo.specs.Cache.{Cache, IsWellFormed}
-use Rattle.rw_photo.specs.Events.{Happening, happening, is_valid, may_happen, object_of, step}
+use Rattle.rw_photo.specs.Events.{Happening, happening, is_valid, lookahead_of, may_happen, object_of, step}
 use Rattle.rw_photo.specs.Lawful.{Follows, IsFine, added-counts, ascending-with, both, both_equal, early, event-fine, few-with, is_equal, same_number}
 
 pub valid_ranges : (c : Config) (e : Event Body) → is_valid c e ≡ true
@@ -51,6 +52,14 @@ pub step_future : (c : Config) (p : ℕ) (s : Cache) (e : Event Body) → IsWell
 step_future c p s e w v at =
     All-weaker (Follows c p e.time) (λ f. IsSentBy p e f × (is_valid c f ≡ true))
     (λ f h. (record { source = h.0; later = h.1 }, h.2))
+    (step c p s e).1
+    (event-fine c p s e w v at).follow
+
+pub step_ahead : (c : Config) (p : ℕ) (s : Cache) (e : Event Body) → IsWellFormed c p s
+    → is_valid c e ≡ true → e.to ≡ p
+    → All (λ f. e.time + lookahead_of c ≤ f.time) (step c p s e).1
+step_ahead c p s e w v at =
+    All-weaker (Follows c p e.time) (λ f. e.time + lookahead_of c ≤ f.time) (λ f h. h.3)
     (step c p s e).1
     (event-fine c p s e w v at).follow
 

@@ -14,7 +14,7 @@ use crate::counters::Counters;
 use crate::undo::Undo;
 use rw_ripq::{Change, EXHAUSTED, Tally};
 use rw_trace::{MAX_SIZE, MAX_TIME};
-use rw_vt::{Event, Model as VtModel, NoMemory, Refusal};
+use rw_vt::{Event, Lookahead, Model as VtModel, NoMemory, Refusal};
 use std::alloc::Global;
 
 /// The model of the caches of a configuration: processes 0 to `edges - 1` are edges, then come the origins.
@@ -474,4 +474,17 @@ impl VtModel for Photo {
     ghost same = { bodies_same };
 
     ghost light = { λ _ _ _ _ _ _ links. links.short };
+}
+
+impl Lookahead for Photo {
+    ghost use Rattle.rw_photo.specs.Events.{lookahead_of};
+    ghost use Rattle.rw_photo.specs.Laws.{step_ahead};
+
+    ghost lookahead_of = { λ m. lookahead_of m.config };
+
+    fn lookahead(&self) -> u64 {
+        self.config.up.min(self.config.down)
+    }
+
+    ghost ahead = { λ m. step_ahead m.config };
 }

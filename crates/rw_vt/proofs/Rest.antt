@@ -45,7 +45,7 @@ made_of k zero f (x ∷ xs) c h = let is : c ≡ f k x = cc in let at : k ≡ k 
 made_of k (suc i) f (x ∷ xs) c h = let r = made_of (k + 1) i f xs c h in let at : (k + 1) + i ≡ k + suc i = omega arith in (r.0, r.1, r.2 ∙ ap (λ n. f n r.0) at)
 
 -- the joined lists of places where there is none
-none_joined : {A E : Type 0} (k : ℕ) (f : ℕ → A → List E) (xs : List A) → ((q : ℕ) (x : A) → f q x ≡ []) → flatten (map_from k f xs) ≡ []
+pub none_joined : {A E : Type 0} (k : ℕ) (f : ℕ → A → List E) (xs : List A) → ((q : ℕ) (x : A) → f q x ≡ []) → flatten (map_from k f xs) ≡ []
 none_joined k f [] h = refl
 none_joined k f (x ∷ xs) h = ap (λ l. l ++ flatten (map_from (k + 1) f xs)) (h k x) ∙ none_joined (k + 1) f xs h
 
@@ -59,7 +59,7 @@ module _ {A E : Type 0} {cmp : E → E → Ordering} (o : IsExactOrder cmp) wher
   ]
 
   -- lists that fall into two parts at each place
-  copies_in_parts : (e : E) (k : ℕ) (f g h : ℕ → A → List E) (xs : List A) → ((q : ℕ) (x : A) → f q x ≡ g q x ++ h q x)
+  pub copies_in_parts : (e : E) (k : ℕ) (f g h : ℕ → A → List E) (xs : List A) → ((q : ℕ) (x : A) → f q x ≡ g q x ++ h q x)
       → copies cmp e (flatten (map_from k f xs)) ≡ copies cmp e (flatten (map_from k g xs)) + copies cmp e (flatten (map_from k h xs))
   copies_in_parts e k f g h [] parts = omega arith
   copies_in_parts e k f g h (x ∷ xs) parts =

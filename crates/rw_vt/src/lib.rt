@@ -9,10 +9,12 @@
 
 mod event;
 mod lists;
+mod lookahead;
 mod model;
 mod refusal;
 
 pub use event::{END, Event, Letter, every_limit};
 pub use lists::empty_lists;
+pub use lookahead::Lookahead;
 pub use model::{Model, Outcome, execute_and_reverse, in_order};
 pub use refusal::{NoMemory, Refusal};
