@@ -4,7 +4,6 @@ use Rattle.std.proofs.lemmas.List.{get_or-map, get_or_push, get_or_append_left, 
 use Rattle.std.proofs.lemmas.List.Elements.{All-nil, All-head, All-tail, All-push, All-cons}
 use native.Mathlib.Decide.{ℕ_discrete}
 use Rattle.std.specs.declared.alloc.Global.{Global}
-use Rattle.rtrb.specs.declared.AnyItems.{AnyItems}
 use Rattle.rtrb.specs.declared.producer.Producer.{Producer}
 use Rattle.rtrb.specs.declared.consumer.Consumer.{Consumer}
 use Rattle.rw_exchange.specs.Rings.{Ring, out_ring, in_ring, out_free, KnowsFree, push_each, AllButOwn, cell, AreCrossed}
@@ -67,17 +66,27 @@ module _ (n m : ℕ) (rows columns : List (List (Option Ring))) (r : List (Optio
         (λ before. subst (AllButOwn i) (sym (earlier_row i before)) (h.others i before)) (subst (AllButOwn m) (sym last_row) own) (ℕ_discrete i m);
   }
 
-module _ {T : Type 0} where
-  out_there : (x : Option (Producer T Global AnyItems)) → IsSome (out_ring x) → IsSome x
+module _ {T P : Type 0} where
+  out_there : (x : Option (Producer T Global P)) → IsSome (out_ring x) → IsSome x
   out_there None h = h
   out_there (Some p) h = refl
 
-  in_there : (x : Option (Consumer T Global AnyItems)) → IsSome (in_ring x) → IsSome x
+  in_there : (x : Option (Consumer T Global P)) → IsSome (in_ring x) → IsSome x
   in_there None h = h
   in_there (Some c) h = refl
 
+  in_here : (x : Option (Consumer T Global P)) → IsSome x → IsSome (in_ring x)
+  in_here None h = h
+  in_here (Some c) h = refl
+
+  -- an end is still there where all rings are the same
+  pub end_there : (olds news : List (Option (Consumer T Global P))) (k : ℕ) → map in_ring news ≡ map in_ring olds → k < length olds → IsSome (get_or olds k None) → IsSome (get_or news k None)
+  end_there olds news k e lt some =
+      let lt' : k < length news = subst (λ z. k < z) (sym (length-map olds in_ring) ∙ (ap length (sym e) ∙ length-map news in_ring)) lt in
+      in_there (get_or news k None) (subst IsSome (sym (get_or-map in_ring olds k None None lt) ∙ (ap (λ z. get_or z k None) (sym e) ∙ get_or-map in_ring news k None None lt')) (in_here (get_or olds k None) some))
+
   -- the ends of one worker
-  pub ends_fit : (n own : ℕ) (rows columns : List (List (Option Ring))) (outs : List (Option (Producer T Global AnyItems))) (ins : List (Option (Consumer T Global AnyItems))) → AreCrossed n n rows columns → own < n
+  pub ends_fit : (n own : ℕ) (rows columns : List (List (Option Ring))) (outs : List (Option (Producer T Global P))) (ins : List (Option (Consumer T Global P))) → AreCrossed n n rows columns → own < n
       → get_or rows own [] ≡ map out_ring outs → get_or columns own [] ≡ map in_ring ins
       → (length outs ≡ n) × (length ins ≡ n) × ((k : ℕ) → k < length outs → k ≢ own → IsSome (get_or outs k None) × IsSome (get_or ins k None))
   ends_fit n own rows columns outs ins h within row column =
@@ -98,13 +107,13 @@ all_nothing f [] all k = refl
 all_nothing f (x ∷ xs) all zero = All-head (λ x. f x ≡ []) x xs all
 all_nothing f (x ∷ xs) all (suc k) = all_nothing f xs (All-tail (λ x. f x ≡ []) x xs all) k
 
-module _ {T : Type 0} where
-  free_is : (n : ℕ) (x : Option (Producer T Global AnyItems)) → KnowsFree n x → IsSome x → out_free x ≡ n
+module _ {T P : Type 0} where
+  free_is : (n : ℕ) (x : Option (Producer T Global P)) → KnowsFree n x → IsSome x → out_free x ≡ n
   free_is n None h some = absurd (cc)
   free_is n (Some p) h some = h
 
   -- what a new port knows to be free
-  pub all_free : (n : ℕ) (outs : List (Option (Producer T Global AnyItems))) (p : PortState T) → All (KnowsFree n) outs → p.out ≡ map out_ring outs → p.free ≡ map out_free outs
+  pub all_free : (n : ℕ) (outs : List (Option (Producer T Global P))) (p : PortState T) → All (KnowsFree n) outs → p.out ≡ map out_ring outs → p.free ≡ map out_free outs
       → ((k : ℕ) → k < length outs → k ≢ p.worker → IsSome (get_or outs k None)) → (k : ℕ) → IsOther p k → free_to p k ≡ n
   all_free n outs p all out free some k other =
       let lt : k < length outs = subst (λ z. k < z) (ap length out ∙ length-map outs out_ring) other.0 in

@@ -1,6 +1,7 @@
 -- What a contract sees of a port, and of all ports of one opening. T is the type of the letters.
 use Rattle.std.specs.Prelude.{◌≡◌, ◌≢◌, ◌<◌, List, [], ◌∷◌, ◌++◌, length, map, slice_index_or, slice_set, Option}
 use Rattle.std.specs.List.{All}
+use Rattle.rtrb.specs.Fifo.{EachAllowed}
 use Rattle.rw_vt.specs.Words.{Count, Position, Worker}
 use Rattle.rw_exchange.specs.Rings.{Ring, AllButOwn, cell}
 
@@ -90,6 +91,16 @@ module _ {T : Type 0} where
       → to < n
       → received_between ps from to ++ entry left from to ≡ sent_between ps from to
 
+  -- Of what is left in the rings between n workers, each item is one that a protocol allows behind all that came out of
+  -- its ring and all that is left in it before
+  abbrev pub IsLeftAllowed :
+      (List T → T → Type 0) → Count → List (PortState T) → List (List (List T)) → Type 0
+  IsLeftAllowed allows n ps left =
+      (from to : Worker)
+      → from < n
+      → to < n
+      → EachAllowed allows (received_between ps from to) (entry left from to)
+
   -- of n workers nothing is left from one to itself
   abbrev pub NoneToItself : Count → List (List (List T)) → Type 0
   NoneToItself n left = (i : Worker) → i < n → entry left i i ≡ []
@@ -127,3 +138,17 @@ IsLeftOfRow n place received left sent =
     (j : Worker)
     → j < n
     → entry received j place ++ slice_index_or left j [] ≡ slice_index_or sent j []
+
+-- each item that is left in one of n rings in a row is one that a protocol allows behind those before it
+abbrev pub IsRowAllowed :
+    {T : Type 0}
+    → (List T → T → Type 0)
+    → Count
+    → Position
+    → List (List (List T))
+    → List (List T)
+    → Type 0
+IsRowAllowed allows n place received left =
+    (j : Worker)
+    → j < n
+    → EachAllowed allows (entry received j place) (slice_index_or left j [])

@@ -3,7 +3,6 @@ use Rattle.std.specs.Prelude.{◌≡◌, ◌≢◌, ℕ, ◌<◌, ◌==◌, not,
 use Rattle.std.specs.List.{All}
 use Rattle.std.specs.declared.alloc.Global.{Global}
 use denote.RawPtr.{Ptr}
-use Rattle.rtrb.specs.declared.AnyItems.{AnyItems}
 use Rattle.rtrb.specs.declared.producer.Producer.{Producer}
 use Rattle.rtrb.specs.declared.consumer.Consumer.{Consumer}
 use Rattle.rtrb.specs.Ring as ring
@@ -13,68 +12,68 @@ use Rattle.rw_vt.specs.Words.{Count, Position, Worker}
 abbrev pub Ring : Type 0
 Ring = Ptr × (Ptr × (ℕ × (ℕ × ℕ)))
 
--- an end of a ring where letters go in, or where they come out, or none
-abbrev pub Out : Type 0 → Type 0
-Out T = Option (Producer T Global AnyItems)
+-- an end of a ring where items go in, or where they come out, or none. P is the type that has the protocol
+abbrev pub Out : Type 0 → Type 0 → Type 0
+Out T P = Option (Producer T Global P)
 
-abbrev pub In : Type 0 → Type 0
-In T = Option (Consumer T Global AnyItems)
+abbrev pub In : Type 0 → Type 0 → Type 0
+In T P = Option (Consumer T Global P)
 
--- the ends where the letters of one worker go in, and those where its letters come out
-abbrev pub Row : Type 0 → Type 0
-Row T = Vec (Out T) Global
+-- the ends where the items of one worker go in, and those where its items come out
+abbrev pub Row : Type 0 → Type 0 → Type 0
+Row T P = Vec (Out T P) Global
 
-abbrev pub Column : Type 0 → Type 0
-Column T = Vec (In T) Global
+abbrev pub Column : Type 0 → Type 0 → Type 0
+Column T P = Vec (In T P) Global
 
 -- ---- an end of a ring, or none
 
-module _ {T : Type 0} where
-  abbrev pub out_ring : Out T → Option Ring
+module _ {T P : Type 0} where
+  abbrev pub out_ring : Out T P → Option Ring
   out_ring None = None
   out_ring (Some p) = Some (p.end.words, (p.end.slots, p.end.names))
 
-  abbrev pub in_ring : In T → Option Ring
+  abbrev pub in_ring : In T P → Option Ring
   in_ring None = None
   in_ring (Some c) = Some (c.end.words, (c.end.slots, c.end.names))
 
   -- all that went into it, oldest first
-  abbrev pub out_sent : Out T → List T
+  abbrev pub out_sent : Out T P → List T
   out_sent None = []
   out_sent (Some p) = ring.sent p
 
-  -- how many of its slots are known to be free where letters go in
-  abbrev pub out_free : Out T → Count
+  -- how many of its slots are known to be free where items go in
+  abbrev pub out_free : Out T P → Count
   out_free None = 0
   out_free (Some p) = ring.known_free p
 
   -- all that came out of it, oldest first
-  abbrev pub in_received : In T → List T
+  abbrev pub in_received : In T P → List T
   in_received None = []
   in_received (Some c) = ring.received c
 
   -- the ring, where there is one, has this capacity
-  abbrev pub HasCapacity : Count → Out T → Type 0
+  abbrev pub HasCapacity : Count → Out T P → Type 0
   HasCapacity n None = Unit {0}
   HasCapacity n (Some p) = ring.producer_capacity p ≡ n
 
   -- all n slots of the ring, where there is one, are known to be free
-  abbrev pub KnowsFree : Count → Out T → Type 0
+  abbrev pub KnowsFree : Count → Out T P → Type 0
   KnowsFree n None = Unit {0}
   KnowsFree n (Some p) = ring.known_free p ≡ n
 
   -- an end through which nothing went
-  abbrev pub NothingSent : Out T → Type 0
+  abbrev pub NothingSent : Out T P → Type 0
   NothingSent x = out_sent x ≡ []
 
-  abbrev pub NothingReceived : In T → Type 0
+  abbrev pub NothingReceived : In T P → Type 0
   NothingReceived x = in_received x ≡ []
 
 -- ---- the ends of one worker, and those of several
 
-module _ {T : Type 0} where
+module _ {T P : Type 0} where
   -- there is an end each way for every worker but this one
-  abbrev pub HasEnds : Worker → List (Out T) → List (In T) → Type 0
+  abbrev pub HasEnds : Worker → List (Out T P) → List (In T P) → Type 0
   HasEnds own outs ins =
       (k : Worker)
       → k < length outs
@@ -82,25 +81,25 @@ module _ {T : Type 0} where
       → IsSome (slice_index_or outs k None) × IsSome (slice_index_or ins k None)
 
   -- nothing came out of any end
-  abbrev pub NothingReceivedAtAll : List (Column T) → Type 0
-  NothingReceivedAtAll columns = All (λ (c : Column T). All NothingReceived c.items) columns
+  abbrev pub NothingReceivedAtAll : List (Column T P) → Type 0
+  NothingReceivedAtAll columns = All (λ (c : Column T P). All NothingReceived c.items) columns
 
-  abbrev pub out_rings : List (Out T) → List (Option Ring)
+  abbrev pub out_rings : List (Out T P) → List (Option Ring)
   out_rings xs = map out_ring xs
 
-  abbrev pub in_rings : List (In T) → List (Option Ring)
+  abbrev pub in_rings : List (In T P) → List (Option Ring)
   in_rings xs = map in_ring xs
 
-  abbrev pub out_table : List (Row T) → List (List (Option Ring))
+  abbrev pub out_table : List (Row T P) → List (List (Option Ring))
   out_table rows = map (λ r. map out_ring r.items) rows
 
-  abbrev pub in_table : List (Column T) → List (List (Option Ring))
+  abbrev pub in_table : List (Column T P) → List (List (Option Ring))
   in_table rows = map (λ r. map in_ring r.items) rows
 
-  abbrev pub sent_table : List (Row T) → List (List (List T))
+  abbrev pub sent_table : List (Row T P) → List (List (List T))
   sent_table rows = map (λ r. map out_sent r.items) rows
 
-  abbrev pub received_table : List (Column T) → List (List (List T))
+  abbrev pub received_table : List (Column T P) → List (List (List T))
   received_table rows = map (λ r. map in_received r.items) rows
 
 -- each element goes behind the list of its number

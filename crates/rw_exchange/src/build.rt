@@ -2,16 +2,22 @@
 ghost use Rattle.std.specs.Prelude.{◌≡◌, ◌<◌, length, is_some, All, IfOk, OnOk, vec_len};
 ghost use Rattle.rw_exchange.specs.Rings.{out_ring, in_ring, out_rings, in_table, HasCapacity, KnowsFree, NothingSent, NothingReceived, NothingReceivedAtAll, AllButOwn, push_each, lists_with};
 
-use rtrb::{Consumer, Producer, RingBuffer};
+use rtrb::{Consumer, Producer, Protocol, RingBuffer};
 use rw_vt::NoMemory;
 use std::alloc::Global;
 
 // Both ends of a new ring, or of none where none is wanted.
-fn ends<T: Drop>(
+fn ends<T: Drop, P: Protocol<T>>(
     alloc: Global,
     wanted: bool,
     capacity: usize,
-) -> Result<(Option<Producer<T>>, Option<Consumer<T>>), NoMemory>
+) -> Result<
+    (
+        Option<Producer<T, Global, P>>,
+        Option<Consumer<T, Global, P>>,
+    ),
+    NoMemory,
+>
     ensures ring { IfOk result (λ r. out_ring r.0 ≡ in_ring r.1) }
     ensures wanted { IfOk result (λ r. is_some (out_ring r.0) ≡ wanted) }
     ensures capacity { IfOk result (λ r. HasCapacity capacity r.0) }
@@ -21,15 +27,15 @@ fn ends<T: Drop>(
     if !wanted {
         return Ok((None, None));
     }
-    let (producer, consumer) = RingBuffer::new(alloc, capacity)?;
+    let (producer, consumer) = RingBuffer::with_protocol::<Global, P>(alloc, capacity)?;
     Ok((Some(producer), Some(consumer)))
 }
 
 // Puts an end behind the others of column `k`.
-fn push_at<T: Drop>(
-    columns: &mut Vec<Vec<Option<Consumer<T>>>>,
+fn push_at<T: Drop, P: Protocol<T>>(
+    columns: &mut Vec<Vec<Option<Consumer<T, Global, P>>>>,
     k: usize,
-    end: Option<Consumer<T>>,
+    end: Option<Consumer<T, Global, P>>,
 ) -> Result<(), NoMemory>
     requires { k < vec_len columns.old }
     ensures length { vec_len columns.new ≡ vec_len columns.old }
@@ -46,12 +52,12 @@ fn push_at<T: Drop>(
 }
 
 // The rings from one worker to all others. Each column gets the other end of one.
-pub(crate) fn row<T: Drop>(
+pub(crate) fn row<T: Drop, P: Protocol<T>>(
     alloc: Global,
-    columns: &mut Vec<Vec<Option<Consumer<T>>>>,
+    columns: &mut Vec<Vec<Option<Consumer<T, Global, P>>>>,
     own: usize,
     capacity: usize,
-) -> Result<Vec<Option<Producer<T>>>, NoMemory>
+) -> Result<Vec<Option<Producer<T, Global, P>>>, NoMemory>
     requires { NothingReceivedAtAll columns.old.items }
     ensures length { IfOk result (λ r. vec_len r ≡ vec_len columns.old) }
     ensures rings { IfOk result (λ r. in_table columns.new.items

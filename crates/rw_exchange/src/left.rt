@@ -2,29 +2,27 @@
 ghost use Rattle.std.specs.Prelude.{◌≡◌, length, map};
 ghost use Rattle.rw_exchange.specs.Ports.{entry};
 
-use rw_vt::Letter;
 use std::marker::Model;
 
-/// The letters that were left in the rings of an opening, oldest first, by sender and receiver.
+/// The letters, of type `T`, that were left in the rings of an opening, oldest first, by sender and receiver.
 ///
 /// A contract sees a list for each sender, which has a list of letters for each receiver.
 #[derive(Drop)]
-pub struct Left<B> {
-    lists: Vec<Vec<Vec<Letter<B>>>>,
+pub struct Left<T> {
+    lists: Vec<Vec<Vec<T>>>,
 }
 
-impl<B> Model for Left<B> {
+impl<T> Model for Left<T> {
     ghost use Rattle.std.specs.Prelude.{List, map};
-    ghost use Rattle.rw_vt.specs.declared.event.Letter.{Letter};
 
-    ghost Value = { List (List (List (Letter B))) };
+    ghost Value = { List (List (List T)) };
 
     ghost view = { λ l. map (λ row. map (λ list. list.items) row.items) l.lists.items };
 }
 
-impl<B: Copy> Left<B> {
+impl<T: Copy> Left<T> {
     // The lists by sender and receiver.
-    pub(crate) fn of(lists: Vec<Vec<Vec<Letter<B>>>>) -> Left<B>
+    pub(crate) fn of(lists: Vec<Vec<Vec<T>>>) -> Left<T>
         ensures { result ≡ map (λ row. map (λ list. list.items) row.items) lists.items }
     {
         Left { lists }
@@ -39,7 +37,7 @@ impl<B: Copy> Left<B> {
 
     /// The letters that were left on the way from one worker to another, oldest first; none where one of the two does
     /// not exist. Takes no memory.
-    pub fn between(&self, from: usize, to: usize) -> &[Letter<B>]
+    pub fn between(&self, from: usize, to: usize) -> &[T]
         ensures letters { result.now ≡ entry self.now from to }
     {
         let Some(row) = self.lists.get(from) else {
@@ -52,7 +50,7 @@ impl<B: Copy> Left<B> {
     }
 
     /// All lists, by sender and then by receiver. Takes no memory.
-    pub fn into_lists(self) -> Vec<Vec<Vec<Letter<B>>>>
+    pub fn into_lists(self) -> Vec<Vec<Vec<T>>>
         ensures lists { map (λ row. map (λ list. list.items) row.items) result.items ≡ self }
     {
         let Left { lists } = self;

@@ -5,16 +5,22 @@ ghost use Rattle.rw_exchange.specs.Rings.{out_table, in_table, HasCapacity, Know
 
 use crate::Port;
 use crate::build::row;
-use rtrb::{Consumer, Producer};
+use rtrb::{Consumer, Producer, Protocol};
 use rw_vt::{NoMemory, empty_lists};
 use std::alloc::Global;
 
 // All rings, by sender and by receiver.
-fn tables<T: Drop>(
+fn tables<T: Drop, P: Protocol<T>>(
     alloc: Global,
     count: usize,
     capacity: usize,
-) -> Result<(Vec<Vec<Option<Producer<T>>>>, Vec<Vec<Option<Consumer<T>>>>), NoMemory>
+) -> Result<
+    (
+        Vec<Vec<Option<Producer<T, Global, P>>>>,
+        Vec<Vec<Option<Consumer<T, Global, P>>>>,
+    ),
+    NoMemory,
+>
     ensures crossed { IfOk result (λ r.
         AreCrossed count count (out_table r.0.items) (in_table r.1.items)) }
     ensures capacity { IfOk result (λ r. All (λ v. All (HasCapacity capacity) v.items) r.0.items) }
@@ -38,16 +44,17 @@ pub const MAX_CAPACITY: usize = 4096;
 
 /// One port for each of `workers` workers, 1 to [`MAX_WORKERS`] of them, in order, with a ring of `capacity` slots, 1
 /// to [`MAX_CAPACITY`], for each ordered pair of different workers. Each port knows that all slots of its rings are
-/// free. All memory of the rings is taken here.
+/// free. All memory of the rings is taken here. The caller says what the letters are, `T`, and the protocol of the rings,
+/// `P`.
 ///
 /// # Errors
 ///
 /// [`NoMemory`] where memory was refused.
-pub fn open<B: Copy>(
+pub fn open<T: Copy, P: Protocol<T>>(
     alloc: Global,
     workers: usize,
     capacity: usize,
-) -> Result<Vec<Port<B>>, NoMemory>
+) -> Result<Vec<Port<T, P>>, NoMemory>
     requires workers { (1 ≤ workers) × (workers ≤ MAX_WORKERS) }
     requires capacity { (1 ≤ capacity) × (capacity ≤ MAX_CAPACITY) }
     ensures count { IfOk result (λ ports. vec_len ports ≡ workers) }

@@ -1,33 +1,33 @@
 //! A worker's port.
 ghost use Rattle.std.specs.Prelude.{◌≡◌, ◌≢◌, ℕ, ◌+◌, ◌<◌, ◌≤◌, length, map, slice_index_or, All, IsSome, IsOk, OnOk, OnErr, IfErr, IfSome, IfNone};
 ghost use Rattle.rw_exchange.specs.Rings.{out_rings, in_rings, out_sent, out_free, in_received, HasCapacity, HasEnds};
-ghost use Rattle.rw_exchange.specs.Ports.{IsOther, SamePort, sent_to, free_to, after_sending, after_receiving};
+ghost use Rattle.rw_exchange.specs.Ports.{IsOther, SamePort, sent_to, free_to, received_from, after_sending, after_receiving};
 
 use crate::lane;
-use rtrb::{Consumer, Producer};
-use rw_vt::Letter;
+use rtrb::{AnyItems, Consumer, Producer, Protocol};
+use std::alloc::Global;
 use std::marker::Model;
 
-/// One worker's ends of the rings between it and each other worker.
+/// One worker's ends of the rings between it and each other worker. `T` is the type of the letters, and `P` the protocol
+/// of the rings.
 ///
 /// A contract sees the worker, the capacity of the rings, which rings they are, all letters that were sent to and
 /// received from each worker, and how many slots of the ring to each worker the port knows to be free. A port may move
 /// to a thread of its own.
 #[derive(Drop)]
-pub struct Port<B> {
+pub struct Port<T, P: Protocol<T> = AnyItems> {
     worker: usize,
     capacity: usize,
-    outs: Vec<Option<Producer<Letter<B>>>>,
-    ins: Vec<Option<Consumer<Letter<B>>>>,
+    outs: Vec<Option<Producer<T, Global, P>>>,
+    ins: Vec<Option<Consumer<T, Global, P>>>,
 }
 
-impl<B> Model for Port<B> {
+impl<T, P: Protocol<T>> Model for Port<T, P> {
     ghost use Rattle.std.specs.Prelude.{◌≡◌, length, map, All};
-    ghost use Rattle.rw_vt.specs.declared.event.Letter.{Letter};
     ghost use Rattle.rw_exchange.specs.Ports.{PortState};
     ghost use Rattle.rw_exchange.specs.Rings.{out_ring, in_ring, out_sent, out_free, in_received, HasCapacity, HasEnds};
 
-    ghost Value = { PortState (Letter B) };
+    ghost Value = { PortState T };
 
     ghost view = { λ p. record {
       worker = p.worker;
@@ -44,14 +44,14 @@ impl<B> Model for Port<B> {
         × All (HasCapacity p.capacity) p.outs.items };
 }
 
-impl<B: Copy> Port<B> {
+impl<T: Copy, P: Protocol<T>> Port<T, P> {
     // The ends of one worker.
     pub(crate) fn of(
         worker: usize,
         capacity: usize,
-        outs: Vec<Option<Producer<Letter<B>>>>,
-        ins: Vec<Option<Consumer<Letter<B>>>>,
-    ) -> Port<B>
+        outs: Vec<Option<Producer<T, Global, P>>>,
+        ins: Vec<Option<Consumer<T, Global, P>>>,
+    ) -> Port<T, P>
         requires same { length ins.items ≡ length outs.items }
         requires others { HasEnds worker outs.items ins.items }
         requires capacity { All (HasCapacity capacity) outs.items }
@@ -73,8 +73,8 @@ impl<B: Copy> Port<B> {
     pub(crate) fn into_ends(
         self,
     ) -> (
-        Vec<Option<Producer<Letter<B>>>>,
-        Vec<Option<Consumer<Letter<B>>>>,
+        Vec<Option<Producer<T, Global, P>>>,
+        Vec<Option<Consumer<T, Global, P>>>,
     )
         ensures out { out_rings result.0.items ≡ self.out }
         ensures into { in_rings result.1.items ≡ self.into }
@@ -105,7 +105,7 @@ impl<B: Copy> Port<B> {
         self.outs.len()
     }
 
-    /// Sends a letter to another worker.
+    /// Sends a letter to another worker, one that the protocol allows behind all that were sent to that worker before.
     ///
     /// A letter takes one of the slots that are known to be free, and the port may learn of more. It succeeds while
     /// fewer letters were sent to that worker in all than the ring has slots. That a slot which the receiver frees is
@@ -114,29 +114,42 @@ impl<B: Copy> Port<B> {
     /// # Errors
     ///
     /// The letter itself where the port knows of no free slot on the ring to that worker; the port is then as it was.
-    pub fn send(&mut self, to: usize, letter: Letter<B>) -> Result<(), Letter<B>>
+    pub fn send(&mut self, to: usize, item: T) -> Result<(), T>
         requires other { IsOther self.old to }
+        requires allowed { P.allows (sent_to self.old to) item }
         ensures ok { OnOk result
-            (self.new ≡ after_sending self.old to letter (free_to self.new to)) }
+            (self.new ≡ after_sending self.old to item (free_to self.new to)) }
         ensures free { OnOk result (free_to self.old to ≤ free_to self.new to + 1) }
-        ensures err { IfErr result (λ back. (back ≡ letter) × (self.new ≡ self.old)) }
+        ensures err { IfErr result (λ back. (back ≡ item) × (self.new ≡ self.old)) }
         ensures full { OnErr result (free_to self.new to ≡ 0) }
         ensures known { 0 < free_to self.old to → IsOk result }
         ensures succeeds { length (sent_to self.old to) < self.old.capacity → IsOk result }
         ensures same { SamePort self.old self.new }
     {
-        lane::push(&mut self.outs[to], letter)
+        lane::push(&mut self.outs[to], item)
     }
 
-    /// The next letter from another worker, in the order of sending, or `None` where none was seen.
+    /// The next letter from another worker, in the order of sending, or `None` where none was seen. It is one that the
+    /// protocol allows behind all that were received from that worker before.
     ///
     /// That a letter that was sent is seen is tested, not proved. Takes no memory and never waits.
-    pub fn receive(&mut self, from: usize) -> Option<Letter<B>>
+    pub fn receive(&mut self, from: usize) -> Option<T>
         requires other { IsOther self.old from }
-        ensures some { IfSome result (λ letter. self.new ≡ after_receiving self.old from letter) }
+        ensures some { IfSome result (λ item. self.new ≡ after_receiving self.old from item) }
+        ensures allowed { IfSome result (λ item. P.allows (received_from self.old from) item) }
         ensures none { IfNone result (self.new ≡ self.old) }
         ensures same { SamePort self.old self.new }
     {
         lane::pop(&mut self.ins[from])
+    }
+
+    /// Whether the port of some other worker was dropped: a worker that waits for letters need not wait for one that is
+    /// gone.
+    ///
+    /// No clause speaks of the answer. Takes no memory and never waits; looks at each ring once.
+    pub fn is_deserted(&mut self) -> bool
+        ensures same { self.new ≡ self.old }
+    {
+        lane::is_any_abandoned(&mut self.ins)
     }
 }

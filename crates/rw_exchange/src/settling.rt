@@ -1,23 +1,25 @@
 //! What is left in the rings at the end.
 ghost use Rattle.std.specs.Prelude.{◌≡◌, ◌≢◌, ℕ, ◌<◌, [], ◌++◌, length, map, slice_index_or, All, IfOk, OnOk, vec_len};
+ghost use Rattle.rtrb.specs.Fifo.{EachAllowed};
 ghost use Rattle.rtrb.specs.Ring.{sent, received, IsPair, SameConsumer};
-ghost use Rattle.rw_exchange.specs.Ports.{entry, IsOpening, outs_of, intos_of, IsLeftOf, IsLeftOfRow, NoneToItself};
+ghost use Rattle.rw_exchange.specs.Ports.{entry, IsOpening, outs_of, intos_of, IsLeftOf, IsLeftOfRow, IsLeftAllowed, IsRowAllowed, NoneToItself};
 ghost use Rattle.rw_exchange.specs.Rings.{cell, out_ring, in_ring, out_rings, out_sent, in_received, out_table, in_table, sent_table, received_table, SameBut, HasPlace, IsAtPlace};
 
 use crate::{Left, Port};
-use rtrb::{Consumer, Producer};
-use rw_vt::{Letter, NoMemory};
+use rtrb::{Consumer, Producer, Protocol};
+use rw_vt::NoMemory;
 use std::alloc::Global;
 
 // What is left in a ring, from both its ends.
-fn drain<T: Drop>(
+fn drain<T: Drop, P: Protocol<T>>(
     alloc: Global,
-    producer: &mut Producer<T>,
-    consumer: &mut Consumer<T>,
+    producer: &mut Producer<T, Global, P>,
+    consumer: &mut Consumer<T, Global, P>,
 ) -> Result<Vec<T>, NoMemory>
     requires { IsPair producer.old consumer.old }
     ensures same { SameConsumer consumer.old consumer.new }
     ensures fifo { IfOk result (λ v. received consumer.old ++ v.items ≡ sent producer.old) }
+    ensures allowed { IfOk result (λ v. EachAllowed P.allows (received consumer.old) v.items) }
 {
     let count = consumer.slots_beside(producer);
     let mut left = Vec::with_capacity(alloc, count)?;
@@ -28,14 +30,15 @@ fn drain<T: Drop>(
 }
 
 // What is left in a ring; nothing where there is no ring.
-fn rest<T: Drop>(
+fn rest<T: Drop, P: Protocol<T>>(
     alloc: Global,
-    out: Option<Producer<T>>,
-    end: &mut Option<Consumer<T>>,
+    out: Option<Producer<T, Global, P>>,
+    end: &mut Option<Consumer<T, Global, P>>,
 ) -> Result<Vec<T>, NoMemory>
     requires { out_ring out ≡ in_ring end.old }
     ensures ring { in_ring end.new ≡ in_ring end.old }
     ensures fifo { IfOk result (λ v. in_received end.old ++ v.items ≡ out_sent out) }
+    ensures allowed { IfOk result (λ v. EachAllowed P.allows (in_received end.old) v.items) }
 {
     match (out, end) {
         (Some(mut producer), Some(consumer)) => drain(alloc, &mut producer, consumer),
@@ -44,10 +47,10 @@ fn rest<T: Drop>(
 }
 
 // What is left in a ring from worker `i` to worker `j`, whose other end is at place `i` of column `j`.
-fn rest_at<T: Drop>(
+fn rest_at<T: Drop, P: Protocol<T>>(
     alloc: Global,
-    out: Option<Producer<T>>,
-    columns: &mut Vec<Vec<Option<Consumer<T>>>>,
+    out: Option<Producer<T, Global, P>>,
+    columns: &mut Vec<Vec<Option<Consumer<T, Global, P>>>>,
     j: usize,
     i: usize,
 ) -> Result<Vec<T>, NoMemory>
@@ -58,6 +61,8 @@ fn rest_at<T: Drop>(
     ensures rings { in_table columns.new.items ≡ in_table columns.old.items }
     ensures fifo { IfOk result (λ v.
         entry (received_table columns.old.items) j i ++ v.items ≡ out_sent out) }
+    ensures allowed { IfOk result (λ v.
+        EachAllowed P.allows (entry (received_table columns.old.items) j i) v.items) }
     ensures rows { SameBut j (received_table columns.old.items) (received_table columns.new.items) }
     ensures places { SameBut i
         (slice_index_or (received_table columns.old.items) j [])
@@ -68,10 +73,10 @@ fn rest_at<T: Drop>(
 }
 
 // What is left in the rings of one sender.
-fn gather<T: Drop>(
+fn gather<T: Drop, P: Protocol<T>>(
     alloc: Global,
-    row: Vec<Option<Producer<T>>>,
-    columns: &mut Vec<Vec<Option<Consumer<T>>>>,
+    row: Vec<Option<Producer<T, Global, P>>>,
+    columns: &mut Vec<Vec<Option<Consumer<T, Global, P>>>>,
     own: usize,
 ) -> Result<Vec<Vec<T>>, NoMemory>
     requires length { vec_len row ≡ vec_len columns.old }
@@ -84,6 +89,9 @@ fn gather<T: Drop>(
         (received_table columns.old.items)
         (map (λ v. v.items) l.items)
         (map out_sent row.items)) }
+    ensures allowed { IfOk result (λ l. IsRowAllowed P.allows (vec_len row) own
+        (received_table columns.old.items)
+        (map (λ v. v.items) l.items)) }
     ensures others { OnOk result ((j : ℕ) → SameBut own
         (slice_index_or (received_table columns.old.items) j [])
         (slice_index_or (received_table columns.new.items) j [])) }
@@ -97,13 +105,13 @@ fn gather<T: Drop>(
 }
 
 // The ends of all ports.
-fn parts<B: Copy>(
+fn parts<T: Copy, P: Protocol<T>>(
     alloc: Global,
-    ports: Vec<Port<B>>,
+    ports: Vec<Port<T, P>>,
 ) -> Result<
     (
-        Vec<Vec<Option<Producer<Letter<B>>>>>,
-        Vec<Vec<Option<Consumer<Letter<B>>>>>,
+        Vec<Vec<Option<Producer<T, Global, P>>>>,
+        Vec<Vec<Option<Consumer<T, Global, P>>>>,
     ),
     NoMemory,
 >
@@ -126,16 +134,21 @@ fn parts<B: Copy>(
 /// Ends an opening, given all its ports in order: the letters that are still in the rings.
 ///
 /// For each ordered pair of workers, what was received followed by what is left is what was sent, letter by letter and
-/// in order.
+/// in order, and each letter that is left is one that the protocol allows behind those before it.
 ///
 /// # Errors
 ///
 /// [`NoMemory`] where memory was refused; the letters that were left are then gone.
-pub fn settle<B: Copy>(alloc: Global, ports: Vec<Port<B>>) -> Result<Left<B>, NoMemory>
+pub fn settle<T: Copy, P: Protocol<T>>(
+    alloc: Global,
+    ports: Vec<Port<T, P>>,
+) -> Result<Left<T>, NoMemory>
     requires opening { IsOpening ports.items }
     ensures count { IfOk result (λ left. length left ≡ vec_len ports) }
     ensures wide { IfOk result (λ left. All (λ row. length row ≡ vec_len ports) left) }
     ensures fifo { IfOk result (λ left. IsLeftOf (vec_len ports) ports.items left) }
+    ensures allowed { IfOk result (λ left.
+        IsLeftAllowed P.allows (vec_len ports) ports.items left) }
     ensures own { IfOk result (λ left. NoneToItself (vec_len ports) left) }
 {
     let mut lists = Vec::with_capacity(alloc, ports.len())?;

@@ -39,7 +39,7 @@ fn first_worker<M: Model>(
     start: M::State,
     coming: Event<M::Body>,
     on_its_way: Letter<M::Body>,
-    port: Port<M::Body>,
+    port: Port<Letter<M::Body>>,
     seat: Seat,
 ) -> Result<Worker<M>, Fail>
     requires two { M.process_count model.now ≡ 2 }
@@ -58,7 +58,7 @@ fn first_worker<M: Model>(
 }
 
 /// The ports of both workers.
-fn two_ports(alloc: Global) -> Result<(Port<Parcel>, Port<Parcel>), Fail>
+fn two_ports(alloc: Global) -> Result<(Port<Letter<Parcel>>, Port<Letter<Parcel>>), Fail>
     ensures first { IfOk result (λ r. (r.0.worker ≡ 0) × IsWide 2 r.0) }
     ensures second { IfOk result (λ r. (r.1.worker ≡ 1) × IsWide 2 r.1) }
 {

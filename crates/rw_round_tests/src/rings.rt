@@ -1,8 +1,8 @@
 // Letters between workers over rings: in one thread, and in three.
-ghost use Rattle.std.specs.Prelude.{◌≡◌, ℕ, ◌<◌, ◌≤◌, [], ◌∷◌, length, map, slice_index_or, Ok, OnOk, IfOk, vec_len};
-ghost use Rattle.rw_exchange.specs.Ports.{SamePort, StayAnOpening, IsOpening};
+ghost use Rattle.std.specs.Prelude.{◌≡◌, ℕ, ◌<◌, ◌≤◌, [], ◌∷◌, length, map, slice_index_or, Ok, OnOk, IfOk, IfSome, vec_len};
+ghost use Rattle.rw_exchange.specs.Ports.{SamePort, StayAnOpening, IsOpening, IsNew, IsOther, received_from};
 
-use rw_exchange::{Left, Port, open, settle};
+use rw_exchange::{Left, Port, Protocol, open, settle};
 use rw_vt::{Event, Letter, NoMemory};
 use std::alloc::{AllocError, Global};
 use std::test::Fail;
@@ -28,7 +28,7 @@ fn letter(from: usize, number: u64) -> Letter<u64> {
 }
 
 // The ports of two workers, with rings of one slot.
-fn two_ports(alloc: Global) -> Result<(Port<u64>, Port<u64>), Fail>
+fn two_ports(alloc: Global) -> Result<(Port<Letter<u64>>, Port<Letter<u64>>), Fail>
     ensures numbers { IfOk result (λ r. (r.0.worker ≡ 0) × (r.1.worker ≡ 1)) }
     ensures wide { IfOk result (λ r. (length r.0.out ≡ 2) × (length r.1.out ≡ 2)) }
     ensures opening { IfOk result (λ r. StayAnOpening (r.0 ∷ r.1 ∷ [])) }
@@ -44,7 +44,11 @@ fn two_ports(alloc: Global) -> Result<(Port<u64>, Port<u64>), Fail>
 }
 
 // Settles the ports of two workers.
-fn settle_two(alloc: Global, first: Port<u64>, second: Port<u64>) -> Result<Left<u64>, Fail>
+fn settle_two(
+    alloc: Global,
+    first: Port<Letter<u64>>,
+    second: Port<Letter<u64>>,
+) -> Result<Left<Letter<u64>>, Fail>
     requires opening { IsOpening (first ∷ second ∷ []) }
 {
     let mut ports = Vec::new(alloc);
@@ -54,7 +58,7 @@ fn settle_two(alloc: Global, first: Port<u64>, second: Port<u64>) -> Result<Left
 }
 
 // Whether one letter is left, from worker 0 to worker 1.
-fn is_left(left: &Left<u64>, letter: Letter<u64>) -> bool {
+fn is_left(left: &Left<Letter<u64>>, letter: Letter<u64>) -> bool {
     left.workers() == 2
         && left.between(0, 1).iter().eq([letter].iter())
         && left.between(1, 0).is_empty()
@@ -85,6 +89,49 @@ fn each_port_knows_its_worker(rt: HostRuntime) -> Result<(), Fail> {
     Ok(())
 }
 
+/// The protocol of a ring of numbers: each is how many were sent before it.
+#[derive(Clone, Copy)]
+struct Counting;
+
+impl Protocol<u64> for Counting {
+    ghost allows = { λ before number. number ≡ length before };
+}
+
+// The ports of two workers, with rings of one number.
+fn two_counting(alloc: Global) -> Result<(Port<u64, Counting>, Port<u64, Counting>), Fail>
+    ensures numbers { IfOk result (λ r. (r.0.worker ≡ 0) × (r.1.worker ≡ 1)) }
+    ensures wide { IfOk result (λ r. (length r.0.out ≡ 2) × (length r.1.out ≡ 2)) }
+    ensures new { IfOk result (λ r. IsNew r.0 × IsNew r.1) }
+{
+    let mut ports = open(alloc, 2, 1)?;
+    let Some(second) = ports.pop() else {
+        unreachable!()
+    };
+    let Some(first) = ports.pop() else {
+        unreachable!()
+    };
+    Ok((first, second))
+}
+
+// The next number from another worker, of which the protocol alone says what it is.
+fn next_number(port: &mut Port<u64, Counting>, from: usize) -> Option<u64>
+    requires other { IsOther port.old from }
+    ensures number { IfSome result (λ number. number ≡ length (received_from port.old from)) }
+{
+    port.receive(from)
+}
+
+#[test]
+fn a_port_of_numbers_under_a_protocol(rt: HostRuntime) -> Result<(), Fail> {
+    let (mut first, mut second) = two_counting(rt.alloc())?;
+    assert!(rt; first.send(1, 0) == Ok(()));
+    assert!(rt; !second.is_deserted());
+    drop(first);
+    assert!(rt; second.is_deserted());
+    assert!(rt; next_number(&mut second, 0) == Some(0));
+    Ok(())
+}
+
 // Lets other threads go first, now and then.
 fn pause(turn: u64) {
     if turn % 64 == 0 {
@@ -102,7 +149,7 @@ struct Log {
 /// A worker that sends letters to all others and receives theirs.
 #[derive(Drop)]
 struct Trader {
-    port: Port<u64>,
+    port: Port<Letter<u64>>,
     log: Log,
     awaited: u64,
     gave_up: bool,
@@ -118,7 +165,7 @@ fn lists(alloc: Global, count: usize) -> Result<Vec<Vec<Letter<u64>>>, NoMemory>
 }
 
 impl Trader {
-    fn new(alloc: Global, port: Port<u64>) -> Result<Trader, NoMemory>
+    fn new(alloc: Global, port: Port<Letter<u64>>) -> Result<Trader, NoMemory>
         ensures port { IfOk result (λ t. t.port ≡ port) }
     {
         let count = port.workers();
@@ -231,7 +278,7 @@ impl Trader {
 
 // All that one worker does, in its thread. Its signature is a point too: it sends and receives with its port and no
 // handle of the runtime. What may wait, as for a lock, would need one, so no lock is round the ports.
-fn trade(alloc: Global, port: Port<u64>) -> Result<Trader, NoMemory>
+fn trade(alloc: Global, port: Port<Letter<u64>>) -> Result<Trader, NoMemory>
     ensures same { IfOk result (λ t. SamePort port t.port) }
 {
     let mut trader = Trader::new(alloc, port)?;
@@ -244,7 +291,7 @@ fn trade(alloc: Global, port: Port<u64>) -> Result<Trader, NoMemory>
 fn trade_all<R: Threads + Sync>(
     rt: &R,
     alloc: Global,
-    ports: Vec<Port<u64>>,
+    ports: Vec<Port<Letter<u64>>>,
 ) -> Result<Vec<Result<Trader, NoMemory>>, AllocError>
     ensures count { IfOk result (λ ts. vec_len ts ≡ vec_len ports) }
     ensures same { IfOk result (λ ts. (i : ℕ) (d : _) (e : _)
@@ -255,7 +302,7 @@ fn trade_all<R: Threads + Sync>(
     thread::map_vec(
         rt,
         ports,
-        &|port: Port<u64>| -> Result<Trader, NoMemory>
+        &|port: Port<Letter<u64>>| -> Result<Trader, NoMemory>
             ensures { IfOk result (λ t. SamePort port t.port) }
         { trade(alloc, port) },
     )
@@ -273,7 +320,10 @@ fn all_ok(alloc: Global, results: Vec<Result<Trader, NoMemory>>) -> Result<Vec<T
 }
 
 // Their ports and their logs.
-fn split(alloc: Global, traders: Vec<Trader>) -> Result<(Vec<Port<u64>>, Vec<Log>), NoMemory>
+fn split(
+    alloc: Global,
+    traders: Vec<Trader>,
+) -> Result<(Vec<Port<Letter<u64>>>, Vec<Log>), NoMemory>
     ensures ports { IfOk result (λ r. r.0.items ≡ map (λ t. t.port) traders.items) }
 {
     let mut ports = Vec::with_capacity(alloc, traders.len())?;
@@ -286,7 +336,7 @@ fn split(alloc: Global, traders: Vec<Trader>) -> Result<(Vec<Port<u64>>, Vec<Log
 }
 
 // Whether what was received followed by what is left is what was sent.
-fn agrees(logs: &[Log], left: &Left<u64>, from: usize, to: usize) -> bool {
+fn agrees(logs: &[Log], left: &Left<Letter<u64>>, from: usize, to: usize) -> bool {
     let (Some(sender), Some(receiver)) = (logs.get(from), logs.get(to)) else {
         return false;
     };

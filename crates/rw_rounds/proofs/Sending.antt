@@ -21,6 +21,7 @@ use Rattle.rw_vt.specs.contracts.event.EventPartialEq.TheImpl as EventPartialEq
 use Rattle.rw_vt.specs.contracts.event.EventPartialOrd.TheImpl as EventPartialOrd
 use Rattle.rw_vt.specs.contracts.event.Letter as Letter
 use Rattle.rw_board.specs.contracts.board.Seat as Seat
+use Rattle.rw_exchange.specs.contracts.AnyItems as AnyItems
 use Rattle.rw_exchange.specs.contracts.port.Port as Port
 use Rattle.rw_bag.specs.contracts.counted.CountedBag as CountedBag
 use Rattle.rw_bag.specs.contracts.counted.CountedBag.TheInside as CountedInside
@@ -54,6 +55,10 @@ module _ (B : RattleType) where
   letters_may_move : IsSend B → IsSend Letters
   letters_may_move s = search (sendable, crosses) depth 40
 
+-- a port of letters with these bodies, whose rings allow every letter
+abbrev Ends : RattleType → RattleType
+Ends B = Port.the_row (Letter.the_row B) AnyItems.the_row (record { allows = λ before letter. Unit {0} })
+
 module _ (M S B U : RattleType) (g : Ghosts M.Denot S.Denot B.Denot U.Denot) (o : ord.Ghosts B.Denot) (w : whole.Ghosts B.Denot) (e : eq.Ghosts B.Denot) (p : partial.Ghosts B.Denot) where
   abbrev Processes : RattleType
   Processes = (Vec.the_field (Lp.the_row M S B U g o w e p) Global.the_row global.ghosts).row
@@ -61,10 +66,10 @@ module _ (M S B U : RattleType) (g : Ghosts M.Denot S.Denot B.Denot U.Denot) (o 
   processes_may_move : IsSend (Lp.the_row M S B U g o w e p) → IsSend Processes
   processes_may_move s = search (sendable, crosses) depth 40
 
-  desk_may_move : IsSend B → IsSend (Lp.the_row M S B U g o w e p) → IsSend (Port.the_row B) → IsSend Seat.the_row → IsSend (Desk.the_field M S B U g o w e p).row
+  desk_may_move : IsSend B → IsSend (Lp.the_row M S B U g o w e p) → IsSend (Ends B) → IsSend Seat.the_row → IsSend (Desk.the_field M S B U g o w e p).row
   desk_may_move b lp port seat =
       let letters = letters_may_move B b in
-      let all : AllSend (u32-field.row ∷ Plan.the_field.row ∷ u64-field.row ∷ Processes ∷ Letters B ∷ Letters B ∷ (Port.the_field B).row ∷ Seat.the_field.row ∷ Traffic.the_field.row ∷ []) = (number_may_move, (plan_may_move, (time_may_move, (processes_may_move lp, (letters, (letters, (port, (seat, (traffic_may_move, tt))))))))) in
+      let all : AllSend (u32-field.row ∷ Plan.the_field.row ∷ u64-field.row ∷ Processes ∷ Letters B ∷ Letters B ∷ Ends B ∷ Seat.the_field.row ∷ Traffic.the_field.row ∷ []) = (number_may_move, (plan_may_move, (time_may_move, (processes_may_move lp, (letters, (letters, (port, (seat, (traffic_may_move, tt))))))))) in
       struct_send (shape (Desk.the_type M S B U g o w e p)) all
 
   event_may_move : IsSend B → IsSend (Event.the_row B)
@@ -80,7 +85,7 @@ module _ (M S B U : RattleType) (g : Ghosts M.Denot S.Denot B.Denot U.Denot) (o 
       let counted = counted_may_move b in
       search (sendable, crosses) depth 60 fits 20000
 
-  pub worker_may_move : IsSend S → IsSend B → IsSend U → IsSend (Port.the_row B) → IsSend (Worker.the_row M S B U g o w e p)
+  pub worker_may_move : IsSend S → IsSend B → IsSend U → IsSend (Ends B) → IsSend (Worker.the_row M S B U g o w e p)
   worker_may_move s b u port =
       let T = Inside.the_type M S B U g o w e p in
       let all : AllSend ((Desk.the_field M S B U g o w e p).row ∷ Letters B ∷ []) = (desk_may_move b (process_may_move s b u) port seat_may_move, (letters_may_move B b, tt)) in

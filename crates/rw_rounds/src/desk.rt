@@ -34,7 +34,7 @@ pub(crate) struct Desk<M: VtModel> {
     pub(crate) kept: Vec<Letter<M::Body>>,
     /// Received letters that failed the test.
     pub(crate) aside: Vec<Letter<M::Body>>,
-    pub(crate) port: Port<M::Body>,
+    pub(crate) port: Port<Letter<M::Body>>,
     pub(crate) seat: Seat,
     pub(crate) traffic: Traffic,
 }

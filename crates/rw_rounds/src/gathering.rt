@@ -81,7 +81,7 @@ pub(crate) fn gather<M: VtModel>(
 /// The letters that are on their way: those left in the rings between all these ports, those kept, and those set aside.
 fn letters_left<B: Copy>(
     alloc: Global,
-    ports: Vec<Port<B>>,
+    ports: Vec<Port<Letter<B>>>,
     kept: Vec<Vec<Letter<B>>>,
     aside: Vec<Vec<Letter<B>>>,
 ) -> Result<Vec<Letter<B>>, NoMemory>
@@ -106,7 +106,7 @@ struct Holdings<M: VtModel> {
     kept: Vec<Vec<Letter<M::Body>>>,
     /// The letters that each set aside.
     aside: Vec<Vec<Letter<M::Body>>>,
-    ports: Vec<Port<M::Body>>,
+    ports: Vec<Port<Letter<M::Body>>>,
     seats: Vec<Seat>,
 }
 
@@ -216,7 +216,7 @@ pub(crate) fn first_of<T: Drop>(items: &mut VecDeque<T>) -> T
 /// set aside.
 fn join_letters<B: Copy>(
     alloc: Global,
-    left: &Left<B>,
+    left: &Left<Letter<B>>,
     kept: &[Vec<Letter<B>>],
     aside: &[Vec<Letter<B>>],
 ) -> Result<Vec<Letter<B>>, NoMemory>
@@ -248,7 +248,7 @@ fn add_all<B: Copy>(letters: &mut Vec<Letter<B>>, lists: &[Vec<Letter<B>>]) -> R
 /// Adds the letters from worker `from` that are left in the rings.
 fn add_sent<B: Copy>(
     letters: &mut Vec<Letter<B>>,
-    left: &Left<B>,
+    left: &Left<Letter<B>>,
     from: usize,
 ) -> Result<(), NoMemory>
     ensures more { OnOk result ((h : Letter B → ℕ) → weigh h letters.new.items

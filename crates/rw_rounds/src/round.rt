@@ -13,7 +13,7 @@ use crate::threads::{Job, may_move, run_each};
 use crate::worker::Worker;
 use rw_board::Board;
 use rw_exchange::Port;
-use rw_vt::{Model as VtModel, Refusal};
+use rw_vt::{Letter, Model as VtModel, Refusal};
 use rw_world::{Parts, Step, World, every_exchange, every_floor, every_sound_world, every_step};
 use std::alloc::Global;
 use std::sync::Wait;
@@ -157,7 +157,7 @@ where
         turns: plan.turns,
     };
     // On this rests that a worker may move.
-    may_move::<Port<M::Body>>();
+    may_move::<Port<Letter<M::Body>>>();
     let workers = run_each(rt, alloc, workers, &work)?;
     let gathered = gather(alloc, count, board, workers, traffic)?;
     traffic.rounds = traffic.rounds.wrapping_add(1);

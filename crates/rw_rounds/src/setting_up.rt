@@ -22,7 +22,7 @@ struct Supply<P, B> {
     shares: VecDeque<Vec<P>>,
     /// The letters on their way to each.
     inboxes: VecDeque<Vec<Letter<B>>>,
-    ports: VecDeque<Port<B>>,
+    ports: VecDeque<Port<Letter<B>>>,
     seats: VecDeque<Seat>,
 }
 

@@ -59,7 +59,7 @@ impl<M: VtModel> Worker<M> {
         plan: &Plan,
         processes: Vec<Lp<M>>,
         inbox: Vec<Letter<M::Body>>,
-        port: Port<M::Body>,
+        port: Port<Letter<M::Body>>,
         seat: Seat,
         collected: u64,
     ) -> Worker<M>

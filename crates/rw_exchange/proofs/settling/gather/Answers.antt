@@ -1,8 +1,9 @@
 use Rattle.std.proofs.Common.{◌≡◌, ℕ, ◌+◌, ◌<◌, List, [], ◌∷◌, ◌++◌, map, length, subst, sym, ap, ◌∙◌, arith, vec_len, get_or, None}
 use Rattle.std.proofs.lemmas.List.{map_push, length-map, append_assoc, length-append, map-append, get_or_at}
+use Rattle.rtrb.specs.Fifo.{EachAllowed}
 use Rattle.rw_exchange.specs.Rings.{cell, in_table, out_ring, out_rings, out_sent, received_table}
 use Rattle.rw_exchange.specs.Ports.{entry}
-use Rattle.rw_exchange.proofs.Settles.{fifo_more, others_more}
+use Rattle.rw_exchange.proofs.Settles.{fifo_more, each_of_row, others_more}
 use Rattle.rw_exchange.proofs.settling.gather.Goals as goal
 
 pub loop-out-preserved : goal.loop-out-preserved
@@ -33,6 +34,8 @@ loop-out-preserved g c =
       rings = c.rest_at.ensures.rings ∙ inv.rings;
       fifo = λ j lt. fifo_more n c.args.own recv0 recv v _ (map out_sent c.args.row.items) list.items (out_sent out) (length-map c.loop-out.lists.items (λ v. v.items) ∙ sym c.loop-out.lists.ok.0) (ap (map (λ v. v.items)) more ∙ map_push (λ v. v.items) c.loop-out.lists.items list) inv.fifo same
           (ap (λ k. entry recv k c.args.own ++ list.items) (sym at) ∙ c.in_ok-list.ensures.fifo) sent j (subst (λ z. j < z) len lt);
+      allowed = λ j lt. each_of_row n c.args.own recv0 recv (EachAllowed g.P.Protocol.allows) v _ list.items (length-map c.loop-out.lists.items (λ v. v.items) ∙ sym c.loop-out.lists.ok.0) (ap (map (λ v. v.items)) more ∙ map_push (λ v. v.items) c.loop-out.lists.items list) inv.allowed same
+          (subst (λ k. EachAllowed g.P.Protocol.allows (entry recv k c.args.own) list.items) at c.in_ok-list.ensures.allowed) j (subst (λ z. j < z) len lt);
       untouched = λ j le. rows j (λ e. omega arith) ∙ inv.untouched j (omega arith);
       others = others_more n c.args.own recv0 recv recv' rows (λ k ne. ap (λ m. entry recv' m k) (sym at) ∙ (c.rest_at.ensures.places k ne ∙ ap (λ m. entry recv m k) at)) inv.others;
     }

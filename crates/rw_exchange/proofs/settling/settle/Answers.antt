@@ -1,9 +1,10 @@
 use Rattle.std.proofs.Common.{◌≡◌, ◌+◌, ◌<◌, [], ◌∷◌, ◌++◌, map, length, subst, sym, ap, ◌∙◌, arith, vec_len, get_or}
 use Rattle.std.proofs.lemmas.List.{map_push, length-map, append_assoc, length-append}
 use Rattle.std.proofs.lemmas.List.Elements.{All-same, All-push, All-map, All-weaker}
+use Rattle.rtrb.specs.Fifo.{EachAllowed}
 use Rattle.rw_exchange.specs.Rings.{cell, in_table, out_ring, in_rings, out_sent, sent_table, received_table}
 use Rattle.rw_exchange.specs.Ports.{entry}
-use Rattle.rw_exchange.proofs.Settles.{row_here, walked_at, table_more, none_left}
+use Rattle.rw_exchange.proofs.Settles.{row_here, walked_at, table_more, each_of_table, none_left}
 use Rattle.rw_exchange.proofs.settling.settle.Goals as goal
 
 pub gather-requires-clause-length : goal.gather-requires-clause-length
@@ -76,6 +77,11 @@ loop-row-preserved g c =
           (ap (map (λ r. map (λ v. v.items) r.items)) more ∙ map_push (λ r. map (λ v. v.items) r.items) lists list) inv.fifo
           (λ j l. ap (λ k. entry recv j k ++ get_or (map (λ v. v.items) list.items) j []) (sym at) ∙ c.in_ok-list.ensures.fifo j (subst (λ z. j < z) (sym long) l))
           (λ j. inv.untouched j n (omega arith)) (walked_at (λ v. map out_sent v.items) c.loop-row.yielded _ _ iter row n [] inv.walked r inv.done) i j (subst (λ z. i < z) len lt) l;
+      allowed = λ i j lt l. each_of_table (EachAllowed g.P.Protocol.allows) n (vec_len c.args.ports) recv0 recv (map (λ r. map (λ v. v.items) r.items) lists) _ (map (λ v. v.items) list.items)
+          (length-map lists (λ r. map (λ v. v.items) r.items) ∙ sym c.loop-row.lists.ok.0)
+          (ap (map (λ r. map (λ v. v.items) r.items)) more ∙ map_push (λ r. map (λ v. v.items) r.items) lists list) inv.allowed
+          (λ j l. subst (λ k. EachAllowed g.P.Protocol.allows (entry recv j k) (get_or (map (λ v. v.items) list.items) j [])) at (c.in_ok-list.ensures.allowed j (subst (λ z. j < z) (sym long) l)))
+          (λ j. inv.untouched j n (omega arith)) i j (subst (λ z. i < z) len lt) l;
       untouched = λ j i le. c.in_ok-list.ensures.others j i (λ e. omega arith) ∙ inv.untouched j i (omega arith);
     }
 
@@ -84,6 +90,13 @@ returns-clause-wide g c =
     let inv = c.loop-row.invariant in
     All-same (λ row. length row ≡ vec_len c.args.ports) _ _ c.of.ensures (All-map (λ row. length row ≡ vec_len c.args.ports) (λ r. map (λ v. v.items) r.items) c.loop-row.lists.items
     (All-weaker (λ r. vec_len r ≡ vec_len c.args.ports) (λ r. length (map (λ v. v.items) r.items) ≡ vec_len c.args.ports) (λ r e. length-map r.items (λ v. v.items) ∙ (sym r.ok.0 ∙ e)) c.loop-row.lists.items inv.wide))
+
+pub returns-clause-allowed : goal.returns-clause-allowed
+returns-clause-allowed g c from to l lt =
+    let inv = c.loop-row.invariant in
+    let zero : length c.loop-row.row-iterator.rest.items ≡ 0 = sym c.loop-row.row-iterator.rest.ok.0 ∙ c.in-None.ensures.steps.0 in
+    subst (λ t. EachAllowed g.P.Protocol.allows (entry t to from) (entry c.of.result from to)) c.in_ok-rows.ensures.received
+    (subst (λ t. EachAllowed g.P.Protocol.allows (entry (received_table c.in_ok-rows.columns.items) to from) (entry t from to)) (sym c.of.ensures) (inv.allowed from to (omega (arith, inv.count)) lt))
 
 pub returns-clause-own : goal.returns-clause-own
 returns-clause-own g c i lt =

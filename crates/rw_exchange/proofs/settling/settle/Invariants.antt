@@ -1,4 +1,5 @@
 use Rattle.std.proofs.Common.{◌≡◌, All, ℕ, ◌+◌, ◌<◌, ◌≤◌, ◌++◌, map, length, vec_len, vec_capacity}
+use Rattle.rtrb.specs.Fifo.{EachAllowed}
 use Rattle.rw_exchange.specs.Ports.{entry}
 use Rattle.rw_exchange.specs.Rings.{in_table, sent_table, received_table}
 use Rattle.rw_exchange.proofs.settling.settle.Given as goal
@@ -12,5 +13,6 @@ invariant-loop-row g l = record {
   wide : All (λ list. vec_len list ≡ vec_len l.fn.ports) l.lists.items;
   rings : in_table l.columns.items ≡ in_table l.initial.columns.items;
   fifo : (i j : ℕ) → i < vec_len l.lists → j < vec_len l.fn.ports → entry (received_table l.initial.columns.items) j i ++ entry (map (λ r. map (λ v. v.items) r.items) l.lists.items) i j ≡ entry (sent_table l.initial.row-iterator.rest.items) i j;
+  allowed : (i j : ℕ) → i < vec_len l.lists → j < vec_len l.fn.ports → EachAllowed g.P.Protocol.allows (entry (received_table l.initial.columns.items) j i) (entry (map (λ r. map (λ v. v.items) r.items) l.lists.items) i j);
   untouched : (j i : ℕ) → vec_len l.lists ≤ i → entry (received_table l.columns.items) j i ≡ entry (received_table l.initial.columns.items) j i;
 }

@@ -7,7 +7,7 @@ use Rattle.rw_exchange.proofs.port.Port.send.Goals as goal
 
 pub returns-clause-ok : goal.returns-clause-ok
 returns-clause-ok g c = on_ok_weaker c.push.result
-    (λ e. sends c.self.inside.worker c.self.inside.capacity c.self.inside.outs.items c.self.inside.ins.items c.args.self.now c.self.view_is c.args.to c.index_mut.result.now c.push.new.lane c.args.letter (within_outs c.self.inside.worker c.self.inside.capacity c.self.inside.outs.items c.self.inside.ins.items c.args.self.now c.self.view_is c.args.to c.requires.other.0) c.index_mut.ensures.value c.push.ensures.ring e) c.push.ensures.ok
+    (λ e. sends c.self.inside.worker c.self.inside.capacity c.self.inside.outs.items c.self.inside.ins.items c.args.self.now c.self.view_is c.args.to c.index_mut.result.now c.push.new.lane c.args.item (within_outs c.self.inside.worker c.self.inside.capacity c.self.inside.outs.items c.self.inside.ins.items c.args.self.now c.self.view_is c.args.to c.requires.other.0) c.index_mut.ensures.value c.push.ensures.ring e) c.push.ensures.ok
 
 pub returns-clause-free : goal.returns-clause-free
 returns-clause-free g c =
@@ -38,4 +38,4 @@ returns-clause-succeeds g c =
     λ h. c.push.ensures.succeeds c.self.inside.capacity had (subst (λ z. length z < c.self.inside.capacity) (sent_is c.self.inside.worker c.self.inside.capacity c.self.inside.outs.items c.self.inside.ins.items c.args.self.now c.self.view_is c.args.to c.index_mut.result.now within c.index_mut.ensures.value) (subst (λ z. length (sent_to c.args.self.now c.args.to) < z) (ap (λ f. f.capacity) (sym c.self.view_is)) h))
 
 pub returns-clause-same : goal.returns-clause-same
-returns-clause-same g c = same_sent c.push.result c.args.self.now _ c.args.to c.args.letter (returns-clause-ok g c) (returns-clause-err g c)
+returns-clause-same g c = same_sent c.push.result c.args.self.now _ c.args.to c.args.item (returns-clause-ok g c) (returns-clause-err g c)
