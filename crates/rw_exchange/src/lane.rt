@@ -6,7 +6,7 @@ use rtrb::{Consumer, Producer, Protocol, PushError};
 use std::alloc::Global;
 
 // Puts a item into the ring, or hands it back where no slot of the ring is known to be free.
-pub(crate) fn push<T: Copy, P: Protocol<T>>(
+pub(crate) fn push<T: Drop, P: Protocol<T>>(
     lane: &mut Option<Producer<T, Global, P>>,
     item: T,
 ) -> Result<(), T>
@@ -34,7 +34,7 @@ pub(crate) fn push<T: Copy, P: Protocol<T>>(
 }
 
 // Takes the next item out of the ring, where one is seen.
-pub(crate) fn pop<T: Copy, P: Protocol<T>>(lane: &mut Option<Consumer<T, Global, P>>) -> Option<T>
+pub(crate) fn pop<T: Drop, P: Protocol<T>>(lane: &mut Option<Consumer<T, Global, P>>) -> Option<T>
     requires { IsSome lane.old }
     ensures ring { in_ring lane.new ≡ in_ring lane.old }
     ensures some { IfSome result (λ x. in_received lane.new ≡ in_received lane.old ++ x ∷ []) }
@@ -48,7 +48,7 @@ pub(crate) fn pop<T: Copy, P: Protocol<T>>(lane: &mut Option<Consumer<T, Global,
 }
 
 // Whether the end where items go in was dropped. No clause speaks of the answer.
-fn is_abandoned<T: Copy, P: Protocol<T>>(lane: &mut Option<Consumer<T, Global, P>>) -> bool
+fn is_abandoned<T: Drop, P: Protocol<T>>(lane: &mut Option<Consumer<T, Global, P>>) -> bool
     ensures ring { in_ring lane.new ≡ in_ring lane.old }
     ensures received { in_received lane.new ≡ in_received lane.old }
 {
@@ -59,7 +59,7 @@ fn is_abandoned<T: Copy, P: Protocol<T>>(lane: &mut Option<Consumer<T, Global, P
 }
 
 // Whether that end of any of the rings was dropped. No clause speaks of the answer.
-pub(crate) fn is_any_abandoned<T: Copy, P: Protocol<T>>(
+pub(crate) fn is_any_abandoned<T: Drop, P: Protocol<T>>(
     lanes: &mut Vec<Option<Consumer<T, Global, P>>>,
 ) -> bool
     ensures rings { in_rings lanes.new.items ≡ in_rings lanes.old.items }

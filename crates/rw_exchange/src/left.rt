@@ -20,7 +20,7 @@ impl<T> Model for Left<T> {
     ghost view = { λ l. map (λ row. map (λ list. list.items) row.items) l.lists.items };
 }
 
-impl<T: Copy> Left<T> {
+impl<T: Drop> Left<T> {
     // The lists by sender and receiver.
     pub(crate) fn of(lists: Vec<Vec<Vec<T>>>) -> Left<T>
         ensures { result ≡ map (λ row. map (λ list. list.items) row.items) lists.items }

@@ -50,7 +50,7 @@ pub const MAX_CAPACITY: usize = 4096;
 /// # Errors
 ///
 /// [`NoMemory`] where memory was refused.
-pub fn open<T: Copy, P: Protocol<T>>(
+pub fn open<T: Drop, P: Protocol<T>>(
     alloc: Global,
     workers: usize,
     capacity: usize,

@@ -44,7 +44,7 @@ impl<T, P: Protocol<T>> Model for Port<T, P> {
         × All (HasCapacity p.capacity) p.outs.items };
 }
 
-impl<T: Copy, P: Protocol<T>> Port<T, P> {
+impl<T: Drop, P: Protocol<T>> Port<T, P> {
     // The ends of one worker.
     pub(crate) fn of(
         worker: usize,

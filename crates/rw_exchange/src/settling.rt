@@ -105,7 +105,7 @@ fn gather<T: Drop, P: Protocol<T>>(
 }
 
 // The ends of all ports.
-fn parts<T: Copy, P: Protocol<T>>(
+fn parts<T: Drop, P: Protocol<T>>(
     alloc: Global,
     ports: Vec<Port<T, P>>,
 ) -> Result<
@@ -139,7 +139,7 @@ fn parts<T: Copy, P: Protocol<T>>(
 /// # Errors
 ///
 /// [`NoMemory`] where memory was refused; the letters that were left are then gone.
-pub fn settle<T: Copy, P: Protocol<T>>(
+pub fn settle<T: Drop, P: Protocol<T>>(
     alloc: Global,
     ports: Vec<Port<T, P>>,
 ) -> Result<Left<T>, NoMemory>
