@@ -1,6 +1,6 @@
 -- Lists of events by the times that they have.
-use Rattle.std.proofs.Common.{◌≡◌, ℕ, ◌<◌, ◌≤◌, Bool, true, false, cond, List, [], ◌∷◌, ◌++◌, ◌⊎◌, inl, inr, refl, sym, ◌∙◌, ap, subst, arith, append_assoc, append-nil, Option, Some, None, All, IfNone, IfSome, IsPermutation, length, map, get_or}
-use Rattle.std.specs.Prelude.{nat_le}
+use Rattle.std.proofs.Common.{◌≡◌, ℕ, ◌<◌, ◌≤◌, Bool, true, false, cond, List, [], ◌∷◌, ◌++◌, ◌⊎◌, inl, inr, refl, sym, true≢false, ◌∙◌, ap, subst, arith, append_assoc, append-nil, Option, Some, None, All, IfNone, IfSome, IsPermutation, length, map, get_or}
+use Rattle.std.specs.Prelude.{nat_le, IsTrue, ◌↔◌}
 use Rattle.std.specs.BinaryHeap.{IsUpperBound}
 use Rattle.std.specs.Cmp.{IsTotalOrder}
 use Rattle.std.specs.List.{slice_get}
@@ -77,6 +77,17 @@ module _ {B : Type 0} where
       go : (t < s) ⊎ (s ≤ t) → s ≤ t
       go (inl l) = absurd (k.1 (All-weaker (λ e. s ≤ e.time) (λ e. t < e.time) (λ e m. omega arith) xs h))
       go (inr l) = l
+
+  -- where there is a least time, and it is before another, an event that comes before all is before that too
+  pub before_some : (order : B → B → Ordering) (xs : List (Event B)) (found : Option ℕ) (until : ℕ) (test : Bool) → test ≡ true
+      → IfSome found (λ t. IsTrue test ↔ (t < until)) → IfNone found (test ≡ false) → IsLeastTime xs found
+      → (next : Option (Event B)) → IfSome next (λ e. All (AtMost (event_cmp order) e) xs) → IfSome next (λ e. e.time < until)
+  before_some order xs found until test passed some none least None h = tt
+  before_some order xs None until test passed some none least (Some e) h = absurd (true≢false (sym passed ∙ none))
+  before_some order xs (Some t) until test passed some none least (Some e) h =
+      let l = before_least xs e.time t (All-weaker (AtMost (event_cmp order) e) (λ f. e.time ≤ f.time) (λ f m. time_at_most order e f m) xs h) least in
+      let m = some.0 passed in
+      omega arith
 
   -- By time
 

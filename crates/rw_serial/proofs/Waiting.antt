@@ -9,7 +9,7 @@ use Rattle.std.specs.declared.cmp.Ordering.{Ordering}
 use Rattle.std.specs.declared.cmp.Ordering.TheVariants.{Less}
 use Rattle.std.proofs.lemmas.Bool.Decides.{nat_tests}
 use Rattle.std.proofs.lemmas.Cmp.{upto}
-use Rattle.std.proofs.lemmas.List.Elements.{All-append, All-head, All-nil, All-take, All-weaker}
+use Rattle.std.proofs.lemmas.List.Elements.{All-append, All-cons, All-head, All-nil, All-take, All-weaker}
 use Rattle.std.proofs.lemmas.List.Sorted.{All-permutation, IsPermutation-append_left, IsPermutation-append_right, IsPermutation-sym, IsPermutation-trans}
 use Rattle.rw_vt.specs.declared.event.Event.{Event}
 use Rattle.rw_vt.specs.Order.{AtMost, event_cmp}
@@ -209,6 +209,16 @@ around_added t xs ys later sent new (Err x) around past added some = record {
   now_at = around.now_at;
   later_past = All-permutation (λ e. t < e.time) (later ++ take some.0 sent) new some.1 (All-append (λ e. t < e.time) later (take some.0 sent) around.later_past (All-take (λ e. t < e.time) some.0 sent past));
 }
+
+pub around_put : {B T E : Type 0} (t : ℕ) (xs ys later : List (Event B)) (e : Event B) (new : List (Event B)) (r : Result T E) → AreAround t xs ys later → t < e.time
+    → OnOk r (IsPermutation (later ++ e ∷ []) new) → OnErr r (new ≡ later) → AreAround t xs ys new
+around_put t xs ys later e new (Ok x) around past added same = record {
+  initial_from = around.initial_from;
+  now_at = around.now_at;
+  later_past = All-permutation (λ e. t < e.time) (later ++ e ∷ []) new added
+      (All-append (λ e. t < e.time) later (e ∷ []) around.later_past (All-cons (λ e. t < e.time) e [] past (All-nil (λ e. t < e.time))));
+}
+around_put t xs ys later e new (Err x) around past added same = subst (AreAround t xs ys) (sym same) around
 
 pub added_to_all : {E : Type 0} (xs ys later sent new : List E) → IsPermutation (later ++ sent) new → IsPermutation ((xs ++ (ys ++ later)) ++ sent) (xs ++ (ys ++ new))
 added_to_all xs ys later sent new h =

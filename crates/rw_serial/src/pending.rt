@@ -7,7 +7,7 @@ use crate::initial::Initial;
 use crate::later::Later;
 use crate::slice::Slice;
 use crate::source::Source;
-use crate::times::{earlier, is_time, time_of};
+use crate::times::{earlier, is_before, is_time, time_of};
 use rw_vt::Event;
 use std::alloc::{AllocError, Global};
 use std::marker::Model;
@@ -127,6 +127,39 @@ impl<B: Ord + Copy, S: Source<B>> Pending<B, S> {
         )?;
         self.time = time_or(next, self.time);
         Ok(())
+    }
+
+    /// Takes a least event into `next`, as [`pop`](Self::pop), where its time is before `until`, in ticks. `None` exactly where
+    /// there is no such event; nothing changes then.
+    ///
+    /// After a refusal of memory nothing is said of what is there.
+    #[inline]
+    pub fn pop_before(&mut self, until: u64, next: &mut Option<Event<B>>) -> Result<(), AllocError>
+        ensures none { OnOk result (IfNone next.new
+            (All (λ e. until ≤ e.time) self.old.events × (self.new ≡ self.old))) }
+        ensures before { OnOk result (IfSome next.new (λ e. e.time < until)) }
+        ensures least { OnOk result (IfSome next.new (λ e.
+            All (AtMost (event_cmp B.cmp) e) self.old.events)) }
+        ensures taken { OnOk result (IfSome next.new (λ e.
+            IsPermutation self.old.events (e ∷ self.new.events))) }
+        ensures reached { OnOk result (IfSome next.new (λ e. self.new.time ≡ e.time)) }
+    {
+        if !is_before(self.least_time(), until) {
+            *next = None;
+            return Ok(());
+        }
+        self.pop(next)
+    }
+
+    /// Adds an event that was sent. It is later than the time that is reached.
+    ///
+    /// After a refusal of memory nothing is said of what is there.
+    #[inline]
+    pub fn put(&mut self, event: Event<B>) -> Result<(), AllocError>
+        requires { self.old.time < event.time }
+        ensures { OnOk result (IsPermutation (self.old.events ++ event ∷ []) self.new.events) }
+    {
+        self.later.put(event)
     }
 
     /// Adds events that were sent, in any order. They are later than the time that is reached.

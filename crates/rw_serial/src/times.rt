@@ -1,4 +1,4 @@
-ghost use Rattle.std.specs.Prelude.{◌≡◌, ◌↔◌, IsTrue, Some, option_copied, option_map};
+ghost use Rattle.std.specs.Prelude.{◌≡◌, ◌<◌, ◌↔◌, false, IfNone, IfSome, IsTrue, Some, option_copied, option_map};
 ghost use Rattle.rw_serial.specs.Later.{earlier_of};
 
 use rw_vt::Event;
@@ -21,6 +21,18 @@ pub fn is_time(found: Option<u64>, time: u64) -> bool
 {
     match found {
         Some(found) => found == time,
+        None => false,
+    }
+}
+
+/// Whether there is a time, and it is before this one.
+#[inline(always)]
+pub fn is_before(found: Option<u64>, time: u64) -> bool
+    ensures some { IfSome found (λ t. IsTrue result ↔ (t < time)) }
+    ensures none { IfNone found (result ≡ false) }
+{
+    match found {
+        Some(found) => found < time,
         None => false,
     }
 }

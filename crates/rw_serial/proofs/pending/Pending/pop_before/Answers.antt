@@ -1,0 +1,10 @@
+use Rattle.std.proofs.lemmas.Result.{on_ok_weaker}
+use Rattle.rw_serial.proofs.ByTime.{before_some}
+use Rattle.rw_serial.proofs.pending.Pending.pop_before.Goals as goal
+
+pub returns-clause-before : goal.returns-clause-before
+returns-clause-before g c =
+    let was = c.is_before.ensures in
+    on_ok_weaker c.pop.result
+    (before_some g.B.Ord.cmp c.args.self.now.events c.least_time.result c.args.until c.is_before.result c.if-not-is_before.false was.some was.none c.least_time.ensures c.pop.new.next)
+    c.pop.ensures.least
