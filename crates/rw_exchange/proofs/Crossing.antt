@@ -6,7 +6,7 @@ use native.Mathlib.Decide.{ℕ_discrete}
 use Rattle.std.specs.declared.alloc.Global.{Global}
 use Rattle.rtrb.specs.declared.producer.Producer.{Producer}
 use Rattle.rtrb.specs.declared.consumer.Consumer.{Consumer}
-use Rattle.rw_exchange.specs.Rings.{Ring, out_ring, in_ring, out_free, KnowsFree, push_each, AllButOwn, cell, AreCrossed}
+use Rattle.rw_exchange.specs.Rings.{Ring, Row, out_table, out_ring, in_ring, out_free, KnowsFree, push_each, AllButOwn, cell, AreCrossed}
 use Rattle.rw_exchange.specs.Ports.{PortState, IsOpening, IsOther, free_to, outs_of, intos_of}
 use Rattle.rw_exchange.proofs.Tables.{length-push_each}
 
@@ -16,13 +16,13 @@ at_or_before P n i lt f p (yes e) = subst P (sym e) p
 at_or_before P n i lt f p (no ne) = f (omega arith)
 
 module _ {X : Type 0} where
-  push_get : (cs : List (List X)) (xs : List X) (j : ℕ) (d : X) → j < length cs → length xs ≡ length cs → get_or (push_each cs xs) j [] ≡ get_or cs j [] ++ get_or xs j d ∷ []
+  pub push_get : (cs : List (List X)) (xs : List X) (j : ℕ) (d : X) → j < length cs → length xs ≡ length cs → get_or (push_each cs xs) j [] ≡ get_or cs j [] ++ get_or xs j d ∷ []
   push_get [] xs j d lt e = absurd (omega arith)
   push_get (c ∷ cs) [] j d lt e = absurd (omega arith)
   push_get (c ∷ cs) (x ∷ xs) zero d lt e = refl
   push_get (c ∷ cs) (x ∷ xs) (suc j) d lt e = push_get cs xs j d (omega arith) (omega arith)
 
-  all_pushed : (m : ℕ) (cs : List (List X)) (xs : List X) → length xs ≡ length cs → All (λ (c : List X). length c ≡ m) cs → All (λ (c : List X). length c ≡ m + 1) (push_each cs xs)
+  pub all_pushed : (m : ℕ) (cs : List (List X)) (xs : List X) → length xs ≡ length cs → All (λ (c : List X). length c ≡ m) cs → All (λ (c : List X). length c ≡ m + 1) (push_each cs xs)
   all_pushed m [] xs e all = All-nil (λ (c : List X). length c ≡ m + 1)
   all_pushed m (c ∷ cs) [] e all = absurd (omega arith)
   all_pushed m (c ∷ cs) (x ∷ xs) e all = All-cons (λ (c : List X). length c ≡ m + 1) (c ++ x ∷ []) (push_each cs xs) (length-append c (x ∷ []) ∙ ap (λ (n : ℕ). n + 1) (All-head (λ (c : List X). length c ≡ m) c cs all))
@@ -118,6 +118,23 @@ module _ {T P : Type 0} where
   all_free n outs p all out free some k other =
       let lt : k < length outs = subst (λ z. k < z) (ap length out ∙ length-map outs out_ring) other.0 in
       ap (λ z. get_or z k 0) free ∙ (get_or-map out_free outs k None 0 lt ∙ free_is n (get_or outs k None) (all k None lt) (some k lt other.1))
+
+module _ {T P : Type 0} where
+  known_of : (n : ℕ) (ps : List (PortState T)) (rows : List (Row T P)) (d : Row T P) → IsOpening ps → outs_of ps ≡ out_table rows → map (λ (p : PortState T). p.free) ps ≡ map (λ (r : Row T P). map out_free r.items) rows
+      → All (λ (r : Row T P). All (KnowsFree n) r.items) rows → All (λ (p : PortState T). (k : ℕ) → IsOther p k → free_to p k ≡ n) ps
+  known_of n ps rows d h out free all i e lt =
+      let within : i < length rows = subst (λ z. i < z) (sym (length-map ps (λ p. p.out)) ∙ (ap length out ∙ length-map rows (λ r. map out_ring r.items))) lt in
+      let row : (get_or ps i e).out ≡ map out_ring (get_or rows i d).items = sym (get_or-map (λ p. p.out) ps i e [] lt) ∙ (ap (λ z. get_or z i []) out ∙ get_or-map (λ r. map out_ring r.items) rows i d [] within) in
+      all_free n (get_or rows i d).items (get_or ps i e) (all i d within) row
+      (sym (get_or-map (λ p. p.free) ps i e [] lt) ∙ (ap (λ z. get_or z i []) free ∙ get_or-map (λ r. map out_free r.items) rows i d [] within))
+      (λ k l other. out_there (get_or (get_or rows i d).items k None) (subst IsSome (ap (λ xs. get_or xs k None) (get_or-map (λ p. p.out) ps i e [] lt ∙ row) ∙ get_or-map out_ring (get_or rows i d).items k None None l)
+      (h.others i lt k (subst (λ z. k < z) (sym (ap length (get_or-map (λ p. p.out) ps i e [] lt ∙ row) ∙ length-map (get_or rows i d).items out_ring)) l) ∙ ap not (ne_eqb k i (λ same. other (same ∙ sym (h.numbered i e lt)))))))
+
+  -- what the ports of an opening know to be free
+  pub all_know : (n : ℕ) (ps : List (PortState T)) (rows : List (Row T P)) → IsOpening ps → outs_of ps ≡ out_table rows → map (λ (p : PortState T). p.free) ps ≡ map (λ (r : Row T P). map out_free r.items) rows
+      → All (λ (r : Row T P). All (KnowsFree n) r.items) rows → All (λ (p : PortState T). (k : ℕ) → IsOther p k → free_to p k ≡ n) ps
+  all_know n ps [] h out free all = λ i e lt. let none : length ps ≡ 0 = sym (length-map ps (λ p. p.out)) ∙ ap length out in absurd (omega (arith, none))
+  all_know n ps (r ∷ rs) h out free all = known_of n ps (r ∷ rs) r h out free all
 
 -- the next of a list that is walked
 pub next_is : {A B : Type 0} (f : A → B) (done whole : List B) (rest rest' : List A) (x : A) (n : ℕ) (d : B) → done ++ map f rest ≡ whole → rest ≡ x ∷ rest' → length done ≡ n → get_or whole n d ≡ f x

@@ -1,5 +1,5 @@
 -- What a contract sees of a port, and of all ports of one opening. T is the type of the letters.
-use Rattle.std.specs.Prelude.{◌≡◌, ◌≢◌, ◌<◌, List, [], ◌∷◌, ◌++◌, length, map, slice_index_or, slice_set, Option}
+use Rattle.std.specs.Prelude.{◌≡◌, ◌≢◌, ◌<◌, List, [], ◌∷◌, ◌++◌, length, map, slice_index_or, slice_set, Option, Some, None}
 use Rattle.std.specs.List.{All}
 use Rattle.rtrb.specs.Fifo.{EachAllowed}
 use Rattle.rw_vt.specs.Words.{Count, Position, Worker}
@@ -68,6 +68,11 @@ module _ {T : Type 0} where
 abbrev pub entry : {X : Type 0} → List (List (List X)) → Position → Position → List X
 entry rows i j = slice_index_or (slice_index_or rows i []) j []
 
+-- what may be an item, as a list
+abbrev pub items_of : {T : Type 0} → Option T → List T
+items_of None = []
+items_of (Some x) = x ∷ []
+
 module _ {T : Type 0} where
   abbrev pub outs_of : List (PortState T) → List (List (Option Ring))
   outs_of ps = map (λ p. p.out) ps
@@ -82,6 +87,17 @@ module _ {T : Type 0} where
   -- all that came out of it
   abbrev pub received_between : List (PortState T) → Worker → Worker → List T
   received_between ps i j = entry (map (λ p. p.received) ps) j i
+
+  -- Of each ring between n workers, what went in and what came out is its first item, which `first` says by sender and
+  -- receiver
+  abbrev pub AreGreeted : Count → (Worker → Worker → Option T) → List (PortState T) → Type 0
+  AreGreeted n first ps =
+      (from to : Worker)
+      → from < n
+      → to < n
+      → from ≢ to
+      → (sent_between ps from to ≡ items_of (first from to))
+      × (received_between ps from to ≡ items_of (first from to))
 
   -- what is left in the rings between n workers is what was sent and not received, letter by letter and in order
   abbrev pub IsLeftOf : Count → List (PortState T) → List (List (List T)) → Type 0
@@ -152,3 +168,25 @@ IsRowAllowed allows n place received left =
     (j : Worker)
     → j < n
     → EachAllowed allows (entry received j place) (slice_index_or left j [])
+
+-- what went into each ring of a row is its first item; of the own place nothing is said
+abbrev pub IsRowGreeted : {T : Type 0} → Worker → (Worker → Option T) → List (List T) → Type 0
+IsRowGreeted own first sent =
+    (to : Worker) → to < length sent → own ≢ to → slice_index_or sent to [] ≡ items_of (first to)
+
+-- Of each ring from one of m workers to one of n, what went in and what came out is its first item, in tables by sender
+-- and by receiver
+abbrev pub AreTablesGreeted :
+    {T : Type 0}
+    → (n m : Count)
+    → (Worker → Worker → Option T)
+    → List (List (List T))
+    → List (List (List T))
+    → Type 0
+AreTablesGreeted n m first sent received =
+    (from to : Worker)
+    → from < m
+    → to < n
+    → from ≢ to
+    → (entry sent from to ≡ items_of (first from to))
+    × (entry received to from ≡ items_of (first from to))

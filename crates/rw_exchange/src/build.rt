@@ -1,16 +1,44 @@
 //! The rings of an opening, before they are dealt to ports.
-ghost use Rattle.std.specs.Prelude.{◌≡◌, ◌<◌, length, is_some, All, IfOk, OnOk, vec_len};
-ghost use Rattle.rw_exchange.specs.Rings.{out_ring, in_ring, out_rings, in_table, HasCapacity, KnowsFree, NothingSent, NothingReceived, NothingReceivedAtAll, AllButOwn, push_each, lists_with};
+ghost use Rattle.std.specs.Prelude.{◌≡◌, ◌≢◌, ◌<◌, ◌≤◌, ◌==◌, not, ℕ, [], None, length, map, is_some, All, IfOk, OnOk, IfSome, IfNone, vec_len};
+ghost use Rattle.rtrb.specs.Ring.{sent, received, known_free, IsPair, SameProducer, SameConsumer};
+ghost use Rattle.rw_exchange.specs.Ports.{items_of, IsRowGreeted};
+ghost use Rattle.rw_exchange.specs.Rings.{out_ring, in_ring, out_rings, in_table, out_sent, in_received, received_table, HasCapacity, KnowsFree, NothingSent, NothingReceived, NothingReceivedAtAll, AllButOwn, push_each, lists_with};
 
+use crate::Greeting;
 use rtrb::{Consumer, Producer, Protocol, RingBuffer};
 use rw_vt::NoMemory;
 use std::alloc::Global;
 
-// Both ends of a new ring, or of none where none is wanted.
-fn ends<T: Drop, P: Protocol<T>>(
+// Passes the first item, where there is one, through a new ring.
+fn pass<T: Drop, P: Protocol<T>>(
+    producer: &mut Producer<T, Global, P>,
+    consumer: &mut Consumer<T, Global, P>,
+    first: Option<T>,
+)
+    requires pair { IsPair producer.old consumer.old }
+    requires new { (sent producer.old ≡ []) × (received consumer.old ≡ []) }
+    requires free { 0 < known_free producer.old }
+    requires allowed { IfSome first (P.allows []) }
+    ensures producer { SameProducer producer.old producer.new }
+    ensures consumer { SameConsumer consumer.old consumer.new }
+    ensures sent { sent producer.new ≡ items_of first }
+    ensures received { received consumer.new ≡ items_of first }
+    ensures none { IfNone first (producer.new ≡ producer.old) }
+{
+    if let Some(item) = first {
+        producer.push_reserved(item);
+        consumer.slots_beside(producer);
+        consumer.pop_known();
+    }
+}
+
+// Both ends of a new ring, once its first item went through; or of none where the two workers are one.
+fn ends<T: Drop, P: Protocol<T>, G: Greeting<T>>(
     alloc: Global,
-    wanted: bool,
+    from: usize,
+    to: usize,
     capacity: usize,
+    greeting: &G,
 ) -> Result<
     (
         Option<Producer<T, Global, P>>,
@@ -18,16 +46,25 @@ fn ends<T: Drop, P: Protocol<T>>(
     ),
     NoMemory,
 >
+    requires capacity { 1 ≤ capacity }
+    requires allowed { IfSome (G.greeting greeting.now from to) (P.allows []) }
     ensures ring { IfOk result (λ r. out_ring r.0 ≡ in_ring r.1) }
-    ensures wanted { IfOk result (λ r. is_some (out_ring r.0) ≡ wanted) }
+    ensures other { IfOk result (λ r. is_some (out_ring r.0) ≡ not (to == from)) }
     ensures capacity { IfOk result (λ r. HasCapacity capacity r.0) }
-    ensures free { IfOk result (λ r. KnowsFree capacity r.0) }
-    ensures new { IfOk result (λ r. NothingSent r.0 × NothingReceived r.1) }
+    ensures same { IfOk result (λ r. in_received r.1 ≡ out_sent r.0) }
+    ensures first { IfOk result (λ r.
+        from ≢ to → out_sent r.0 ≡ items_of (G.greeting greeting.now from to)) }
+    ensures free { IfOk result (λ r. G.greeting greeting.now from to ≡ None
+        → KnowsFree capacity r.0) }
+    ensures new { IfOk result (λ r. G.greeting greeting.now from to ≡ None
+        → NothingSent r.0 × NothingReceived r.1) }
 {
-    if !wanted {
+    if to == from {
         return Ok((None, None));
     }
-    let (producer, consumer) = RingBuffer::with_protocol::<Global, P>(alloc, capacity)?;
+    let first = greeting.greet(alloc, from, to)?;
+    let (mut producer, mut consumer) = RingBuffer::with_protocol::<Global, P>(alloc, capacity)?;
+    pass(&mut producer, &mut consumer, first);
     Ok((Some(producer), Some(consumer)))
 }
 
@@ -41,6 +78,8 @@ fn push_at<T: Drop, P: Protocol<T>>(
     ensures length { vec_len columns.new ≡ vec_len columns.old }
     ensures rings { OnOk result
         (in_table columns.new.items ≡ lists_with (in_table columns.old.items) k (in_ring end)) }
+    ensures lists { OnOk result (received_table columns.new.items
+        ≡ lists_with (received_table columns.old.items) k (in_received end)) }
     ensures received { OnOk result (NothingReceived end
         → NothingReceivedAtAll columns.old.items
         → NothingReceivedAtAll columns.new.items) }
@@ -52,26 +91,36 @@ fn push_at<T: Drop, P: Protocol<T>>(
 }
 
 // The rings from one worker to all others. Each column gets the other end of one.
-pub(crate) fn row<T: Drop, P: Protocol<T>>(
+pub(crate) fn row<T: Drop, P: Protocol<T>, G: Greeting<T>>(
     alloc: Global,
     columns: &mut Vec<Vec<Option<Consumer<T, Global, P>>>>,
     own: usize,
     capacity: usize,
+    greeting: &G,
 ) -> Result<Vec<Option<Producer<T, Global, P>>>, NoMemory>
-    requires { NothingReceivedAtAll columns.old.items }
+    requires capacity { 1 ≤ capacity }
+    requires allowed { (to : ℕ) → IfSome (G.greeting greeting.now own to) (P.allows []) }
     ensures length { IfOk result (λ r. vec_len r ≡ vec_len columns.old) }
     ensures rings { IfOk result (λ r. in_table columns.new.items
         ≡ push_each (in_table columns.old.items) (out_rings r.items)) }
     ensures others { IfOk result (λ r. AllButOwn own (out_rings r.items)) }
     ensures capacity { IfOk result (λ r. All (HasCapacity capacity) r.items) }
-    ensures free { IfOk result (λ r. All (KnowsFree capacity) r.items) }
-    ensures sent { IfOk result (λ r. All NothingSent r.items) }
-    ensures received { IfOk result (λ r. NothingReceivedAtAll columns.new.items) }
+    ensures lists { IfOk result (λ r. received_table columns.new.items
+        ≡ push_each (received_table columns.old.items) (map out_sent r.items)) }
+    ensures first { IfOk result (λ r.
+        IsRowGreeted own (G.greeting greeting.now own) (map out_sent r.items)) }
+    ensures free { IfOk result (λ r. ((to : ℕ) → G.greeting greeting.now own to ≡ None)
+        → All (KnowsFree capacity) r.items) }
+    ensures sent { IfOk result (λ r. ((to : ℕ) → G.greeting greeting.now own to ≡ None)
+        → All NothingSent r.items) }
+    ensures received { IfOk result (λ r. ((to : ℕ) → G.greeting greeting.now own to ≡ None)
+        → NothingReceivedAtAll columns.old.items
+        → NothingReceivedAtAll columns.new.items) }
 {
     let count = columns.len();
     let mut row = Vec::with_capacity(alloc, count)?;
     for k in 0..count {
-        let (producer, consumer) = ends(alloc, k != own, capacity)?;
+        let (producer, consumer) = ends(alloc, own, k, capacity, greeting)?;
         push_at(columns, k, consumer)?;
         row.push_reserved(producer);
     }

@@ -8,18 +8,22 @@
 //!
 //! A port is generic in a [`Protocol`] too, which says which letters may follow those before them. Who sends has to keep
 //! to it, and so who receives knows it of each letter, in a thread of its own. [`AnyItems`] allows every letter.
+//! [`open_greeted`] passes a first item through each ring, which both its ends then know, for protocols that judge later
+//! letters by it.
 //!
 //! Worked examples: `rw_round_tests/src/rings.rt`.
 
 mod build;
+mod greeting;
 mod lane;
 mod left;
 mod opening;
 mod port;
 mod settling;
 
+pub use greeting::Greeting;
 pub use left::Left;
-pub use opening::{MAX_CAPACITY, MAX_WORKERS, open};
+pub use opening::{MAX_CAPACITY, MAX_WORKERS, open, open_greeted};
 pub use port::Port;
 pub use rtrb::{AnyItems, Protocol};
 pub use rw_vt::{Letter, NoMemory};

@@ -1,19 +1,21 @@
 //! The ports of an opening.
-ghost use Rattle.std.specs.Prelude.{◌≡◌, ◌≤◌, All, IfOk, vec_len};
-ghost use Rattle.rw_exchange.specs.Ports.{IsNew, IsOpening, KnowsFreeToEach, StayAnOpening};
-ghost use Rattle.rw_exchange.specs.Rings.{out_table, in_table, HasCapacity, KnowsFree, NothingSent, NothingReceivedAtAll, AreCrossed};
+ghost use Rattle.std.specs.Prelude.{◌≡◌, ◌≤◌, ℕ, [], None, map, All, IfOk, IfSome, vec_len};
+ghost use Rattle.rw_exchange.specs.Ports.{AreTablesGreeted, AreGreeted, IsNew, IsOpening, KnowsFreeToEach, StayAnOpening};
+ghost use Rattle.rw_exchange.specs.Rings.{out_table, in_table, sent_table, received_table, HasCapacity, KnowsFree, NothingSent, NothingReceivedAtAll, AreCrossed};
 
-use crate::Port;
 use crate::build::row;
+use crate::greeting::Silent;
+use crate::{Greeting, Port};
 use rtrb::{Consumer, Producer, Protocol};
 use rw_vt::{NoMemory, empty_lists};
 use std::alloc::Global;
 
 // All rings, by sender and by receiver.
-fn tables<T: Drop, P: Protocol<T>>(
+fn tables<T: Drop, P: Protocol<T>, G: Greeting<T>>(
     alloc: Global,
     count: usize,
     capacity: usize,
+    greeting: &G,
 ) -> Result<
     (
         Vec<Vec<Option<Producer<T, Global, P>>>>,
@@ -21,19 +23,55 @@ fn tables<T: Drop, P: Protocol<T>>(
     ),
     NoMemory,
 >
+    requires capacity { 1 ≤ capacity }
+    requires allowed { (from to : ℕ) → IfSome (G.greeting greeting.now from to) (P.allows []) }
     ensures crossed { IfOk result (λ r.
         AreCrossed count count (out_table r.0.items) (in_table r.1.items)) }
     ensures capacity { IfOk result (λ r. All (λ v. All (HasCapacity capacity) v.items) r.0.items) }
-    ensures free { IfOk result (λ r. All (λ v. All (KnowsFree capacity) v.items) r.0.items) }
-    ensures sent { IfOk result (λ r. All (λ v. All NothingSent v.items) r.0.items) }
-    ensures received { IfOk result (λ r. NothingReceivedAtAll r.1.items) }
+    ensures first { IfOk result (λ r. AreTablesGreeted count count (G.greeting greeting.now)
+        (sent_table r.0.items) (received_table r.1.items)) }
+    ensures free { IfOk result (λ r. ((from to : ℕ) → G.greeting greeting.now from to ≡ None)
+        → All (λ v. All (KnowsFree capacity) v.items) r.0.items) }
+    ensures sent { IfOk result (λ r. ((from to : ℕ) → G.greeting greeting.now from to ≡ None)
+        → All (λ v. All NothingSent v.items) r.0.items) }
+    ensures received { IfOk result (λ r. ((from to : ℕ) → G.greeting greeting.now from to ≡ None)
+        → NothingReceivedAtAll r.1.items) }
 {
     let mut columns = empty_lists(alloc, count)?;
     let mut rows = Vec::with_capacity(alloc, count)?;
     for own in 0..count {
-        rows.push_reserved(row(alloc, &mut columns, own, capacity)?);
+        rows.push_reserved(row(alloc, &mut columns, own, capacity, greeting)?);
     }
     Ok((rows, columns))
+}
+
+// Deals the rings to ports.
+fn deal<T: Drop, P: Protocol<T>>(
+    alloc: Global,
+    workers: usize,
+    capacity: usize,
+    rows: Vec<Vec<Option<Producer<T, Global, P>>>>,
+    columns: Vec<Vec<Option<Consumer<T, Global, P>>>>,
+) -> Result<Vec<Port<T, P>>, NoMemory>
+    requires crossed { AreCrossed workers workers (out_table rows.items) (in_table columns.items) }
+    requires capacity { All (λ v. All (HasCapacity capacity) v.items) rows.items }
+    ensures count { IfOk result (λ ports. vec_len ports ≡ workers) }
+    ensures opening { IfOk result (λ ports. IsOpening ports.items) }
+    ensures stays { IfOk result (λ ports. StayAnOpening ports.items) }
+    ensures capacity { IfOk result (λ ports. All (λ port. port.capacity ≡ capacity) ports.items) }
+    ensures sent { IfOk result (λ ports.
+        map (λ p. p.sent) ports.items ≡ sent_table rows.items) }
+    ensures received { IfOk result (λ ports.
+        map (λ p. p.received) ports.items ≡ received_table columns.items) }
+    ensures free { IfOk result (λ ports. All (λ v. All (KnowsFree capacity) v.items) rows.items
+        → All (KnowsFreeToEach capacity) ports.items) }
+{
+    let mut ports = Vec::with_capacity(alloc, workers)?;
+    for (outs, ins) in rows.into_iter().zip(columns) {
+        let port = Port::of(ports.len(), capacity, outs, ins);
+        ports.push_reserved(port);
+    }
+    Ok(ports)
 }
 
 /// The most workers that rings join.
@@ -64,11 +102,37 @@ pub fn open<T: Drop, P: Protocol<T>>(
     ensures capacity { IfOk result (λ ports. All (λ port. port.capacity ≡ capacity) ports.items) }
     ensures free { IfOk result (λ ports. All (KnowsFreeToEach capacity) ports.items) }
 {
-    let (rows, columns) = tables(alloc, workers, capacity)?;
-    let mut ports = Vec::with_capacity(alloc, workers)?;
-    for (outs, ins) in rows.into_iter().zip(columns) {
-        let port = Port::of(ports.len(), capacity, outs, ins);
-        ports.push_reserved(port);
-    }
+    let (rows, columns) = tables(alloc, workers, capacity, &Silent)?;
+    let ports = deal(alloc, workers, capacity, rows, columns)?;
+    Ok(ports)
+}
+
+/// One port for each of `workers` workers, as [`open`] gives them, where one first item has gone through each ring: what
+/// `greeting` makes. So both ends of a ring know it, and a protocol may judge the items behind it by it.
+///
+/// It counts as sent and as received. A send succeeds while fewer letters were sent than the ring has slots, the first
+/// item among them; how many slots a port knows to be free is not told.
+///
+/// # Errors
+///
+/// [`NoMemory`] where memory was refused.
+pub fn open_greeted<T: Drop, P: Protocol<T>, G: Greeting<T>>(
+    alloc: Global,
+    workers: usize,
+    capacity: usize,
+    greeting: &G,
+) -> Result<Vec<Port<T, P>>, NoMemory>
+    requires workers { (1 ≤ workers) × (workers ≤ MAX_WORKERS) }
+    requires capacity { (1 ≤ capacity) × (capacity ≤ MAX_CAPACITY) }
+    requires allowed { (from to : ℕ) → IfSome (G.greeting greeting.now from to) (P.allows []) }
+    ensures count { IfOk result (λ ports. vec_len ports ≡ workers) }
+    ensures opening { IfOk result (λ ports. IsOpening ports.items) }
+    ensures stays { IfOk result (λ ports. StayAnOpening ports.items) }
+    ensures greeted { IfOk result (λ ports.
+        AreGreeted workers (G.greeting greeting.now) ports.items) }
+    ensures capacity { IfOk result (λ ports. All (λ port. port.capacity ≡ capacity) ports.items) }
+{
+    let (rows, columns) = tables(alloc, workers, capacity, greeting)?;
+    let ports = deal(alloc, workers, capacity, rows, columns)?;
     Ok(ports)
 }

@@ -1,0 +1,10 @@
+use Rattle.std.proofs.Common.{◌∙◌, ap}
+use Rattle.rw_exchange.specs.Ports.{entry}
+use Rattle.rw_exchange.proofs.opening.open_greeted.Goals as goal
+
+pub returns-clause-greeted : goal.returns-clause-greeted
+returns-clause-greeted g c from to l k other =
+    let first = c.in_ok-rows.ensures.first from to l k other in (
+      ap (λ z. entry z from to) c.in_ok-ports.ensures.sent ∙ first.0,
+      ap (λ z. entry z to from) c.in_ok-ports.ensures.received ∙ first.1,
+    )

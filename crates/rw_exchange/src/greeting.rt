@@ -1,0 +1,31 @@
+//! The first items of rings.
+ghost use Rattle.std.specs.Prelude.{◌≡◌, ℕ, Option, None, IfOk};
+
+use rw_vt::NoMemory;
+use std::alloc::Global;
+
+/// What the first item of each ring of an opening is, which both its ends know from the start.
+pub trait Greeting<T> {
+    /// The first item from a worker to another, in this order; `None` where none goes through at the opening.
+    ghost greeting: { Self → ℕ → ℕ → Option T };
+
+    /// Makes it.
+    ///
+    /// # Errors
+    ///
+    /// [`NoMemory`] where memory was refused.
+    fn greet(&self, alloc: Global, from: usize, to: usize) -> Result<Option<T>, NoMemory>
+        ensures { IfOk result (λ first. first ≡ greeting self.now from to) };
+}
+
+// No ring has a first item.
+#[derive(Drop)]
+pub(crate) struct Silent;
+
+impl<T> Greeting<T> for Silent {
+    ghost greeting = { λ s from to. None };
+
+    fn greet(&self, _alloc: Global, _from: usize, _to: usize) -> Result<Option<T>, NoMemory> {
+        Ok(None)
+    }
+}
