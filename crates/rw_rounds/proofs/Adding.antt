@@ -10,11 +10,13 @@ use Rattle.rw_lp.specs.Arrival.{Way}
 use Rattle.rw_lp.specs.Calls.{LogicalProcess}
 use Rattle.rw_exchange.specs.Ports.{PortState, SamePort, sent_to, free_to, received_from, after_sending, after_receiving}
 use Rattle.rw_board.specs.Seats.{after_note}
-use Rattle.rw_rounds.specs.Bags.{weigh, only, Every, sum_below}
+use Rattle.rw_crew.specs.Sums.{sum_below}
+use Rattle.rw_crew.proofs.Sums.{total_same, total_add, total_zero}
+use Rattle.rw_rounds.specs.Bags.{weigh, only, Every}
 use Rattle.rw_rounds.specs.Deeds.{Deed, Arrival, Undoing, Execution, Did, Goes, arrivals, executions, way_of}
 use Rattle.rw_rounds.specs.Turns.{Role, WorkerState, owner, is_own, is_accepted, process_at}
 use Rattle.rw_rounds.specs.Working.{Works}
-use Rattle.rw_rounds.proofs.Sums.{total_same, total_add, total_zero, weigh-append, every_append, at_only, at_here, at_other, weigh_at}
+use Rattle.rw_rounds.proofs.Sums.{weigh-append, every_append, at_only, at_here, at_other, weigh_at}
 
 module _ {S B : Type 0} (y : Rules S B) (g : ℕ) (way : Way) where
   pub goes_append : (ds es : List (Deed B)) (a b c : ℕ → Option (ProcessState S B)) (given more : List (Letter B)) → Goes y g way ds a b given → Goes y g way es b c more → Goes y g way (ds ++ es) a c (given ++ more)

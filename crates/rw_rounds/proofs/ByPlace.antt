@@ -3,7 +3,6 @@ use Rattle.std.proofs.Common.{◌≡◌, ℕ, zero, suc, ◌+◌, ◌*◌, ◌<�
 use Rattle.std.specs.Prelude.{◌⊎◌, ◌/◌, ◌%◌, ◌==◌, slice_get, slice_set}
 use Rattle.std.specs.Option.{option_map}
 use Rattle.std.proofs.lemmas.Bool.{cases_eq, eq-eqb, ne_eqb}
-use Rattle.std.proofs.lemmas.Nat.{same_from_place}
 use Rattle.rw_lp.specs.Process.{ProcessState}
 use Rattle.rw_lp.specs.Calls.{LogicalProcess}
 use Rattle.rw_rounds.specs.Turns.{Role, process_at}
@@ -73,11 +72,3 @@ module _ {M S B : Type 0} (r : Role) (xs : List (LogicalProcess M S B)) where
         go (inr foreign) =
             ap (λ b. cond b (option_map (λ l. l.process) (slice_get (slice_set xs (p / r.plan.workers) z) (q / r.plan.workers))) None) (ne_eqb (q % r.plan.workers) r.number foreign)
             ∙ sym (ap (λ b. cond b (option_map (λ l. l.process) (slice_get xs (q / r.plan.workers))) None) (ne_eqb (q % r.plan.workers) r.number foreign))
-
--- the number of the process at a place
-pub number_place : (n w place : ℕ) → w < n → ((w + place * n) / n ≡ place) × ((w + place * n) % n ≡ w)
-number_place n w place h =
-    let q : ℕ = w + place * n in
-    let m : (w + place * n) % n < n = omega arith in
-    let e : ((w + place * n) / n) * n + (w + place * n) % n ≡ place * n + w = omega arith in
-    same_from_place ((w + place * n) / n) ((w + place * n) % n) place w n m h e

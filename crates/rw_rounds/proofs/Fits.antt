@@ -13,11 +13,12 @@ use Rattle.rw_lp.specs.Calls.{LogicalProcess}
 use Rattle.rw_lp.specs.Sound.{SoundAt, HasCollected, IsSoundOnceCollected, StartsWell}
 use Rattle.rw_exchange.specs.Ports.{PortState, SamePort, IsWide}
 use Rattle.rw_board.specs.Seats.{SeatState}
+use Rattle.rw_crew.proofs.Dealing.{number_place}
 use Rattle.rw_rounds.specs.Bags.{weigh, only, Every}
 use Rattle.rw_rounds.specs.Deeds.{IsFair, arrivals, way_of}
 use Rattle.rw_rounds.specs.Turns.{Role, WorkerState, owner, is_own, process_at, IsInPlace, IsFit}
 use Rattle.rw_rounds.specs.Working.{IsFitAndSound, Works}
-use Rattle.rw_rounds.proofs.ByPlace.{get_within, at_place, place_of, number_place}
+use Rattle.rw_rounds.proofs.ByPlace.{get_within, at_place, place_of}
 use Rattle.rw_rounds.proofs.Governing.{Governs, StartsIn, governs}
 use Rattle.rw_rounds.proofs.Going.{Well, Gone, goes_gone, well_after}
 use Rattle.rw_rounds.proofs.Sums.{weigh_zero, every_zero}

@@ -1,5 +1,5 @@
 -- The workers of a round: as they are set up, and as they are taken apart.
-use Rattle.std.proofs.Common.{◌≡◌, ℕ, zero, suc, ◌+◌, ◌*◌, ◌<◌, ◌≤◌, cond, List, [], ◌∷◌, ◌++◌, length, map, get_or, append_assoc, append-nil, refl, sym, ap, ◌∙◌, subst, arith, inl, inr, Option, Some, None, Result, Ok, IfOk, All}
+use Rattle.std.proofs.Common.{◌≡◌, ℕ, zero, suc, ◌+◌, ◌*◌, ◌<◌, ◌≤◌, cond, List, [], ◌∷◌, ◌++◌, length, map, get_or, append_assoc, append-nil, refl, sym, ap, ◌∙◌, subst, arith, inl, inr, Option, Some, None, All}
 use Rattle.std.specs.Prelude.{◌⊎◌, ◌/◌, ◌%◌, ◌==◌, filter, slice_get}
 use Rattle.std.specs.declared.cmp.Ordering.{Ordering}
 use Rattle.std.specs.Option.{option_map}
@@ -18,17 +18,20 @@ use Rattle.rw_world.specs.Calls.{IsWhole}
 use Rattle.rw_exchange.specs.Ports.{PortState, SamePort, IsNew, IsWide, IsOpening, StayAnOpening, sent_to, received_from, sent_between, received_between}
 use Rattle.rw_board.specs.Least.{least}
 use Rattle.rw_board.specs.Seats.{SeatState, BoardState, new_seat, all_notes}
+use Rattle.rw_crew.specs.Sums.{sum_below}
+use Rattle.rw_crew.proofs.Lists.{get_there, get_past}
+use Rattle.rw_crew.proofs.Dealing.{AreDealt}
+use Rattle.rw_crew.proofs.Sums.{total_add}
 use Rattle.rw_rounds.specs.declared.plan.Plan.{Plan}
 use Rattle.rw_rounds.specs.Plans.{IsInRanges}
-use Rattle.rw_rounds.specs.Bags.{weigh, sum_below}
+use Rattle.rw_rounds.specs.Bags.{weigh}
 use Rattle.rw_rounds.specs.Deeds.{Deed, Arrival, Undoing, Execution, Owned, Stepped, Did, Goes, way_of}
 use Rattle.rw_rounds.specs.Turns.{WorkerState, process_at, processes_of, TookTurns}
 use Rattle.rw_rounds.specs.Rounds.{role, Begins, Closes, TookRound, noted_below}
 use Rattle.rw_rounds.specs.Seated.{IsSeated}
 use Rattle.rw_rounds.specs.Setting.{AreSetUp}
-use Rattle.rw_rounds.proofs.Sums.{total_add, weigh-append}
+use Rattle.rw_rounds.proofs.Sums.{weigh-append}
 use Rattle.rw_rounds.proofs.Beginning.{as_many, begins_fit}
-use Rattle.rw_rounds.proofs.Shares.{AreDealt, get_there, get_past}
 
 pub some_of : {X : Type 0} (xs : List X) → 0 < length xs → X
 some_of [] h = absurd (omega arith)
@@ -36,17 +39,6 @@ some_of (x ∷ xs) h = x
 
 pub two_maps : {X Y Z : Type 0} (k : Y → Z) (f : X → Y) (xs : List X) (i : ℕ) (d : X) (e : Z) → i < length xs → get_or (map k (map f xs)) i e ≡ k (f (get_or xs i d))
 two_maps k f xs i d e lt = get_or-map k (map f xs) i (f d) e (subst (λ n. i < n) (sym (length-map xs f)) lt) ∙ ap k (get_or-map f xs i d (f d) lt)
-
--- each that was handed over went on from where it was
-pub pairs : {W E : Type 0} (Went : W → W → Type 0) (ws ws' : List W) (rs : List (Result W E)) → map (λ w. Ok w) ws' ≡ rs → ((i : ℕ) (d : W) (e : Result W E) → i < length ws → IfOk (get_or rs i e) (Went (get_or ws i d))) → length rs ≡ length ws
-    → (length ws' ≡ length ws) × ((i : ℕ) (d d' : W) → i < length ws → Went (get_or ws i d) (get_or ws' i d'))
-pairs {W} {E} Went ws ws' rs all each long =
-    let wrap : W → Result W E = λ w. Ok w in
-    let many : length ws' ≡ length ws = sym (length-map ws' wrap) ∙ (ap length all ∙ long) in (
-      many,
-      λ i d d' lt. let is : get_or rs i (Ok d') ≡ Ok (get_or ws' i d') = ap (λ z. get_or z i (Ok d')) (sym all) ∙ get_or-map wrap ws' i d' (Ok d') (omega arith) in
-          subst (λ r. IfOk r (Went (get_or ws i d))) is (each i d (Ok d') lt),
-    )
 
 -- a worker gets no process that it did not have
 module _ {S B : Type 0} (y : Rules S B) where

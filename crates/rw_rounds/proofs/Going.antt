@@ -10,11 +10,13 @@ use Rattle.rw_lp.specs.Arrival.{Way, undo_by}
 use Rattle.rw_lp.specs.Sound.{SoundAt, SoundLetters, Kept}
 use Rattle.rw_lp.proofs.Cited.{kept_more}
 use Rattle.rw_world.specs.Rounds.{KeptAt}
-use Rattle.rw_rounds.specs.Bags.{weigh, Every, sum_below}
+use Rattle.rw_crew.specs.Sums.{sum_below}
+use Rattle.rw_crew.proofs.Sums.{total_same, total_add, total_zero}
+use Rattle.rw_rounds.specs.Bags.{weigh, Every}
 use Rattle.rw_rounds.specs.Deeds.{Deed, Arrival, Undoing, Execution, Stepped, IsFair, Did, Goes, arrivals}
 use Rattle.rw_rounds.proofs.Governing.{Governs}
 use Rattle.rw_rounds.proofs.Keeping.{kept_none, kept_of, arrival_keeps}
-use Rattle.rw_rounds.proofs.Sums.{total_same, total_add, total_zero, weigh-append, every_append, at_only, at_here, at_other, weigh_at}
+use Rattle.rw_rounds.proofs.Sums.{weigh-append, every_append, at_only, at_here, at_other, weigh_at}
 
 -- each process that is there is sound, and started so
 pub record Well {S B : Type 0} (y : Rules S B) (Started : ℕ → S → Type 0) (g : ℕ) (a : ℕ → Option (ProcessState S B)) : Type 0 where

@@ -15,16 +15,18 @@ use Rattle.rw_world.specs.declared.parts.Parts.{Parts}
 use Rattle.rw_world.specs.Calls.{system_of, simulation_of, world_of, IsWhole}
 use Rattle.rw_world.specs.Rounds.{all_letters, KeptAt, Exchanged}
 use Rattle.rw_exchange.specs.Ports.{sent_to, received_from}
+use Rattle.rw_crew.specs.Sums.{sum_below}
+use Rattle.rw_crew.proofs.Sums.{total_same, total_add, total_zero, total_one, total_swap}
 use Rattle.rw_rounds.specs.declared.plan.Plan.{Plan}
 use Rattle.rw_rounds.specs.Plans.{IsInRanges}
-use Rattle.rw_rounds.specs.Bags.{weigh, only, Every, sum_below}
+use Rattle.rw_rounds.specs.Bags.{weigh, only, Every}
 use Rattle.rw_rounds.specs.Deeds.{IsFair}
 use Rattle.rw_rounds.specs.Turns.{Role, WorkerState, owner, is_own, is_accepted, process_at}
 use Rattle.rw_rounds.specs.Rounds.{role, Round}
 use Rattle.rw_rounds.proofs.Governing.{Governs, StartsIn, governs}
 use Rattle.rw_rounds.proofs.Stepping.{number_of}
-use Rattle.rw_rounds.proofs.Sums.{total_same, total_add, total_zero, total_one, weigh-append, weigh_zero, every_front}
-use Rattle.rw_rounds.proofs.Totals.{total_swap, weigh_by, weigh_joined, weightless, every_both, message, anti, messages_weigh, antis_weigh, every_counted}
+use Rattle.rw_rounds.proofs.Sums.{weigh-append, weigh_zero, every_front}
+use Rattle.rw_rounds.proofs.Totals.{weigh_by, weigh_joined, weightless, every_both, message, anti, messages_weigh, antis_weigh, every_counted}
 use Rattle.rw_rounds.proofs.Working.{IsConsistent, Worked, turns_keep, closing_keeps, inbox_empties}
 use Rattle.rw_rounds.proofs.Beginning.{in_world, begun_well}
 

@@ -15,7 +15,7 @@ pub mod Least
 pub mod Passing
 pub mod Taking
 pub mod Ends
-pub mod Shares
+pub mod Walking
 pub mod Totals
 pub mod Working
 pub mod Beginning

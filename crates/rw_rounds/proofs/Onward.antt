@@ -27,19 +27,22 @@ use Rattle.rw_world.specs.WorldState.{WorldState, floor}
 use Rattle.rw_world.specs.Sound.{IsQuiet, list_at}
 use Rattle.rw_world.specs.Laws.{FloorIsGreatest}
 use Rattle.rw_exchange.specs.Ports.{sent_to, received_from}
+use Rattle.rw_crew.specs.Sums.{sum_below}
+use Rattle.rw_crew.proofs.Dealing.{number_place}
+use Rattle.rw_crew.proofs.Sums.{total_zero, total_none}
 use Rattle.rw_rounds.specs.declared.plan.Plan.{Plan}
 use Rattle.rw_rounds.specs.Plans.{IsInRanges}
-use Rattle.rw_rounds.specs.Bags.{weigh, Every, sum_below}
+use Rattle.rw_rounds.specs.Bags.{weigh, Every}
 use Rattle.rw_rounds.specs.Deeds.{Deed, Arrival, Undoing, Execution, Owned, Stepped, Did, Goes, arrivals, way_of}
 use Rattle.rw_rounds.specs.Turns.{Role, WorkerState, is_own, is_accepted, process_at, weigh_all, if_own, if_other, if_passes, TookTurn, TookTurns}
 use Rattle.rw_rounds.specs.Rounds.{role, Round, closing_times, noted_below}
-use Rattle.rw_rounds.proofs.ByPlace.{at_place, number_place}
+use Rattle.rw_rounds.proofs.ByPlace.{at_place}
 use Rattle.rw_rounds.proofs.Governing.{StartsIn, governs}
 use Rattle.rw_rounds.proofs.Going.{Well, did_gone, well_after, arrivals_more}
 use Rattle.rw_rounds.proofs.Later.{IsLate, executed_late, undone_late, arrived_late}
 use Rattle.rw_rounds.proofs.Least.{least_from, noted_all}
-use Rattle.rw_rounds.proofs.Sums.{total_zero, weigh-append, weigh_zero, every_zero, every_append, every_front, every_back}
-use Rattle.rw_rounds.proofs.Totals.{total_none, total_more, weigh_split, every_filter}
+use Rattle.rw_rounds.proofs.Sums.{weigh-append, weigh_zero, every_zero, every_append, every_front, every_back}
+use Rattle.rw_rounds.proofs.Totals.{total_more, weigh_split, every_filter}
 use Rattle.rw_rounds.proofs.Working.{early, early_none, none_early}
 use Rattle.rw_rounds.proofs.Beginning.{begun_there, begun_well}
 use Rattle.rw_rounds.proofs.Joining.{closed}

@@ -12,11 +12,12 @@ use Rattle.rw_lp.specs.Process.{ProcessState, Turned, Stays, execute_next}
 use Rattle.rw_lp.specs.Calls.{LogicalProcess}
 use Rattle.rw_lp.specs.Arrival.{undo_by, ArrivedBy}
 use Rattle.rw_lp.specs.Sound.{SoundAt, HasCollected, Kept}
+use Rattle.rw_crew.proofs.Dealing.{number_place}
 use Rattle.rw_rounds.specs.Bags.{Every}
 use Rattle.rw_rounds.specs.Deeds.{Arrival, Undoing, Execution, Stepped, IsFair, IsLeast, way_of}
 use Rattle.rw_rounds.specs.Turns.{Role, WorkerState, is_own, process_at, IsInPlace, IsFit}
 use Rattle.rw_rounds.specs.Working.{IsFitAndSound, Works, Moved, IsNext, size, sizes, dones}
-use Rattle.rw_rounds.proofs.ByPlace.{get_set-same, get_set-other, length_set, at_place, place_of, set_here, set_elsewhere, number_place}
+use Rattle.rw_rounds.proofs.ByPlace.{get_set-same, get_set-other, length_set, at_place, place_of, set_here, set_elsewhere}
 use Rattle.rw_rounds.proofs.Governing.{Governs, StartsIn, governs}
 use Rattle.rw_rounds.proofs.Fits.{starts_in}
 use Rattle.rw_rounds.proofs.Keeping.{kept_of, arrival_keeps}

@@ -1,30 +1,10 @@
--- Sums of what letters weigh.
-use Rattle.std.proofs.Common.{◌≡◌, ℕ, zero, suc, ◌+◌, ◌<◌, cond, List, [], ◌∷◌, ◌++◌, refl, sym, ap, ◌∙◌, subst, arith, inl, inr}
-use Rattle.std.specs.Prelude.{◌⊎◌, ◌==◌, reverse}
+-- What lists of letters weigh.
+use Rattle.std.proofs.Common.{◌≡◌, ℕ, ◌+◌, ◌<◌, cond, List, [], ◌∷◌, ◌++◌, refl, sym, ap, ◌∙◌, subst, arith}
+use Rattle.std.specs.Prelude.{◌==◌, reverse}
 use Rattle.std.proofs.lemmas.Grind.{reverse_onto}
-use Rattle.std.proofs.lemmas.Bool.{cases_eq, eq-eqb, ne_eqb}
-use Rattle.rw_rounds.specs.Bags.{weigh, Every, sum_below}
-
-pub total_same : (n : ℕ) (f k : ℕ → ℕ) → ((i : ℕ) → i < n → f i ≡ k i) → sum_below n f ≡ sum_below n k
-total_same zero f k e = refl
-total_same (suc n) f k e = let last : f n ≡ k n = e n (omega arith) in let rest : sum_below n f ≡ sum_below n k = total_same n f k (λ i l. e i (omega arith)) in omega arith
-
-pub total_add : (n : ℕ) (f k : ℕ → ℕ) → sum_below n (λ i. f i + k i) ≡ sum_below n f + sum_below n k
-total_add zero f k = refl
-total_add (suc n) f k = omega (arith, total_add n f k)
-
-pub total_zero : (n : ℕ) (f : ℕ → ℕ) → ((i : ℕ) → i < n → f i ≡ 0) → sum_below n f ≡ 0
-total_zero zero f e = refl
-total_zero (suc n) f e = let a : f n ≡ 0 = e n (omega arith) in let b : sum_below n f ≡ 0 = total_zero n f (λ i l. e i (omega arith)) in omega arith
-
--- a sum in which one place alone counts
-pub total_one : (n q : ℕ) (f : ℕ → ℕ) → q < n → ((r : ℕ) → r < n → (r ≡ q → ⊥) → f r ≡ 0) → sum_below n f ≡ f q
-total_one zero q f h none = absurd (omega arith)
-total_one (suc n) q f h none = go (cases_eq n q) (total_one n q f)
-  where
-    go : (n ≡ q) ⊎ (n ≡ q → ⊥) → (q < n → ((r : ℕ) → r < n → (r ≡ q → ⊥) → f r ≡ 0) → sum_below n f ≡ f q) → sum_below n f + f n ≡ f q
-    go (inl k) ih = let a : sum_below n f ≡ 0 = total_zero n f (λ i l. none i (omega arith) (λ m. omega arith)) in let b : f n ≡ f q = ap f k in omega arith
-    go (inr k) ih = let a : sum_below n f ≡ f q = ih (omega arith) (λ r l. none r (omega arith)) in let b : f n ≡ 0 = none n (omega arith) k in omega arith
+use Rattle.std.proofs.lemmas.Bool.{eq-eqb, ne_eqb}
+use Rattle.rw_crew.specs.Sums.{sum_below}
+use Rattle.rw_rounds.specs.Bags.{weigh, Every}
 
 -- a list at one place
 abbrev pub at_only : {X : Type 0} → ℕ → List X → ℕ → List X

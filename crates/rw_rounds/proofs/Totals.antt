@@ -1,9 +1,9 @@
--- Sums of sums, weights by a test, and letters counted by weights.
-use Rattle.std.proofs.Common.{◌≡◌, ℕ, zero, suc, ◌+◌, ◌<◌, Bool, true, false, cond, List, [], ◌∷◌, ◌++◌, length, refl, sym, ap, ◌∙◌, subst, arith, inl, inr}
+-- Sums of weights, weights by a test, and letters counted by weights.
+use Rattle.std.proofs.Common.{◌≡◌, ℕ, suc, ◌+◌, ◌<◌, Bool, true, false, cond, List, [], ◌∷◌, ◌++◌, length, refl, sym, ap, ◌∙◌, subst, arith, inl, inr}
 use Rattle.std.specs.Prelude.{◌⊎◌, not, filter, ◌==◌}
 use Rattle.std.specs.Ordering.{is_eq}
 use Rattle.std.specs.declared.cmp.Ordering.{Ordering}
-use Rattle.std.proofs.lemmas.Bool.{cases_eq, cases_Bool, eq-eqb, ne_eqb}
+use Rattle.std.proofs.lemmas.Bool.{cases_Bool, eq-eqb, ne_eqb}
 use Rattle.rw_vt.specs.declared.event.Event.{Event}
 use Rattle.rw_vt.specs.declared.event.Letter.{Letter}
 use Rattle.rw_vt.specs.Order.{one_if_same}
@@ -12,25 +12,10 @@ use Rattle.rw_vt.specs.System.{map_from, flatten}
 use Rattle.rw_vt.proofs.Sorting.{IsExactOrder, tied}
 use Rattle.rw_vt.proofs.Bags.{one_if-other}
 use Rattle.rw_vt.proofs.Letters.{count-letter}
-use Rattle.rw_rounds.specs.Bags.{weigh, only, Every, sum_below}
-use Rattle.rw_rounds.proofs.Sums.{total_same, total_add, total_zero, total_one, weigh-append}
-
-pub total_none : (n : ℕ) (f : ℕ → ℕ) → sum_below n f ≡ 0 → (i : ℕ) → i < n → f i ≡ 0
-total_none zero f e i l = absurd (omega arith)
-total_none (suc n) f e i l = go (cases_eq i n) (total_none n f (omega arith))
-  where
-    go : (i ≡ n) ⊎ (i ≡ n → ⊥) → ((k : ℕ) → k < n → f k ≡ 0) → f i ≡ 0
-    go (inl q) ih = let a : f n ≡ 0 = omega arith in ap f q ∙ a
-    go (inr q) ih = ih i (omega arith)
-
-pub total_swap : (m n : ℕ) (f : ℕ → ℕ → ℕ) → sum_below m (λ i. sum_below n (λ k. f i k)) ≡ sum_below n (λ k. sum_below m (λ i. f i k))
-total_swap zero n f = sym (total_zero n (λ _. 0) (λ i l. refl))
-total_swap (suc m) n f = omega (arith, total_swap m n f, total_add n (λ k. sum_below m (λ i. f i k)) (λ k. f m k))
-
--- the first one apart
-total_first : (n : ℕ) (f : ℕ → ℕ) → sum_below (suc n) f ≡ f 0 + sum_below n (λ i. f (suc i))
-total_first zero f = omega arith
-total_first (suc n) f = omega (arith, total_first n f)
+use Rattle.rw_crew.specs.Sums.{sum_below}
+use Rattle.rw_crew.proofs.Sums.{total_same, total_add, total_zero, total_one}
+use Rattle.rw_rounds.specs.Bags.{weigh, only, Every}
+use Rattle.rw_rounds.proofs.Sums.{weigh-append}
 
 module _ {X : Type 0} where
   pub weigh_split : (p : X → Bool) (h : X → ℕ) (xs : List X) → weigh h xs ≡ weigh (only p h) xs + weigh (only (λ x. not (p x)) h) xs

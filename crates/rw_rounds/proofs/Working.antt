@@ -5,14 +5,16 @@ use Rattle.std.proofs.lemmas.Bool.{cases_lt, lt-ltb, le-ltb}
 use Rattle.rw_vt.specs.declared.event.Letter.{Letter}
 use Rattle.rw_vt.specs.System.{Rules}
 use Rattle.rw_exchange.specs.Ports.{sent_to, received_from}
-use Rattle.rw_rounds.specs.Bags.{weigh, only, Every, sum_below}
+use Rattle.rw_crew.specs.Sums.{sum_below}
+use Rattle.rw_crew.proofs.Sums.{total_none}
+use Rattle.rw_rounds.specs.Bags.{weigh, only, Every}
 use Rattle.rw_rounds.specs.Deeds.{IsFair, Goes, arrivals, way_of}
 use Rattle.rw_rounds.specs.Turns.{Role, WorkerState, owner, is_own, is_accepted, process_at, TookTurn, TookTurns}
 use Rattle.rw_rounds.specs.Rounds.{Closes, closing_times}
 use Rattle.rw_rounds.proofs.Governing.{Governs}
 use Rattle.rw_rounds.proofs.Going.{Well, Gone, gone_none, gone_more, well_after, goes_gone}
 use Rattle.rw_rounds.proofs.Sums.{weigh-append, weigh_zero, every_zero, every_append, every_front, every_back}
-use Rattle.rw_rounds.proofs.Totals.{total_none, total_more, total_split, weigh_split}
+use Rattle.rw_rounds.proofs.Totals.{total_more, total_split, weigh_split}
 
 -- 1 where the time is before f
 abbrev pub early : ℕ → ℕ → ℕ

@@ -1,17 +1,14 @@
 -- What is gathered once the workers of a round are joined: only contracts of private functions
 -- cite what stands here.
-use Rattle.std.specs.Prelude.{◌≡◌, ◌/◌, ◌%◌, ◌<◌, List, [], length, map, slice_get, slice_index_or, Option}
+use Rattle.std.specs.Prelude.{◌≡◌, ◌<◌, List, length, map, slice_get}
 use Rattle.rw_vt.specs.Words.{Count, Process, Time}
 use Rattle.rw_vt.specs.declared.event.Letter.{Letter}
 use Rattle.rw_lp.specs.Calls.{LogicalProcess}
 use Rattle.rw_board.specs.Least.{least}
 use Rattle.rw_board.specs.Seats.{all_notes}
+use Rattle.rw_crew.specs.Shares.{of_shares}
 use Rattle.rw_rounds.specs.Turns.{WorkerState}
 use Rattle.rw_rounds.specs.Rounds.{AreOnTheirWay}
-
--- item q of n shares, of which share i has items i, i + n, i + 2n, ..
-abbrev pub of_shares : {A : Type 0} → Count → List (List A) → Process → Option A
-of_shares n shares q = slice_get (slice_index_or shares (q % n) []) (q / n)
 
 -- n processes of the workers in the order of their numbers, the letters on their way, and as the
 -- floor exactly the least of all times noted

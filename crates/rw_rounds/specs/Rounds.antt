@@ -17,8 +17,9 @@ use Rattle.rw_world.specs.WorldState.{floor, least_of_processes}
 use Rattle.rw_board.specs.Least.{least}
 use Rattle.rw_board.specs.Seats.{SeatState}
 use Rattle.rw_exchange.specs.Ports.{IsNew, IsWide, sent_to, received_from, sent_between, received_between}
+use Rattle.rw_crew.specs.Sums.{sum_below}
 use Rattle.rw_rounds.specs.declared.plan.Plan.{Plan}
-use Rattle.rw_rounds.specs.Bags.{weigh, sum_below}
+use Rattle.rw_rounds.specs.Bags.{weigh}
 use Rattle.rw_rounds.specs.Turns.{Role, WorkerState, is_own, IsFit, TookTurns}
 
 -- what worker i is, where g is the greatest time collected

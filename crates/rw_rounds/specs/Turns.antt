@@ -13,8 +13,9 @@ use Rattle.rw_lp.specs.Calls.{LogicalProcess}
 use Rattle.rw_lp.specs.Sound.{HasCollected}
 use Rattle.rw_exchange.specs.Ports.{PortState, SamePort, IsWide, sent_to, received_from}
 use Rattle.rw_board.specs.Seats.{SeatState}
+use Rattle.rw_crew.specs.Sums.{sum_below}
 use Rattle.rw_rounds.specs.declared.plan.Plan.{Plan}
-use Rattle.rw_rounds.specs.Bags.{weigh, only, Every, sum_below}
+use Rattle.rw_rounds.specs.Bags.{weigh, only, Every}
 use Rattle.rw_rounds.specs.Deeds.{Deed, Owned, Goes, IsFair, arrivals, executions, way_of}
 
 -- who the worker is, how it is to work, and the greatest time collected

@@ -1,10 +1,12 @@
-ghost use Rattle.std.specs.Prelude.{◌≡◌, ◌≢◌, ◌+◌, ◌<◌, ◌∷◌, ◌++◌, ℕ, List, [], All, None, IfOk, OnOk, length, map, slice_get, vec_capacity};
+ghost use Rattle.std.specs.Prelude.{◌≡◌, ◌+◌, ◌<◌, ◌++◌, ℕ, List, [], All, None, IfOk, OnOk, length, map, vec_capacity};
 ghost use Rattle.std.specs.VecDeque.{deque_capacity};
 ghost use Rattle.rw_vt.specs.declared.event.Letter.{Letter};
 ghost use Rattle.rw_vt.specs.System.{flatten};
 ghost use Rattle.rw_exchange.specs.Ports.{entry, IsOpening, received_between, sent_between};
-ghost use Rattle.rw_rounds.specs.Bags.{weigh, sum_below};
-ghost use Rattle.rw_rounds.specs.Gathering.{IsGathered, of_shares};
+ghost use Rattle.rw_crew.specs.Shares.{of_shares};
+ghost use Rattle.rw_crew.specs.Sums.{sum_below};
+ghost use Rattle.rw_rounds.specs.Bags.{weigh};
+ghost use Rattle.rw_rounds.specs.Gathering.{IsGathered};
 ghost use Rattle.rw_rounds.specs.Rounds.{weigh_left};
 
 use crate::desk::Desk;
@@ -13,24 +15,9 @@ use crate::worker::Worker;
 use rw_board::{Board, Seat};
 use rw_exchange::{Left, Port};
 use rw_lp::Lp;
-use rw_vt::{Letter, Model as VtModel, NoMemory, Refusal};
+use rw_vt::{Letter, Model as VtModel, NoMemory};
 use std::alloc::Global;
 use std::collections::VecDeque;
-
-/// The workers, or the refusal of the lowest one that was refused. What a worker is does not matter here.
-pub(crate) fn all_done<W: Drop>(
-    alloc: Global,
-    results: Vec<Result<W, Refusal>>,
-) -> Result<Vec<W>, Refusal>
-    ensures { IfOk result (λ workers. map (λ w. Ok w) workers.items ≡ results.items) }
-{
-    let mut workers = Vec::with_capacity(alloc, results.len())?;
-    for worker in results {
-        let worker = worker?;
-        workers.push_reserved(worker);
-    }
-    Ok(workers)
-}
 
 /// What a round comes to, once its workers are joined.
 #[derive(Drop)]
@@ -70,7 +57,7 @@ pub(crate) fn gather<M: VtModel>(
     } = take_apart(alloc, workers, traffic)?;
     let floor = rw_board::close(board, seats);
     let letters = letters_left(alloc, ports, kept, aside)?;
-    let processes = join_processes(alloc, count, shares)?;
+    let processes = rw_crew::join(alloc, count, shares)?;
     Ok(Gathered {
         processes,
         letters,
@@ -174,42 +161,6 @@ fn take_apart<M: VtModel>(
         holdings.seats.push_reserved(seat);
     }
     Ok(holdings)
-}
-
-/// The `count` processes in the order of their numbers: the shares give one each, round and round. What a process is does
-/// not matter here.
-fn join_processes<P: Drop>(
-    alloc: Global,
-    count: usize,
-    shares: VecDeque<VecDeque<P>>,
-) -> Result<Vec<P>, NoMemory>
-    requires some { 0 < length shares.items }
-    requires complete { (q : ℕ) → q < count
-        → of_shares (length shares.items) (map (λ h. h.items) shares.items) q ≡ None → ⊥ }
-    ensures count { IfOk result (λ all. length all.items ≡ count) }
-    ensures each { IfOk result (λ all. (q : ℕ) → q < count
-        → slice_get all.items q
-        ≡ of_shares (length shares.items) (map (λ h. h.items) shares.items) q) }
-{
-    let mut shares = shares;
-    let mut processes = Vec::with_capacity(alloc, count)?;
-    for _process in 0..count {
-        let mut share = first_of(&mut shares);
-        processes.push(first_of(&mut share))?;
-        shares.push_back(share)?;
-    }
-    Ok(processes)
-}
-
-/// Takes the first item, of which there is one. Takes no memory.
-pub(crate) fn first_of<T: Drop>(items: &mut VecDeque<T>) -> T
-    requires some { items.old.items ≢ [] }
-    ensures first { items.old.items ≡ result ∷ items.new.items }
-{
-    let Some(first) = items.pop_front() else {
-        unreachable!()
-    };
-    first
 }
 
 /// The letters that are on their way: those left in the rings, by sender and then by receiver, those kept, and those

@@ -22,7 +22,6 @@ mod setting_up;
 mod sim;
 mod stop;
 mod stretch;
-mod threads;
 mod worker;
 
 pub use pace::Pace;

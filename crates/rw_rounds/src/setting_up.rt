@@ -5,10 +5,10 @@ ghost use Rattle.rw_rounds.specs.Plans.{IsInRanges};
 ghost use Rattle.rw_rounds.specs.Rounds.{role};
 ghost use Rattle.rw_rounds.specs.Setting.{AreSetUp};
 
-use crate::gathering::first_of;
 use crate::plan::Plan;
 use crate::worker::Worker;
 use rw_board::{Board, Seat};
+use rw_crew::first_of;
 use rw_exchange::Port;
 use rw_lp::Lp;
 use rw_vt::{Letter, Model as VtModel, NoMemory, empty_lists};
@@ -67,7 +67,7 @@ fn supplies<P: Drop, B: Copy>(
         × (r.0.seats ≡ plan.now.workers) × All (λ s. s ≡ new_seat r.0.board) r.1.seats.items) }
 {
     let workers = plan.workers as usize;
-    let shares = split_processes(alloc, plan.workers, processes)?;
+    let shares = rw_crew::deal_out(alloc, plan.workers, processes)?;
     let inboxes = split_letters(alloc, plan.workers, &letters)?;
     let ports = rw_exchange::open(alloc, workers, plan.ring as usize)?;
     let (board, seats) = rw_board::open(alloc, workers)?;
@@ -78,28 +78,6 @@ fn supplies<P: Drop, B: Copy>(
         seats: VecDeque::from(seats),
     };
     Ok((board, supply))
-}
-
-/// Each worker's share of the processes, in order: process q goes to worker q modulo `workers`. What a process is does not
-/// matter here.
-fn split_processes<P: Drop>(
-    alloc: Global,
-    workers: u32,
-    processes: Vec<P>,
-) -> Result<Vec<Vec<P>>, NoMemory>
-    requires workers { 1 ≤ workers }
-    ensures count { IfOk result (λ shares. length shares.items ≡ workers) }
-    ensures each { IfOk result (λ shares. (i place : ℕ) → i < workers
-        → slice_get (slice_index_or (map (λ h. h.items) shares.items) i []) place
-        ≡ slice_get processes.items (i + place * workers)) }
-{
-    let mut shares = empty_lists(alloc, workers as usize)?;
-    let mut next = 0;
-    for process in processes {
-        shares[next].push(process)?;
-        next = (next + 1) % workers as usize;
-    }
-    Ok(shares)
 }
 
 /// The letters on their way to each worker, in order: a letter goes to the worker of its process.

@@ -1,7 +1,8 @@
 ghost use Rattle.std.specs.Prelude.{◌≡◌};
-ghost use Rattle.rw_rounds.specs.Stops.{stop_of, EndsRound};
+ghost use Rattle.rw_rounds.specs.Stops.{stop_of, stop_of_halt, EndsRound};
 ghost use Rattle.rw_rounds.specs.declared.stop.Stop.TheVariants.{Memory};
 
+use rw_crew::Halt;
 use rw_vt::{NoMemory, Refusal};
 use std::alloc::{AllocError, AllocFailed};
 
@@ -27,6 +28,18 @@ impl From<Refusal> for Stop {
         match refusal {
             Refusal::Memory => Stop::Memory,
             Refusal::Exhausted => Stop::Exhausted,
+        }
+    }
+}
+
+impl From<Halt> for Stop {
+    ghost from_gives = { λ halt stop. (stop ≡ stop_of_halt halt) × EndsRound stop };
+
+    fn from(halt: Halt) -> Stop {
+        match halt {
+            Halt::Memory => Stop::Memory,
+            Halt::Exhausted => Stop::Exhausted,
+            Halt::NoThread => Stop::NoThread,
         }
     }
 }

@@ -1,6 +1,6 @@
 use Rattle.std.proofs.Common.{◌++◌, map, sym, ap, ◌∙◌, append_assoc, take}
 use Rattle.rw_vt.specs.System.{flatten}
-use Rattle.rw_rounds.proofs.Shares.{joined_one}
+use Rattle.rw_rounds.proofs.Walking.{joined_one}
 use Rattle.rw_rounds.proofs.gathering.add_all.Goals as goal
 
 pub loop-list-preserved : goal.loop-list-preserved

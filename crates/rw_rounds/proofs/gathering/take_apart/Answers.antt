@@ -1,6 +1,7 @@
 use Rattle.std.proofs.Common.{◌≡◌, [], ◌∷◌, ◌++◌, length, map, sym, ap, ◌∙◌, arith}
 use Rattle.std.proofs.lemmas.List.{length-map}
-use Rattle.rw_rounds.proofs.Shares.{one_done, piece_done, all_walked}
+use Rattle.rw_crew.proofs.Lists.{one_done, all_walked}
+use Rattle.rw_rounds.proofs.Walking.{piece_done}
 use Rattle.rw_rounds.proofs.gathering.take_apart.Goals as goal
 
 pub loop-worker-preserved : goal.loop-worker-preserved

@@ -2,7 +2,8 @@ use Rattle.std.proofs.Common.{◌≡◌, ℕ, ◌+◌, ◌<◌, length, map, ref
 use denote.Param.Send.{param_send}
 use Rattle.rw_vt.specs.System.{flatten}
 use Rattle.rw_vt.proofs.Laws.{Laws}
-use Rattle.rw_rounds.specs.Bags.{weigh, sum_below}
+use Rattle.rw_crew.specs.Sums.{sum_below}
+use Rattle.rw_rounds.specs.Bags.{weigh}
 use Rattle.rw_rounds.proofs.Gathered.{AllTook, set_up_from, some_of, all_seated, opening_after, seats_after, there_after, from_hands_after, begins_at, joined, settled, floor_after, kept_after}
 use Rattle.rw_rounds.proofs.Sending.{worker_may_move}
 use Rattle.rw_rounds.proofs.round.go_round.Given as given

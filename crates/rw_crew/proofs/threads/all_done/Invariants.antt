@@ -1,5 +1,5 @@
 use Rattle.std.proofs.Common.{◌≡◌, ◌+◌, ◌++◌, length, map, Ok, vec_len, vec_capacity}
-use Rattle.rw_rounds.proofs.gathering.all_done.Given as goal
+use Rattle.rw_crew.proofs.threads.all_done.Given as goal
 
 abbrev pub invariant-loop-worker : goal.invariant-loop-worker
 invariant-loop-worker g l = record {

@@ -1,9 +1,7 @@
-ghost use Rattle.std.specs.Prelude.{◌≡◌, ◌<◌, ℕ, IfOk, IfErr, All, length, slice_index_or};
+ghost use Rattle.std.specs.Prelude.{◌≡◌, ◌<◌, ℕ, IfOk, All, length, map, slice_index_or};
 ghost use Rattle.std.specs.Thread.{IsSend};
-ghost use Rattle.rw_rounds.specs.Stops.{EndsRound};
 
-use crate::gathering::all_done;
-use crate::stop::Stop;
+use crate::halt::Halt;
 use rw_vt::Refusal;
 use std::alloc::Global;
 use std::snapshot::Snapshot;
@@ -12,7 +10,7 @@ use std::thread;
 use std::thread::{Promise, Threads};
 
 /// A job that many threads may do at once, each with an input of its own.
-pub(crate) trait Job<T> {
+pub trait Job<T> {
     /// With which inputs it may be done.
     ghost Takes: { Self → T → Type 0 };
 
@@ -50,12 +48,7 @@ impl<J: Job<T>, T> Promise<Result<T, Refusal>> for Began<J, T> {
 ///
 /// `Memory` where memory was refused, and `NoThread` where the start of a thread was; else the refusal of the lowest input
 /// whose job was refused.
-pub(crate) fn run_each<J, T, R>(
-    rt: &R,
-    alloc: Global,
-    inputs: Vec<T>,
-    job: &J,
-) -> Result<Vec<T>, Stop>
+pub fn run_each<J, T, R>(rt: &R, alloc: Global, inputs: Vec<T>, job: &J) -> Result<Vec<T>, Halt>
 where
     J: Job<T> + Sync,
     T: Send + Drop,
@@ -64,25 +57,23 @@ where
     ensures count { IfOk result (λ done. length done.items ≡ length inputs.items) }
     ensures each { IfOk result (λ done. (i : ℕ) (d : _) (e : _) → i < length inputs.items
         → J.Gives job.now (slice_index_or inputs.items i d) (slice_index_or done.items i e)) }
-    ensures others { IfErr result (λ stop. EndsRound stop) }
 {
     let results = thread::scope(
         thread::scope_env(),
         rt,
-        move |scope| -> Result<Vec<Result<T, Refusal>>, Stop>
+        move |scope| -> Result<Vec<Result<T, Refusal>>, Halt>
             requires takes { All (λ t. J.Takes job.now t) inputs.items }
             ensures count { IfOk result (λ rs. length rs.items ≡ length inputs.items) }
             ensures each { IfOk result (λ rs. (i : ℕ) (d : _) (e : _) → i < length inputs.items
                 → IfOk (slice_index_or rs.items i e)
                 (λ done. J.Gives job.entry.now (slice_index_or inputs.items i d) done)) }
-            ensures others { IfErr result (λ stop. EndsRound stop) }
         {
             let mut others = inputs;
             let Some(own) = others.pop() else {
                 return Ok(Vec::new(alloc));
             };
             let Ok(mut children) = Vec::with_capacity(alloc, others.len()) else {
-                return Err(Stop::Memory);
+                return Err(Halt::Memory);
             };
             for input in others {
                 let promise = Began {
@@ -90,16 +81,16 @@ where
                     input: Snapshot::of(&input),
                 };
                 let Ok(child) = scope.spawn_with(promise, move || job.run(input)) else {
-                    return Err(Stop::NoThread);
+                    return Err(Halt::NoThread);
                 };
                 children.push_reserved(child);
             }
             let result = job.run(own);
             let Ok(mut results) = thread::join_promised(rt, children) else {
-                return Err(Stop::Memory);
+                return Err(Halt::Memory);
             };
             let Ok(()) = results.push(result) else {
-                return Err(Stop::Memory);
+                return Err(Halt::Memory);
             };
             Ok(results)
         },
@@ -108,7 +99,19 @@ where
     Ok(done)
 }
 
+/// The workers, or the refusal of the lowest one that was refused. What a worker is does not matter here.
+fn all_done<W: Drop>(alloc: Global, results: Vec<Result<W, Refusal>>) -> Result<Vec<W>, Refusal>
+    ensures { IfOk result (λ workers. map (λ w. Ok w) workers.items ≡ results.items) }
+{
+    let mut workers = Vec::with_capacity(alloc, results.len())?;
+    for worker in results {
+        let worker = worker?;
+        workers.push_reserved(worker);
+    }
+    Ok(workers)
+}
+
 /// A value of type `T` may move to another thread: a fact for the proofs of those who call it. Does nothing.
-pub(crate) fn may_move<T: Send>()
+pub fn may_move<T: Send>()
     ensures moves { IsSend T.row }
 {}

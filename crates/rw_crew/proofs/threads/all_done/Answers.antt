@@ -1,6 +1,6 @@
 use Rattle.std.proofs.Common.{◌≡◌, ◌∷◌, ◌++◌, length, map, sym, ap, ◌∙◌, arith, Ok}
-use Rattle.rw_rounds.proofs.Shares.{one_done, all_walked}
-use Rattle.rw_rounds.proofs.gathering.all_done.Goals as goal
+use Rattle.rw_crew.proofs.Lists.{one_done, all_walked}
+use Rattle.rw_crew.proofs.threads.all_done.Goals as goal
 
 pub loop-worker-preserved : goal.loop-worker-preserved
 loop-worker-preserved g c =

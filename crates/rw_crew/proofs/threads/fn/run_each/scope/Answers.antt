@@ -3,8 +3,8 @@ use Rattle.std.proofs.lemmas.Bool.{cases_lt}
 use Rattle.std.proofs.lemmas.List.{length-map, get_or-map, get_or_append_left}
 use Rattle.std.proofs.lemmas.List.Elements.{All-nil, All-rest, All-same, All-push, All-pop}
 use Rattle.std.proofs.Math.Seq.{get_or-append_seam}
-use Rattle.rw_rounds.proofs.Shares.{one_done, all_walked}
-use Rattle.rw_rounds.proofs.threads.fn.run_each.scope.Goals as goal
+use Rattle.rw_crew.proofs.Lists.{one_done, all_walked}
+use Rattle.rw_crew.proofs.threads.fn.run_each.scope.Goals as goal
 
 pub loop-input-preserved : goal.loop-input-preserved
 loop-input-preserved g c =
@@ -61,7 +61,6 @@ returns g c =
                 subst (λ r. IfOk r (λ done. g.J.Job.Gives job (get_or inputs i d) done)) gave
                 (subst (λ t. IfOk c.run-result.result (λ done. g.J.Job.Gives job t done)) was c.run-result.ensures.gives)
           ];
-      others = tt;
     }
 
 pub loop-input-init : goal.loop-input-init

@@ -1,5 +1,5 @@
 use Rattle.std.proofs.Common.{◌≡◌, ◌+◌, ◌++◌, map, length, All, vec_len, vec_capacity}
-use Rattle.rw_rounds.proofs.threads.fn.run_each.scope.Given as goal
+use Rattle.rw_crew.proofs.threads.fn.run_each.scope.Given as goal
 
 abbrev pub invariant-loop-input : goal.invariant-loop-input
 invariant-loop-input g l = record {

@@ -1,0 +1,3 @@
+pub mod Halts
+pub mod Shares
+pub mod Sums

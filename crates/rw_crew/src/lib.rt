@@ -1,0 +1,11 @@
+#![tactic(auto)]
+//! What a crew of workers shares: a job that each does in a thread of its own, and lists that are dealt out to them and
+//! joined again.
+
+mod halt;
+mod shares;
+mod threads;
+
+pub use halt::Halt;
+pub use shares::{deal_out, first_of, join};
+pub use threads::{Job, may_move, run_each};
