@@ -4,6 +4,7 @@ use Rattle.std.specs.Prelude.{◌==◌, reverse}
 use Rattle.std.proofs.lemmas.Grind.{reverse_onto}
 use Rattle.std.proofs.lemmas.Bool.{eq-eqb, ne_eqb}
 use Rattle.rw_crew.specs.Sums.{sum_below}
+use Rattle.rw_crew.proofs.Sums.{total_one}
 use Rattle.rw_rounds.specs.Bags.{weigh, Every}
 
 -- a list at one place

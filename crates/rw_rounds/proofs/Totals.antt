@@ -13,7 +13,7 @@ use Rattle.rw_vt.proofs.Sorting.{IsExactOrder, tied}
 use Rattle.rw_vt.proofs.Bags.{one_if-other}
 use Rattle.rw_vt.proofs.Letters.{count-letter}
 use Rattle.rw_crew.specs.Sums.{sum_below}
-use Rattle.rw_crew.proofs.Sums.{total_same, total_add, total_zero, total_one}
+use Rattle.rw_crew.proofs.Sums.{total_same, total_add, total_zero, total_one, total_first}
 use Rattle.rw_rounds.specs.Bags.{weigh, only, Every}
 use Rattle.rw_rounds.proofs.Sums.{weigh-append}
 

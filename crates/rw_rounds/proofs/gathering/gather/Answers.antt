@@ -21,12 +21,12 @@ close-floor-requires-clause-all g c =
 pub close-floor-requires-clause-board : goal.close-floor-requires-clause-board
 close-floor-requires-clause-board g c = subst (All (λ s. s.board ≡ c.args.board.board)) (sym c.in_ok-shares.ensures.seats) c.requires.board
 
-pub join_processes-requires-clause-complete : goal.join_processes-requires-clause-complete
-join_processes-requires-clause-complete g c q within none =
+pub join-requires-clause-complete : goal.join-requires-clause-complete
+join-requires-clause-complete g c q within none =
     c.requires.complete q within (sym (same_shares (λ h. h.items) (λ w. w.processes) c.in_ok-shares.field-0.shares.items c.args.workers.items c.in_ok-shares.ensures.shares q) ∙ none)
 
-pub join_processes-requires-clause-some : goal.join_processes-requires-clause-some
-join_processes-requires-clause-some g c =
+pub join-requires-clause-some : goal.join-requires-clause-some
+join-requires-clause-some g c =
     let ws = c.args.workers.items in
     let shares = c.in_ok-shares.field-0.shares.items in
     omega (arith, c.requires.some, ap length c.in_ok-shares.ensures.shares, length-map shares (λ h. h.items), length-map ws (λ w. w.processes))
