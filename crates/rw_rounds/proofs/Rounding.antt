@@ -15,7 +15,6 @@ use Rattle.rw_lp.specs.HeldMessages.{held_messages}
 use Rattle.rw_lp.specs.Process as process
 use Rattle.rw_lp.specs.Process.{ProcessState}
 use Rattle.rw_bag.specs.Bags.{least_time}
-use Rattle.rw_lp.specs.Calls.{LogicalProcess}
 use Rattle.rw_world.specs.declared.parts.Parts.{Parts}
 use Rattle.rw_world.specs.declared.step.Step.TheVariants.{Collect}
 use Rattle.rw_world.specs.WorldState.{WorldState, least_of_processes, least_of_letters, floor}
