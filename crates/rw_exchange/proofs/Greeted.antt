@@ -1,9 +1,9 @@
 -- Rings through which first items went, as they grow.
-use Rattle.std.proofs.Common.{◌≡◌, ◌≢◌, ℕ, zero, suc, ◌+◌, ◌<◌, refl, map, List, [], ◌∷◌, ◌++◌, length, get_or, sym, ap, ◌∙◌, subst, All, Option, arith}
+use Rattle.std.proofs.Common.{◌≡◌, ◌≢◌, ℕ, zero, suc, ◌+◌, ◌<◌, refl, map, List, [], ◌∷◌, ◌++◌, length, get_or, sym, ap, ◌∙◌, subst, All, Option, Some, None, not, false, true≢false, is_some, eq-eqb, arith}
 use Rattle.std.proofs.lemmas.List.{get_or-map, get_or_push, get_or_append_left, length-append, length-map}
 use Rattle.std.proofs.lemmas.List.Elements.{All-nil, All-cons, All-head, All-tail}
 use native.Mathlib.Decide.{ℕ_discrete}
-use Rattle.rw_exchange.specs.Rings.{Ring, Column, Row, in_ring, in_received, in_table, out_sent, sent_table, received_table, NothingSent, NothingReceived, NothingReceivedAtAll, push_each}
+use Rattle.rw_exchange.specs.Rings.{Ring, Column, Row, Out, In, cell, AreCrossed, in_ring, in_received, in_table, out_ring, out_table, out_sent, sent_table, received_table, NothingSent, NothingReceived, NothingReceivedAtAll, push_each}
 use Rattle.rw_exchange.specs.Ports.{PortState, IsNew, entry, items_of, IsRowGreeted, AreTablesGreeted}
 use Rattle.rw_exchange.proofs.Crossing.{at_or_before, push_get, all_nothing}
 
@@ -58,3 +58,41 @@ module _ {T P : Type 0} where
     λ j. ap (λ z. get_or z j []) (sym (get_or-map (λ (p : PortState T). p.sent) ps k d [] lt)) ∙ (ap (λ z. entry z k j) sent ∙ nothing_sent rows none k j),
     λ j. ap (λ z. get_or z j []) (sym (get_or-map (λ (p : PortState T). p.received) ps k d [] lt)) ∙ (ap (λ z. entry z k j) received ∙ nothing_received columns none' k j),
   )
+
+module _ {T P : Type 0} where
+  -- no ring, so nothing that went in or came out
+  no_out : (x : Out T P) → is_some (out_ring x) ≡ false → out_sent x ≡ []
+  no_out None h = refl
+  no_out (Some p) h = absurd (true≢false h)
+
+  no_in : (x : In T P) → is_some (in_ring x) ≡ false → in_received x ≡ []
+  no_in None h = refl
+  no_in (Some c) h = absurd (true≢false h)
+
+  out_cell : (row : List (Out T P)) (j : ℕ) → is_some (get_or (map out_ring row) j None) ≡ false → get_or (map out_sent row) j [] ≡ []
+  out_cell [] j h = refl
+  out_cell (x ∷ xs) zero h = no_out x h
+  out_cell (x ∷ xs) (suc j) h = out_cell xs j h
+
+  in_cell : (column : List (In T P)) (j : ℕ) → is_some (get_or (map in_ring column) j None) ≡ false → get_or (map in_received column) j [] ≡ []
+  in_cell [] j h = refl
+  in_cell (x ∷ xs) zero h = no_in x h
+  in_cell (x ∷ xs) (suc j) h = in_cell xs j h
+
+  out_row : (rows : List (Row T P)) (i j : ℕ) → is_some (cell (out_table rows) i j) ≡ false → entry (sent_table rows) i j ≡ []
+  out_row [] i j h = refl
+  out_row (r ∷ rs) zero j h = out_cell r.items j h
+  out_row (r ∷ rs) (suc i) j h = out_row rs i j h
+
+  in_row : (columns : List (Column T P)) (i j : ℕ) → is_some (cell (in_table columns) i j) ≡ false → entry (received_table columns) i j ≡ []
+  in_row [] i j h = refl
+  in_row (r ∷ rs) zero j h = in_cell r.items j h
+  in_row (r ∷ rs) (suc i) j h = in_row rs i j h
+
+  -- no worker has sent to itself, or received from itself
+  pub none_itself : (n : ℕ) (rows : List (Row T P)) (columns : List (Column T P)) → AreCrossed n n (out_table rows) (in_table columns) → (i : ℕ) → i < n
+      → (entry (sent_table rows) i i ≡ []) × (entry (received_table columns) i i ≡ [])
+  none_itself n rows columns crossed i within =
+      let wide : length (get_or (out_table rows) i []) ≡ n = crossed.wide i [] (omega (arith, crossed.senders)) in
+      let none : is_some (cell (out_table rows) i i) ≡ false = crossed.others i within i (omega (arith, wide)) ∙ ap not (eq-eqb i i refl) in
+      (out_row rows i i none, in_row columns i i (ap is_some (sym (crossed.paired i i within within)) ∙ none))

@@ -99,6 +99,11 @@ module _ {T : Type 0} where
       → (sent_between ps from to ≡ items_of (first from to))
       × (received_between ps from to ≡ items_of (first from to))
 
+  -- of n workers none has sent anything to itself, or received it
+  abbrev pub NoneItself : Count → List (PortState T) → Type 0
+  NoneItself n ps =
+      (i : Worker) → i < n → (sent_between ps i i ≡ []) × (received_between ps i i ≡ [])
+
   -- what is left in the rings between n workers is what was sent and not received, letter by letter and in order
   abbrev pub IsLeftOf : Count → List (PortState T) → List (List (List T)) → Type 0
   IsLeftOf n ps left =

@@ -1,6 +1,6 @@
 //! The ports of an opening.
 ghost use Rattle.std.specs.Prelude.{◌≡◌, ◌≤◌, ℕ, [], None, map, All, IfOk, IfSome, vec_len};
-ghost use Rattle.rw_exchange.specs.Ports.{AreTablesGreeted, AreGreeted, IsNew, IsOpening, KnowsFreeToEach, StayAnOpening};
+ghost use Rattle.rw_exchange.specs.Ports.{AreTablesGreeted, AreGreeted, IsNew, IsOpening, KnowsFreeToEach, NoneItself, StayAnOpening};
 ghost use Rattle.rw_exchange.specs.Rings.{out_table, in_table, sent_table, received_table, HasCapacity, KnowsFree, NothingSent, NothingReceivedAtAll, AreCrossed};
 
 use crate::build::row;
@@ -130,6 +130,7 @@ pub fn open_greeted<T: Drop, P: Protocol<T>, G: Greeting<T>>(
     ensures stays { IfOk result (λ ports. StayAnOpening ports.items) }
     ensures greeted { IfOk result (λ ports.
         AreGreeted workers (G.greeting greeting.now) ports.items) }
+    ensures own { IfOk result (λ ports. NoneItself workers ports.items) }
     ensures capacity { IfOk result (λ ports. All (λ port. port.capacity ≡ capacity) ports.items) }
 {
     let (rows, columns) = tables(alloc, workers, capacity, greeting)?;

@@ -47,7 +47,8 @@ impl<B: Ord + Copy, S: Source<B>> Model for Pending<B, S> {
 impl<B: Ord + Copy, S: Source<B>> Pending<B, S> {
     /// The initial events, which this source gives.
     pub fn new(alloc: Global, source: S) -> Self
-        ensures { result.events ≡ S.left source }
+        ensures events { result.events ≡ S.left source }
+        ensures time { result.time ≡ 0 }
     {
         Pending {
             initial: Initial::new(source),
@@ -157,7 +158,9 @@ impl<B: Ord + Copy, S: Source<B>> Pending<B, S> {
     #[inline]
     pub fn put(&mut self, event: Event<B>) -> Result<(), AllocError>
         requires { self.old.time < event.time }
-        ensures { OnOk result (IsPermutation (self.old.events ++ event ∷ []) self.new.events) }
+        ensures added { OnOk result
+            (IsPermutation (self.old.events ++ event ∷ []) self.new.events) }
+        ensures time { OnOk result (self.new.time ≡ self.old.time) }
     {
         self.later.put(event)
     }
@@ -167,7 +170,8 @@ impl<B: Ord + Copy, S: Source<B>> Pending<B, S> {
     /// After a refusal of memory nothing is said of what is there.
     pub fn extend(&mut self, sent: &[Event<B>]) -> Result<(), AllocError>
         requires { All (λ e. self.old.time < e.time) sent.now }
-        ensures { OnOk result (IsPermutation (self.old.events ++ sent.now) self.new.events) }
+        ensures added { OnOk result (IsPermutation (self.old.events ++ sent.now) self.new.events) }
+        ensures time { OnOk result (self.new.time ≡ self.old.time) }
     {
         put_all(&mut self.later, sent)
     }

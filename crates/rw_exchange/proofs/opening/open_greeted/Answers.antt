@@ -1,5 +1,6 @@
 use Rattle.std.proofs.Common.{◌∙◌, ap}
 use Rattle.rw_exchange.specs.Ports.{entry}
+use Rattle.rw_exchange.proofs.Greeted.{none_itself}
 use Rattle.rw_exchange.proofs.opening.open_greeted.Goals as goal
 
 pub returns-clause-greeted : goal.returns-clause-greeted
@@ -7,4 +8,11 @@ returns-clause-greeted g c from to l k other =
     let first = c.in_ok-rows.ensures.first from to l k other in (
       ap (λ z. entry z from to) c.in_ok-ports.ensures.sent ∙ first.0,
       ap (λ z. entry z to from) c.in_ok-ports.ensures.received ∙ first.1,
+    )
+
+pub returns-clause-own : goal.returns-clause-own
+returns-clause-own g c i within =
+    let none = none_itself c.args.workers c.in_ok-rows.rows.items c.in_ok-rows.columns.items c.in_ok-rows.ensures.crossed i within in (
+      ap (λ z. entry z i i) c.in_ok-ports.ensures.sent ∙ none.0,
+      ap (λ z. entry z i i) c.in_ok-ports.ensures.received ∙ none.1,
     )
