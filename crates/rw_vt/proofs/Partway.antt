@@ -23,14 +23,14 @@ same_or_other p q = by_test (p == q) refl
     by_test false h = inr (λ e. grind (arith, nat_tests))
 
 module _ {B : Type 0} (J : ℕ → List (Event B)) (x : Event B) where
-  next_here : with_next J x x.to ≡ J x.to ++ x ∷ []
+  pub next_here : with_next J x x.to ≡ J x.to ++ x ∷ []
   next_here = by (x.to == x.to) refl
     where
       by : (b : Bool) → (x.to == x.to) ≡ b → cond b (J x.to ++ x ∷ []) (J x.to) ≡ J x.to ++ x ∷ []
       by true h = refl
       by false h = absurd (grind (arith, nat_tests))
 
-  next_other : (q : ℕ) → q ≢ x.to → with_next J x q ≡ J q
+  pub next_other : (q : ℕ) → q ≢ x.to → with_next J x q ≡ J q
   next_other q ne = by (q == x.to) refl
     where
       by : (b : Bool) → (q == x.to) ≡ b → cond b (J q ++ x ∷ []) (J q) ≡ J q

@@ -1,0 +1,14 @@
+pub mod Lists
+pub mod Sums
+pub mod Ports
+pub mod Moving
+pub mod Batched
+pub mod Joined
+pub mod Workers
+pub mod Dealing
+pub mod Executing
+pub mod Telling
+pub mod Saying
+pub mod Hearing
+pub mod Fresh
+pub mod Ended

@@ -1,0 +1,40 @@
+use Rattle.std.proofs.Common.{[], length, map, sym, ap, ◌∙◌, subst, get_or}
+use Rattle.std.specs.Prelude.{slice_get}
+use Rattle.rw_exchange.specs.Ports.{AreGreeted, IsOpening, NoneItself, StayAnOpening}
+use Rattle.rw_windows.specs.Beginning.{greeting}
+use Rattle.rw_windows.proofs.Lists.{map_twice, map_replicate}
+use Rattle.rw_windows.proofs.beginning.supplies.Goals as goal
+
+pub returns-clause-shares : goal.returns-clause-shares
+returns-clause-shares g c =
+    let same = c.from.ensures.0 in (
+      ap length same ∙ c.in_ok-shares.ensures.count,
+      λ i place below. ap (λ hs. slice_get (get_or (map (λ h. h.items) hs) i []) place) same ∙ c.in_ok-shares.ensures.each i place below,
+    )
+
+pub returns-clause-inboxes : goal.returns-clause-inboxes
+returns-clause-inboxes g c =
+    let same = c.from-2.ensures.0 in (
+      ap length same ∙ c.in_ok-inboxes.ensures.count,
+      λ i below. ap (λ bs. get_or (map (λ b. b.items) bs) i []) same ∙ c.in_ok-inboxes.ensures.each i below,
+    )
+
+pub returns-clause-ports : goal.returns-clause-ports
+returns-clause-ports g c =
+    let its = c.in_ok-ports.ensures in
+    let same = c.from-3.ensures.0 in
+    (ap length same ∙ its.count, subst IsOpening (sym same) its.opening, subst StayAnOpening (sym same) its.stays)
+
+pub returns-clause-greeted : goal.returns-clause-greeted
+returns-clause-greeted g c =
+    let its = c.in_ok-ports.ensures in
+    let same = c.from-3.ensures.0 in
+    let t = c.args.terms in
+    (subst (AreGreeted t.workers (greeting c.args.model.now t.workers t.reach)) (sym same) its.greeted, subst (NoneItself t.workers) (sym same) its.own)
+
+pub returns-clause-starts : goal.returns-clause-starts
+returns-clause-starts g c =
+    ap (map (λ x. x.value.items)) c.from-4.ensures.0
+    ∙ map_twice (λ v. v.items) (λ x. x.value) c.in_ok-starts.starts.items
+    ∙ ap (map (λ v. v.items)) c.in_ok-starts.ensures
+    ∙ map_replicate (λ v. v.items) c.args.terms.workers c.args.states

@@ -1,0 +1,19 @@
+use Rattle.std.proofs.Common.{◌%◌, ◌∙◌, [], ◌∷◌, refl, subst, sym, arith, length, ◌≡◌, ◌<◌}
+use Rattle.std.proofs.lemmas.List.{length-map}
+use Rattle.rw_crew.proofs.Lists.{pushed_at}
+use Rattle.rw_windows.proofs.Dealing.{dealt_away, dealt_by, dealt_own}
+use Rattle.rw_windows.proofs.worker.Worker.deal_one.Goals as goal
+
+pub returns-then-to-self : goal.returns-then-to-self
+returns-then-to-self g c =
+    record { dealt = dealt_by c.args.self.now _ _ (c.args.event ∷ []) c.self.view_is (dealt_own _ _ c.args.event (rw c.in_ok-put.ensures.time refl) c.in_ok-put.ensures.added c.if-to-self.true) }
+
+pub returns : goal.returns
+returns g c =
+    let away = c.self.inside.away.items in
+    let to = c.args.event.to % c.self.inside.workers in
+    let lists : length away ≡ c.self.inside.workers = sym (length-map away (λ l. l.items)) ∙ subst (λ w. length w.away ≡ w.workers) (sym c.self.view_is) c.requires.lists in
+    let number : c.self.inside.number < c.self.inside.workers = subst (λ w. w.number < w.workers) (sym c.self.view_is) c.requires.number in
+    let within : to < length away = omega arith in
+    let pushed = pushed_at (λ l. l.items) away to c.index_mut.result.now c.push.new.self c.args.event within c.index_mut.ensures.value c.in_ok-push.ensures.items in
+    record { dealt = dealt_by c.args.self.now _ _ (c.args.event ∷ []) c.self.view_is (dealt_away _ _ c.args.event to refl refl pushed c.if-to-self.false (omega (arith, within, length-map away (λ l. l.items)))) }

@@ -1,0 +1,35 @@
+use Rattle.std.proofs.Common.{refl, sym, ◌∙◌, ap, subst, [], set, map}
+use Rattle.std.proofs.lemmas.List.{map-set}
+use Rattle.rw_vt.proofs.Laws.{laws_of}
+use Rattle.rw_exchange.specs.Ports.{IsOther, free_to}
+use Rattle.rw_windows.specs.Working.{IsAtWork}
+use Rattle.rw_windows.proofs.Telling.{has_list, may_tell, told_with, kept_with, put_back, read_part}
+use Rattle.rw_windows.proofs.worker.Worker.tell.Goals as goal
+
+pub send_waiting-requires-clause-allowed : goal.send_waiting-requires-clause-allowed
+send_waiting-requires-clause-allowed g c =
+    let laws = laws_of g.met.M.Model g.met.M.Body.Ord.total in
+    let work = subst (IsAtWork g.M.Model g.M.Body.Ord.cmp c.args.model.now) (sym c.self.view_is) c.requires.at_work in
+    let other = subst (λ w. IsOther w.port c.args.to) (sym c.self.view_is) c.requires.other in
+    let read = ap (λ v. v.items) c.replace-events.ensures.value ∙ read_part (λ v. v.items) c.self.inside.away.items c.args.to c.index_mut.result.now [] (has_list work c.args.to other) c.index_mut.ensures.value in
+    may_tell laws c.args.model.now _ work c.args.to other _ read refl (record { model = c.of.ensures; workers = c.of-2.ensures; to = c.of-3.ensures })
+
+pub returns-in-Ok-clause-at_work : goal.returns-in-Ok-clause-at_work
+returns-in-Ok-clause-at_work g c =
+    let laws = laws_of g.met.M.Model g.met.M.Body.Ord.total in
+    let work = subst (IsAtWork g.M.Model g.M.Body.Ord.cmp c.args.model.now) (sym c.self.view_is) c.requires.at_work in
+    let other = subst (λ w. IsOther w.port c.args.to) (sym c.self.view_is) c.requires.other in
+    let read = ap (λ v. v.items) c.replace-events.ensures.value ∙ read_part (λ v. v.items) c.self.inside.away.items c.args.to c.index_mut.result.now [] (has_list work c.args.to other) c.index_mut.ensures.value in
+    let away = map-set (λ v. v.items) c.self.inside.away.items c.args.to c.replace-events.new.dest ∙ ap (set (map (λ v. v.items) c.self.inside.away.items) c.args.to) (ap (λ v. v.items) c.replace-events.ensures.after ∙ c.new.ensures.items) in
+    told_with laws c.args.model.now _ work c.args.to other _ read refl (record { model = c.of.ensures; workers = c.of-2.ensures; to = c.of-3.ensures }) (free_to c.send_waiting.new.port c.args.to) c.send_waiting.new.port _ c.in-Ok.ensures.ok away
+
+pub returns-in-Err-clause-at_work : goal.returns-in-Err-clause-at_work
+returns-in-Err-clause-at_work g c =
+    let work = subst (IsAtWork g.M.Model g.M.Body.Ord.cmp c.args.model.now) (sym c.self.view_is) c.requires.at_work in
+    let back = ap (λ b. b.events) (c.back.view_is ∙ c.in-Err.ensures.err.0) ∙ ap (λ v. v.items) (c.replace-events.ensures.value ∙ c.index_mut.ensures.value) in
+    kept_with c.args.model.now _ work c.send_waiting.new.port _ c.in-Err.ensures.err.1 (put_back (λ v. v.items) c.self.inside.away.items c.args.to c.replace-events.new.dest c.back.inside.events c.index_mut.result.now back)
+
+pub returns-in-Ok-clause-told : goal.returns-in-Ok-clause-told
+returns-in-Ok-clause-told g c =
+    let away = map-set (λ v. v.items) c.self.inside.away.items c.args.to c.replace-events.new.dest ∙ ap (set (map (λ v. v.items) c.self.inside.away.items) c.args.to) (ap (λ v. v.items) c.replace-events.ensures.after ∙ c.new.ensures.items) in
+    λ there. away ∙ ap (λ w. set w.away c.args.to []) c.self.view_is

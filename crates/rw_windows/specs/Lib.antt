@@ -1,0 +1,4 @@
+pub mod Batches
+pub mod Beginning
+pub mod Running
+pub mod Working

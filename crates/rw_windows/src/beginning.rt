@@ -1,0 +1,313 @@
+ghost use Rattle.std.specs.Prelude.{◌≡◌, ◌≤◌, ◌<◌, ◌%◌, ◌==◌, ◌+◌, ◌*◌, ◌∷◌, ◌≢◌, ℕ, [], All, IfOk, filter, length, map, replicate, slice_get, slice_index_or};
+ghost use Rattle.rw_vt.specs.System.{IsReady};
+ghost use Rattle.rw_exchange.specs.Ports.{AreGreeted, IsOpening, NoneItself, StayAnOpening};
+ghost use Rattle.rw_windows.specs.Beginning.{HasNotBegun, greeting};
+ghost use Rattle.rw_windows.specs.Running.{AreBegun};
+ghost use Rattle.rw_windows.specs.Working.{IsAhead};
+
+use crate::batch::{Batch, InTime};
+use crate::share::Share;
+use rw_crew::{deal_out, first_of};
+use rw_exchange::{Greeting, Port};
+use rw_vt::{Event, Model as VtModel, NoMemory, empty_lists};
+use std::alloc::{AllocError, Global};
+use std::collections::VecDeque;
+use std::snapshot::Snapshot;
+
+/// How many slots a ring has. Workers go in lockstep, none more than a window ahead of another, so two would be enough.
+const CAPACITY: usize = 4;
+
+/// What the workers begin with, in the order of their numbers.
+#[derive(Drop)]
+struct Supply<M: VtModel> {
+    /// The states of the processes of each.
+    shares: VecDeque<Vec<M::State>>,
+    /// The events for each.
+    inboxes: VecDeque<Vec<Event<M::Body>>>,
+    /// The port of each.
+    ports: VecDeque<Port<Batch<M>, InTime>>,
+    /// Where all processes start, once for each.
+    starts: VecDeque<Snapshot<Vec<M::State>>>,
+}
+
+/// What all workers of a run know of it.
+#[derive(Clone, Copy)]
+struct Terms {
+    /// How many workers there are.
+    workers: u32,
+    /// Up to which time all execute, in ticks.
+    end: u64,
+    /// How far ahead of an event all is that it sends, in ticks.
+    lookahead: u64,
+    /// Before which time nothing is sent, in ticks.
+    reach: u64,
+}
+
+/// The shares of the workers of a run, from these states with these events.
+///
+/// Process q goes to worker q modulo their number, and an event to the worker of its process. Nothing is sent before the
+/// lookahead after the first event: the first batch of each ring says so, which both its ends know from the start.
+///
+/// # Errors
+///
+/// [`NoMemory`] where memory was refused.
+pub(crate) fn begin<M: VtModel>(
+    alloc: Global,
+    model: &M,
+    states: Vec<M::State>,
+    events: Vec<Event<M::Body>>,
+    workers: u32,
+    lookahead: u64,
+    end: u64,
+) -> Result<Vec<Share<M>>, NoMemory>
+    requires ready { IsReady M.Model model.now states.items events.items }
+    requires workers { (1 ≤ workers) × (workers ≤ 16) }
+    requires lookahead { 1 ≤ lookahead }
+    requires ahead { IsAhead M.Model model.now lookahead }
+    ensures begun { IfOk result (λ ws. AreBegun M.Model M.Body.cmp model.now workers end
+        states.items events.items ws.items) }
+{
+    let first = least_time(&events, end);
+    let terms = Terms {
+        workers,
+        end,
+        lookahead,
+        reach: first.saturating_add(lookahead),
+    };
+    let supply = supplies(alloc, model, terms, states, &events)?;
+    let shares = make_shares(alloc, terms, supply)?;
+    Ok(shares)
+}
+
+/// A time that no event is before, in ticks: the least of their times, or `end` where that is less.
+fn least_time<B: Copy>(events: &[Event<B>], end: u64) -> u64
+    ensures least { All (λ e. result ≤ e.time) events.now }
+{
+    let mut least = end;
+    for event in events {
+        least = least.min(event.time);
+    }
+    least
+}
+
+/// What the workers begin with.
+fn supplies<M: VtModel>(
+    alloc: Global,
+    model: &M,
+    terms: Terms,
+    states: Vec<M::State>,
+    events: &[Event<M::Body>],
+) -> Result<Supply<M>, NoMemory>
+    requires workers { (1 ≤ terms.workers) × (terms.workers ≤ 16) }
+    ensures shares { IfOk result (λ s. (length s.shares.items ≡ terms.workers)
+        × ((i place : ℕ) → i < terms.workers
+        → slice_get (slice_index_or (map (λ h. h.items) s.shares.items) i []) place
+        ≡ slice_get states.items (i + place * terms.workers))) }
+    ensures inboxes { IfOk result (λ s. (length s.inboxes.items ≡ terms.workers)
+        × ((i : ℕ) → i < terms.workers
+        → slice_index_or (map (λ b. b.items) s.inboxes.items) i []
+        ≡ filter (λ e. e.to % terms.workers == i) events.now)) }
+    ensures ports { IfOk result (λ s. (length s.ports.items ≡ terms.workers)
+        × IsOpening s.ports.items × StayAnOpening s.ports.items) }
+    ensures greeted { IfOk result (λ s.
+        AreGreeted terms.workers (greeting model.now terms.workers terms.reach) s.ports.items
+        × NoneItself terms.workers s.ports.items) }
+    ensures starts { IfOk result (λ s.
+        map (λ x. x.value.items) s.starts.items ≡ replicate terms.workers states.items) }
+{
+    let count = terms.workers as usize;
+    let starts = snapshots(alloc, count, &states)?;
+    let shares = deal_out(alloc, terms.workers, states)?;
+    let inboxes = deal_events(alloc, terms.workers, events)?;
+    let ports = open_ports(alloc, model, terms)?;
+    Ok(Supply {
+        shares: VecDeque::from(shares),
+        inboxes: VecDeque::from(inboxes),
+        ports: VecDeque::from(ports),
+        starts: VecDeque::from(starts),
+    })
+}
+
+/// The ports of the workers, through each ring of which its first batch went.
+fn open_ports<M: VtModel>(
+    alloc: Global,
+    model: &M,
+    terms: Terms,
+) -> Result<Vec<Port<Batch<M>, InTime>>, NoMemory>
+    requires workers { (1 ≤ terms.workers) × (terms.workers ≤ 16) }
+    ensures count { IfOk result (λ ports. length ports.items ≡ terms.workers) }
+    ensures opening { IfOk result (λ ports. IsOpening ports.items) }
+    ensures stays { IfOk result (λ ports. StayAnOpening ports.items) }
+    ensures greeted { IfOk result (λ ports.
+        AreGreeted terms.workers (greeting model.now terms.workers terms.reach) ports.items) }
+    ensures own { IfOk result (λ ports. NoneItself terms.workers ports.items) }
+{
+    let greet = Greet {
+        model,
+        workers: terms.workers,
+        reach: terms.reach,
+    };
+    rw_exchange::open_greeted::<Batch<M>, InTime, _>(
+        alloc,
+        terms.workers as usize,
+        CAPACITY,
+        &greet,
+    )
+}
+
+/// So many snapshots of a value. They take no room.
+fn snapshots<T>(alloc: Global, count: usize, value: &T) -> Result<Vec<Snapshot<T>>, NoMemory>
+    ensures { IfOk result (λ all.
+        map (λ s. s.value) all.items ≡ replicate count value.now) }
+{
+    let mut all = Vec::with_capacity(alloc, count)?;
+    for _ in 0..count {
+        all.push_reserved(Snapshot::of(value));
+    }
+    Ok(all)
+}
+
+/// The events for each worker, in order: an event goes to the worker of its process.
+fn deal_events<B: Copy>(
+    alloc: Global,
+    workers: u32,
+    events: &[Event<B>],
+) -> Result<Vec<Vec<Event<B>>>, NoMemory>
+    requires workers { 1 ≤ workers }
+    ensures count { IfOk result (λ inboxes. length inboxes.items ≡ workers) }
+    ensures each { IfOk result (λ inboxes. (i : ℕ) → i < workers
+        → slice_index_or (map (λ b. b.items) inboxes.items) i []
+        ≡ filter (λ e. e.to % workers == i) events.now) }
+{
+    let mut inboxes = empty_lists(alloc, workers as usize)?;
+    for event in events {
+        inboxes[(event.to % workers) as usize].push(*event)?;
+    }
+    Ok(inboxes)
+}
+
+/// The shares, by worker, each with its part of the supply.
+fn make_shares<M: VtModel>(
+    alloc: Global,
+    terms: Terms,
+    supply: Supply<M>,
+) -> Result<Vec<Share<M>>, NoMemory>
+    requires shares { length supply.shares.items ≡ terms.workers }
+    requires inboxes { length supply.inboxes.items ≡ terms.workers }
+    requires ports { length supply.ports.items ≡ terms.workers }
+    requires starts { length supply.starts.items ≡ terms.workers }
+    ensures count { IfOk result (λ ws. length ws.items ≡ terms.workers) }
+    ensures numbers { IfOk result (λ ws. (i : ℕ) (d : _) → i < terms.workers
+        → (slice_index_or ws.items i d).number ≡ i) }
+    ensures states { IfOk result (λ ws.
+        map (λ w. w.states) ws.items ≡ map (λ h. h.items) supply.shares.items) }
+    ensures given { IfOk result (λ ws.
+        map (λ w. w.given) ws.items ≡ map (λ b. b.items) supply.inboxes.items) }
+    ensures ports { IfOk result (λ ws. map (λ w. w.port) ws.items ≡ supply.ports.items) }
+    ensures starts { IfOk result (λ ws.
+        map (λ w. w.starts) ws.items ≡ map (λ x. x.value.items) supply.starts.items) }
+    ensures new { IfOk result (λ ws. All (HasNotBegun terms) ws.items) }
+{
+    let mut supply = supply;
+    let mut shares = Vec::with_capacity(alloc, terms.workers as usize)?;
+    for number in 0..terms.workers {
+        let share = next_share(alloc, terms, number, &mut supply)?;
+        shares.push_reserved(share);
+    }
+    Ok(shares)
+}
+
+/// The share of worker `number`, with what is next in the supply.
+fn next_share<M: VtModel>(
+    alloc: Global,
+    terms: Terms,
+    number: u32,
+    supply: &mut Supply<M>,
+) -> Result<Share<M>, NoMemory>
+    requires shares { supply.old.shares.items ≢ [] }
+    requires inboxes { supply.old.inboxes.items ≢ [] }
+    requires ports { supply.old.ports.items ≢ [] }
+    requires starts { supply.old.starts.items ≢ [] }
+    ensures number { IfOk result (λ w. w.number ≡ number) }
+    ensures states { IfOk result (λ w. map (λ h. h.items) supply.old.shares.items
+        ≡ w.states ∷ map (λ h. h.items) supply.new.shares.items) }
+    ensures given { IfOk result (λ w. map (λ b. b.items) supply.old.inboxes.items
+        ≡ w.given ∷ map (λ b. b.items) supply.new.inboxes.items) }
+    ensures port { IfOk result (λ w.
+        supply.old.ports.items ≡ w.port ∷ supply.new.ports.items) }
+    ensures starts { IfOk result (λ w. map (λ x. x.value.items) supply.old.starts.items
+        ≡ w.starts ∷ map (λ x. x.value.items) supply.new.starts.items) }
+    ensures new { IfOk result (HasNotBegun terms) }
+{
+    let states = first_of(&mut supply.shares);
+    let inbox = first_of(&mut supply.inboxes);
+    let port = first_of(&mut supply.ports);
+    let starts = first_of(&mut supply.starts);
+    new_share(alloc, terms, number, states, inbox, port, starts)
+}
+
+/// The share of a worker that has done nothing yet.
+fn new_share<M: VtModel>(
+    alloc: Global,
+    terms: Terms,
+    number: u32,
+    states: Vec<M::State>,
+    inbox: Vec<Event<M::Body>>,
+    port: Port<Batch<M>, InTime>,
+    starts: Snapshot<Vec<M::State>>,
+) -> Result<Share<M>, NoMemory>
+    ensures number { IfOk result (λ w. w.number ≡ number) }
+    ensures states { IfOk result (λ w. w.states ≡ states.items) }
+    ensures given { IfOk result (λ w. w.given ≡ inbox.items) }
+    ensures port { IfOk result (λ w. w.port ≡ port) }
+    ensures starts { IfOk result (λ w. w.starts ≡ starts.value.items) }
+    ensures new { IfOk result (HasNotBegun terms) }
+{
+    let given = Snapshot::of(&inbox);
+    let away = empty_lists(alloc, terms.workers as usize)?;
+    Ok(Share {
+        number,
+        workers: terms.workers,
+        end: terms.end,
+        lookahead: terms.lookahead,
+        states,
+        events: inbox,
+        port,
+        away,
+        until: 0,
+        heard: terms.reach,
+        said: terms.reach,
+        executed: 0,
+        received: 0,
+        starts,
+        given,
+    })
+}
+
+/// Makes the first batch of each ring: it says before which time nothing is sent, and has no events.
+#[derive(Drop)]
+struct Greet<'a, M> {
+    model: &'a M,
+    workers: u32,
+    reach: u64,
+}
+
+impl<'a, M: VtModel> Greeting<Batch<M>> for Greet<'a, M> {
+    ghost use Rattle.rw_windows.specs.Beginning.{greeting};
+
+    ghost greeting = { λ g. greeting g.model.now g.workers g.reach };
+
+    fn greet(&self, alloc: Global, _from: usize, to: usize) -> Result<Option<Batch<M>>, NoMemory> {
+        if to >= self.workers as usize {
+            return Ok(None);
+        }
+        let to = to as u32;
+        Ok(Some(Batch {
+            events: Vec::new(alloc),
+            reach: self.reach,
+            model: Snapshot::of(self.model),
+            workers: Snapshot::of(&self.workers),
+            to: Snapshot::of(&to),
+        }))
+    }
+}

@@ -1,0 +1,171 @@
+ghost use Rattle.std.specs.Prelude.{◌≡◌, ◌≤◌, ◌+◌, ◌∷◌, ◌++◌, ℕ, IfOk, List, OnOk, [], length, map};
+ghost use Rattle.rw_vt.specs.declared.event.Event.{Event};
+ghost use Rattle.rw_vt.specs.Order.{weigh};
+ghost use Rattle.rw_vt.specs.System.{flatten};
+ghost use Rattle.rw_windows.specs.Batches.{events_in, batch_events};
+ghost use Rattle.rw_windows.specs.Running.{HaveEnded, IsLeftOfRun};
+
+use crate::Left;
+use crate::batch::{Batch, InTime};
+use crate::share::Share;
+use rw_crew::join;
+use rw_exchange::Port;
+use rw_vt::{Event, Model as VtModel, NoMemory};
+use std::alloc::Global;
+use std::collections::VecDeque;
+
+/// Joins what the workers of a run leave, once all have come to the end: the states of the `count` processes, in order, and
+/// what is still to be executed, which is not before the end.
+pub(crate) fn gather<M: VtModel>(
+    alloc: Global,
+    count: usize,
+    model: &M,
+    shares: Vec<Share<M>>,
+) -> Result<Left<M>, NoMemory>
+    requires some { 1 ≤ length shares.items }
+    requires ended { (end : ℕ) × (states : List M.State) × (events : List (Event M.Body))
+        × (length states ≡ count)
+        × HaveEnded M.Model M.Body.cmp model.now (length shares.items) end states events
+        shares.items }
+    ensures left { IfOk result (λ r.
+        (end : ℕ) (states : List M.State) (events : List (Event M.Body))
+        → length states ≡ count
+        → HaveEnded M.Model M.Body.cmp model.now (length shares.items) end states events
+        shares.items
+        → IsLeftOfRun M.Model M.Body.cmp model.now end states events
+        r.states.items r.events.items) }
+{
+    let Holdings {
+        shares,
+        ports,
+        mut events,
+        executed,
+        received,
+    } = take_apart(alloc, shares)?;
+    let left = rw_exchange::settle(alloc, ports)?;
+    add_left(&mut events, &left.into_lists())?;
+    let states = join(alloc, count, shares)?;
+    Ok(Left {
+        states,
+        events,
+        executed,
+        received,
+    })
+}
+
+/// What the workers of a run leave at its end.
+#[derive(Drop)]
+struct Holdings<M: VtModel> {
+    /// The states of the processes of each.
+    shares: VecDeque<VecDeque<M::State>>,
+    /// The port of each, from whose rings the last batches are still to be taken.
+    ports: Vec<Port<Batch<M>, InTime>>,
+    /// What still waits at each, and what each was to hand over.
+    events: Vec<Event<M::Body>>,
+    /// How many events all executed.
+    executed: u64,
+    /// How many of them another worker handed over.
+    received: u64,
+}
+
+impl<M: VtModel> Holdings<M> {
+    /// Adds what one more worker leaves.
+    fn add(&mut self, share: Share<M>) -> Result<(), NoMemory>
+        ensures shares { OnOk result (map (λ h. h.items) self.new.shares.items
+            ≡ map (λ h. h.items) self.old.shares.items ++ share.states ∷ []) }
+        ensures ports { OnOk result
+            (self.new.ports.items ≡ self.old.ports.items ++ share.port ∷ []) }
+        ensures events { OnOk result ((h : Event M.Body → ℕ) → weigh h self.new.events.items
+            ≡ weigh h self.old.events.items + weigh h (share.waiting ++ flatten share.away)) }
+    {
+        let Share {
+            states,
+            events,
+            port,
+            away,
+            executed,
+            received,
+            ..
+        } = share;
+        self.shares.push_back(VecDeque::from(states))?;
+        self.ports.push(port)?;
+        self.events.extend_from_slice(&events)?;
+        add_lists(&mut self.events, &away)?;
+        self.executed = self.executed.wrapping_add(executed);
+        self.received = self.received.wrapping_add(received);
+        Ok(())
+    }
+}
+
+/// Takes the shares apart.
+fn take_apart<M: VtModel>(alloc: Global, shares: Vec<Share<M>>) -> Result<Holdings<M>, NoMemory>
+    ensures shares { IfOk result (λ l.
+        map (λ h. h.items) l.shares.items ≡ map (λ w. w.states) shares.items) }
+    ensures ports { IfOk result (λ l. l.ports.items ≡ map (λ w. w.port) shares.items) }
+    ensures events { IfOk result (λ l. (h : Event M.Body → ℕ) → weigh h l.events.items
+        ≡ weigh h (flatten (map (λ w. w.waiting ++ flatten w.away) shares.items))) }
+{
+    let mut holdings = Holdings {
+        shares: VecDeque::new(alloc),
+        ports: Vec::new(alloc),
+        events: Vec::new(alloc),
+        executed: 0,
+        received: 0,
+    };
+    for share in shares {
+        holdings.add(share)?;
+    }
+    Ok(holdings)
+}
+
+/// Adds the events of all `lists`.
+fn add_lists<B: Copy>(events: &mut Vec<Event<B>>, lists: &[Vec<Event<B>>]) -> Result<(), NoMemory>
+    ensures more { OnOk result (events.new.items
+        ≡ events.old.items ++ flatten (map (λ l. l.items) lists.now)) }
+{
+    for list in lists {
+        events.extend_from_slice(list)?;
+    }
+    Ok(())
+}
+
+/// Adds the events of the batches that are left in the rings, by sender and receiver.
+fn add_left<M: VtModel>(
+    events: &mut Vec<Event<M::Body>>,
+    rows: &[Vec<Vec<Batch<M>>>],
+) -> Result<(), NoMemory>
+    ensures more { OnOk result (events.new.items ≡ events.old.items
+        ++ flatten (map (λ row. events_in (map (λ ring. ring.items) row.items)) rows.now)) }
+{
+    for row in rows {
+        add_row(events, row)?;
+    }
+    Ok(())
+}
+
+/// Adds the events of the batches that are left in the rings of one sender.
+fn add_row<M: VtModel>(
+    events: &mut Vec<Event<M::Body>>,
+    rings: &[Vec<Batch<M>>],
+) -> Result<(), NoMemory>
+    ensures more { OnOk result (events.new.items
+        ≡ events.old.items ++ events_in (map (λ ring. ring.items) rings.now)) }
+{
+    for ring in rings {
+        add_ring(events, ring)?;
+    }
+    Ok(())
+}
+
+/// Adds the events of the batches that are left in one ring.
+fn add_ring<M: VtModel>(
+    events: &mut Vec<Event<M::Body>>,
+    batches: &[Batch<M>],
+) -> Result<(), NoMemory>
+    ensures more { OnOk result (events.new.items ≡ events.old.items ++ batch_events batches.now) }
+{
+    for batch in batches {
+        events.extend_from_slice(&batch.events)?;
+    }
+    Ok(())
+}

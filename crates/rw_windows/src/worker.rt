@@ -1,0 +1,231 @@
+ghost use Rattle.std.specs.Prelude.{◌≡◌, ◌≤◌, ◌<◌, ◌≢◌, [], ◌∷◌, All, IfOk, OnOk, false, length, true};
+ghost use Rattle.rw_windows.specs.Working.{HandedOver, IsAtWork, IsDealt, IsReordered, SameWorker};
+
+use crate::batch::{Batch, InTime};
+use crate::share::Share;
+use rw_exchange::Port;
+use rw_serial::{Pending, Sorted};
+use rw_vt::{Event, Model as VtModel, Refusal};
+use std::alloc::{AllocError, Global};
+use std::marker::Model;
+use std::snapshot::Snapshot;
+
+/// One worker at work: its share of the run, of which what waits is in the order of execution.
+///
+/// A contract sees what it is and what it holds, as of its share (`ShareState`).
+#[derive(Drop)]
+pub(crate) struct Worker<M: VtModel> {
+    /// Which worker it is, counted from 0.
+    pub(crate) number: u32,
+    /// How many workers there are.
+    pub(crate) workers: u32,
+    /// Up to which time all execute, in ticks.
+    pub(crate) end: u64,
+    /// How far ahead of an event all is that it sends, in ticks.
+    pub(crate) lookahead: u64,
+    /// The states of its processes, in order.
+    pub(crate) states: Vec<M::State>,
+    /// What is still to be executed at them.
+    pub(crate) pending: Pending<M::Body, Sorted<M::Body>>,
+    /// Its ends of the rings to and from the others.
+    pub(crate) port: Port<Batch<M>, InTime>,
+    /// What is to be handed over to each worker.
+    pub(crate) away: Vec<Vec<Event<M::Body>>>,
+    /// Up to which time it executes, in ticks.
+    pub(crate) until: u64,
+    /// Before which time it hears of nothing more, in ticks.
+    pub(crate) heard: u64,
+    /// Before which time it sends nothing more, in ticks.
+    pub(crate) said: u64,
+    /// How many events it executed.
+    pub(crate) executed: u64,
+    /// How many events it heard of.
+    pub(crate) received: u64,
+    /// Where all processes start. For contracts alone.
+    pub(crate) starts: Snapshot<Vec<M::State>>,
+    /// The events that it was dealt. For contracts alone.
+    pub(crate) given: Snapshot<Vec<Event<M::Body>>>,
+}
+
+impl<M: VtModel> Model for Worker<M> {
+    ghost use Rattle.std.specs.Prelude.{map};
+    ghost use Rattle.rw_windows.specs.Working.{ShareState};
+
+    ghost Value = { ShareState M M.State M.Body };
+
+    ghost view = { λ w. record {
+      number = w.number;
+      workers = w.workers;
+      end = w.end;
+      lookahead = w.lookahead;
+      starts = w.starts.value.items;
+      given = w.given.value.items;
+      states = w.states.items;
+      waiting = w.pending.events;
+      reached = w.pending.time;
+      port = w.port;
+      away = map (λ list. list.items) w.away.items;
+      until = w.until;
+      heard = w.heard;
+      said = w.said;
+    } };
+}
+
+impl<M: VtModel> Worker<M> {
+    /// The worker of a share.
+    pub(crate) fn of(alloc: Global, share: Share<M>) -> Result<Worker<M>, AllocError>
+        ensures is { IfOk result (λ w. IsReordered share w) }
+    {
+        let Share {
+            number,
+            workers,
+            end,
+            lookahead,
+            states,
+            events,
+            port,
+            away,
+            until,
+            heard,
+            said,
+            executed,
+            received,
+            starts,
+            given,
+        } = share;
+        let pending = Pending::new(alloc, Sorted::new(events)?);
+        Ok(Worker {
+            number,
+            workers,
+            end,
+            lookahead,
+            states,
+            pending,
+            port,
+            away,
+            until,
+            heard,
+            said,
+            executed,
+            received,
+            starts,
+            given,
+        })
+    }
+
+    /// The share that it leaves.
+    pub(crate) fn into_share(self, alloc: Global) -> Result<Share<M>, AllocError>
+        ensures is { IfOk result (λ s. IsReordered self s) }
+    {
+        let Worker {
+            number,
+            workers,
+            end,
+            lookahead,
+            states,
+            mut pending,
+            port,
+            away,
+            until,
+            heard,
+            said,
+            executed,
+            received,
+            starts,
+            given,
+        } = self;
+        let events = pending.take_out(alloc, usize::MAX)?;
+        Ok(Share {
+            number,
+            workers,
+            end,
+            lookahead,
+            states,
+            events,
+            port,
+            away,
+            until,
+            heard,
+            said,
+            executed,
+            received,
+            starts,
+            given,
+        })
+    }
+
+    /// Whether it has executed all that is before the end, in the last window.
+    pub(crate) fn is_done(&self) -> bool
+        ensures done { result ≡ true → self.now.end ≤ self.now.until }
+        ensures not_yet { result ≡ false → self.now.until < self.now.end }
+    {
+        self.until >= self.end
+    }
+
+    /// Goes on to the next window: up to what was heard and said, and not past the end.
+    pub(crate) fn go_further(&mut self, model: &M)
+        requires at_work { IsAtWork M.Model M.Body.cmp model.now self.old }
+        requires handed_over { HandedOver self.old }
+        ensures at_work { IsAtWork M.Model M.Body.cmp model.now self.new }
+        ensures same { SameWorker self.old self.new }
+        ensures handed_over { HandedOver self.new }
+    {
+        self.until = self.until.max(self.heard.min(self.said).min(self.end));
+    }
+
+    /// Executes the next event of the window for good, with no undo record, and answers whether there was one. What it sends
+    /// is dealt out; `sent` is a list to work with.
+    pub(crate) fn execute_next(
+        &mut self,
+        alloc: Global,
+        model: &M,
+        sent: &mut Vec<Event<M::Body>>,
+    ) -> Result<bool, Refusal>
+        requires at_work { IsAtWork M.Model M.Body.cmp model.now self.old }
+        ensures at_work { OnOk result (IsAtWork M.Model M.Body.cmp model.now self.new) }
+        ensures same { OnOk result (SameWorker self.old self.new) }
+        ensures none { IfOk result (λ found. found ≡ false
+            → All (λ a. self.new.until ≤ a.time) self.new.waiting) }
+    {
+        let mut next = None;
+        self.pending.pop_before(self.until, &mut next)?;
+        let Some(event) = &next else {
+            return Ok(false);
+        };
+        sent.clear();
+        let place = (event.to / self.workers) as usize;
+        model.advance(alloc, event.to, &mut self.states[place], event, sent)?;
+        self.executed = self.executed.wrapping_add(1);
+        self.deal(sent)?;
+        Ok(true)
+    }
+
+    /// Deals out what an event sent: to its own processes, or to be handed over.
+    fn deal(&mut self, sent: &[Event<M::Body>]) -> Result<(), AllocError>
+        requires number { self.old.number < self.old.workers }
+        requires lists { length self.old.away ≡ self.old.workers }
+        requires later { All (λ e. self.old.reached < e.time) sent.now }
+        ensures dealt { OnOk result (IsDealt self.old self.new sent.now) }
+    {
+        for event in sent {
+            self.deal_one(*event)?;
+        }
+        Ok(())
+    }
+
+    /// Deals out one event.
+    fn deal_one(&mut self, event: Event<M::Body>) -> Result<(), AllocError>
+        requires number { self.old.number < self.old.workers }
+        requires lists { length self.old.away ≡ self.old.workers }
+        requires later { self.old.reached < event.time }
+        ensures dealt { OnOk result (IsDealt self.old self.new (event ∷ [])) }
+    {
+        let to = event.to % self.workers;
+        if to == self.number {
+            self.pending.put(event)?;
+            return Ok(());
+        }
+        self.away[to as usize].push(event)?;
+        Ok(())
+    }
+}
