@@ -1,2 +1,3 @@
+pub mod Ahead
 pub mod LaterPorts
 pub mod Sourced

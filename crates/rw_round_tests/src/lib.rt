@@ -18,3 +18,5 @@ mod relay_worker;
 mod relay_world;
 #[cfg(test)]
 mod rings;
+#[cfg(test)]
+mod windows;

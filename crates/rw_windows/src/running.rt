@@ -37,6 +37,9 @@ pub struct Left<M: VtModel> {
 /// it has or may still hear of. It says so to each other worker, with the events for that one, and hears what each other
 /// says. The next window goes up to the least that was said, or up to `end`.
 ///
+/// Each window costs a batch from each worker to each other one. Several workers cross a time in which nothing waits a
+/// lookahead at a window, also behind the last event: so `end` should not be far behind that.
+///
 /// What comes back is what is left of the run: no event before `end`, and from the states with the events that are left the
 /// run ends as it does from where it began, whatever more comes from outside, none of it before `end`.
 ///
