@@ -1,3 +1,2 @@
-pub mod Ahead
 pub mod LaterPorts
 pub mod Sourced
