@@ -1,2 +1,3 @@
 pub mod Onward
 pub mod Rounds
+pub mod Ahead

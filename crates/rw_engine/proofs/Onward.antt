@@ -26,7 +26,7 @@ pub like_itself : {M : Type 1} {𝓤 : Ura M} (ok : ℕ → Type 0) (how : How �
 like_itself ok how = (λ s o. o, λ p. p, λ f. f, λ x. x)
 
 -- what both of two give of each element
-All-both : {E : Type 0} (P Q R : E → Type 0) → ((e : E) → P e → Q e → R e) → (xs : List E) → All P xs → All Q xs → All R xs
+pub All-both : {E : Type 0} (P Q R : E → Type 0) → ((e : E) → P e → Q e → R e) → (xs : List E) → All P xs → All Q xs → All R xs
 All-both P Q R f [] h k = All-nil R
 All-both P Q R f (x ∷ xs) h k = All-cons R x xs (f x (All-head P x xs h) (All-head Q x xs k)) (All-both P Q R f xs (All-tail P x xs h) (All-tail Q x xs k))
 

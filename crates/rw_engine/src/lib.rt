@@ -8,6 +8,7 @@
 //! Worked examples: `rw_round_tests/src/phold_runs.rt`, and the program `phold`.
 
 mod alone;
+mod gears;
 mod how;
 mod running;
 mod stretches;
@@ -17,6 +18,6 @@ pub use how::{How, Ran};
 pub use running::{run_in, run_in_and_tell};
 pub use rw_rounds::{Plan, Stop, Traffic};
 pub use rw_serial::Source;
-pub use rw_vt::{END, Event, Model, NoMemory, Refusal};
+pub use rw_vt::{END, Event, Lookahead, Model, NoMemory, Refusal};
 pub use rw_world::{Answer, Step, World};
 pub use stretches::{run_in_rounds, run_in_rounds_from};

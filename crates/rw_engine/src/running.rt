@@ -11,7 +11,7 @@ use crate::stretches::run_in_rounds;
 use rw_progress::{Progress, Silent};
 use rw_rounds::{Plan, Stop, Traffic};
 use rw_serial::last_states;
-use rw_vt::{Event, Model as VtModel};
+use rw_vt::{Event, Lookahead, Model as VtModel};
 use rw_world::{Step, World};
 use std::alloc::Global;
 use std::sync::Wait;
@@ -35,7 +35,7 @@ pub fn run_in<M, R>(
     how: How<'_>,
 ) -> Result<Ran<M>, Stop>
 where
-    M: VtModel + Drop + Sync,
+    M: Lookahead + Drop + Sync,
     M::State: Send,
     M::Body: Send,
     M::Undo: Send,
@@ -64,7 +64,7 @@ pub fn run_in_and_tell<M, P, R>(
     progress: &mut P,
 ) -> Result<Ran<M>, Stop>
 where
-    M: VtModel + Drop + Sync,
+    M: Lookahead + Drop + Sync,
     M::State: Send,
     M::Body: Send,
     M::Undo: Send,
@@ -116,7 +116,7 @@ fn in_rounds<M, P, R>(
     progress: &mut P,
 ) -> Result<Ran<M>, Stop>
 where
-    M: VtModel + Drop + Sync,
+    M: Lookahead + Drop + Sync,
     M::State: Send,
     M::Body: Send,
     M::Undo: Send,

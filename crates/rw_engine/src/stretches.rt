@@ -6,20 +6,19 @@ ghost use Rattle.rw_engine.specs.Runs.{AreLastStates};
 ghost use Rattle.rw_engine.specs.Stretches.{GoesOn, MayStopInRounds};
 
 use crate::alone::{events_of_round, run_alone_from, traffic_of};
+use crate::gears::{Gears, Piece};
 use rw_progress::Progress;
 use rw_rounds::{Open, Pace, Plan, Stop, Stretch, Traffic, run_stretch};
 use rw_serial::{Pending, Sorted, Source, go_on};
-use rw_vt::{END, Event, Model as VtModel};
+use rw_vt::{END, Event, Lookahead, Model as VtModel};
+use rw_windows::{Left, run_in_windows};
 use rw_world::{Rest, World};
 use std::alloc::Global;
 use std::sync::Wait;
 use std::thread::Threads;
 
-/// As many initial events the first stretch of rounds takes in, and each that follows a run in order.
-const FEWEST: usize = 2048;
-
-/// As many initial events a stretch of rounds takes in at most, and those of the last one's time with them.
-const MOST: usize = 65_536;
+/// As many windows without an initial event are crossed at most.
+const WINDOWS_IN_VAIN: u64 = 16;
 
 /// Runs a model in rounds of workers under a plan, from these states with these events from outside, in any order: the last
 /// state of each process, and what the rounds did. See [`run_in_rounds_from`].
@@ -37,7 +36,7 @@ pub fn run_in_rounds<M, P, R>(
     progress: &mut P,
 ) -> Result<(Vec<M::State>, Traffic), Stop>
 where
-    M: VtModel + Drop + Sync,
+    M: Lookahead + Drop + Sync,
     M::State: Send,
     M::Body: Send,
     M::Undo: Send,
@@ -58,10 +57,16 @@ where
 
 /// [`run_in_rounds`] where the initial events come from a source, so that they need not be there all at once.
 ///
-/// The run is made of pieces, each of which goes on from the states and the events that the one before has left. A piece is
-/// a stretch of rounds, which takes in the next initial events, twice as many as the stretch just before, and commits nothing
-/// from the first other one's time on; or, where the pace has one worker go on alone, a run in order of as many events as its
-/// rounds have room for, for good, with no undo records. What is committed is dropped. One worker runs in order from the beginning.
+/// The run is made of pieces, each of which goes on from the states and the events that the one before has left:
+///
+/// - windows of the model's lookahead, where events are dense: all workers execute for good, window by window, with no undo
+///   records; such a piece takes in the next initial events and ends with them, or where they are apart by many windows;
+/// - a stretch of rounds, in which the workers run ahead and take back: it takes in the next initial events too, and commits
+///   nothing from the first other one's time on;
+/// - a run in order, where the pace has one worker go on alone: as many events as its rounds have room for, for good.
+///
+/// Windows and rounds take in twice as many as the piece before, if that was of their kind. What is committed is dropped. One
+/// worker runs in order from the beginning.
 ///
 /// `progress` is told up to which time all is final.
 ///
@@ -79,7 +84,7 @@ pub fn run_in_rounds_from<M, S, P, R>(
     progress: &mut P,
 ) -> Result<(Vec<M::State>, Traffic), Stop>
 where
-    M: VtModel + Drop + Sync,
+    M: Lookahead + Drop + Sync,
     M::State: Send,
     M::Body: Send,
     M::Undo: Send,
@@ -104,34 +109,30 @@ where
         traffic: Traffic::default(),
     };
     let mut pending = Pending::new(alloc, source);
-    let mut pace = Pace::new();
-    let mut count = FEWEST;
+    let mut gears = Gears::new(&plan, at.model.lookahead(), at.model.grain());
     let mut left = plan.max_rounds;
+    let mut reached = 0;
     while left > 0 {
-        let before = at.traffic.rounds;
-        if let Some(rounds) = pace.alone() {
-            let rounds = rounds.min(u64::from(left));
-            go_on_alone(alloc, &mut at, &mut pending, &plan, rounds, &mut pace)?;
-            count = FEWEST;
-        } else {
-            at = go_on_in_rounds(
-                rt,
-                alloc,
-                at,
-                &mut pending,
-                count,
-                plan,
-                left,
-                &mut pace,
-                progress,
-            )?;
-            count = count.saturating_mul(2).min(MOST);
-        }
+        let before = at.traffic;
+        let piece = gears.next();
+        at = go_on_by(
+            rt,
+            alloc,
+            at,
+            &mut pending,
+            piece,
+            plan,
+            left,
+            &mut gears.pace,
+            progress,
+        )?;
         let Some(time) = pending.least_time() else {
             return Ok((at.states, at.traffic));
         };
         progress.reach(time);
-        let made = at.traffic.rounds.saturating_sub(before).max(1);
+        gears.note(piece, time.saturating_sub(reached), &before, &at.traffic);
+        reached = time;
+        let made = at.traffic.rounds.saturating_sub(before.rounds).max(1);
         left -= made.min(u64::from(left)) as u32;
     }
     Err(Stop::RoundsUsed)
@@ -147,28 +148,151 @@ struct Standing<M: VtModel> {
     traffic: Traffic,
 }
 
-/// Goes on with a run in order, for as many rounds of one worker as `rounds` says.
-fn go_on_alone<M: VtModel, S: Source<M::Body>>(
+/// Goes on with a run by one piece.
+fn go_on_by<M, S, P, R>(
+    rt: &R,
     alloc: Global,
-    at: &mut Standing<M>,
+    at: Standing<M>,
+    pending: &mut Pending<M::Body, S>,
+    piece: Piece,
+    plan: Plan,
+    left: u32,
+    pace: &mut Pace,
+    progress: &mut P,
+) -> Result<Standing<M>, Stop>
+where
+    M: Lookahead + Drop + Sync,
+    M::State: Send,
+    M::Body: Send,
+    M::Undo: Send,
+    S: Source<M::Body>,
+    P: Progress,
+    R: Threads + Wait + Sync,
+    requires ready { IsReady M.Model at.model at.states.items pending.old.events }
+    requires plan { IsInRanges plan }
+    ensures onward { IfOk result (λ r. GoesOn M.Model M.Body.cmp
+        at.model at.states.items pending.old.events
+        r.model r.states.items pending.new.events) }
+    ensures stops { IfErr result (λ stop. stop ≢ BadPlan) }
+{
+    match piece {
+        Piece::Alone(rounds) => {
+            let rounds = rounds.min(u64::from(left));
+            go_on_alone(alloc, at, pending, &plan, rounds, pace)
+        }
+        Piece::Windows(count) => go_on_in_windows(rt, alloc, at, pending, count, &plan),
+        Piece::Rounds(count) => {
+            go_on_in_rounds(rt, alloc, at, pending, count, plan, left, pace, progress)
+        }
+    }
+}
+
+/// Goes on with a run in order, for as many rounds of one worker as `rounds` says.
+fn go_on_alone<M: VtModel + Drop, S: Source<M::Body>>(
+    alloc: Global,
+    at: Standing<M>,
     pending: &mut Pending<M::Body, S>,
     plan: &Plan,
     rounds: u64,
     pace: &mut Pace,
-) -> Result<(), Stop>
-    requires ready { IsReady M.Model at.old.model at.old.states.items pending.old.events }
+) -> Result<Standing<M>, Stop>
+    requires ready { IsReady M.Model at.model at.states.items pending.old.events }
     requires plan { IsInRanges plan.now }
-    ensures onward { OnOk result (GoesOn M.Model M.Body.cmp
-        at.old.model at.old.states.items pending.old.events
-        at.new.model at.new.states.items pending.new.events) }
+    ensures onward { IfOk result (λ r. GoesOn M.Model M.Body.cmp
+        at.model at.states.items pending.old.events
+        r.model r.states.items pending.new.events) }
     ensures stops { IfErr result (λ stop. stop ≢ BadPlan) }
 {
+    let Standing {
+        model,
+        mut states,
+        mut traffic,
+    } = at;
     let limit = rounds.saturating_mul(events_of_round(plan));
-    let executed = go_on(alloc, &at.model, &mut at.states, pending, limit)?;
+    let executed = go_on(alloc, &model, &mut states, pending, limit)?;
     let did = traffic_of(plan, executed);
     pace.note_alone(did.rounds);
-    at.traffic.add(&did);
-    Ok(())
+    traffic.add(&did);
+    Ok(Standing {
+        model,
+        states,
+        traffic,
+    })
+}
+
+/// Goes on with a run in windows of the model's lookahead, which take in as many initial events as `count` says.
+fn go_on_in_windows<M, S, R>(
+    rt: &R,
+    alloc: Global,
+    at: Standing<M>,
+    pending: &mut Pending<M::Body, S>,
+    count: usize,
+    plan: &Plan,
+) -> Result<Standing<M>, Stop>
+where
+    M: Lookahead + Drop + Sync,
+    M::State: Send,
+    M::Body: Send,
+    M::Undo: Send,
+    S: Source<M::Body>,
+    R: Threads + Wait + Sync,
+    requires ready { IsReady M.Model at.model at.states.items pending.old.events }
+    requires plan { IsInRanges plan.now }
+    ensures onward { IfOk result (λ r. GoesOn M.Model M.Body.cmp
+        at.model at.states.items pending.old.events
+        r.model r.states.items pending.new.events) }
+    ensures stops { IfErr result (λ stop. stop ≢ BadPlan) }
+{
+    let Standing {
+        model,
+        states,
+        mut traffic,
+    } = at;
+    let lookahead = model.lookahead().max(1);
+    let events = pending.take_out(alloc, count)?;
+    let until = pending.least_time().unwrap_or(END);
+    let end = end_of_windows(&events, lookahead).min(until);
+    let Left {
+        states,
+        events,
+        executed,
+        received,
+    } = run_in_windows(
+        rt,
+        alloc,
+        &model,
+        states,
+        events,
+        plan.workers,
+        lookahead,
+        end,
+    )?;
+    pending.put_back(alloc, events)?;
+    let mut did = traffic_of(plan, executed);
+    did.ring = received;
+    traffic.add(&did);
+    Ok(Standing {
+        model,
+        states,
+        traffic,
+    })
+}
+
+/// The time up to which windows go that take in these events, in ticks: after the last of them, or after the last one before
+/// a time of several windows in which none of them is, since workers cross such a time window by window.
+fn end_of_windows<B: Copy>(events: &[Event<B>], lookahead: u64) -> u64 {
+    let Some(first) = events.first() else {
+        return END;
+    };
+    let gap = lookahead.saturating_mul(WINDOWS_IN_VAIN);
+    let mut last = first.time;
+    for event in events {
+        if event.time > last.saturating_add(gap) {
+            return last.saturating_add(1);
+        }
+        last = event.time.max(last);
+    }
+    last.saturating_add(1)
 }
 
 /// Goes on with a run by a stretch of rounds, which takes in as many initial events as `count` says.

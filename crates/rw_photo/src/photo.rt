@@ -12,7 +12,7 @@ use crate::cache::CacheState;
 use crate::config::Config;
 use crate::counters::Counters;
 use crate::undo::Undo;
-use rw_ripq::{Change, EXHAUSTED, Tally};
+use rw_ripq::{Change, EXHAUSTED, Policy, Tally};
 use rw_trace::{MAX_SIZE, MAX_TIME};
 use rw_vt::{Event, Lookahead, Model as VtModel, NoMemory, Refusal};
 use std::alloc::Global;
@@ -484,6 +484,14 @@ impl Lookahead for Photo {
 
     fn lookahead(&self) -> u64 {
         self.config.up.min(self.config.down)
+    }
+
+    // Caches that admit nothing only look up what a request names.
+    fn grain(&self) -> u64 {
+        match self.config.policy {
+            Policy::Off => 1024,
+            Policy::Lru | Policy::Slru(_) => 64,
+        }
     }
 
     ghost ahead = { λ m. step_ahead m.config };

@@ -3,8 +3,8 @@ ghost use Rattle.rw_rounds.specs.Plans.{IsInRanges};
 use crate::plan::Plan;
 use crate::sim::Traffic;
 
-/// As many events a worker, executed for good, make a round worth its threads.
-const WORTHWHILE: u64 = 64;
+/// As many events a worker, executed for good, make a round worth its threads, if nothing else is said.
+const GRAIN: u64 = 64;
 
 /// As many rounds are all workers tried for, at least.
 const TRIAL: u64 = 4;
@@ -15,7 +15,7 @@ const TRIAL: u64 = 4;
 /// moves in it does not depend on that, but on how often events wait for one another. So the window is what the floor moved
 /// in a round, on the mean of the last few, times a gain that falls by a quarter where more than a quarter of the
 /// executions was undone, and else grows by an eighth; and the batch is so that a round can do twice what the last ones did
-/// for good. Where all workers find fewer than [`WORTHWHILE`] events each, one worker goes on alone, with no letter on its
+/// for good. Where all workers find fewer than their grain of events each, one worker goes on alone, with no letter on its
 /// way and nothing undone, for a number of rounds that doubles with each trial in vain. Once a sixteenth of the plan's rounds
 /// were made, all workers have to find as much as one does in a round, so that rounds do not run out where one worker would
 /// come to an end.
@@ -29,6 +29,8 @@ pub struct Pace {
     advance: Option<u64>,
     /// How many events such a round executes for good: a mean, of which the last round is a half.
     useful: u64,
+    /// How many events for good a worker has to find in a round.
+    grain: u64,
     /// What the window is of `advance`, in 64ths: 32 to 128.
     gain: u64,
     /// Whether one worker goes on alone.
@@ -44,9 +46,16 @@ pub struct Pace {
 impl Pace {
     /// The pace before the first round. Takes no memory.
     pub fn new() -> Pace {
+        Pace::of_grain(GRAIN)
+    }
+
+    /// The pace before the first round, where a worker has to find so many events in a round, executed for good, so that its
+    /// threads are worth it. Takes no memory.
+    pub fn of_grain(grain: u64) -> Pace {
         Pace {
             advance: None,
             useful: 0,
+            grain,
             gain: 64,
             alone: false,
             made: 0,
@@ -154,7 +163,7 @@ impl Pace {
         if self.made.saturating_mul(16) > u64::from(bounds.max_rounds) {
             u64::from(bounds.turns).saturating_mul(u64::from(bounds.batch))
         } else {
-            u64::from(bounds.workers).saturating_mul(WORTHWHILE)
+            u64::from(bounds.workers).saturating_mul(self.grain)
         }
     }
 

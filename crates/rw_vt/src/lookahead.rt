@@ -16,6 +16,12 @@ pub trait Lookahead: Model {
     fn lookahead(&self) -> u64
         ensures { result ≡ lookahead_of self.now };
 
+    /// How many events a worker has to execute between two meetings with the others, so that these are worth it: the fewer,
+    /// the more work an event is. No theorem rests on it. Takes no memory.
+    fn grain(&self) -> u64 {
+        64
+    }
+
     /// All that is sent is as far ahead.
     ghost ahead: { (m : Self) (p : ℕ) (s : Self.State) (e : Event Self.Body)
         → Self.IsWellFormed m p s → Self.is_valid m e ≡ true → e.to ≡ p

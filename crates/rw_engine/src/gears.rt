@@ -1,0 +1,85 @@
+use rw_rounds::{Pace, Plan, Traffic};
+
+/// As many initial events the first piece of a kind takes in.
+const FEWEST: usize = 2048;
+
+/// As many initial events a piece takes in at most, and those of the last one's time with them.
+const MOST: usize = 65_536;
+
+/// For how many rounds of one worker it goes on alone at a time, where no round of all workers can be worth it.
+const LONG: u64 = 256;
+
+/// A piece of a run.
+#[derive(Clone, Copy, Debug, PartialEq, Eq)]
+pub(crate) enum Piece {
+    /// Rounds of all workers, which run ahead and take back, with so many initial events.
+    Rounds(usize),
+    /// Windows of the lookahead, of all workers, for good, with so many initial events.
+    Windows(usize),
+    /// A run in order, of one worker, for good, for so many rounds of one worker.
+    Alone(u64),
+}
+
+/// Which piece of a run comes next.
+///
+/// Where events are so dense that each worker finds its grain of them in a window of the lookahead, all of them go on in
+/// windows: nothing has to be taken back there, and no event waits that could be executed. Where windows are too thin the
+/// workers run ahead, in rounds, and where those find too little as well, the pace has one worker go on alone; so it does from
+/// the start where a round has no room for the grain of a worker. No theorem rests on this.
+#[derive(Clone, Copy, Debug)]
+pub(crate) struct Gears {
+    /// How much of its plan a round gets.
+    pub(crate) pace: Pace,
+    lookahead: u64,
+    /// How many events a window has to have.
+    grain: u64,
+    /// Whether a worker may find its grain in a round.
+    rounds: bool,
+    /// Whether the last piece had as many.
+    dense: bool,
+    /// How many initial events the next piece takes in, if it is of the last one's kind.
+    count: usize,
+}
+
+impl Gears {
+    /// The gears of a run by this plan, of a model of this lookahead and grain. Takes no memory.
+    pub(crate) fn new(plan: &Plan, lookahead: u64, grain: u64) -> Gears {
+        Gears {
+            pace: Pace::of_grain(grain),
+            lookahead,
+            grain: grain.saturating_mul(u64::from(plan.workers)),
+            rounds: grain < u64::from(plan.turns).saturating_mul(u64::from(plan.batch)),
+            dense: false,
+            count: FEWEST,
+        }
+    }
+
+    /// The next piece. Takes no memory.
+    pub(crate) fn next(&self) -> Piece {
+        if self.dense {
+            return Piece::Windows(self.count);
+        }
+        if !self.rounds {
+            return Piece::Alone(LONG);
+        }
+        match self.pace.alone() {
+            Some(rounds) => Piece::Alone(rounds),
+            None => Piece::Rounds(self.count),
+        }
+    }
+
+    /// A piece was run, which took the least time of what waits on by `moved` ticks, and the counts from `before` to `after`.
+    /// Takes no memory.
+    pub(crate) fn note(&mut self, piece: Piece, moved: u64, before: &Traffic, after: &Traffic) {
+        let executed = after.executed.wrapping_sub(before.executed);
+        let undone = after.undone.wrapping_sub(before.undone);
+        let useful = executed.saturating_sub(undone);
+        self.dense = useful.saturating_mul(self.lookahead) >= moved.saturating_mul(self.grain);
+        self.count = match (piece, self.dense) {
+            (Piece::Rounds(count), false) | (Piece::Windows(count), true) => count
+                .saturating_mul(2)
+                .min(MOST),
+            _ => FEWEST,
+        };
+    }
+}
