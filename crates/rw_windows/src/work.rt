@@ -25,7 +25,8 @@ impl<'a, M: VtModel, R: Wait> Work<'a, M, R> {
         requires at_work { IsAtWork M.Model M.Body.cmp self.now.model.now worker.old }
         ensures at_work { OnOk result (IsAtWork M.Model M.Body.cmp self.now.model.now worker.new) }
         ensures same { OnOk result (SameWorker worker.old worker.new) }
-        ensures until { IfOk result (λ there. there ≡ false → worker.new.until ≡ worker.old.until) }
+        ensures until { IfOk result (λ there. there ≡ false
+            → worker.new.until ≡ worker.old.until) }
     {
         if !worker.say(self.rt, self.alloc, self.model)? {
             return Ok(false);
