@@ -3,9 +3,11 @@
 //! joined again.
 
 mod halt;
+mod hands;
 mod shares;
 mod threads;
 
 pub use halt::Halt;
+pub use hands::Hands;
 pub use shares::{deal_out, first_of, join};
 pub use threads::{Job, may_move, run_each};

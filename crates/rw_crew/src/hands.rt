@@ -1,0 +1,22 @@
+ghost use Rattle.std.specs.Prelude.{◌≡◌, ◌<◌, ℕ, IfOk, All, length, slice_index_or};
+
+use crate::halt::Halt;
+use crate::threads::Job;
+use std::alloc::Global;
+
+/// Threads that do a job, each with an input of its own, all at once.
+pub trait Hands<J: Job<T>, T> {
+    /// Does the job with each input, and gives it back with what became of the inputs, in order. The last one is done in the
+    /// calling thread.
+    ///
+    /// # Errors
+    ///
+    /// `Memory` where memory was refused, and `NoThread` where there are fewer threads than inputs, or one is gone; else the
+    /// refusal of the lowest input whose job was refused.
+    fn do_each(&mut self, alloc: Global, job: J, inputs: Vec<T>) -> Result<(J, Vec<T>), Halt>
+        requires takes { All (λ t. J.Takes job t) inputs.items }
+        ensures job { IfOk result (λ r. r.0 ≡ job) }
+        ensures count { IfOk result (λ r. length r.1.items ≡ length inputs.items) }
+        ensures each { IfOk result (λ r. (i : ℕ) (d : _) (e : _) → i < length inputs.items
+            → J.Gives job (slice_index_or inputs.items i d) (slice_index_or r.1.items i e)) };
+}
