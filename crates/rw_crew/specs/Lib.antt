@@ -1,3 +1,5 @@
 pub mod Halts
+pub mod Notes
 pub mod Shares
+pub mod Tasks
 pub mod Sums

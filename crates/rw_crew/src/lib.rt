@@ -2,11 +2,15 @@
 //! What a crew of workers shares: a job that each does in a thread of its own, and lists that are dealt out to them and
 //! joined again.
 
+mod crew;
 mod halt;
 mod hands;
+mod note;
 mod shares;
+mod task;
 mod threads;
 
+pub use crew::{Crew, alone, grow};
 pub use halt::Halt;
 pub use hands::Hands;
 pub use shares::{deal_out, first_of, join};

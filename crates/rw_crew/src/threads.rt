@@ -100,7 +100,10 @@ where
 }
 
 /// The workers, or the refusal of the lowest one that was refused. What a worker is does not matter here.
-fn all_done<W: Drop>(alloc: Global, results: Vec<Result<W, Refusal>>) -> Result<Vec<W>, Refusal>
+pub(crate) fn all_done<W: Drop>(
+    alloc: Global,
+    results: Vec<Result<W, Refusal>>,
+) -> Result<Vec<W>, Refusal>
     ensures { IfOk result (λ workers. map (λ w. Ok w) workers.items ≡ results.items) }
 {
     let mut workers = Vec::with_capacity(alloc, results.len())?;

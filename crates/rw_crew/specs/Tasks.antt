@@ -1,0 +1,14 @@
+-- Tasks that a crew is handed.
+use Rattle.std.specs.Global.{Global}
+use Rattle.std.specs.Prelude.{◌≤◌}
+use Rattle.std.specs.Arc.{arc_value}
+use Rattle.rtrb.specs.declared.producer.Producer.{Producer}
+use Rattle.rtrb.specs.Ring.{sent, known_free}
+use Rattle.rw_crew.specs.declared.note.Note.{Note}
+use Rattle.rw_crew.specs.declared.note.Kept.{Kept}
+use Rattle.rw_crew.specs.declared.task.Task.{Task}
+use Rattle.rw_crew.specs.Notes.{IsAsked}
+
+-- the job takes the input, and the answer is awaited
+abbrev pub IsTask : {J T : Type 0} → (J → T → Type 0) → Task J T (Producer (Note J T) Global Kept) → Type 0
+IsTask Takes t = Takes (arc_value t.job) t.input × IsAsked (arc_value t.job) t.input (sent t.answer) × (1 ≤ known_free t.answer)
