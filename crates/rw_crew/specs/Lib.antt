@@ -1,3 +1,4 @@
+pub mod Eithers
 pub mod Halts
 pub mod Notes
 pub mod Shares

@@ -16,10 +16,10 @@ module _ {J T : Type 0} where
   IsAsked job input (Done result ∷ rest) = ⊥
 
   -- what was asked comes first, and then what the job gives for it
-  abbrev pub answers : (J → T → T → Type 0) → List (Note J T) → Note J T → Type 0
-  answers Gives [] (Asked job input) = Unit {0}
-  answers Gives [] (Done result) = ⊥
-  answers Gives (Asked job input ∷ []) (Asked job' input') = ⊥
-  answers Gives (Asked job input ∷ []) (Done result) = IfOk result (λ done. Gives job.value input.value done)
-  answers Gives (Asked job input ∷ more ∷ rest) note = ⊥
-  answers Gives (Done result ∷ rest) note = ⊥
+  abbrev pub may_answer_with : (J → T → T → Type 0) → List (Note J T) → Note J T → Type 0
+  may_answer_with Gives [] (Asked job input) = Unit {0}
+  may_answer_with Gives [] (Done result) = ⊥
+  may_answer_with Gives (Asked job input ∷ []) (Asked job' input') = ⊥
+  may_answer_with Gives (Asked job input ∷ []) (Done done) = IfOk done (Gives job.value input.value)
+  may_answer_with Gives (Asked job input ∷ more ∷ rest) note = ⊥
+  may_answer_with Gives (Done result ∷ rest) note = ⊥

@@ -10,5 +10,8 @@ use Rattle.rw_crew.specs.declared.task.Task.{Task}
 use Rattle.rw_crew.specs.Notes.{IsAsked}
 
 -- the job takes the input, and the answer is awaited
-abbrev pub IsTask : {J T : Type 0} → (J → T → Type 0) → Task J T (Producer (Note J T) Global Kept) → Type 0
-IsTask Takes t = Takes (arc_value t.job) t.input × IsAsked (arc_value t.job) t.input (sent t.answer) × (1 ≤ known_free t.answer)
+pub record IsTask {J T : Type 0} (Takes : J → T → Type 0)
+    (t : Task J T (Producer (Note J T) Global Kept)) : Type 0 where
+  pub takes : Takes (arc_value t.job) t.input
+  pub asked : IsAsked (arc_value t.job) t.input (sent t.answer)
+  pub room : 1 ≤ known_free t.answer

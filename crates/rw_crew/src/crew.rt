@@ -1,7 +1,7 @@
 ghost use Rattle.std.specs.Prelude.{◌≡◌, ◌<◌, ℕ, All, IfOk, length, slice_index_or};
 ghost use Rattle.std.specs.List.{AllZip};
 ghost use Rattle.std.specs.Arc.{arc_value};
-ghost use Rattle.rw_crew.specs.Notes.{IsAsked, answers};
+ghost use Rattle.rw_crew.specs.Notes.{IsAsked, may_answer_with};
 ghost use Rattle.rw_crew.specs.declared.note.Note.TheVariants.{Done};
 
 use crate::halt::Halt;
@@ -130,7 +130,7 @@ impl<'r, R: Wait, J: Job<T> + Drop, T: Drop> Hands<J, T> for Crew<'r, R, J, T> {
     }
 }
 
-/// Hands the job out with each of these inputs, and gives where the answers come, in order.
+/// Hands the job out with each of these inputs, and gives where the may_answer_with come, in order.
 fn hand_out<J: Job<T> + Drop, T: Drop, R: Wait>(
     alloc: Global,
     rt: &R,
@@ -156,15 +156,15 @@ fn hand_out<J: Job<T> + Drop, T: Drop, R: Wait>(
     Ok(awaited)
 }
 
-/// The answers, in order, for which it waits.
+/// The may_answer_with, in order, for which it waits.
 fn collect<J: Job<T> + Drop, T: Drop, R: Wait>(
     alloc: Global,
     rt: &R,
     helpers: &[Helper<Task<J, T, Answer<J, T>>>],
     awaited: Vec<Awaited<J, T>>,
 ) -> Result<Vec<Result<T, Refusal>>, Halt>
-    ensures answers { IfOk result (λ r.
-        AllZip (λ a done. answers J.Gives a.notes (Done done)) awaited.items r.items) }
+    ensures may_answer_with { IfOk result (λ r.
+        AllZip (λ a done. may_answer_with J.Gives a.notes (Done done)) awaited.items r.items) }
 {
     let mut results = Vec::with_capacity(alloc, awaited.len() + 1)?;
     for mut answer in awaited {

@@ -3,6 +3,7 @@
 //! joined again.
 
 mod crew;
+mod either;
 mod halt;
 mod hands;
 mod note;
@@ -11,6 +12,7 @@ mod task;
 mod threads;
 
 pub use crew::{Crew, alone, grow};
+pub use either::{Either, ForFirst, ForSecond};
 pub use halt::Halt;
 pub use hands::Hands;
 pub use shares::{deal_out, first_of, join};

@@ -1,6 +1,6 @@
 ghost use Rattle.std.specs.Prelude.{◌≡◌, ◌≤◌, IfOk, IfSome};
 ghost use Rattle.rtrb.specs.Ring.{sent, known_free};
-ghost use Rattle.rw_crew.specs.Notes.{IsAsked, answers};
+ghost use Rattle.rw_crew.specs.Notes.{IsAsked, may_answer_with};
 ghost use Rattle.rw_crew.specs.declared.note.Note.TheVariants.{Done};
 
 use crate::threads::Job;
@@ -19,13 +19,13 @@ pub(crate) enum Note<J, T> {
     Done(Result<T, Refusal>),
 }
 
-/// What who answers keeps to: what is done is what the job gives for what was asked.
+/// What who may_answer_with keeps to: what is done is what the job gives for what was asked.
 pub(crate) struct Kept;
 
 impl<J: Job<T>, T> Protocol<Note<J, T>> for Kept {
-    ghost use Rattle.rw_crew.specs.Notes.{answers};
+    ghost use Rattle.rw_crew.specs.Notes.{may_answer_with};
 
-    ghost allows = { answers J.Gives };
+    ghost allows = { may_answer_with J.Gives };
 }
 
 /// The end of an answer's ring at which it is given, once.
@@ -49,7 +49,7 @@ impl<J: Job<T>, T> Model for Awaited<J, T> {
 impl<J: Job<T>, T: Drop> Awaited<J, T> {
     /// Waits until the bell rings that tells of an answer, and takes it. `None` where who was to answer is gone.
     pub(crate) fn wait<R: Wait>(self, rt: &R, done: &Receiver<()>) -> Option<Result<T, Refusal>>
-        ensures answer { IfSome result (λ r. answers J.Gives self.notes (Done r)) }
+        ensures answer { IfSome result (λ r. may_answer_with J.Gives self.notes (Done r)) }
     {
         let Awaited { mut ring } = self;
         done.recv(rt).ok()?;

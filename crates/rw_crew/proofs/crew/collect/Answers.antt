@@ -1,5 +1,5 @@
 use Rattle.std.proofs.Common.{length, ap, arith}
-use Rattle.rw_crew.specs.Notes.{answers}
+use Rattle.rw_crew.specs.Notes.{may_answer_with}
 use Rattle.rw_crew.specs.declared.note.Note.TheVariants.{Done}
 use Rattle.rw_crew.proofs.Zipped.{walk_on}
 use Rattle.rw_crew.proofs.crew.collect.Goals as goal
@@ -11,5 +11,5 @@ loop-answer-preserved g c =
     record {
       room = omega (arith, inv.room, c.push_reserved.ensures.capacity);
       count = omega (arith, inv.count, ap length next, c.push_reserved.ensures.len);
-      answered = walk_on (λ a r. answers g.J.Job.Gives a.notes (Done r)) _ _ _ _ _ _ _ inv.answered next c.push_reserved.ensures.items c.in-Some-wait.ensures.answer;
+      answered = walk_on (λ a r. may_answer_with g.J.Job.Gives a.notes (Done r)) _ _ _ _ _ _ _ inv.answered next c.push_reserved.ensures.items c.in-Some-wait.ensures.answer;
     }
