@@ -1,6 +1,7 @@
 -- Balls among processes: which events may come, what each does, and the laws of that.
-use Rattle.std.specs.Prelude.{◌≡◌, ◌≤◌, ◌<◌, ◌+◌, ◌*◌, ◌/◌, ◌%◌, ◌^◌, ℕ, Bool, true, false, List, [], ◌∷◌, nat_lt, nat_le, ◌&&◌, cond, All, refl, if◌then◌else◌}
+use Rattle.std.specs.Prelude.{◌≡◌, ◌≤◌, ◌<◌, ◌+◌, ◌/◌, ◌%◌, ◌^◌, ℕ, Bool, true, false, List, [], ◌∷◌, nat_lt, nat_le, ◌&&◌, cond, All, refl, if◌then◌else◌}
 use Rattle.std.specs.declared.cmp.Ordering.TheVariants.{Equal}
+use Rattle.std.specs.Fn.{iterate}
 use Rattle.std.specs.Ordering.{nat_cmp}
 use Rattle.std.proofs.Common.{arith, ap}
 use Rattle.std.proofs.lemmas.Bool.Decides.{nat_tests}
@@ -13,7 +14,7 @@ use Rattle.rw_phold.specs.declared.phold.Phold.{Phold}
 use Rattle.rw_phold.specs.declared.phold.Holder.{Holder}
 use Rattle.rw_phold.specs.declared.phold.Ball.{Ball}
 use Rattle.rw_phold.specs.declared.phold.Passed.{Passed}
-use Rattle.rw_phold.specs.Draws.{drawn}
+use Rattle.rw_phold.specs.Draws.{drawn, drawn_fits, draws_fit}
 
 -- an event that may be handed to its process
 abbrev pub is_sound_ball : Phold → Event Ball → Bool
@@ -35,9 +36,13 @@ first_draw s = drawn s.random
 abbrev pub second_draw : Holder → ℕ
 second_draw s = drawn (first_draw s)
 
+-- for how long a ball is held beyond the lookahead by what is drawn: not at all, or for a drawn time
+abbrev pub hold_by : Phold → ℕ → ℕ
+hold_by m draw = if nat_lt (draw / 2 ^ 16 % 2 ^ 16) m.short then 0 else draw / 2 ^ 32 % m.spread
+
 -- when the ball comes again
 abbrev pub next_time : Phold → Holder → Event Ball → ℕ
-next_time m s e = e.time + m.lookahead + first_draw s / 2 ^ 32 % m.spread
+next_time m s e = e.time + m.lookahead + hold_by m (first_draw s)
 
 -- whether it does, before the end of the run
 abbrev pub comes_again : Phold → Holder → Event Ball → Bool
@@ -63,7 +68,7 @@ next_ball m p s e = record {
 abbrev pub holder_after : Phold → Holder → Event Ball → Holder
 holder_after m s e = record {
   random = second_draw s;
-  sum = drawn ((s.sum + e.time) % 2 ^ 64);
+  sum = iterate drawn m.work (drawn ((s.sum + e.time) % 2 ^ 64));
   sends = if comes_again m s e then (s.sends + 1) % 2 ^ 64 else s.sends;
   events = (s.events + 1) % 2 ^ 64;
 }
@@ -87,19 +92,12 @@ phold_ranges m e h =
       to = grind (arith, nat_tests);
     }
 
--- what is drawn fits 64 bits
-drawn-fits : (x : ℕ) → drawn x < 2 ^ 64
-drawn-fits x = below (x * 6364136223846793005 % 2 ^ 64 + 1442695040888963407)
-  where
-    below : (n : ℕ) → n % 2 ^ 64 < 2 ^ 64
-    below n = omega arith
-
 pub phold_keeps : (m : Phold) (p : ℕ) (s : Holder) (e : Event Ball) → IsHolder s
     → is_sound_ball m e ≡ true → e.to ≡ p → IsHolder (phold_step m p s e).0
 phold_keeps m p s e w h t =
     record {
-      random = drawn-fits (first_draw s);
-      sum = drawn-fits ((s.sum + e.time) % 2 ^ 64);
+      random = drawn_fits (first_draw s);
+      sum = draws_fit m.work (drawn ((s.sum + e.time) % 2 ^ 64)) (drawn_fits ((s.sum + e.time) % 2 ^ 64));
       sends = kept (comes_again m s e) s.sends w.sends;
       events = below (s.events + 1);
     }
@@ -130,7 +128,7 @@ sent_well : (m : Phold) (p : ℕ) (s : Holder) (e : Event Ball) → IsHolder s
 sent_well m p s e w h t g =
     let here : p < m.processes = grind (arith, nat_tests) in
     let there = process-there m p s here in (
-      record { source = refl; later = later (first_draw s / 2 ^ 32 % m.spread) },
+      record { source = refl; later = later (hold_by m (first_draw s)) },
       sound (next_time m s e) (next_process m p s) g there,
     )
   where
@@ -167,7 +165,7 @@ phold_ahead m p s e w h t = by (comes_again m s e)
     by : (b : Bool)
         → All (λ f. e.time + m.lookahead ≤ f.time) (cond b (next_ball m p s e ∷ []) [])
     by true = All-cons (λ f. e.time + m.lookahead ≤ f.time) (next_ball m p s e) []
-        (later (first_draw s / 2 ^ 32 % m.spread))
+        (later (hold_by m (first_draw s)))
         (All-nil (λ (f : Event Ball). e.time + m.lookahead ≤ f.time))
     by false = All-nil (λ (f : Event Ball). e.time + m.lookahead ≤ f.time)
 

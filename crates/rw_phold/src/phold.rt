@@ -1,4 +1,5 @@
 ghost use Rattle.std.specs.Prelude.{◌≡◌, ◌≤◌, ◌<◌, ◌^◌, IfSome};
+ghost use Rattle.std.specs.Fn.{iterate};
 ghost use Rattle.rw_vt.specs.Limits.{end_of_time};
 ghost use Rattle.rw_phold.specs.Draws.{drawn, undrawn};
 
@@ -10,6 +11,9 @@ pub const MAX_PROCESSES: u32 = 1 << 16;
 
 /// The most ticks of the lookahead, and of the spread.
 pub const MAX_TICKS: u64 = 1 << 20;
+
+/// The grain of a setting, if nothing is said: that of [`Lookahead`].
+const GRAIN: u64 = 64;
 
 /// What a run of PHOLD is set up with.
 #[derive(Clone, Copy, Debug)]
@@ -24,6 +28,12 @@ pub struct Phold {
     pub spread: u64,
     /// No ball comes at this time or later, in ticks, up to [`END`].
     pub until: u64,
+    /// How many of 65536 balls are held for the lookahead alone, drawn for each hold; the others for what is drawn too.
+    pub short: u32,
+    /// How many further draws an event makes, for its work: what it keeps of them is their last.
+    pub work: u32,
+    /// How many events a worker has to execute between two meetings, so that these are worth it: see [`Lookahead::grain`].
+    pub grain: u64,
     ghost some_processes: { 1 ≤ processes },
     ghost few_processes: { processes ≤ 2 ^ 16 },
     ghost some_lookahead: { 1 ≤ lookahead },
@@ -34,9 +44,10 @@ pub struct Phold {
 }
 
 impl Phold {
-    ghost use Rattle.rw_phold.specs.Balls.{place_by};
+    ghost use Rattle.rw_phold.specs.Balls.{hold_by, place_by};
 
-    /// A setting; `None` exactly where a number is out of its range. Takes no memory.
+    /// A setting in which no hold is short, no event has further work, and the grain is 64; `None` exactly where a
+    /// number is out of its range. Takes no memory.
     pub fn new(
         processes: u32,
         remote: u32,
@@ -49,6 +60,8 @@ impl Phold {
         ensures lookahead { IfSome result (λ m. m.lookahead ≡ lookahead) }
         ensures spread { IfSome result (λ m. m.spread ≡ spread) }
         ensures until { IfSome result (λ m. m.until ≡ until) }
+        ensures short { IfSome result (λ m. m.short ≡ 0) }
+        ensures work { IfSome result (λ m. m.work ≡ 0) }
     {
         let counts = (1..=MAX_PROCESSES).contains(&processes);
         let times = (1..=MAX_TICKS).contains(&lookahead) && (1..=MAX_TICKS).contains(&spread);
@@ -61,7 +74,46 @@ impl Phold {
             lookahead,
             spread,
             until,
+            short: 0,
+            work: 0,
+            grain: GRAIN,
         })
+    }
+
+    /// The setting in which so many of 65536 balls are held for the lookahead alone. Takes no memory.
+    pub fn with_short(mut self, short: u32) -> Phold
+        ensures { result ≡ record self { short = short } }
+    {
+        self.short = short;
+        self
+    }
+
+    /// The setting in which an event makes so many further draws. Takes no memory.
+    pub fn with_work(mut self, work: u32) -> Phold
+        ensures { result ≡ record self { work = work } }
+    {
+        self.work = work;
+        self
+    }
+
+    /// The setting in which so many events a worker are worth a meeting of the workers. Takes no memory.
+    pub fn with_grain(mut self, grain: u64) -> Phold
+        ensures { result ≡ record self { grain = grain } }
+    {
+        self.grain = grain;
+        self
+    }
+
+    /// For how many ticks a ball is held beyond the lookahead, by what was drawn: none, where the bits below those of the
+    /// time have it so.
+    fn hold(&self, draw: u64) -> u64
+        ensures { result ≡ hold_by self.now draw }
+    {
+        if (draw >> 16) % 65536 < u64::from(self.short) {
+            0
+        } else {
+            (draw >> 32) % self.spread
+        }
     }
 
     /// The process to which a ball of `process` goes, by what was drawn.
@@ -116,6 +168,30 @@ fn undraw(next: u64) -> u64
         .wrapping_mul(13_877_824_140_714_322_085)
 }
 
+/// The last of so many numbers, each drawn after the one before.
+#[tactic(auto, using(crate::specs::Draws::draw_more))]
+fn draw_on(last: u64, draws: u32) -> u64
+    ensures { result ≡ iterate drawn draws last }
+{
+    let mut drawn = last;
+    for _made in 0..draws {
+        drawn = draw(drawn);
+    }
+    drawn
+}
+
+/// The number before so many, each drawn after the one before.
+#[tactic(auto, using(crate::specs::Draws::undraw_more))]
+fn undraw_back(next: u64, draws: u32) -> u64
+    ensures { result ≡ iterate undrawn draws next }
+{
+    let mut undrawn = next;
+    for _made in 0..draws {
+        undrawn = undraw(undrawn);
+    }
+    undrawn
+}
+
 impl VtModel for Phold {
     type State = Holder;
 
@@ -167,7 +243,7 @@ impl VtModel for Phold {
     ) -> Result<Passed, Refusal> {
         let first = draw(state.random);
         let second = draw(first);
-        let time = event.time + self.lookahead + (first >> 32) % self.spread;
+        let time = event.time + self.lookahead + self.hold(first);
         let passed = time < self.until;
         if passed {
             out.push(Event {
@@ -180,7 +256,7 @@ impl VtModel for Phold {
             state.sends = state.sends.wrapping_add(1);
         }
         state.random = second;
-        state.sum = draw(state.sum.wrapping_add(event.time));
+        state.sum = draw_on(draw(state.sum.wrapping_add(event.time)), self.work);
         state.events = state.events.wrapping_add(1);
         Ok(Passed(passed))
     }
@@ -194,7 +270,7 @@ impl VtModel for Phold {
         undo: Passed,
     ) -> Result<(), NoMemory> {
         state.events = state.events.wrapping_sub(1);
-        state.sum = undraw(state.sum).wrapping_sub(event.time);
+        state.sum = undraw(undraw_back(state.sum, self.work)).wrapping_sub(event.time);
         state.random = undraw(undraw(state.random));
         if undo.0 {
             state.sends = state.sends.wrapping_sub(1);
@@ -220,6 +296,10 @@ impl Lookahead for Phold {
 
     fn lookahead(&self) -> u64 {
         self.lookahead
+    }
+
+    fn grain(&self) -> u64 {
+        self.grain
     }
 
     ghost ahead = { phold_ahead };
