@@ -1,7 +1,7 @@
 #![tactic(auto)]
 //! Runs PHOLD in order of time or in rounds of workers, and prints what it comes to: the same line either way.
 
-use rw_engine::{END, How, Plan, Ran, Stop, run_in};
+use rw_engine::{END, How, Plan, Ran, Stop, Traffic, run_in};
 use rw_phold::{Phold, Report, beginning, report_of};
 use std::alloc::Global;
 use std::env;
@@ -11,7 +11,7 @@ use std::sync::Wait;
 use std::thread::Threads;
 
 /// What the words are.
-const USAGE: &str = "phold PROCESSES BALLS REMOTE LOOKAHEAD SPREAD UNTIL SEED [WORKERS]
+const USAGE: &str = "phold PROCESSES BALLS REMOTE LOOKAHEAD SPREAD UNTIL SEED [WORKERS] [SETTING..]
   PROCESSES  1 to 65536
   BALLS      how many there are in all
   REMOTE     how many of 65536 balls go to a process that is drawn; the others stay
@@ -19,7 +19,13 @@ const USAGE: &str = "phold PROCESSES BALLS REMOTE LOOKAHEAD SPREAD UNTIL SEED [W
   SPREAD     below which further ticks are drawn, 1 to 1048576
   UNTIL      the tick at which the run ends, up to 1099511627776
   SEED       what is drawn follows from it
-  WORKERS    1 to 16, in rounds; without it the run is in order of time";
+  WORKERS    1 to 16, in rounds; without it the run is in order of time
+Settings, in any order, each once:
+  short=N    how many of 65536 balls are held for the lookahead alone; 0 if nothing is said
+  work=N     how many further draws an event makes, up to 4294967295; 0 if nothing is said
+  grain=N    how many events a worker has to execute between two meetings, so that these are worth it;
+             64 if nothing is said, and 0 has workers go on in windows of the lookahead wherever they can
+  traffic    tells on standard error what the workers did";
 
 /// What the words say.
 #[derive(Clone, Copy)]
@@ -28,6 +34,52 @@ struct Load {
     balls: u32,
     seed: u64,
     workers: Option<u32>,
+    /// Whether what the workers did is told.
+    traffic: bool,
+}
+
+/// What the words behind the numbers say.
+#[derive(Clone, Copy, Default, PartialEq, Eq)]
+struct Settings {
+    short: Option<u32>,
+    work: Option<u32>,
+    grain: Option<u64>,
+    traffic: bool,
+}
+
+impl Settings {
+    /// These, and what one word more says; `None` where it says nothing, or what was said already.
+    fn with(self, word: &str) -> Option<Settings> {
+        if word == "traffic" && !self.traffic {
+            return Some(Settings {
+                traffic: true,
+                ..self
+            });
+        }
+        match word.split_once('=')? {
+            ("short", number) if self.short.is_none() => Some(Settings {
+                short: Some(number.parse::<u32>().ok()?),
+                ..self
+            }),
+            ("work", number) if self.work.is_none() => Some(Settings {
+                work: Some(number.parse::<u32>().ok()?),
+                ..self
+            }),
+            ("grain", number) if self.grain.is_none() => Some(Settings {
+                grain: Some(number.parse::<u64>().ok()?),
+                ..self
+            }),
+            _ => None,
+        }
+    }
+
+    /// The setting of PHOLD in which what was said is so, and the rest as it is.
+    fn apply(self, phold: Phold) -> Phold {
+        phold
+            .with_short(self.short.unwrap_or(phold.short))
+            .with_work(self.work.unwrap_or(phold.work))
+            .with_grain(self.grain.unwrap_or(phold.grain))
+    }
 }
 
 fn main(rt: HostRuntime) -> ExitCode {
@@ -37,10 +89,15 @@ fn main(rt: HostRuntime) -> ExitCode {
         return ExitCode::from(2);
     };
     match run(&rt, alloc, load) {
-        Ok(report) => match rt.println(report) {
-            Ok(()) => ExitCode::SUCCESS,
-            Err(_) => ExitCode::from(8),
-        },
+        Ok((report, traffic)) => {
+            if load.traffic && load.workers.is_some() {
+                tell(&rt, &traffic);
+            }
+            match rt.println(report) {
+                Ok(()) => ExitCode::SUCCESS,
+                Err(_) => ExitCode::from(8),
+            }
+        }
         Err(stop) => {
             let _ = eprintln!(rt; "phold: {stop:?}");
             ExitCode::FAILURE
@@ -48,33 +105,59 @@ fn main(rt: HostRuntime) -> ExitCode {
     }
 }
 
+/// Tells what the workers did.
+fn tell<R: Eprint>(rt: &R, traffic: &Traffic) {
+    let rounds = traffic.rounds;
+    let executed = traffic.executed;
+    let undone = traffic.undone;
+    let ring = traffic.ring;
+    let _ = eprintln!(rt;
+        "traffic rounds {rounds} executed {executed} undone {undone} ring {ring}"
+    );
+}
+
 /// The load that the program's words name, if they do.
 fn words<R: Env + AllocGlobal>(rt: &R, alloc: Global) -> Option<Load> {
-    let numbers = numbers(rt, alloc)?;
-    match numbers.as_slice() {
-        [processes, balls, remote, lookahead, spread, until, seed] => Some(Load {
-            phold: setting(*processes, *remote, *lookahead, *spread, *until)?,
-            balls: u32::try_from(*balls).ok()?,
-            seed: *seed,
-            workers: None,
-        }),
-        [
-            processes,
-            balls,
-            remote,
-            lookahead,
-            spread,
-            until,
-            seed,
-            workers,
-        ] => Some(Load {
-            phold: setting(*processes, *remote, *lookahead, *spread, *until)?,
-            balls: u32::try_from(*balls).ok()?,
-            seed: *seed,
-            workers: Some(u32::try_from(*workers).ok()?),
-        }),
-        _ => None,
+    let mut numbers = Vec::new(alloc);
+    let mut settings = Settings::default();
+    for word in env::args(rt).ok()?.skip(1) {
+        match word.parse::<u64>() {
+            Err(_) => settings = settings.with(word.as_str())?,
+            Ok(number) if settings == Settings::default() => numbers.push(number).ok()?,
+            Ok(_) => return None,
+        }
     }
+    load(numbers.as_slice(), settings)
+}
+
+/// The load of these numbers and settings, if the numbers are as many as there are to be, and in their ranges.
+fn load(numbers: &[u64], settings: Settings) -> Option<Load> {
+    let [
+        processes,
+        balls,
+        remote,
+        lookahead,
+        spread,
+        until,
+        seed,
+        rest @ ..,
+    ] = numbers
+    else {
+        return None;
+    };
+    let workers = match rest {
+        [] => None,
+        [workers] => Some(u32::try_from(*workers).ok()?),
+        _ => return None,
+    };
+    let phold = setting(*processes, *remote, *lookahead, *spread, *until)?;
+    Some(Load {
+        phold: settings.apply(phold),
+        balls: u32::try_from(*balls).ok()?,
+        seed: *seed,
+        workers,
+        traffic: settings.traffic,
+    })
 }
 
 /// A setting whose numbers are in their ranges.
@@ -82,16 +165,6 @@ fn setting(processes: u64, remote: u64, lookahead: u64, spread: u64, until: u64)
     let processes = u32::try_from(processes).ok()?;
     let remote = u32::try_from(remote).ok()?;
     Phold::new(processes, remote, lookahead, spread, until)
-}
-
-/// The program's words, if each is a number.
-fn numbers<R: Env + AllocGlobal>(rt: &R, alloc: Global) -> Option<Vec<u64>> {
-    let mut numbers = Vec::new(alloc);
-    for word in env::args(rt).ok()?.skip(1) {
-        let number = word.parse::<u64>().ok()?;
-        numbers.push(number).ok()?;
-    }
-    Some(numbers)
 }
 
 /// How many workers there are, and else what is usual.
@@ -107,15 +180,19 @@ fn plan(workers: u32) -> Plan {
     }
 }
 
-/// Runs the load, and adds up what its processes keep.
-fn run<R: Threads + Wait + Sync>(rt: &R, alloc: Global, load: Load) -> Result<Report, Stop> {
+/// Runs the load: what its processes keep, added up, and what the workers did.
+fn run<R: Threads + Wait + Sync>(
+    rt: &R,
+    alloc: Global,
+    load: Load,
+) -> Result<(Report, Traffic), Stop> {
     let (starts, initial) = beginning(alloc, &load.phold, load.balls, load.seed)?;
     let how = match load.workers {
         None => How::InOrder,
         Some(workers) => How::InRounds(plan(workers)),
     };
     match run_in(rt, alloc, load.phold, starts, initial, how)? {
-        Ran::Finished(states, _traffic) => Ok(report_of(states.as_slice())),
+        Ran::Finished(states, traffic) => Ok((report_of(states.as_slice()), traffic)),
         Ran::Stepped(_world, _answers) => Err(Stop::Memory),
     }
 }
