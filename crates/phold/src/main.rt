@@ -127,11 +127,11 @@ fn words<R: Env + AllocGlobal>(rt: &R, alloc: Global) -> Option<Load> {
             Ok(_) => return None,
         }
     }
-    load(numbers.as_slice(), settings)
+    load_of(numbers.as_slice(), settings)
 }
 
 /// The load of these numbers and settings, if the numbers are as many as there are to be, and in their ranges.
-fn load(numbers: &[u64], settings: Settings) -> Option<Load> {
+fn load_of(numbers: &[u64], settings: Settings) -> Option<Load> {
     let [
         processes,
         balls,
