@@ -97,13 +97,16 @@ pub phold_keeps : (m : Phold) (p : ℕ) (s : Holder) (e : Event Ball) → IsHold
 phold_keeps m p s e w h t =
     record {
       random = drawn_fits (first_draw s);
-      sum = draws_fit m.work (drawn ((s.sum + e.time) % 2 ^ 64)) (drawn_fits ((s.sum + e.time) % 2 ^ 64));
+      sum = fits ((s.sum + e.time) % 2 ^ 64);
       sends = kept (comes_again m s e) s.sends w.sends;
       events = below (s.events + 1);
     }
   where
     below : (n : ℕ) → n % 2 ^ 64 < 2 ^ 64
     below n = omega arith
+
+    fits : (x : ℕ) → iterate drawn m.work (drawn x) < 2 ^ 64
+    fits x = draws_fit m.work (drawn x) (drawn_fits x)
 
     kept : (b : Bool) (n : ℕ) → n < 2 ^ 64 → cond b ((n + 1) % 2 ^ 64) n < 2 ^ 64
     kept true n l = below (n + 1)

@@ -24,15 +24,17 @@ pub struct Phold {
     pub remote: u32,
     /// The least time for which a ball is held, in ticks, 1 to [`MAX_TICKS`].
     pub lookahead: u64,
-    /// A ball is held for the lookahead and a time that is drawn below this, in ticks, 1 to [`MAX_TICKS`].
+    /// A ball whose hold is not short is held for the lookahead and a time that is drawn below this, in ticks, 1 to [`MAX_TICKS`].
     pub spread: u64,
     /// No ball comes at this time or later, in ticks, up to [`END`].
     pub until: u64,
-    /// How many of 65536 balls are held for the lookahead alone, drawn for each hold; the others for what is drawn too.
+    /// How many of 65536 holds are short, for the lookahead alone; which ones is drawn.
     pub short: u32,
-    /// How many further draws an event makes, for its work: what it keeps of them is their last.
+    /// How many further draws an event makes, one after another, so that it takes longer: its sum is the last of them, and no
+    /// time and no process depends on them.
     pub work: u32,
-    /// How many events a worker has to execute between two meetings, so that these are worth it: see [`Lookahead::grain`].
+    /// How many events a worker has to execute between two meetings with the others, so that these are worth it
+    /// ([`Lookahead::grain`]); with 0 workers go on in windows of the lookahead wherever they can.
     pub grain: u64,
     ghost some_processes: { 1 ≤ processes },
     ghost few_processes: { processes ≤ 2 ^ 16 },
@@ -104,8 +106,11 @@ impl Phold {
         self
     }
 
-    /// For how many ticks a ball is held beyond the lookahead, by what was drawn: none, where the bits below those of the
-    /// time have it so.
+    /// For how many ticks a ball is held beyond the lookahead, by what was drawn: for none, or for a drawn time.
+    ///
+    /// Which of the two is told by bits 16 to 31, of which nothing else is made: the time comes of bits 32 to 63, and the
+    /// process of the next draw. Bit b of a congruence modulo 2^64 comes again after 2^(b + 1) draws, so the low bits are
+    /// poor; bit 31, which decides first, does so after 2^32.
     fn hold(&self, draw: u64) -> u64
         ensures { result ≡ hold_by self.now draw }
     {
