@@ -21,10 +21,10 @@ const USAGE: &str = "phold PROCESSES BALLS REMOTE LOOKAHEAD SPREAD UNTIL SEED [W
   SEED       what is drawn follows from it
   WORKERS    1 to 16, in rounds; without it the run is in order of time
 Settings, in any order, each once:
-  short=N    how many of 65536 balls are held for the lookahead alone; 0 if nothing is said
-  work=N     how many further draws an event makes, up to 4294967295; 0 if nothing is said
-  grain=N    how many events a worker has to execute between two meetings, so that these are worth it;
-             64 if nothing is said, and 0 has workers go on in windows of the lookahead wherever they can
+  short=N    how many of 65536 balls are held for the lookahead alone, else 0
+  work=N     how many further draws an event makes, up to 4294967295, else 0
+  grain=N    how many events make a meeting of the workers worth it, to each of them, else 64;
+             with 0 they go on in windows of the lookahead wherever they can
   traffic    tells on standard error what the workers did";
 
 /// What the words say.

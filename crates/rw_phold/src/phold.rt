@@ -24,7 +24,7 @@ pub struct Phold {
     pub remote: u32,
     /// The least time for which a ball is held, in ticks, 1 to [`MAX_TICKS`].
     pub lookahead: u64,
-    /// A ball whose hold is not short is held for the lookahead and a time that is drawn below this, in ticks, 1 to [`MAX_TICKS`].
+    /// A hold that is not short is the lookahead and a time that is drawn below this, in ticks, 1 to [`MAX_TICKS`].
     pub spread: u64,
     /// No ball comes at this time or later, in ticks, up to [`END`].
     pub until: u64,
