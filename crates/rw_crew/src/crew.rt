@@ -64,6 +64,12 @@ pub fn alone<'r, R, J: Job<T> + Drop, T: Drop>(rt: &'r R, alloc: Global) -> Crew
     }
 }
 
+/// Ends the threads of a crew, once they have done what they do.
+///
+/// A caller whose types are parameters ends its crew so, and does not let it go: what letting go asks of the lifetimes is
+/// known here.
+pub fn dismiss<'r, R, J: Job<T> + Drop, T: Drop>(_crew: Crew<'r, R, J, T>) {}
+
 /// Starts threads of a scope until the crew has `count`, the calling one among them.
 ///
 /// # Errors
@@ -130,7 +136,7 @@ impl<'r, R: Wait, J: Job<T> + Drop, T: Drop> Hands<J, T> for Crew<'r, R, J, T> {
     }
 }
 
-/// Hands the job out with each of these inputs, and gives where the may_answer_with come, in order.
+/// Hands the job out with each of these inputs, and gives where the answers come, in order.
 fn hand_out<J: Job<T> + Drop, T: Drop, R: Wait>(
     alloc: Global,
     rt: &R,
@@ -156,14 +162,14 @@ fn hand_out<J: Job<T> + Drop, T: Drop, R: Wait>(
     Ok(awaited)
 }
 
-/// The may_answer_with, in order, for which it waits.
+/// The answers, in order, for which it waits.
 fn collect<J: Job<T> + Drop, T: Drop, R: Wait>(
     alloc: Global,
     rt: &R,
     helpers: &[Helper<Task<J, T, Answer<J, T>>>],
     awaited: Vec<Awaited<J, T>>,
 ) -> Result<Vec<Result<T, Refusal>>, Halt>
-    ensures may_answer_with { IfOk result (λ r.
+    ensures answers { IfOk result (λ r.
         AllZip (λ a done. may_answer_with J.Gives a.notes (Done done)) awaited.items r.items) }
 {
     let mut results = Vec::with_capacity(alloc, awaited.len() + 1)?;

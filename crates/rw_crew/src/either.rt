@@ -2,13 +2,14 @@ ghost use Rattle.std.specs.Prelude.{◌≡◌, ◌<◌, ℕ, All, IfOk, length, 
 ghost use Rattle.rw_crew.specs.declared.either.Either.TheVariants.{First, Second};
 ghost use Rattle.rw_crew.specs.Eithers.{IsOfFirst, IsOfSecond, either_gives, either_takes};
 
-use crate::crew::Crew;
+use crate::crew::{Crew, grow};
 use crate::halt::Halt;
 use crate::hands::Hands;
 use crate::threads::Job;
 use rw_vt::{NoMemory, Refusal};
 use std::alloc::Global;
 use std::sync::Wait;
+use std::thread::{Scope, Threads};
 
 /// One of two: of two kinds of jobs for the same hands, or of their inputs.
 #[derive(Drop)]
@@ -31,41 +32,57 @@ impl<J: Job<T>, K: Job<U>, T, U> Job<Either<T, U>> for Either<J, K> {
     }
 }
 
-/// The first kind's part of a crew that does two kinds of jobs.
-pub struct ForFirst<'a, 'r, R, J, K, T, U>
+/// [`grow`] for a crew that does two kinds of jobs.
+///
+/// # Errors
+///
+/// Those of `grow`.
+pub fn grow_for_both<'s, E, R, J, K, T, U>(
+    crew: &mut Crew<'s, R, Either<J, K>, Either<T, U>>,
+    scope: &Scope<'s, E>,
+    alloc: Global,
+    count: usize,
+) -> Result<(), Halt>
 where
-    J: Job<T> + Drop,
-    K: Job<U> + Drop,
-    T: Drop,
-    U: Drop,
+    R: Threads + Wait + Sync,
+    J: Job<T> + Send + Sync + Drop + 's,
+    K: Job<U> + Send + Sync + Drop + 's,
+    T: Send + Drop + 's,
+    U: Send + Drop + 's,
 {
-    /// The crew.
-    pub crew: &'a mut Crew<'r, R, Either<J, K>, Either<T, U>>,
+    grow(crew, scope, alloc, count)
 }
 
-impl<'a, 'r, R, J, K, T, U> Hands<J, T> for ForFirst<'a, 'r, R, J, K, T, U>
+/// Has a crew that does two kinds of jobs do one of the first kind, as [`Hands`] do.
+///
+/// # Errors
+///
+/// Those of [`Hands::do_each`].
+pub fn do_first<'r, R, J, K, T, U>(
+    crew: &mut Crew<'r, R, Either<J, K>, Either<T, U>>,
+    alloc: Global,
+    job: J,
+    inputs: Vec<T>,
+) -> Result<(J, Vec<T>), Halt>
 where
     R: Wait,
     J: Job<T> + Drop,
     K: Job<U> + Drop,
     T: Drop,
     U: Drop,
+    requires takes { All (λ t. J.Takes job t) inputs.items }
+    ensures job { IfOk result (λ r. r.0 ≡ job) }
+    ensures count { IfOk result (λ r. length r.1.items ≡ length inputs.items) }
+    ensures each { IfOk result (λ r. (i : ℕ) (d : _) (e : _) → i < length inputs.items
+        → J.Gives job (slice_index_or inputs.items i d) (slice_index_or r.1.items i e)) }
 {
-    fn do_each(&mut self, alloc: Global, job: J, inputs: Vec<T>) -> Result<(J, Vec<T>), Halt>
-        requires takes { All (λ t. J.Takes job t) inputs.items }
-        ensures job { IfOk result (λ r. r.0 ≡ job) }
-        ensures count { IfOk result (λ r. length r.1.items ≡ length inputs.items) }
-        ensures each { IfOk result (λ r. (i : ℕ) (d : _) (e : _) → i < length inputs.items
-            → J.Gives job (slice_index_or inputs.items i d) (slice_index_or r.1.items i e)) }
-    {
-        let inputs = as_first(alloc, inputs)?;
-        let (job, done) = self.crew.do_each(alloc, Either::First(job), inputs)?;
-        let Either::First(job) = job else {
-            unreachable!()
-        };
-        let done = all_first(alloc, done)?;
-        Ok((job, done))
-    }
+    let inputs = as_first(alloc, inputs)?;
+    let (job, done) = crew.do_each(alloc, Either::First(job), inputs)?;
+    let Either::First(job) = job else {
+        unreachable!()
+    };
+    let done = all_first(alloc, done)?;
+    Ok((job, done))
 }
 
 /// Each as one of the first kind.
@@ -94,41 +111,36 @@ fn all_first<T: Drop, U: Drop>(alloc: Global, items: Vec<Either<T, U>>) -> Resul
     Ok(list)
 }
 
-/// The second kind's part of a crew that does two kinds of jobs.
-pub struct ForSecond<'a, 'r, R, J, K, T, U>
-where
-    J: Job<T> + Drop,
-    K: Job<U> + Drop,
-    T: Drop,
-    U: Drop,
-{
-    /// The crew.
-    pub crew: &'a mut Crew<'r, R, Either<J, K>, Either<T, U>>,
-}
-
-impl<'a, 'r, R, J, K, T, U> Hands<K, U> for ForSecond<'a, 'r, R, J, K, T, U>
+/// Has a crew that does two kinds of jobs do one of the second kind, as [`Hands`] do.
+///
+/// # Errors
+///
+/// Those of [`Hands::do_each`].
+pub fn do_second<'r, R, J, K, T, U>(
+    crew: &mut Crew<'r, R, Either<J, K>, Either<T, U>>,
+    alloc: Global,
+    job: K,
+    inputs: Vec<U>,
+) -> Result<(K, Vec<U>), Halt>
 where
     R: Wait,
     J: Job<T> + Drop,
     K: Job<U> + Drop,
     T: Drop,
     U: Drop,
+    requires takes { All (λ t. K.Takes job t) inputs.items }
+    ensures job { IfOk result (λ r. r.0 ≡ job) }
+    ensures count { IfOk result (λ r. length r.1.items ≡ length inputs.items) }
+    ensures each { IfOk result (λ r. (i : ℕ) (d : _) (e : _) → i < length inputs.items
+        → K.Gives job (slice_index_or inputs.items i d) (slice_index_or r.1.items i e)) }
 {
-    fn do_each(&mut self, alloc: Global, job: K, inputs: Vec<U>) -> Result<(K, Vec<U>), Halt>
-        requires takes { All (λ t. K.Takes job t) inputs.items }
-        ensures job { IfOk result (λ r. r.0 ≡ job) }
-        ensures count { IfOk result (λ r. length r.1.items ≡ length inputs.items) }
-        ensures each { IfOk result (λ r. (i : ℕ) (d : _) (e : _) → i < length inputs.items
-            → K.Gives job (slice_index_or inputs.items i d) (slice_index_or r.1.items i e)) }
-    {
-        let inputs = as_second(alloc, inputs)?;
-        let (job, done) = self.crew.do_each(alloc, Either::Second(job), inputs)?;
-        let Either::Second(job) = job else {
-            unreachable!()
-        };
-        let done = all_second(alloc, done)?;
-        Ok((job, done))
-    }
+    let inputs = as_second(alloc, inputs)?;
+    let (job, done) = crew.do_each(alloc, Either::Second(job), inputs)?;
+    let Either::Second(job) = job else {
+        unreachable!()
+    };
+    let done = all_second(alloc, done)?;
+    Ok((job, done))
 }
 
 /// Each as one of the second kind.

@@ -11,8 +11,8 @@ mod shares;
 mod task;
 mod threads;
 
-pub use crew::{Crew, alone, grow};
-pub use either::{Either, ForFirst, ForSecond};
+pub use crew::{Crew, alone, dismiss, grow};
+pub use either::{Either, do_first, do_second, grow_for_both};
 pub use halt::Halt;
 pub use hands::Hands;
 pub use shares::{deal_out, first_of, join};

@@ -19,7 +19,7 @@ pub(crate) enum Note<J, T> {
     Done(Result<T, Refusal>),
 }
 
-/// What who may_answer_with keeps to: what is done is what the job gives for what was asked.
+/// What who answers keeps to: what is done is what the job gives for what was asked.
 pub(crate) struct Kept;
 
 impl<J: Job<T>, T> Protocol<Note<J, T>> for Kept {

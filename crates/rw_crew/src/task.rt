@@ -41,7 +41,7 @@ impl<J: Job<T> + Drop, T: Drop> Errand for Task<J, T, Answer<J, T>> {
 
     ghost Fits = { IsTask J.Takes };
 
-    /// Does the job, and may_answer_with.
+    /// Does the job, and answers.
     fn carry_out(self) {
         let Task {
             job,

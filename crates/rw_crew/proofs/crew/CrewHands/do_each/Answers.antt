@@ -13,7 +13,7 @@ done g c =
     let job = c.in_ok-job.job in
     let gave = subst (λ j. IfOk c.run-result.result (g.J.Job.Gives j c.in-Some.own)) c.deref.ensures c.run-result.ensures.gives in
     let each = all_answered g.J.Job.Gives (arc_value job) (λ a. a.notes) _ _ c.in-Some.own c.in_ok-awaited.awaited.items c.in_ok-results.results.items _ c.run-result.result _
-    c.in-Some.ensures.items c.in_ok-awaited.ensures.asked c.in_ok-results.ensures.may_answer_with gave c.in_ok-push.ensures.items c.in_ok-done.ensures in
+    c.in-Some.ensures.items c.in_ok-awaited.ensures.asked c.in_ok-results.ensures.answers gave c.in_ok-push.ensures.items c.in_ok-done.ensures in
     subst (λ j. AllZip (g.J.Job.Gives j) c.args.inputs.items c.in_ok-done.done.items) c.in_ok-job.ensures.ok each
 
 pub returns-clause-count : goal.returns-clause-count

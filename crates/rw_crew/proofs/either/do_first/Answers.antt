@@ -3,7 +3,7 @@ use Rattle.std.proofs.lemmas.List.{length-map}
 use Rattle.rw_crew.specs.declared.either.Either.TheVariants.{First}
 use Rattle.rw_crew.specs.Eithers.{either_gives, either_takes}
 use Rattle.rw_crew.proofs.Eithers.{all_seen, gives_first, pair_seen}
-use Rattle.rw_crew.proofs.either.ForFirstHands.do_each.Goals as goal
+use Rattle.rw_crew.proofs.either.do_first.Goals as goal
 
 pub do_each-requires : goal.do_each-requires
 do_each-requires g c =
