@@ -1,7 +1,6 @@
 -- What a model sends is as far ahead as its lookahead, and one tick at least.
-use Rattle.std.proofs.Common.{◌≡◌, ℕ, ◌+◌, ◌≤◌, true, All, arith, max}
+use Rattle.std.proofs.Common.{◌≡◌, ℕ, ◌+◌, ◌≤◌, true, arith, max}
 use Rattle.std.specs.declared.cmp.Ordering.{Ordering}
-use Rattle.rw_vt.specs.declared.event.Event.{Event}
 use Rattle.rw_vt.specs.declared.model.Model.{Ghosts}
 use Rattle.rw_vt.specs.Valid.{IsSentBy}
 use Rattle.rw_vt.proofs.Laws.{Laws}

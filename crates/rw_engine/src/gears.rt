@@ -1,3 +1,5 @@
+ghost use Rattle.std.specs.Prelude.{◌<◌};
+
 use rw_rounds::{Pace, Plan, Traffic};
 
 /// As many initial events the first piece of a kind takes in.
@@ -81,5 +83,38 @@ impl Gears {
                 .min(MOST),
             _ => FEWEST,
         };
+    }
+}
+
+/// How far a run has come, and how it is to go on.
+#[derive(Clone, Copy, Debug)]
+pub(crate) struct Course {
+    pub(crate) gears: Gears,
+    /// How many rounds are left of the plan's.
+    pub(crate) left: u32,
+    /// Up to which time all is executed, in ticks.
+    reached: u64,
+}
+
+impl Course {
+    /// The course of a run by this plan, before its first piece, of a model of this lookahead and grain. Takes no memory.
+    pub(crate) fn new(plan: &Plan, lookahead: u64, grain: u64) -> Course {
+        Course {
+            gears: Gears::new(plan, lookahead, grain),
+            left: plan.max_rounds,
+            reached: 0,
+        }
+    }
+
+    /// A piece was run, up to this time, and the counts went from `before` to `after`. Takes no memory.
+    pub(crate) fn note(&mut self, piece: Piece, time: u64, before: &Traffic, after: &Traffic)
+        requires left { 0 < self.old.left }
+        ensures fewer { self.new.left < self.old.left }
+    {
+        let moved = time.saturating_sub(self.reached);
+        self.gears.note(piece, moved, before, after);
+        self.reached = time;
+        let made = after.rounds.saturating_sub(before.rounds).max(1);
+        self.left -= made.min(u64::from(self.left)) as u32;
     }
 }

@@ -35,7 +35,7 @@ pub fn run_in<M, R>(
     how: How<'_>,
 ) -> Result<Ran<M>, Stop>
 where
-    M: Lookahead + Drop + Sync,
+    M: Lookahead + Drop + Send + Sync,
     M::State: Send,
     M::Body: Send,
     M::Undo: Send,
@@ -64,7 +64,7 @@ pub fn run_in_and_tell<M, P, R>(
     progress: &mut P,
 ) -> Result<Ran<M>, Stop>
 where
-    M: Lookahead + Drop + Sync,
+    M: Lookahead + Drop + Send + Sync,
     M::State: Send,
     M::Body: Send,
     M::Undo: Send,
@@ -116,7 +116,7 @@ fn in_rounds<M, P, R>(
     progress: &mut P,
 ) -> Result<Ran<M>, Stop>
 where
-    M: Lookahead + Drop + Sync,
+    M: Lookahead + Drop + Send + Sync,
     M::State: Send,
     M::Body: Send,
     M::Undo: Send,

@@ -1,4 +1,4 @@
-ghost use Rattle.std.specs.Prelude.{◌≡◌, ◌≢◌, ◌↔◌, Err, IfErr, IfOk, OnOk};
+ghost use Rattle.std.specs.Prelude.{◌≡◌, ◌≢◌, ◌↔◌, ◌<◌, ℕ, All, Err, IfErr, IfOk, OnOk, length, slice_index_or};
 ghost use Rattle.rw_vt.specs.System.{IsReady, system};
 ghost use Rattle.rw_rounds.specs.Plans.{IsInRanges};
 ghost use Rattle.rw_rounds.specs.declared.stop.Stop.TheVariants.{BadPlan};
@@ -6,16 +6,21 @@ ghost use Rattle.rw_engine.specs.Runs.{AreLastStates};
 ghost use Rattle.rw_engine.specs.Stretches.{GoesOn, MayStopInRounds};
 
 use crate::alone::{events_of_round, run_alone_from, traffic_of};
-use crate::gears::{Gears, Piece};
+use crate::gears::{Course, Piece};
+use rw_crew::{
+    Crew, Either, Halt, Hands, Job, dismiss, do_first, do_second, grow_for_both, may_move,
+};
+use rw_exchange::Port;
 use rw_progress::Progress;
-use rw_rounds::{Open, Pace, Plan, Stop, Stretch, Traffic, run_stretch};
+use rw_rounds::{Pace, Plan, RoundWork, Stop, Stretch, Traffic, Worker, run_stretch};
 use rw_serial::{Pending, Sorted, Source, go_on};
-use rw_vt::{END, Event, Lookahead, Model as VtModel};
-use rw_windows::{Left, run_in_windows};
+use rw_vt::{END, Event, Letter, Lookahead, Model as VtModel};
+use rw_windows::{Left, Share, Work, run_in_windows};
 use rw_world::{Rest, World};
 use std::alloc::Global;
 use std::sync::Wait;
-use std::thread::Threads;
+use std::thread;
+use std::thread::{Scope, Threads};
 
 /// As many windows without an initial event are crossed at most.
 const WINDOWS_IN_VAIN: u64 = 16;
@@ -36,7 +41,7 @@ pub fn run_in_rounds<M, P, R>(
     progress: &mut P,
 ) -> Result<(Vec<M::State>, Traffic), Stop>
 where
-    M: Lookahead + Drop + Sync,
+    M: Lookahead + Drop + Send + Sync,
     M::State: Send,
     M::Body: Send,
     M::Undo: Send,
@@ -84,7 +89,7 @@ pub fn run_in_rounds_from<M, S, P, R>(
     progress: &mut P,
 ) -> Result<(Vec<M::State>, Traffic), Stop>
 where
-    M: Lookahead + Drop + Sync,
+    M: Lookahead + Drop + Send + Sync,
     M::State: Send,
     M::Body: Send,
     M::Undo: Send,
@@ -103,37 +108,199 @@ where
     if !plan.is_valid() {
         return Err(Stop::BadPlan);
     }
+    thread::scope(
+        thread::scope_env(),
+        rt,
+        move |scope| -> Result<(Vec<M::State>, Traffic), Stop>
+            requires ready { IsReady M.Model model starts.items (S.left source) }
+            requires plan { IsInRanges plan }
+            ensures states { IfOk result (λ r. AreLastStates
+                (system M.Model M.Body.cmp model starts.items (S.left source)) r.0.items) }
+            ensures stops { IfErr result (λ stop. stop ≢ BadPlan) }
+        { run_in_scope(rt, scope, alloc, model, starts, source, plan, progress) },
+    )
+}
+
+/// Runs piece by piece, in the scope of the threads that it starts: none before a piece needs them.
+fn run_in_scope<'s, E, M, S, P, R>(
+    rt: &'s R,
+    scope: &Scope<'s, E>,
+    alloc: Global,
+    model: M,
+    starts: Vec<M::State>,
+    source: S,
+    plan: Plan,
+    progress: &mut P,
+) -> Result<(Vec<M::State>, Traffic), Stop>
+where
+    M: Lookahead + Drop + Send + Sync + 's,
+    M::State: Send,
+    M::Body: Send,
+    M::Undo: Send,
+    S: Source<M::Body>,
+    P: Progress,
+    R: Threads + Wait + Sync,
+    requires ready { IsReady M.Model model starts.items (S.left source) }
+    requires plan { IsInRanges plan }
+    ensures states { IfOk result (λ r. AreLastStates
+        (system M.Model M.Body.cmp model starts.items (S.left source)) r.0.items) }
+    ensures stops { IfErr result (λ stop. stop ≢ BadPlan) }
+{
     let mut at = Standing {
         model,
         states: starts,
         traffic: Traffic::default(),
     };
     let mut pending = Pending::new(alloc, source);
-    let mut gears = Gears::new(&plan, at.model.lookahead(), at.model.grain());
-    let mut left = plan.max_rounds;
-    let mut reached = 0;
-    while left > 0 {
+    let mut course = Course::new(&plan, at.model.lookahead(), at.model.grain());
+    while course.left > 0 {
+        let Piece::Alone(rounds) = course.gears.next() else {
+            return run_by_crew(rt, scope, alloc, at, &mut pending, course, plan, progress);
+        };
         let before = at.traffic;
-        let piece = gears.next();
-        at = go_on_by(
-            rt,
+        let rounds = rounds.min(u64::from(course.left));
+        at = go_on_alone(
             alloc,
             at,
             &mut pending,
+            &plan,
+            rounds,
+            &mut course.gears.pace,
+        )?;
+        let Some(time) = pending.least_time() else {
+            return Ok((at.states, at.traffic));
+        };
+        progress.reach(time);
+        course.note(Piece::Alone(rounds), time, &before, &at.traffic);
+    }
+    Err(Stop::RoundsUsed)
+}
+
+/// Goes on with a run to its end, by a crew whose threads stay for it.
+fn run_by_crew<'s, E, M, S, P, R>(
+    rt: &'s R,
+    scope: &Scope<'s, E>,
+    alloc: Global,
+    at: Standing<M>,
+    pending: &mut Pending<M::Body, S>,
+    course: Course,
+    plan: Plan,
+    progress: &mut P,
+) -> Result<(Vec<M::State>, Traffic), Stop>
+where
+    M: Lookahead + Drop + Send + Sync + 's,
+    M::State: Send,
+    M::Body: Send,
+    M::Undo: Send,
+    S: Source<M::Body>,
+    P: Progress,
+    R: Threads + Wait + Sync,
+    requires ready { IsReady M.Model at.model at.states.items pending.old.events }
+    requires plan { IsInRanges plan }
+    ensures states { IfOk result (λ r. AreLastStates
+        (system M.Model M.Body.cmp at.model at.states.items pending.old.events) r.0.items) }
+    ensures stops { IfErr result (λ stop. stop ≢ BadPlan) }
+{
+    let mut crew = rw_crew::alone(rt, alloc);
+    // On this rests that a worker may move.
+    may_move::<Port<Letter<M::Body>>>();
+    let hired = grow_for_both(&mut crew, scope, alloc, plan.workers as usize);
+    let mut threads = RunThreads { crew };
+    let ran = match hired {
+        Ok(()) => run_pieces(rt, &mut threads, alloc, at, pending, course, plan, progress),
+        Err(halt) => Err(halt.into()),
+    };
+    let RunThreads { crew } = threads;
+    dismiss(crew);
+    ran
+}
+
+/// The threads of a run, which do the work of a worker in rounds and in windows.
+struct RunThreads<'r, M: VtModel + Drop, R: Wait> {
+    crew: Crew<'r, R, Either<RoundWork<M>, Work<'r, M, R>>, Either<Worker<M>, Share<M>>>,
+}
+
+impl<'r, M: VtModel + Drop, R: Wait> Hands<RoundWork<M>, Worker<M>> for RunThreads<'r, M, R> {
+    fn do_each(
+        &mut self,
+        alloc: Global,
+        job: RoundWork<M>,
+        inputs: Vec<Worker<M>>,
+    ) -> Result<(RoundWork<M>, Vec<Worker<M>>), Halt>
+        requires takes { All (λ t. ⟦<RoundWork<M> as Job<Worker<M>>>⟧.Takes job t) inputs.items }
+        ensures job { IfOk result (λ r. r.0 ≡ job) }
+        ensures count { IfOk result (λ r. length r.1.items ≡ length inputs.items) }
+        ensures each { IfOk result (λ r. (i : ℕ) (d : _) (e : _) → i < length inputs.items
+            → ⟦<RoundWork<M> as Job<Worker<M>>>⟧.Gives job
+            (slice_index_or inputs.items i d) (slice_index_or r.1.items i e)) }
+    {
+        do_first(&mut self.crew, alloc, job, inputs)
+    }
+}
+
+impl<'r, M: VtModel + Drop, R: Wait> Hands<Work<'r, M, R>, Share<M>> for RunThreads<'r, M, R> {
+    fn do_each(
+        &mut self,
+        alloc: Global,
+        job: Work<'r, M, R>,
+        inputs: Vec<Share<M>>,
+    ) -> Result<(Work<'r, M, R>, Vec<Share<M>>), Halt>
+        requires takes { All (λ t. ⟦<Work<'r, M, R> as Job<Share<M>>>⟧.Takes job t) inputs.items }
+        ensures job { IfOk result (λ r. r.0 ≡ job.entry) }
+        ensures count { IfOk result (λ r. length r.1.items ≡ length inputs.items) }
+        ensures each { IfOk result (λ r. (i : ℕ) (d : _) (e : _) → i < length inputs.items
+            → ⟦<Work<'r, M, R> as Job<Share<M>>>⟧.Gives job.entry
+            (slice_index_or inputs.items i d) (slice_index_or r.1.items i e)) }
+    {
+        do_second(&mut self.crew, alloc, job, inputs)
+    }
+}
+
+/// Runs piece by piece, by hands for rounds and for windows.
+fn run_pieces<'r, M, S, P, R, H>(
+    rt: &'r R,
+    hands: &mut H,
+    alloc: Global,
+    at: Standing<M>,
+    pending: &mut Pending<M::Body, S>,
+    course: Course,
+    plan: Plan,
+    progress: &mut P,
+) -> Result<(Vec<M::State>, Traffic), Stop>
+where
+    M: Lookahead + Drop,
+    S: Source<M::Body>,
+    P: Progress,
+    R: Wait,
+    H: Hands<RoundWork<M>, Worker<M>> + Hands<Work<'r, M, R>, Share<M>>,
+    requires ready { IsReady M.Model at.model at.states.items pending.old.events }
+    requires plan { IsInRanges plan }
+    ensures states { IfOk result (λ r. AreLastStates
+        (system M.Model M.Body.cmp at.model at.states.items pending.old.events) r.0.items) }
+    ensures stops { IfErr result (λ stop. stop ≢ BadPlan) }
+{
+    let mut at = at;
+    let mut course = course;
+    while course.left > 0 {
+        let before = at.traffic;
+        let piece = course.gears.next();
+        at = go_on_by(
+            rt,
+            hands,
+            alloc,
+            at,
+            pending,
             piece,
             plan,
-            left,
-            &mut gears.pace,
+            course.left,
+            &mut course.gears.pace,
             progress,
         )?;
         let Some(time) = pending.least_time() else {
             return Ok((at.states, at.traffic));
         };
         progress.reach(time);
-        gears.note(piece, time.saturating_sub(reached), &before, &at.traffic);
-        reached = time;
-        let made = at.traffic.rounds.saturating_sub(before.rounds).max(1);
-        left -= made.min(u64::from(left)) as u32;
+        course.note(piece, time, &before, &at.traffic);
     }
     Err(Stop::RoundsUsed)
 }
@@ -149,8 +316,9 @@ struct Standing<M: VtModel> {
 }
 
 /// Goes on with a run by one piece.
-fn go_on_by<M, S, P, R>(
-    rt: &R,
+fn go_on_by<'r, M, S, P, R, H>(
+    rt: &'r R,
+    hands: &mut H,
     alloc: Global,
     at: Standing<M>,
     pending: &mut Pending<M::Body, S>,
@@ -161,13 +329,11 @@ fn go_on_by<M, S, P, R>(
     progress: &mut P,
 ) -> Result<Standing<M>, Stop>
 where
-    M: Lookahead + Drop + Sync,
-    M::State: Send,
-    M::Body: Send,
-    M::Undo: Send,
+    M: Lookahead + Drop,
     S: Source<M::Body>,
     P: Progress,
-    R: Threads + Wait + Sync,
+    R: Wait,
+    H: Hands<RoundWork<M>, Worker<M>> + Hands<Work<'r, M, R>, Share<M>>,
     requires ready { IsReady M.Model at.model at.states.items pending.old.events }
     requires plan { IsInRanges plan }
     ensures onward { IfOk result (λ r. GoesOn M.Model M.Body.cmp
@@ -180,9 +346,9 @@ where
             let rounds = rounds.min(u64::from(left));
             go_on_alone(alloc, at, pending, &plan, rounds, pace)
         }
-        Piece::Windows(count) => go_on_in_windows(rt, alloc, at, pending, count, &plan),
+        Piece::Windows(count) => go_on_in_windows(rt, hands, alloc, at, pending, count, &plan),
         Piece::Rounds(count) => {
-            go_on_in_rounds(rt, alloc, at, pending, count, plan, left, pace, progress)
+            go_on_in_rounds(hands, alloc, at, pending, count, plan, left, pace, progress)
         }
     }
 }
@@ -221,8 +387,9 @@ fn go_on_alone<M: VtModel + Drop, S: Source<M::Body>>(
 }
 
 /// Goes on with a run in windows of the model's lookahead, which take in as many initial events as `count` says.
-fn go_on_in_windows<M, S, R>(
-    rt: &R,
+fn go_on_in_windows<'r, M, S, R, H>(
+    rt: &'r R,
+    hands: &mut H,
     alloc: Global,
     at: Standing<M>,
     pending: &mut Pending<M::Body, S>,
@@ -230,12 +397,10 @@ fn go_on_in_windows<M, S, R>(
     plan: &Plan,
 ) -> Result<Standing<M>, Stop>
 where
-    M: Lookahead + Drop + Sync,
-    M::State: Send,
-    M::Body: Send,
-    M::Undo: Send,
+    M: Lookahead + Drop,
     S: Source<M::Body>,
-    R: Threads + Wait + Sync,
+    R: Wait,
+    H: Hands<Work<'r, M, R>, Share<M>>,
     requires ready { IsReady M.Model at.model at.states.items pending.old.events }
     requires plan { IsInRanges plan.now }
     ensures onward { IfOk result (λ r. GoesOn M.Model M.Body.cmp
@@ -253,14 +418,16 @@ where
     let until = pending.least_time().unwrap_or(END);
     let end = end_of_windows(&events, lookahead).min(until);
     let Left {
+        model,
         states,
         events,
         executed,
         received,
     } = run_in_windows(
         rt,
+        hands,
         alloc,
-        &model,
+        model,
         states,
         events,
         plan.workers,
@@ -296,8 +463,8 @@ fn end_of_windows<B: Copy>(events: &[Event<B>], lookahead: u64) -> u64 {
 }
 
 /// Goes on with a run by a stretch of rounds, which takes in as many initial events as `count` says.
-fn go_on_in_rounds<M, S, P, R>(
-    rt: &R,
+fn go_on_in_rounds<M, S, P, H>(
+    hands: &mut H,
     alloc: Global,
     at: Standing<M>,
     pending: &mut Pending<M::Body, S>,
@@ -308,13 +475,10 @@ fn go_on_in_rounds<M, S, P, R>(
     progress: &mut P,
 ) -> Result<Standing<M>, Stop>
 where
-    M: VtModel + Drop + Sync,
-    M::State: Send,
-    M::Body: Send,
-    M::Undo: Send,
+    M: VtModel + Drop,
     S: Source<M::Body>,
     P: Progress,
-    R: Threads + Wait + Sync,
+    H: Hands<RoundWork<M>, Worker<M>>,
     requires ready { IsReady M.Model at.model at.states.items pending.old.events }
     requires plan { IsInRanges plan }
     ensures onward { IfOk result (λ r. GoesOn M.Model M.Body.cmp
@@ -334,7 +498,7 @@ where
         world,
         floor: _,
         traffic: did,
-    } = run_stretch(rt, alloc, world, plan, &Open, until, rounds, pace, progress)?;
+    } = run_stretch(hands, alloc, world, plan, until, rounds, pace, progress)?;
     let Rest {
         model,
         states,

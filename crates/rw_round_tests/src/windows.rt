@@ -1,19 +1,24 @@
 // PHOLD and the relay in windows of their lookahead: what is left ends as the run in order, and none of it is before the end.
 ghost use Rattle.std.specs.Prelude.{◌≡◌, ◌≤◌, IfOk, true};
 ghost use Rattle.rw_vt.specs.System.{IsReady};
+ghost use Rattle.rw_windows.specs.Running.{IsLeftOfRun};
+ghost use Rattle.rw_windows.specs.Working.{IsAhead};
 ghost use Rattle.rw_relay.specs.Parcels.{is_sound_event};
-ghost use Rattle.rw_phold.specs.contracts.phold.PholdVtModel.TheImpl as model;
+ghost use Rattle.rw_phold.specs.contracts.phold.PholdVtModel.TheImpl as of_phold;
+ghost use Rattle.rw_relay.specs.contracts.RelayVtModel.TheImpl as of_relay;
 
+use rw_crew::Crew;
 use rw_phold::{Ball, Holder, Phold, Report, beginning, report_of};
 use rw_relay::parcels::parcel;
 use rw_relay::{Parcel, Relay, Station, parcels};
 use rw_serial::last_states;
-use rw_vt::{END, Event, Lookahead};
-use rw_windows::{Halt, Left, run_in_windows};
+use rw_vt::{END, Event, Lookahead, Model as VtModel};
+use rw_windows::{Halt, Left, Share, Work, run_in_windows};
 use std::alloc::Global;
 use std::sync::Wait;
 use std::test::Fail;
-use std::thread::Threads;
+use std::thread;
+use std::thread::{Scope, Threads};
 
 /// How many balls there are.
 const BALLS: u32 = 200;
@@ -32,6 +37,108 @@ fn in_order(alloc: Global, phold: &Phold) -> Result<Vec<Holder>, Fail> {
     Ok(last_states(alloc, phold, starts, initial)?)
 }
 
+/// What windows leave, in the threads of a crew that is there for them alone.
+fn by_a_crew<'s, E, M, R>(
+    rt: &'s R,
+    scope: &Scope<'s, E>,
+    alloc: Global,
+    model: M,
+    states: Vec<M::State>,
+    events: Vec<Event<M::Body>>,
+    workers: u32,
+    lookahead: u64,
+    end: u64,
+) -> Result<Left<M>, Halt>
+where
+    M: VtModel + Send + Sync + Drop + 's,
+    M::State: Send,
+    M::Body: Send,
+    M::Undo: Send,
+    R: Threads + Wait + Sync,
+    requires ready { IsReady M.Model model states.items events.items }
+    requires workers { (1 ≤ workers) × (workers ≤ 16) }
+    requires lookahead { 1 ≤ lookahead }
+    requires ahead { IsAhead M.Model model lookahead }
+    ensures left { IfOk result (λ r. IsLeftOfRun M.Model M.Body.cmp model end
+        states.items events.items r.states.items r.events.items) }
+{
+    let mut crew = rw_crew::alone(rt, alloc);
+    let left = by_its_threads(
+        rt, &mut crew, scope, alloc, model, states, events, workers, lookahead, end,
+    );
+    rw_crew::dismiss(crew);
+    left
+}
+
+/// What windows leave, in the threads of a crew.
+fn by_its_threads<'s, E, M, R>(
+    rt: &'s R,
+    crew: &mut Crew<'s, R, Work<'s, M, R>, Share<M>>,
+    scope: &Scope<'s, E>,
+    alloc: Global,
+    model: M,
+    states: Vec<M::State>,
+    events: Vec<Event<M::Body>>,
+    workers: u32,
+    lookahead: u64,
+    end: u64,
+) -> Result<Left<M>, Halt>
+where
+    M: VtModel + Send + Sync + Drop + 's,
+    M::State: Send,
+    M::Body: Send,
+    M::Undo: Send,
+    R: Threads + Wait + Sync,
+    requires ready { IsReady M.Model model states.items events.items }
+    requires workers { (1 ≤ workers) × (workers ≤ 16) }
+    requires lookahead { 1 ≤ lookahead }
+    requires ahead { IsAhead M.Model model lookahead }
+    ensures left { IfOk result (λ r. IsLeftOfRun M.Model M.Body.cmp model end
+        states.items events.items r.states.items r.events.items) }
+{
+    rw_crew::grow(crew, scope, alloc, workers as usize)?;
+    run_in_windows(
+        rt, crew, alloc, model, states, events, workers, lookahead, end,
+    )
+}
+
+/// What windows of PHOLD leave, in the threads of a crew.
+fn phold_by_a_crew<R: Threads + Wait + Sync>(
+    rt: &R,
+    alloc: Global,
+    phold: &Phold,
+    states: Vec<Holder>,
+    events: Vec<Event<Ball>>,
+    workers: u32,
+    lookahead: u64,
+    end: u64,
+) -> Result<Left<Phold>, Halt>
+    requires ready { IsReady of_phold.ghosts phold.now states.items events.items }
+    requires workers { (1 ≤ workers) × (workers ≤ 16) }
+    requires lookahead { 1 ≤ lookahead }
+    requires ahead { IsAhead of_phold.ghosts phold.now lookahead }
+    ensures ready { IfOk result (λ l.
+        IsReady of_phold.ghosts phold.now l.states.items l.events.items) }
+{
+    let model = *phold;
+    thread::scope(
+        thread::scope_env(),
+        rt,
+        move |scope| -> Result<Left<Phold>, Halt>
+            requires ready { IsReady of_phold.ghosts model states.items events.items }
+            requires workers { (1 ≤ workers) × (workers ≤ 16) }
+            requires lookahead { 1 ≤ lookahead }
+            requires ahead { IsAhead of_phold.ghosts model lookahead }
+            ensures ready { IfOk result (λ l.
+                IsReady of_phold.ghosts model l.states.items l.events.items) }
+        {
+            by_a_crew(
+                rt, scope, alloc, model, states, events, workers, lookahead, end,
+            )
+        },
+    )
+}
+
 /// What windows of the model's lookahead leave.
 fn in_windows<R: Threads + Wait + Sync>(
     rt: &R,
@@ -42,13 +149,13 @@ fn in_windows<R: Threads + Wait + Sync>(
     workers: u32,
     end: u64,
 ) -> Result<Left<Phold>, Fail>
-    requires ready { IsReady model.ghosts phold.now states.items events.items }
+    requires ready { IsReady of_phold.ghosts phold.now states.items events.items }
     requires workers { (1 ≤ workers) × (workers ≤ 16) }
     ensures ready { IfOk result (λ l.
-        IsReady model.ghosts phold.now l.states.items l.events.items) }
+        IsReady of_phold.ghosts phold.now l.states.items l.events.items) }
 {
     let lookahead = phold.lookahead();
-    let left = run_in_windows(rt, alloc, phold, states, events, workers, lookahead, end)?;
+    let left = phold_by_a_crew(rt, alloc, phold, states, events, workers, lookahead, end)?;
     Ok(left)
 }
 
@@ -62,7 +169,7 @@ fn first_windows<R: Threads + Wait + Sync>(
 ) -> Result<Left<Phold>, Fail>
     requires workers { (1 ≤ workers) × (workers ≤ 16) }
     ensures ready { IfOk result (λ l.
-        IsReady model.ghosts phold.now l.states.items l.events.items) }
+        IsReady of_phold.ghosts phold.now l.states.items l.events.items) }
 {
     let (starts, initial) = beginning(alloc, phold, BALLS, SEED)?;
     in_windows(rt, alloc, phold, starts, initial, workers, end)
@@ -75,7 +182,7 @@ fn is_late(left: &Left<Phold>, end: u64) -> bool {
 
 /// Whether a run in order leads from what is left to these states.
 fn leads_to(alloc: Global, phold: &Phold, left: Left<Phold>, want: &[Holder]) -> Result<bool, Fail>
-    requires ready { IsReady model.ghosts phold.now left.states.items left.events.items }
+    requires ready { IsReady of_phold.ghosts phold.now left.states.items left.events.items }
 {
     let Left { states, events, .. } = left;
     let states = last_states(alloc, phold, states, events)?;
@@ -166,10 +273,10 @@ fn narrow_windows<R: Threads + Wait + Sync>(
     end: u64,
 ) -> Result<Left<Phold>, Fail>
     ensures ready { IfOk result (λ l.
-        IsReady model.ghosts phold.now l.states.items l.events.items) }
+        IsReady of_phold.ghosts phold.now l.states.items l.events.items) }
 {
     let (starts, initial) = beginning(alloc, phold, BALLS, SEED)?;
-    let left = run_in_windows(rt, alloc, phold, starts, initial, 2, 1, end)?;
+    let left = phold_by_a_crew(rt, alloc, phold, starts, initial, 2, 1, end)?;
     Ok(left)
 }
 
@@ -204,6 +311,45 @@ fn windows_without_events_come_to_the_end(rt: HostRuntime) -> Result<(), Fail> {
     Ok(())
 }
 
+/// What windows of the relay leave, in the threads of a crew.
+fn relay_by_a_crew<R: Threads + Wait + Sync>(
+    rt: &R,
+    alloc: Global,
+    relay: Relay,
+    states: Vec<Station>,
+    events: Vec<Event<Parcel>>,
+    workers: u32,
+    end: u64,
+) -> Result<Left<Relay>, Halt>
+    requires ready { IsReady of_relay.ghosts relay states.items events.items }
+    requires workers { (1 ≤ workers) × (workers ≤ 16) }
+    requires lookahead { 1 ≤ relay.delay }
+    requires ahead { IsAhead of_relay.ghosts relay relay.delay }
+{
+    thread::scope(
+        thread::scope_env(),
+        rt,
+        move |scope| -> Result<Left<Relay>, Halt>
+            requires ready { IsReady of_relay.ghosts relay states.items events.items }
+            requires workers { (1 ≤ workers) × (workers ≤ 16) }
+            requires lookahead { 1 ≤ relay.delay }
+            requires ahead { IsAhead of_relay.ghosts relay relay.delay }
+        {
+            by_a_crew(
+                rt,
+                scope,
+                alloc,
+                relay,
+                states,
+                events,
+                workers,
+                relay.delay,
+                end,
+            )
+        },
+    )
+}
+
 /// What windows leave of a relay that takes 3 ticks, of whose stations each passes `most` parcels on.
 fn relay_in_windows<R: Threads + Wait + Sync>(
     rt: &R,
@@ -219,7 +365,7 @@ fn relay_in_windows<R: Threads + Wait + Sync>(
     requires workers { (1 ≤ workers) × (workers ≤ 16) }
 {
     let (starts, initial) = parcels::beginning(alloc, first, second)?;
-    run_in_windows(rt, alloc, relay, starts, initial, workers, relay.delay, end)
+    relay_by_a_crew(rt, alloc, *relay, starts, initial, workers, end)
 }
 
 /// Why windows of two parcels to one station come to nothing, which can take no further one after the first.

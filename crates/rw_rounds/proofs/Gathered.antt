@@ -1,5 +1,5 @@
 -- The workers of a round: as they are set up, and as they are taken apart.
-use Rattle.std.proofs.Common.{◌≡◌, ℕ, zero, suc, ◌+◌, ◌*◌, ◌<◌, ◌≤◌, cond, List, [], ◌∷◌, ◌++◌, length, map, get_or, append_assoc, append-nil, refl, sym, ap, ◌∙◌, subst, arith, inl, inr, Option, Some, None, All}
+use Rattle.std.proofs.Common.{◌≡◌, ℕ, zero, suc, ◌+◌, ◌*◌, ◌<◌, ◌≤◌, cond, List, [], ◌∷◌, ◌++◌, length, map, get_or, append_assoc, append-nil, add_assoc, refl, sym, ap, ◌∙◌, subst, arith, inl, inr, Option, Some, None, All}
 use Rattle.std.specs.Prelude.{◌⊎◌, ◌/◌, ◌%◌, ◌==◌, filter, slice_get}
 use Rattle.std.specs.declared.cmp.Ordering.{Ordering}
 use Rattle.std.specs.Option.{option_map}
@@ -23,13 +23,16 @@ use Rattle.rw_crew.proofs.Lists.{get_there, get_past}
 use Rattle.rw_crew.proofs.Dealing.{AreDealt}
 use Rattle.rw_crew.proofs.Sums.{total_add}
 use Rattle.rw_rounds.specs.declared.plan.Plan.{Plan}
+use Rattle.rw_rounds.specs.declared.round.Rest.{Rest}
+use Rattle.rw_rounds.specs.declared.round.RoundWork.{RoundWork}
 use Rattle.rw_rounds.specs.Plans.{IsInRanges}
 use Rattle.rw_rounds.specs.Bags.{weigh}
 use Rattle.rw_rounds.specs.Deeds.{Deed, Arrival, Undoing, Execution, Owned, Stepped, Did, Goes, way_of}
 use Rattle.rw_rounds.specs.Turns.{WorkerState, process_at, processes_of, TookTurns}
-use Rattle.rw_rounds.specs.Rounds.{role, Begins, Closes, TookRound, noted_below}
+use Rattle.rw_rounds.specs.Rounds.{role, Begins, Closes, TookRound, Round, noted_below}
 use Rattle.rw_rounds.specs.Seated.{IsSeated}
-use Rattle.rw_rounds.specs.Setting.{AreSetUp}
+use Rattle.rw_rounds.specs.Setting.{AreSetUp, IsBegun}
+use Rattle.rw_rounds.specs.Gathering.{AreDone, IsEnded}
 use Rattle.rw_rounds.proofs.Sums.{weigh-append}
 use Rattle.rw_rounds.proofs.Beginning.{as_many, begins_fit}
 
@@ -284,3 +287,60 @@ module _ {M S B U : Type 0} {model : Ghosts M S B U} {order : B → B → Orderi
           let k : weigh h (flatten kept) ≡ sum_below plan.workers (λ i. weigh h (get_or ws' i d).kept) = ap (λ z. weigh h (flatten z)) is ∙ weigh_flatten h (λ w. w.kept) ws' d ∙ ap (λ n. sum_below n (λ i. weigh h (get_or ws' i d).kept)) many in
           let a : weigh h (flatten aside) ≡ sum_below plan.workers (λ i. weigh h (get_or ws' i d).aside) = ap (λ z. weigh h (flatten z)) too ∙ weigh_flatten h (λ w. w.aside) ws' d ∙ ap (λ n. sum_below n (λ i. weigh h (get_or ws' i d).aside)) many in
           omega (arith, k, a, total_add plan.workers (λ i. weigh h (get_or ws' i d).kept) (λ i. weigh h (get_or ws' i d).aside))
+
+-- A round of these parts, which are split among its workers
+module _ {M S B U : Type 0} {model : Ghosts M S B U} {order : B → B → Ordering} (laws : Laws model order) {plan : Plan} {x : Parts M S B U} (ranges : IsInRanges plan) (whole : IsWhole model order x)
+    {work : RoundWork M S B U} {ws : List (WorkerState M S B)} {rest : Rest M S B U} (begun : IsBegun plan x work ws rest) where
+  ready : StandReady plan x ws (map (λ w. w.processes) ws) (map (λ w. w.inbox) ws) (map (λ w. w.port) ws) (map (λ w. w.seat) ws) work.board
+  ready = set_up_from plan x work.board ws begun.set_up
+
+  pub begun_seated : All (λ w. IsSeated model order work.model work.board w) ws
+  begun_seated = subst (λ m. All (λ w. IsSeated model order m work.board w) ws) (sym begun.model_is) (all_seated laws ranges whole ready)
+
+  module _ {ws' : List (WorkerState M S B)} (took : AllTook model order work.model work.turns ws ws') where
+    all_took : AllTook model order x.model plan.turns ws ws'
+    all_took = subst (λ m. AllTook model order m plan.turns ws ws') begun.model_is (subst (λ n. AllTook model order work.model n ws ws') begun.turns_are took)
+
+    as_before : length ws' ≡ plan.workers
+    as_before = took.long ∙ ready.many
+
+    one_of : WorkerState M S B
+    one_of = some_of ws (omega (arith, ready.many, ranges.workers.0))
+
+    pub all_done : AreDone rest.count work.board ws'
+    all_done = record {
+      opening = opening_after laws ranges whole ready all_took (map (λ w. w.port) ws') begun.set_up.stays refl;
+      seats = as_before ∙ sym begun.set_up.seats;
+      board = seats_after laws ranges whole ready all_took (map (λ w. w.seat) ws') refl;
+      some = omega (arith, as_before, ranges.workers.0);
+      complete = λ q within none.
+          there_after laws ranges whole ready all_took one_of q (subst (λ n. q < n) begun.count_is within)
+          (sym (from_hands_after laws ranges whole ready all_took (map (λ w. w.processes) ws') one_of q (length ws') refl as_before) ∙ none);
+    }
+
+    pub round_made : (z : Parts M S B U) (floor : ℕ) → IsEnded work ws' rest z floor → Round model order plan x z floor
+    round_made z floor ended =
+        let got = ended.gathered in
+        let left = got.letters.left in
+        let there : (i : ℕ) → i < plan.workers → i < length ws' = λ i li. subst (λ n. i < n) (sym as_before) li in
+        record {
+          first = λ i. get_or ws i one_of;
+          last = λ i. get_or ws' i one_of;
+          left = left;
+          begins = λ i below. begins_at laws ranges whole ready i one_of below;
+          works = λ i below. all_took.went i one_of one_of (subst (λ n. i < n) (sym ready.many) below);
+          settled = settled laws ranges whole ready all_took (map (λ w. w.port) ws') left one_of refl (λ i k li lk. got.letters.settled i k (there i li) (there k lk));
+          floor_is = floor_after laws ranges whole ready all_took floor one_of got.floor_is;
+          model_is = ended.model_is ∙ begun.model_is;
+          starts_are = ended.starts_are ∙ begun.starts_are;
+          initial_are = ended.initial_are ∙ begun.initial_are;
+          collected_is = ended.collected_is ∙ begun.collected_is;
+          processes_are = joined laws ranges whole ready all_took z.processes.items (map (λ w. w.processes) ws') one_of (length ws') refl as_before (got.count ∙ begun.count_is) (λ q within. got.processes q (subst (λ n. q < n) (sym begun.count_is) within));
+          letters_are = λ h.
+              let kept = weigh h (flatten (map (λ w. w.kept) ws')) in
+              let aside = weigh h (flatten (map (λ w. w.aside) ws')) in
+              got.letters.letters_are h
+              ∙ add_assoc (sum_below (length ws') (λ i. sum_below (length ws') (λ k. weigh h (left i k)))) kept aside
+              ∙ ap (λ n. sum_below n (λ i. sum_below n (λ k. weigh h (left i k))) + (kept + aside)) as_before
+              ∙ ap (λ w. sum_below plan.workers (λ i. sum_below plan.workers (λ k. weigh h (left i k))) + w) (kept_after laws ranges whole ready all_took h (map (λ w. w.kept) ws') (map (λ w. w.aside) ws') one_of refl refl);
+        }

@@ -7,8 +7,8 @@
 //! it does in a turn is in `desk.rt`.
 //!
 //! [`run_round`] sets the workers up, lets each take its turns in a thread of its own (the last one in the calling thread),
-//! gathers what they hold at the end and commits what is final; [`run`] makes rounds until nothing is outstanding. How one round leads to the next
-//! is in `specs/Rounds.antt`.
+//! gathers what they hold at the end and commits what is final; [`run`] makes rounds until nothing is outstanding, and
+//! [`run_stretch`] some rounds by threads that were there before. How one round leads to the next is in `specs/Rounds.antt`.
 //!
 //! Worked examples: `rw_round_tests/src/relay_rounds.rt`, `relay_worker.rt` and `photo_rounds.rt`.
 
@@ -26,7 +26,7 @@ mod worker;
 
 pub use pace::Pace;
 pub use plan::Plan;
-pub use round::{Gate, Open, run_round};
+pub use round::{Gate, Open, RoundWork, run_round};
 pub use running::{run, run_and_tell};
 pub use rw_board::{Board, Seat};
 pub use rw_exchange::Port;

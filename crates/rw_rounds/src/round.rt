@@ -1,7 +1,9 @@
 ghost use Rattle.std.specs.Prelude.{◌≡◌, IfOk, IfErr};
 ghost use Rattle.rw_world.specs.Calls.{IsWhole};
+ghost use Rattle.rw_rounds.specs.Gathering.{AreDone, IsEnded};
 ghost use Rattle.rw_rounds.specs.Plans.{IsInRanges};
 ghost use Rattle.rw_rounds.specs.Rounds.{Round, Rounded, RoundedUntil};
+ghost use Rattle.rw_rounds.specs.Setting.{IsBegun};
 ghost use Rattle.rw_rounds.specs.Stops.{EndsRound};
 
 use crate::gathering::gather;
@@ -11,11 +13,12 @@ use crate::sim::{Sim, Traffic};
 use crate::stop::Stop;
 use crate::worker::Worker;
 use rw_board::Board;
-use rw_crew::{Job, may_move, run_each};
+use rw_crew::{Hands, Job, may_move, run_each};
 use rw_exchange::Port;
-use rw_vt::{Letter, Model as VtModel, Refusal};
+use rw_vt::{Event, Letter, Model as VtModel, NoMemory, Refusal};
 use rw_world::{Parts, Step, World, every_exchange, every_floor, every_sound_world, every_step};
 use std::alloc::Global;
+use std::snapshot::Snapshot;
 use std::sync::Wait;
 use std::thread::Threads;
 
@@ -77,22 +80,17 @@ where
     })
 }
 
-/// [`run_round`], which commits nothing from the time `until` on, in ticks: so more initial events may still come from
-/// outside, none of them earlier than that.
-pub(crate) fn run_round_until<M, G, R>(
-    rt: &R,
+/// [`run_round`] by threads that are there already, which commits nothing from the time `until` on, in ticks: so more
+/// initial events may still come from outside, none of them earlier than that.
+pub(crate) fn run_round_until<M, H>(
+    hands: &mut H,
     alloc: Global,
     sim: Sim<M>,
-    gate: &G,
     until: u64,
 ) -> Result<Sim<M>, Stop>
 where
-    M: VtModel + Drop + Sync,
-    M::State: Send,
-    M::Body: Send,
-    M::Undo: Send,
-    G: Gate + Sync,
-    R: Threads + Wait + Sync,
+    M: VtModel + Drop,
+    H: Hands<RoundWork<M>, Worker<M>>,
     ensures round { IfOk result (λ next. RoundedUntil until sim next) }
     ensures others { IfErr result (λ stop. EndsRound stop) }
 {
@@ -107,7 +105,7 @@ where
     every_floor::<M>();
     every_sound_world::<M>();
     every_step::<M>();
-    let (parts, reached) = go_round(rt, alloc, world.take(), &plan, gate, &mut traffic)?;
+    let (parts, reached) = go_round_by(hands, alloc, world.take(), &plan, &mut traffic)?;
     let (world, _answer) = World::put(parts).apply(alloc, Step::Collect(reached.min(until)))?;
     Ok(Sim {
         world,
@@ -117,8 +115,8 @@ where
     })
 }
 
-/// Splits the parts among the workers, runs these, and joins what they hold to parts again. Gives the least time
-/// noted too.
+/// Splits the parts among the workers, runs each in a thread of its own, and joins what they hold to parts again. Gives the
+/// least time noted too.
 fn go_round<M, G, R>(
     rt: &R,
     alloc: Global,
@@ -139,6 +137,61 @@ where
     ensures round { IfOk result (λ r. Round M.Model M.Body.cmp plan.now parts r.0 r.1) }
     ensures others { IfErr result (λ stop. EndsRound stop) }
 {
+    let (work, workers, rest) = begin_round(alloc, plan, parts)?;
+    let round = WorkerRound {
+        alloc,
+        model: &work.model,
+        board: &work.board,
+        gate,
+        turns: work.turns,
+    };
+    // On this rests that a worker may move.
+    may_move::<Port<Letter<M::Body>>>();
+    let workers = run_each(rt, alloc, workers, &round)?;
+    let ended = end_round(alloc, work, workers, rest, traffic)?;
+    Ok(ended)
+}
+
+/// The same by threads that are there already, to which the work goes and comes back.
+fn go_round_by<M, H>(
+    hands: &mut H,
+    alloc: Global,
+    parts: Parts<M>,
+    plan: &Plan,
+    traffic: &mut Traffic,
+) -> Result<(Parts<M>, u64), Stop>
+where
+    M: VtModel + Drop,
+    H: Hands<RoundWork<M>, Worker<M>>,
+    requires whole { IsWhole M.Model M.Body.cmp parts }
+    requires plan { IsInRanges plan.now }
+    ensures round { IfOk result (λ r. Round M.Model M.Body.cmp plan.now parts r.0 r.1) }
+    ensures others { IfErr result (λ stop. EndsRound stop) }
+{
+    let (work, workers, rest) = begin_round(alloc, plan, parts)?;
+    let (work, workers) = hands.do_each(alloc, work, workers)?;
+    let ended = end_round(alloc, work, workers, rest, traffic)?;
+    Ok(ended)
+}
+
+/// What a round leaves of the parts as it is, and how many processes it has.
+#[derive(Drop)]
+pub(crate) struct Rest<M: VtModel> {
+    pub(crate) count: usize,
+    pub(crate) collected: u64,
+    pub(crate) starts: Snapshot<Vec<M::State>>,
+    pub(crate) initial: Snapshot<Vec<Event<M::Body>>>,
+}
+
+/// Splits the parts: what the workers of a round work on, these, and the rest.
+fn begin_round<M: VtModel + Drop>(
+    alloc: Global,
+    plan: &Plan,
+    parts: Parts<M>,
+) -> Result<(RoundWork<M>, Vec<Worker<M>>, Rest<M>), NoMemory>
+    requires plan { IsInRanges plan.now }
+    ensures begun { IfOk result (λ r. IsBegun plan.now parts r.0 r.1.items r.2) }
+{
     let Parts {
         model,
         processes,
@@ -149,16 +202,45 @@ where
     } = parts;
     let count = processes.len();
     let (board, workers) = set_up(alloc, plan, collected, processes, letters)?;
-    let work = WorkerRound {
+    let work = RoundWork {
         alloc,
-        model: &model,
-        board: &board,
-        gate,
+        model,
+        board,
         turns: plan.turns,
     };
-    // On this rests that a worker may move.
-    may_move::<Port<Letter<M::Body>>>();
-    let workers = run_each(rt, alloc, workers, &work)?;
+    let rest = Rest {
+        count,
+        collected,
+        starts,
+        initial,
+    };
+    Ok((work, workers, rest))
+}
+
+/// Joins what the workers of a round hold, once all are done, to parts again, and counts the round. Gives the least time
+/// noted too.
+fn end_round<M: VtModel + Drop>(
+    alloc: Global,
+    work: RoundWork<M>,
+    workers: Vec<Worker<M>>,
+    rest: Rest<M>,
+    traffic: &mut Traffic,
+) -> Result<(Parts<M>, u64), NoMemory>
+    requires done { AreDone rest.count work.board workers.items }
+    ensures ended { IfOk result (λ r. IsEnded work workers.items rest r.0 r.1) }
+{
+    let RoundWork {
+        alloc: _,
+        model,
+        board,
+        turns: _,
+    } = work;
+    let Rest {
+        count,
+        collected,
+        starts,
+        initial,
+    } = rest;
     let gathered = gather(alloc, count, board, workers, traffic)?;
     traffic.rounds = traffic.rounds.wrapping_add(1);
     let parts = Parts {
@@ -172,7 +254,37 @@ where
     Ok((parts, gathered.floor))
 }
 
-/// The whole round of one worker: as many turns as `turns` says, and then its closing.
+/// The whole round of one worker: as many turns as `turns` says, and then its closing. It owns what the workers of the round
+/// share, the model and the board, so it may go to threads that were there before it.
+#[derive(Drop)]
+pub struct RoundWork<M: VtModel> {
+    pub(crate) alloc: Global,
+    pub(crate) model: M,
+    pub(crate) board: Board,
+    pub(crate) turns: u32,
+}
+
+impl<M: VtModel> Job<Worker<M>> for RoundWork<M> {
+    ghost use Rattle.rw_rounds.specs.Rounds.{TookRound};
+    ghost use Rattle.rw_rounds.specs.Seated.{IsSeated};
+
+    ghost Takes = { λ r w. IsSeated M.Model M.Body.cmp r.model r.board w };
+
+    ghost Gives = { λ r before after. TookRound M.Model M.Body.cmp r.model r.turns before after };
+
+    fn run(&self, worker: Worker<M>) -> Result<Worker<M>, Refusal> {
+        let round = WorkerRound {
+            alloc: self.alloc,
+            model: &self.model,
+            board: &self.board,
+            gate: &Open,
+            turns: self.turns,
+        };
+        round.run(worker)
+    }
+}
+
+/// The same where the model and the board are borrowed, through a gate.
 #[derive(Drop)]
 pub(crate) struct WorkerRound<'a, M: VtModel, G> {
     pub(crate) alloc: Global,

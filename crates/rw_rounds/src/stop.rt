@@ -17,7 +17,7 @@ pub enum Stop {
     RoundsUsed,
     /// A field of the plan is out of its range.
     BadPlan,
-    /// The start of a thread was refused.
+    /// The start of a thread was refused, there were too few, or one was gone.
     NoThread,
 }
 

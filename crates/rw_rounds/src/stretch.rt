@@ -4,15 +4,15 @@ ghost use Rattle.rw_rounds.specs.Stretches.{IsSameSystem};
 
 use crate::pace::Pace;
 use crate::plan::Plan;
-use crate::round::{Gate, run_round_until};
+use crate::round::{RoundWork, run_round_until};
 use crate::sim::{Sim, Traffic};
 use crate::stop::Stop;
+use crate::worker::Worker;
+use rw_crew::Hands;
 use rw_progress::Progress;
 use rw_vt::Model as VtModel;
 use rw_world::World;
 use std::alloc::Global;
-use std::sync::Wait;
-use std::thread::Threads;
 
 /// Where a stretch of rounds has come to.
 #[derive(Drop)]
@@ -27,33 +27,29 @@ pub struct Stretch<M: VtModel> {
 
 /// Makes rounds, at least one and at most as many as `rounds` says, until their floor is `until` or later, or the pace would
 /// have one worker go on alone. Nothing is committed from the time `until` on, in ticks: so initial events of that time or
-/// later may still come from outside.
+/// later may still come from outside. `hands` does the work of each round; no thread is started here.
 ///
 /// Each round is by a plan within `plan`, as the pace says, which goes on from stretch to stretch. `progress` is told up to
 /// which time all is final after each round but the last.
 ///
 /// # Errors
 ///
-/// `BadPlan` exactly where a field of the plan is out of its range; else those of [`run_round`](crate::run_round).
-pub fn run_stretch<M, G, P, R>(
-    rt: &R,
+/// `BadPlan` exactly where a field of the plan is out of its range; else those of [`run_round`](crate::run_round), `NoThread`
+/// where `hands` has fewer threads than a round has workers, or one is gone.
+pub fn run_stretch<M, H, P>(
+    hands: &mut H,
     alloc: Global,
     world: World<M>,
     plan: Plan,
-    gate: &G,
     until: u64,
     rounds: u32,
     pace: &mut Pace,
     progress: &mut P,
 ) -> Result<Stretch<M>, Stop>
 where
-    M: VtModel + Drop + Sync,
-    M::State: Send,
-    M::Body: Send,
-    M::Undo: Send,
-    G: Gate + Sync,
+    M: VtModel + Drop,
+    H: Hands<RoundWork<M>, Worker<M>>,
     P: Progress,
-    R: Threads + Wait + Sync,
     requires before { world.world.collected ≤ until }
     ensures system { IfOk result (λ s. IsSameSystem world s.world) }
     ensures before { IfOk result (λ s. s.world.world.collected ≤ until) }
@@ -63,7 +59,7 @@ where
     let mut sim = Sim::open(world, plan)?;
     for _round in 0..rounds {
         let before = sim.traffic();
-        sim = run_round_until(rt, alloc, sim.by(pace.plan(&plan)), gate, until)?;
+        sim = run_round_until(hands, alloc, sim.by(pace.plan(&plan)), until)?;
         let from = floor;
         floor = sim.floor();
         if floor >= until {

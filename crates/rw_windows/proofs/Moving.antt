@@ -17,8 +17,10 @@ use Rattle.std.specs.contracts.snapshot.Snapshot as Snapshot
 use Rattle.rw_vt.specs.declared.model.Model.{Ghosts}
 use Rattle.rw_vt.specs.contracts.event.Event as Event
 use Rattle.rw_exchange.specs.contracts.port.Port as Port
+use Rattle.rw_exchange.proofs.port.Port.TheSendSync.{the_send as sends}
 use Rattle.rw_windows.specs.Batches.{MayFollow}
 use Rattle.rw_windows.specs.contracts.batch.Batch as Batch
+use Rattle.rw_windows.specs.contracts.batch.Batch.TheInside as BatchInside
 use Rattle.rw_windows.specs.contracts.batch.InTime as InTime
 use Rattle.rw_windows.specs.contracts.share.Share as Share
 use Rattle.rw_windows.specs.contracts.share.Share.TheInside as ShareInside
@@ -44,18 +46,28 @@ module _ (M S B U : RattleType) (g : Ghosts M.Denot S.Denot B.Denot U.Denot) (o 
   abbrev Ends : RattleType
   Ends = Port.the_row (Batch.the_row M S B U g o e p) InTime.the_row (record { allows = MayFollow g })
 
+  batch_may_move : IsSend B → IsSend (Batch.the_row M S B U g o e p)
+  batch_may_move b =
+      let T = BatchInside.the_type M S B U g o e p in
+      let t = time_may_move in
+      let all : AllSend (shape T).fields = (events_may_move B b, (t, (shot_may_move M, (shot_may_move u32-field.row, (shot_may_move u32-field.row, tt))))) in
+      view_send _ _ _ _ _ (recorded_send (Struct (shape T)) T.D T.to T.to_one (struct_send (shape T) all))
+
+  ends_may_move : IsSend B → IsSend Ends
+  ends_may_move b = sends (Batch.the_row M S B U g o e p) InTime.the_row (record { allows = MayFollow g }) (batch_may_move b)
+
   states_may_move : IsSend S → IsSend (Vec.the_row S Global.the_row global.ghosts)
   states_may_move s = search (sendable, crosses) depth 40
 
   lists_may_move : IsSend B → IsSend (Vec.the_row (Vec.the_row (Event.the_row B) Global.the_row global.ghosts) Global.the_row global.ghosts)
   lists_may_move b = let events = events_may_move B b in search (sendable, crosses) depth 40
 
-  pub share_may_move : IsSend S → IsSend B → IsSend U → IsSend Ends → IsSend (Share.the_row M S B U g o w e p c)
-  share_may_move s b u port =
+  pub share_may_move : IsSend S → IsSend B → IsSend U → IsSend (Share.the_row M S B U g o w e p c)
+  share_may_move s b u =
       let T = ShareInside.the_type M S B U g o w e p c in
       let n = number_may_move in
       let t = time_may_move in
       let starts = shot_may_move (Vec.the_row S Global.the_row global.ghosts) in
       let given = shot_may_move (Vec.the_row (Event.the_row B) Global.the_row global.ghosts) in
-      let all : AllSend (shape T).fields = (n, (n, (t, (t, (states_may_move s, (events_may_move B b, (port, (lists_may_move b, (t, (t, (t, (t, (t, (starts, (given, tt))))))))))))))) in
+      let all : AllSend (shape T).fields = (n, (n, (t, (t, (states_may_move s, (events_may_move B b, (ends_may_move b, (lists_may_move b, (t, (t, (t, (t, (t, (starts, (given, tt))))))))))))))) in
       view_send _ _ _ _ _ (recorded_send (Struct (shape T)) T.D T.to T.to_one (struct_send (shape T) all))

@@ -15,24 +15,25 @@ use std::alloc::Global;
 use std::collections::VecDeque;
 
 /// Joins what the workers of a run leave, once all have come to the end: the states of the `count` processes, in order, and
-/// what is still to be executed, which is not before the end.
-pub(crate) fn gather<M: VtModel>(
+/// what is still to be executed, which is not before the end. The model comes back.
+pub(crate) fn gather<M: VtModel + Drop>(
     alloc: Global,
     count: usize,
-    model: &M,
+    model: M,
     shares: Vec<Share<M>>,
 ) -> Result<Left<M>, NoMemory>
     requires some { 1 ≤ length shares.items }
     requires ended { (end : ℕ) × (states : List M.State) × (events : List (Event M.Body))
         × (length states ≡ count)
-        × HaveEnded M.Model M.Body.cmp model.now (length shares.items) end states events
+        × HaveEnded M.Model M.Body.cmp model (length shares.items) end states events
         shares.items }
+    ensures model { IfOk result (λ r. r.model ≡ model) }
     ensures left { IfOk result (λ r.
         (end : ℕ) (states : List M.State) (events : List (Event M.Body))
         → length states ≡ count
-        → HaveEnded M.Model M.Body.cmp model.now (length shares.items) end states events
+        → HaveEnded M.Model M.Body.cmp model (length shares.items) end states events
         shares.items
-        → IsLeftOfRun M.Model M.Body.cmp model.now end states events
+        → IsLeftOfRun M.Model M.Body.cmp model end states events
         r.states.items r.events.items) }
 {
     let Holdings {
@@ -46,6 +47,7 @@ pub(crate) fn gather<M: VtModel>(
     add_left(&mut events, &left.into_lists())?;
     let states = join(alloc, count, shares)?;
     Ok(Left {
+        model,
         states,
         events,
         executed,

@@ -3,21 +3,20 @@ ghost use Rattle.rw_vt.specs.System.{IsReady};
 ghost use Rattle.rw_windows.specs.Running.{IsLeftOfRun};
 ghost use Rattle.rw_windows.specs.Working.{IsAhead};
 
-use crate::batch::{Batch, InTime};
 use crate::beginning::begin;
 use crate::ending::gather;
 use crate::share::Share;
 use crate::work::Work;
-use rw_crew::{Halt, may_move, run_each};
-use rw_exchange::Port;
+use rw_crew::{Halt, Hands};
 use rw_vt::{Event, Model as VtModel};
 use std::alloc::Global;
 use std::sync::Wait;
-use std::thread::Threads;
 
 /// What windows leave of a run, and what was done in them.
 #[derive(Drop)]
 pub struct Left<M: VtModel> {
+    /// The model, as it was.
+    pub model: M,
     /// The state of each process.
     pub states: Vec<M::State>,
     /// The events that are still to be executed, in any order.
@@ -29,7 +28,7 @@ pub struct Left<M: VtModel> {
 }
 
 /// Goes on with a run, from these states with these events, until all events before `end` are executed, in ticks, by
-/// `workers` workers, 1 to 16, each in a thread of its own.
+/// `workers` workers, 1 to 16, each in a thread of its own. `hands` has the threads, the calling one among them.
 ///
 /// They go on window by window, and execute for good, so that nothing is ever undone (conservative synchronization: Chandy
 /// and Misra 1979). All that the model sends is at least `lookahead` ticks, 1 or more, after the event that it is sent for.
@@ -40,18 +39,19 @@ pub struct Left<M: VtModel> {
 /// Each window costs a batch from each worker to each other one. Several workers cross a time in which nothing waits a
 /// lookahead at a window, also behind the last event: so `end` should not be far behind that.
 ///
-/// What comes back is what is left of the run: no event before `end`, and from the states with the events that are left the
-/// run ends as it does from where it began, whatever more comes from outside, none of it before `end`.
+/// What comes back is the model, and what is left of the run: no event before `end`, and from the states with the events that
+/// are left the run ends as it does from where it began, whatever more comes from outside, none of it before `end`.
 ///
 /// # Errors
 ///
 /// `Memory` where memory was refused, `Exhausted` where a process was to execute an event in a state that can take no
-/// further one, and `NoThread` where the start of a thread was refused, or a worker is gone although none was refused.
-/// Nothing is handed back then: the states and the events are gone.
-pub fn run_in_windows<M, R>(
-    rt: &R,
+/// further one, and `NoThread` where there are fewer threads than workers, or a thread or worker is gone although none was
+/// refused. Nothing is handed back then: the model, the states and the events are gone.
+pub fn run_in_windows<'r, M, R, H>(
+    rt: &'r R,
+    hands: &mut H,
     alloc: Global,
-    model: &M,
+    model: M,
     states: Vec<M::State>,
     events: Vec<Event<M::Body>>,
     workers: u32,
@@ -59,28 +59,25 @@ pub fn run_in_windows<M, R>(
     end: u64,
 ) -> Result<Left<M>, Halt>
 where
-    M: VtModel + Sync,
-    M::State: Send,
-    M::Body: Send,
-    M::Undo: Send,
-    R: Threads + Wait + Sync,
-    requires ready { IsReady M.Model model.now states.items events.items }
+    M: VtModel + Drop,
+    R: Wait,
+    H: Hands<Work<'r, M, R>, Share<M>>,
+    requires ready { IsReady M.Model model states.items events.items }
     requires workers { (1 ≤ workers) × (workers ≤ 16) }
     requires lookahead { 1 ≤ lookahead }
-    requires ahead { IsAhead M.Model model.now lookahead }
-    ensures left { IfOk result (λ r. IsLeftOfRun M.Model M.Body.cmp model.now end
+    requires ahead { IsAhead M.Model model lookahead }
+    ensures model { IfOk result (λ r. r.model ≡ model) }
+    ensures left { IfOk result (λ r. IsLeftOfRun M.Model M.Body.cmp model end
         states.items events.items r.states.items r.events.items) }
 {
     let count = states.len();
-    let shares = begin(alloc, model, states, events, workers, lookahead, end)?;
+    let shares = begin(alloc, &model, states, events, workers, lookahead, end)?;
     let work = Work { rt, alloc, model };
-    // On this rests that a share may move.
-    may_move::<Port<Batch<M>, InTime>>();
-    let shares = run_each(rt, alloc, shares, &work)?;
+    let (work, shares) = hands.do_each(alloc, work, shares)?;
     if !all_done(&shares) {
         return Err(Halt::NoThread);
     }
-    let left = gather(alloc, count, model, shares)?;
+    let left = gather(alloc, count, work.model, shares)?;
     Ok(left)
 }
 

@@ -11,7 +11,7 @@ use std::snapshot::Snapshot;
 ///
 /// A contract sees it as it sees the worker (`ShareState`).
 #[derive(Drop)]
-pub(crate) struct Share<M: VtModel> {
+pub struct Share<M: VtModel> {
     /// Which worker it is, counted from 0.
     pub(crate) number: u32,
     /// How many workers there are.

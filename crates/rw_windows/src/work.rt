@@ -8,50 +8,51 @@ use rw_vt::{Model as VtModel, Refusal};
 use std::alloc::Global;
 use std::sync::Wait;
 
-/// What each worker does: window by window, until it has come to the end or another worker is gone.
+/// What each worker does: window by window, until it has come to the end or another worker is gone. It has the model, so that
+/// it may go to threads that stay.
 #[derive(Drop)]
-pub(crate) struct Work<'a, M: VtModel, R> {
+pub struct Work<'r, M: VtModel, R> {
     /// With what a worker waits.
-    pub(crate) rt: &'a R,
+    pub(crate) rt: &'r R,
     pub(crate) alloc: Global,
     /// The model that all execute.
-    pub(crate) model: &'a M,
+    pub(crate) model: M,
 }
 
-impl<'a, M: VtModel, R: Wait> Work<'a, M, R> {
+impl<'r, M: VtModel, R: Wait> Work<'r, M, R> {
     /// Tells the others how far the worker has come, hears how far they have, and goes on to the next window. Answers whether
     /// all are still there.
     fn go_on(&self, worker: &mut Worker<M>) -> Result<bool, Refusal>
-        requires at_work { IsAtWork M.Model M.Body.cmp self.now.model.now worker.old }
-        ensures at_work { OnOk result (IsAtWork M.Model M.Body.cmp self.now.model.now worker.new) }
+        requires at_work { IsAtWork M.Model M.Body.cmp self.now.model worker.old }
+        ensures at_work { OnOk result (IsAtWork M.Model M.Body.cmp self.now.model worker.new) }
         ensures same { OnOk result (SameWorker worker.old worker.new) }
         ensures until { IfOk result (λ there. there ≡ false
             → worker.new.until ≡ worker.old.until) }
     {
-        if !worker.say(self.rt, self.alloc, self.model)? {
+        if !worker.say(self.rt, self.alloc, &self.model)? {
             return Ok(false);
         }
-        if !worker.hear(self.rt, self.model)? {
+        if !worker.hear(self.rt, &self.model)? {
             return Ok(false);
         }
-        worker.go_further(self.model);
+        worker.go_further(&self.model);
         Ok(true)
     }
 }
 
-impl<'a, M: VtModel, R: Wait> Job<Share<M>> for Work<'a, M, R> {
+impl<'r, M: VtModel, R: Wait> Job<Share<M>> for Work<'r, M, R> {
     ghost use Rattle.rw_windows.specs.Working.{CanBegin, HasWorked};
 
-    ghost Takes = { λ r w. CanBegin M.Model M.Body.cmp r.model.now w };
+    ghost Takes = { λ r w. CanBegin M.Model M.Body.cmp r.model w };
 
-    ghost Gives = { λ r before after. HasWorked M.Model M.Body.cmp r.model.now before after };
+    ghost Gives = { λ r before after. HasWorked M.Model M.Body.cmp r.model before after };
 
     fn run(&self, share: Share<M>) -> Result<Share<M>, Refusal> {
         let mut worker = Worker::of(self.alloc, share)?;
         let mut sent = Vec::new(self.alloc);
-        worker.go_further(self.model);
+        worker.go_further(&self.model);
         for _ in self.rt.forever() {
-            if worker.execute_next(self.alloc, self.model, &mut sent)? {
+            if worker.execute_next(self.alloc, &self.model, &mut sent)? {
                 continue;
             }
             if worker.is_done() || !self.go_on(&mut worker)? {

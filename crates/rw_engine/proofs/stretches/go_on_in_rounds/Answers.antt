@@ -1,6 +1,6 @@
 use Rattle.std.proofs.Common.{◌∙◌, refl}
 use Rattle.rw_vt.proofs.Laws.{laws_of}
-use Rattle.rw_engine.proofs.Onward.{goes_by_rest, late_from, like_itself, same_model, same_rest, taken_ready}
+use Rattle.rw_engine.proofs.Onward.{goes_by_rest, late_from, same_model, same_rest, taken_ready}
 use Rattle.rw_engine.proofs.stretches.go_on_in_rounds.Goals as goal
 
 pub open-requires : goal.open-requires
@@ -13,7 +13,7 @@ returns-clause-onward g c =
     let opened = c.in_ok-world.world in
     let after = c.in_ok-world-2.field-0.world in
     let left = c.in_ok-model.field-0 in
-    let laws = laws_of (g.met.M.Model g.world.𝓛 g.world.𝓜 g.world.𝓡 (like_itself _ _)) (g.met.M.Body.Ord g.world.𝓛 g.world.𝓜 g.world.𝓡 (like_itself _ _)).total in
+    let laws = laws_of g.met.M.Model g.met.M.Body.Ord.total in
     goes_by_rest model order laws c.in_ok-events.events.items c.take_out.new.self.events c.requires.ready c.in_ok-events.ensures.parts
     (late_from c.take_out.new.self.events c.least_time.result 1099511627776 c.unwrap_or-until.result c.least_time.ensures c.unwrap_or-until.ensures)
     c.in_ok-world-2.ensures.before

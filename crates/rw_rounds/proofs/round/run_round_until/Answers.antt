@@ -1,6 +1,6 @@
 use Rattle.std.proofs.Common.{refl, sym, ap, ◌∙◌, subst, min, IfErr}
 use Rattle.std.proofs.lemmas.Result.{err_from_is_err_and}
-use Rattle.rw_vt.proofs.Laws.{Laws}
+use Rattle.rw_vt.proofs.Laws.{Laws, laws_of}
 use Rattle.rw_world.specs.declared.step.Step.TheVariants.{Collect}
 use Rattle.rw_world.specs.Steps.{apply}
 use Rattle.rw_world.specs.Calls.{system_of, with_world}
@@ -10,10 +10,7 @@ use Rattle.rw_rounds.proofs.round.run_round_until.Given as given
 use Rattle.rw_rounds.proofs.round.run_round_until.Goals as goal
 
 laws : (g : given.Over) → Laws g.M.Model g.M.Body.Ord.cmp
-laws g =
-    let order = g.met.M.Body.Ord g.world.𝓛 g.world.𝓜 g.world.𝓡 ((λ s x. x), (λ x. x), (λ x. x), λ x. x) in
-    let met = g.met.M.Model g.world.𝓛 g.world.𝓜 g.world.𝓡 ((λ s x. x), (λ x. x), (λ x. x), λ x. x) in
-    record { total = order.total; same = met.same; keeps = met.keeps; future = met.future; ranges = met.ranges }
+laws g = laws_of g.met.M.Model g.met.M.Body.Ord.total
 
 pub put-requires : goal.put-requires
 put-requires g c =

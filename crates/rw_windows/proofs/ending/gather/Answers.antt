@@ -1,4 +1,4 @@
-use Rattle.std.proofs.Common.{◌≡◌, ◌++◌, ◌<◌, All, length, map, take, get_or, sym, ap, ◌∙◌, subst, arith}
+use Rattle.std.proofs.Common.{◌≡◌, ◌++◌, ◌<◌, All, length, map, take, get_or, refl, sym, ap, ◌∙◌, subst, arith}
 use Rattle.std.proofs.lemmas.List.{length-map}
 use Rattle.rw_vt.specs.Order.{weigh}
 use Rattle.rw_vt.specs.System.{flatten}
@@ -15,7 +15,7 @@ settle-requires g c =
     let ended = c.requires.ended in
     let laws = laws_of g.met.M.Model g.met.M.Body.Ord.total in
     record {
-      opening = subst IsOpening (sym c.in_ok-shares.ensures.ports) (opening laws c.args.model.now c.requires.some ended.4 (some_of c.args.shares.items c.requires.some));
+      opening = subst IsOpening (sym c.in_ok-shares.ensures.ports) (opening laws c.args.model c.requires.some ended.4 (some_of c.args.shares.items c.requires.some));
     }
 
 pub join-requires-clause-complete : goal.join-requires-clause-complete
@@ -23,11 +23,12 @@ join-requires-clause-complete g c q within none =
     let ended = c.requires.ended in
     let laws = laws_of g.met.M.Model g.met.M.Body.Ord.total in
     let ws = c.args.shares.items in
-    complete laws c.args.model.now c.requires.some ended.4 (some_of ws c.requires.some) q (subst (λ z. q < z) (sym ended.3) within)
+    complete laws c.args.model c.requires.some ended.4 (some_of ws c.requires.some) q (subst (λ z. q < z) (sym ended.3) within)
     (sym (same_shares (λ h. h.items) (λ w. w.states) c.in_ok-shares.field-0.shares.items ws c.in_ok-shares.ensures.shares q) ∙ none)
 
 pub returns : goal.returns
 returns g c = record {
+  model = refl;
   left = λ end states events count ended.
       let laws = laws_of g.met.M.Model g.met.M.Body.Ord.total in
       let ws = c.args.shares.items in
@@ -39,7 +40,7 @@ returns g c = record {
       let first = c.in_ok-shares.field-0.events.items in
       let all = c.in_ok-states.states.items in
       let many : ports.len ≡ length ws = ports.ok.0 ∙ ap length held.ports ∙ length-map ws (λ w. w.port) in
-      is_left laws c.args.model.now c.requires.some ended (some_of ws c.requires.some) left (its.count ∙ many) (subst (λ z. All (λ row. length row ≡ z) left) many its.wide)
+      is_left laws c.args.model c.requires.some ended (some_of ws c.requires.some) left (its.count ∙ many) (subst (λ z. All (λ row. length row ≡ z) left) many its.wide)
       (λ i k li lk. subst (λ ps. received_between ps i k ++ entry left i k ≡ sent_between ps i k) held.ports (its.fifo i k (subst (λ z. i < z) (sym many) li) (subst (λ z. k < z) (sym many) lk)))
       (λ i k li lk j b lj. subst (λ ps. MayFollow g.M.Model (received_between ps i k ++ take j (entry left i k)) (get_or (entry left i k) j b)) held.ports (its.allowed i k (subst (λ z. i < z) (sym many) li) (subst (λ z. k < z) (sym many) lk) j b lj))
       (λ i l. its.own i (subst (λ z. i < z) (sym many) l))

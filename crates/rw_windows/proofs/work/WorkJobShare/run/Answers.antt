@@ -5,7 +5,7 @@ use Rattle.rw_windows.proofs.work.WorkJobShare.run.Goals as goal
 use Rattle.rw_windows.proofs.work.WorkJobShare.run.Goals.{then-is_done-via-then-is_done, then-is_done-via-else-is_done+in_ok-go_on+then-not-branch}
 
 pub go_further-requires-clause-at_work : goal.go_further-requires-clause-at_work
-go_further-requires-clause-at_work g c = reordered c.args.self.now.model.now c.args.share c.requires.takes.0 c.in_ok-worker.worker c.in_ok-worker.ensures.is
+go_further-requires-clause-at_work g c = reordered c.args.self.now.model c.args.share c.requires.takes.0 c.in_ok-worker.worker c.in_ok-worker.ensures.is
 
 pub go_further-requires-clause-handed_over : goal.go_further-requires-clause-handed_over
 go_further-requires-clause-handed_over g c = handed_over_too c.args.share c.in_ok-worker.worker c.in_ok-worker.ensures.is c.requires.takes.1
@@ -27,7 +27,7 @@ loop-preserved-then-branch g c = record {
 
 pub returns-then-is_done : goal.returns-then-is_done
 returns-then-is_done g c =
-    let model = c.args.self.now.model.now in
+    let model = c.args.self.now.model in
     let ran = c.execute_next.new.self in
     let same = same_then c.args.share c.loop.worker ran c.loop.invariant.same c.in_ok-execute_next.ensures.same in
     let left = c.in_ok-into_share.field-0 in

@@ -1,0 +1,12 @@
+use Rattle.std.proofs.Common.{subst}
+use Rattle.rw_serial.specs.Later.{IsLeastTime}
+use Rattle.rw_engine.proofs.Onward.{goes_further, goes_to_end}
+use Rattle.rw_engine.proofs.stretches.run_pieces.Goals as goal
+
+pub loop-course-preserved : goal.loop-course-preserved
+loop-course-preserved g c = goes_further g.M.Model g.M.Body.Ord.cmp c.loop-course.invariant c.in_ok-at.ensures.onward
+
+pub returns-in_default-clause-states : goal.returns-in_default-clause-states
+returns-in_default-clause-states g c =
+    goes_to_end g.M.Model g.M.Body.Ord.cmp (goes_further g.M.Model g.M.Body.Ord.cmp c.loop-course.invariant c.in_ok-at.ensures.onward)
+    (subst (IsLeastTime c.go_on_by.new.pending.events) c.in_default.is c.least_time.ensures)
