@@ -24,10 +24,11 @@ pub(crate) enum Piece {
 
 /// Which piece of a run comes next.
 ///
-/// Where events are so dense that each worker finds its grain of them in a window of the lookahead, all of them go on in
-/// windows: nothing has to be taken back there, and no event waits that could be executed. Where windows are too thin the
-/// workers run ahead, in rounds, and where those find too little as well, the pace has one worker go on alone; so it does from
-/// the start where a round has no room for the grain of a worker. No theorem rests on this.
+/// The first piece is a short run in order, which tells how dense events are. Where they are so dense that each worker finds
+/// its grain of them in a window of the lookahead, all of them go on in windows: nothing has to be taken back there, and no
+/// event waits that could be executed. Where windows are too thin the workers run ahead, in rounds, and where those find too
+/// little as well, the pace has one worker go on alone; so it does from the start where a round has no room for the grain of a
+/// worker. No theorem rests on this.
 #[derive(Clone, Copy, Debug)]
 pub(crate) struct Gears {
     /// How much of its plan a round gets.
@@ -37,8 +38,9 @@ pub(crate) struct Gears {
     grain: u64,
     /// Whether a worker may find its grain in a round.
     rounds: bool,
-    /// Whether the last piece had as many.
-    dense: bool,
+    /// Whether the last piece had as many; `None` before the first one, but in a plan of a single round, which is not spent on
+    /// finding out.
+    dense: Option<bool>,
     /// How many initial events the next piece takes in, if it is of the last one's kind.
     count: usize,
 }
@@ -51,15 +53,17 @@ impl Gears {
             lookahead,
             grain: grain.saturating_mul(u64::from(plan.workers)),
             rounds: grain < u64::from(plan.turns).saturating_mul(u64::from(plan.batch)),
-            dense: false,
+            dense: (plan.max_rounds == 1).then_some(false),
             count: FEWEST,
         }
     }
 
     /// The next piece. Takes no memory.
     pub(crate) fn next(&self) -> Piece {
-        if self.dense {
-            return Piece::Windows(self.count);
+        match self.dense {
+            None => return Piece::Alone(1),
+            Some(true) => return Piece::Windows(self.count),
+            Some(false) => {}
         }
         if !self.rounds {
             return Piece::Alone(LONG);
@@ -76,8 +80,9 @@ impl Gears {
         let executed = after.executed.wrapping_sub(before.executed);
         let undone = after.undone.wrapping_sub(before.undone);
         let useful = executed.saturating_sub(undone);
-        self.dense = useful.saturating_mul(self.lookahead) >= moved.saturating_mul(self.grain);
-        self.count = match (piece, self.dense) {
+        let dense = useful.saturating_mul(self.lookahead) >= moved.saturating_mul(self.grain);
+        self.dense = Some(dense);
+        self.count = match (piece, dense) {
             (Piece::Rounds(count), false) | (Piece::Windows(count), true) => count
                 .saturating_mul(2)
                 .min(MOST),
