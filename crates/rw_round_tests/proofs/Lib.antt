@@ -1,2 +1,3 @@
+pub mod FirstWorker
 pub mod LaterPorts
 pub mod Sourced

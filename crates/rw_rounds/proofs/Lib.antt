@@ -10,6 +10,7 @@ pub mod Dealt
 pub mod Fits
 pub mod Stepping
 pub mod Moving
+pub mod Winning
 pub mod Looking
 pub mod Least
 pub mod Passing

@@ -28,6 +28,8 @@ use Rattle.rw_bag.specs.contracts.counted.CountedBag.TheInside as CountedInside
 use Rattle.rw_lp.specs.contracts.lp.Lp as Lp
 use Rattle.rw_rounds.specs.contracts.plan.Plan as Plan
 use Rattle.rw_rounds.specs.contracts.sim.Traffic as Traffic
+use Rattle.rw_rounds.specs.contracts.tournament.Tournament as Tournament
+use Rattle.rw_rounds.specs.contracts.processes.Processes as Processes
 use Rattle.rw_rounds.specs.contracts.desk.Desk as Desk
 use Rattle.rw_rounds.specs.contracts.worker.Worker as Worker
 use Rattle.rw_rounds.specs.contracts.worker.Worker.TheInside as Inside
@@ -60,20 +62,24 @@ abbrev Ends : RattleType → RattleType
 Ends B = Port.the_row (Letter.the_row B) AnyItems.the_row (record { allows = λ before letter. Unit {0} })
 
 module _ (M S B U : RattleType) (g : Ghosts M.Denot S.Denot B.Denot U.Denot) (o : ord.Ghosts B.Denot) (w : whole.Ghosts B.Denot) (e : eq.Ghosts B.Denot) (p : partial.Ghosts B.Denot) where
-  abbrev Processes : RattleType
-  Processes = (Vec.the_field (Lp.the_row M S B U g o w e p) Global.the_row global.ghosts).row
+  event_may_move : IsSend B → IsSend (Event.the_row B)
+  event_may_move b = search sendable depth 40
 
-  processes_may_move : IsSend (Lp.the_row M S B U g o w e p) → IsSend Processes
-  processes_may_move s = search (sendable, crosses) depth 40
+  tournament_may_move : IsSend B → IsSend (Tournament.the_row M S B U g o e p)
+  tournament_may_move b =
+      let event = event_may_move b in
+      search (sendable, crosses) depth 60 fits 20000
+
+  processes_may_move : IsSend B → IsSend (Lp.the_row M S B U g o w e p) → IsSend (Processes.the_row M S B U g o w e p)
+  processes_may_move b lp =
+      let next = tournament_may_move b in
+      search (sendable, crosses) depth 60 fits 20000
 
   desk_may_move : IsSend B → IsSend (Lp.the_row M S B U g o w e p) → IsSend (Ends B) → IsSend Seat.the_row → IsSend (Desk.the_field M S B U g o w e p).row
   desk_may_move b lp port seat =
       let letters = letters_may_move B b in
-      let all : AllSend (u32-field.row ∷ Plan.the_field.row ∷ u64-field.row ∷ Processes ∷ Letters B ∷ Letters B ∷ Ends B ∷ Seat.the_field.row ∷ Traffic.the_field.row ∷ []) = (number_may_move, (plan_may_move, (time_may_move, (processes_may_move lp, (letters, (letters, (port, (seat, (traffic_may_move, tt))))))))) in
+      let all : AllSend (u32-field.row ∷ Plan.the_field.row ∷ u64-field.row ∷ (Processes.the_field M S B U g o w e p).row ∷ Letters B ∷ Letters B ∷ Ends B ∷ Seat.the_field.row ∷ Traffic.the_field.row ∷ []) = (number_may_move, (plan_may_move, (time_may_move, (processes_may_move b lp, (letters, (letters, (port, (seat, (traffic_may_move, tt))))))))) in
       struct_send (shape (Desk.the_type M S B U g o w e p)) all
-
-  event_may_move : IsSend B → IsSend (Event.the_row B)
-  event_may_move b = search sendable depth 40
 
   counted_may_move : IsSend B → IsSend (CountedBag.the_row M S B U g o w e p)
   counted_may_move b =

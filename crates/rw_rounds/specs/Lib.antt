@@ -7,5 +7,7 @@ pub mod Stops
 pub mod Seated
 pub mod Setting
 pub mod Gathering
+pub mod Tournament
+pub mod Processes
 pub mod Working
 pub mod Stretches

@@ -1,8 +1,7 @@
 -- What a worker does on the way through a turn: only contracts of private functions cite what
 -- stands here.
-use Rattle.std.specs.Prelude.{◌≡◌, ℕ, ◌+◌, ◌<◌, Bool, true, false, List, [], ◌∷◌, ◌++◌, length, slice_get, Option, Some, None}
+use Rattle.std.specs.Prelude.{◌≡◌, ℕ, ◌+◌, ◌<◌, Bool, true, false, List, [], ◌∷◌, ◌++◌, length, slice_get, Some}
 use Rattle.std.specs.declared.cmp.Ordering.{Ordering}
-use Rattle.std.specs.Ordering.{is_gt}
 use Rattle.rw_vt.specs.Words.{Count, Position, Process, Time, Worker}
 use Rattle.rw_vt.specs.declared.event.Event.{Event}
 use Rattle.rw_vt.specs.declared.event.Letter.{Letter}
@@ -150,25 +149,6 @@ abbrev pub HoldsBackRest : {M S B U : Type 0} → Ghosts M S B U → (B → B �
     → Bench M S B U → Desk M S B U → Desk M S B U → Count → Type 0
 HoldsBackRest model order bench a b n = n < a.plan.batch
     → HeldBack (rules model order bench.model.now) (b.seat.read + a.plan.window) b.processes.items
-
--- the event is less than the least one found so far, or none was found
-abbrev pub comes_before : {B : Type 0} → (Event B → Event B → Ordering) → Event B
-    → Option (Position × Event B) → Bool
-comes_before cmp e None = true
-comes_before cmp e (Some found) = is_gt (cmp found.1 e)
-
--- of the processes before place k, this one has the least of all pending events, or nothing is
--- pending there
-abbrev pub IsLeastBefore : {M S B : Type 0} → (Event B → Event B → Ordering)
-    → List (LogicalProcess M S B) → Count → Option (Position × Event B) → Type 0
-IsLeastBefore {M} {S} {B} cmp xs k None = (place : Position) (l : LogicalProcess M S B)
-    → place < k → slice_get xs place ≡ Some l → l.process.pending ≡ []
-IsLeastBefore {M} {S} {B} cmp xs k (Some found) =
-    (x : LogicalProcess M S B) × (rest : List (Event B))
-    × (slice_get xs found.0 ≡ Some x) × (x.process.pending ≡ found.1 ∷ rest)
-    × ((place : Position) (l : LogicalProcess M S B)
-    → place < k → slice_get xs place ≡ Some l
-    → Each cmp (λ f. AtMost cmp found.1 f) l.process.pending)
 
 -- the process at this place has the least of all pending events, and that is before the bound
 pub record IsNext {M S B : Type 0} (y : Rules S B) (bound : Time)

@@ -1,21 +1,16 @@
-ghost use Rattle.std.specs.Prelude.{◌≡◌, ◌≢◌, ◌<◌, ◌≤◌, ◌+◌, ◌∷◌, ◌++◌, [], ℕ, true, false, if◌then◌else◌, length, map, OnOk, IfOk, IfSome, IfNone};
-ghost use Rattle.std.specs.Option.{option_map};
-ghost use Rattle.rw_vt.specs.Order.{event_cmp};
+ghost use Rattle.std.specs.Prelude.{◌≡◌, ◌≢◌, ◌<◌, ◌≤◌, ◌+◌, ◌∷◌, ◌++◌, [], ℕ, true, false, if◌then◌else◌, length, map, OnOk, IfOk};
 ghost use Rattle.rw_vt.specs.System.{rules};
-ghost use Rattle.rw_lp.specs.Arrival.{undo_by, ArrivedBy};
-ghost use Rattle.rw_lp.specs.Calls.{GivesOut, IsSameProcess, Took};
-ghost use Rattle.rw_lp.specs.Sound.{HasCollected};
 ghost use Rattle.rw_exchange.specs.Ports.{IsWide};
-ghost use Rattle.rw_rounds.specs.Deeds.{IsFair, way_of};
+ghost use Rattle.rw_rounds.specs.Deeds.{IsFair};
 ghost use Rattle.rw_rounds.specs.Turns.{is_own, owner, is_accepted};
-ghost use Rattle.rw_rounds.specs.Working.{role_of, CanWork, Deals, DealsWithAll, AreFair, HoldsBackRest, ClosesDesk, HeldBack, IsNext, Advances, comes_before, done_count, work_left};
+ghost use Rattle.rw_rounds.specs.Working.{role_of, CanWork, Deals, DealsWithAll, AreFair, HoldsBackRest, ClosesDesk, IsNext, done_count, work_left};
 
 use crate::plan::Plan;
+use crate::processes::Processes;
 use crate::sim::Traffic;
 use rw_board::{Board, Seat};
 use rw_exchange::Port;
-use rw_lp::{Answer, Lp, put_back};
-use rw_vt::{Event, Letter, Model as VtModel, Refusal};
+use rw_vt::{Letter, Model as VtModel, Refusal};
 use rw_world::least_of_processes;
 use std::alloc::Global;
 use std::mem;
@@ -29,7 +24,7 @@ pub(crate) struct Desk<M: VtModel> {
     /// The greatest time collected, in ticks.
     pub(crate) collected: u64,
     /// The worker's processes in the order of their numbers.
-    pub(crate) processes: Vec<Lp<M>>,
+    pub(crate) processes: Processes<M>,
     /// Letters to other workers that a ring had no room for.
     pub(crate) kept: Vec<Letter<M::Body>>,
     /// Received letters that failed the test.
@@ -91,21 +86,22 @@ impl<M: VtModel> Desk<M> {
         // What is next stands last, so that it can be popped.
         at_hand.reverse();
         while let Some(letter) = at_hand.pop() {
-            if self.owns(&letter) {
+            let to = self.owner(&letter);
+            if to == self.number {
                 self.arrive(bench, letter, at_hand)?;
             } else {
-                self.post(bench, letter)?;
+                self.post(bench, to, letter)?;
             }
         }
         Ok(())
     }
 
-    /// Whether the letter goes to one of the worker's own processes.
-    fn owns(&self, letter: &Letter<M::Body>) -> bool
+    /// The worker of the process that the letter goes to.
+    fn owner(&self, letter: &Letter<M::Body>) -> u32
         requires workers { 0 < self.now.plan.workers }
-        ensures own { result ≡ is_own (role_of self.now) letter.now }
+        ensures owner { result ≡ owner (role_of self.now) letter.now }
     {
-        letter.event.to % self.plan.workers == self.number
+        letter.event.to % self.plan.workers
     }
 
     /// A letter arrives at the own process that it goes to. What that gives out is appended to `out`.
@@ -132,36 +128,37 @@ impl<M: VtModel> Desk<M> {
         ensures fewer { OnOk result (done_count self.new ≤ done_count self.old) }
     {
         let place = (letter.event.to / self.plan.workers) as usize;
-        let process = self.processes.swap_remove(place);
-        let before = process.processed().len();
-        let process = arrive_by(
-            self.plan.lazy,
+        let undone = self.processes.arrive(
             bench.alloc,
             bench.model,
-            process,
+            self.plan.lazy,
+            place,
             letter,
             out,
         )?;
-        let undone = before.saturating_sub(process.processed().len());
-        put_back(&mut self.processes, place, process)?;
         self.traffic.undone = self.traffic.undone.wrapping_add(undone as u64);
         Ok(())
     }
 
     // What goes out to other workers.
 
-    /// Sends a letter to the worker of its process and notes its time, or keeps it where the ring has no room.
-    fn post(&mut self, bench: &Bench<'_, M>, letter: Letter<M::Body>) -> Result<(), Refusal>
+    /// Sends a letter to worker `to`, that of its process, and notes its time, or keeps it where the ring has no room.
+    fn post(
+        &mut self,
+        bench: &Bench<'_, M>,
+        to: u32,
+        letter: Letter<M::Body>,
+    ) -> Result<(), Refusal>
         requires workers { self.old.number < self.old.plan.workers }
         requires port { (self.old.port.worker ≡ self.old.number)
             × IsWide self.old.plan.workers self.old.port }
-        requires other { owner (role_of self.old) letter ≡ self.old.number → ⊥ }
+        requires to { to ≡ owner (role_of self.old) letter }
+        requires other { to ≢ self.old.number }
         requires board { self.old.seat.board ≡ bench.now.board.now.board }
         ensures works { OnOk result (
             Deals M.Model M.Body.cmp bench.now self.old self.new (letter ∷ []) [] 0) }
         ensures processes { OnOk result (self.new.processes ≡ self.old.processes) }
     {
-        let to = letter.event.to % self.plan.workers;
         match self.port.send(to as usize, letter) {
             Ok(()) => bench.board.note(&mut self.seat, letter.event.time),
             Err(back) => self.kept.push(back)?,
@@ -178,7 +175,8 @@ impl<M: VtModel> Desk<M> {
     {
         let kept = mem::replace(&mut self.kept, Vec::new(bench.alloc));
         for letter in kept {
-            self.post(bench, letter)?;
+            let to = self.owner(&letter);
+            self.post(bench, to, letter)?;
         }
         Ok(())
     }
@@ -246,7 +244,7 @@ impl<M: VtModel> Desk<M> {
         };
         self.traffic.ring = self.traffic.ring.wrapping_add(1);
         if self.passes(bench.model, &letter) {
-            at_hand.push(letter)?;
+            self.arrive(bench, letter, at_hand)?;
             self.deal(bench, at_hand)?;
         } else {
             self.aside.push(letter)?;
@@ -261,7 +259,9 @@ impl<M: VtModel> Desk<M> {
         ensures passes { result
             ≡ is_accepted (rules M.Model M.Body.cmp model.now) (role_of self.now) letter.now }
     {
-        model.valid(&letter.event) && self.owns(letter) && self.collected <= letter.event.time
+        model.valid(&letter.event)
+            && self.owner(letter) == self.number
+            && self.collected <= letter.event.time
     }
 
     // Executing.
@@ -287,7 +287,7 @@ impl<M: VtModel> Desk<M> {
         let mut executed = 0;
         while executed < batch {
             let bound = bench.board.floor(&mut self.seat) + self.plan.window;
-            let Some(place) = next_before(&self.processes, bound) else {
+            let Some(place) = self.processes.next_before(bench.alloc, bound)? else {
                 return Ok(executed);
             };
             let done = self.advance(bench, place, at_hand)?;
@@ -317,15 +317,9 @@ impl<M: VtModel> Desk<M> {
         ensures undone { IfOk result (λ executed.
             executed ≡ false → done_count self.new < done_count self.old) }
     {
-        let process = self.processes.swap_remove(place);
-        let (process, executed) = execute_or_undo(
-            self.plan.lazy,
-            bench.alloc,
-            bench.model,
-            process,
-            at_hand,
-        )?;
-        put_back(&mut self.processes, place, process)?;
+        let executed = self
+            .processes
+            .advance(bench.alloc, bench.model, self.plan.lazy, place, at_hand)?;
         self.traffic.executed = self.traffic.executed.wrapping_add(u64::from(executed));
         self.traffic.undone = self.traffic.undone.wrapping_add(u64::from(!executed));
         self.deal(bench, at_hand)?;
@@ -339,125 +333,9 @@ impl<M: VtModel> Desk<M> {
         requires board { self.old.seat.board ≡ board.now.board }
         ensures closes { ClosesDesk self.old self.new }
     {
-        let least = least_of_processes(&self.processes);
+        let least = least_of_processes(self.processes.as_slice());
         board.note(&mut self.seat, least);
         note_all(board, &mut self.seat, &self.kept);
-    }
-}
-
-/// The place of the process with the least pending event, if that event is before `bound`.
-fn next_before<M: VtModel>(processes: &[Lp<M>], bound: u64) -> Option<usize>
-    ensures some { IfSome result (λ place. (m : M)
-        → IsNext (rules M.Model M.Body.cmp m) bound processes.now place) }
-    ensures none { IfNone result ((m : M)
-        → HeldBack (rules M.Model M.Body.cmp m) bound processes.now) }
-{
-    let mut least = None;
-    for (place, process) in processes.iter().enumerate() {
-        let Some(event) = process.next() else {
-            continue;
-        };
-        if !comes_before(event, least) {
-            continue;
-        }
-        least = Some((place, event));
-    }
-    let (place, event) = least?;
-    if bound <= event.time {
-        return None;
-    }
-    Some(place)
-}
-
-/// Whether the event is less than the least one found so far, or none was found. What tells most events apart is compared
-/// first: their times, sources and numbers.
-fn comes_before<B: Ord + Copy>(event: &Event<B>, least: Option<(usize, &Event<B>)>) -> bool
-    ensures { result ≡ comes_before (event_cmp B.cmp) event.now
-        (option_map (λ found. (found.0, found.1.now)) least.entry) }
-{
-    let Some((_, other)) = least else {
-        return true;
-    };
-    if event.time != other.time {
-        return event.time < other.time;
-    }
-    if event.source != other.source {
-        return event.source < other.source;
-    }
-    if event.number != other.number {
-        return event.number < other.number;
-    }
-    other.cmp(event).is_gt()
-}
-
-/// The process executes what is next, or undoes its last event, lazily or not, where that is a straggler. What it gives
-/// out is appended to `out`. Answers whether it executed.
-fn execute_or_undo<M: VtModel>(
-    lazy: bool,
-    alloc: Global,
-    model: &M,
-    process: Lp<M>,
-    out: &mut Vec<Letter<M::Body>>,
-) -> Result<(Lp<M>, bool), Refusal>
-    requires model { model.now ≡ process.model }
-    requires pending { process.process.pending ≢ [] }
-    requires undoable { (g : ℕ) × HasCollected (event_cmp M.Body.cmp) g process.process }
-    ensures same { IfOk result (λ r.
-        (r.0.model ≡ process.model) × (r.0.number ≡ process.number)) }
-    ensures moved { IfOk result (λ r.
-        Advances M.Model M.Body.cmp (way_of lazy) process r.0 r.1 out.old.items out.new.items) }
-{
-    let (process, answer) = process.execute_next(alloc, model, out)?;
-    if let Answer::Done = answer {
-        return Ok((process, true));
-    }
-    let (process, _answer) = undo_by(lazy, alloc, model, process, out)?;
-    Ok((process, false))
-}
-
-/// The letter arrives at the process; what has to be undone is undone lazily, or not. What is given out is appended to `out`.
-fn arrive_by<M: VtModel>(
-    lazy: bool,
-    alloc: Global,
-    model: &M,
-    process: Lp<M>,
-    letter: Letter<M::Body>,
-    out: &mut Vec<Letter<M::Body>>,
-) -> Result<Lp<M>, Refusal>
-    requires model { model.now ≡ process.model }
-    requires valid { M.is_valid process.model letter.event ≡ true }
-    requires here { letter.event.to ≡ process.number }
-    ensures same { IfOk result (IsSameProcess process) }
-    ensures arrived { IfOk result (λ lp. GivesOut out.old.items out.new.items
-        (ArrivedBy (way_of lazy) (rules M.Model M.Body.cmp process.model) process.number letter
-        process.process lp.process)) }
-{
-    if lazy {
-        process.arrive_lazily(alloc, model, letter, out)
-    } else {
-        process.arrive(alloc, model, letter, out)
-    }
-}
-
-/// The process takes its last processed event back, lazily or not. What is given out is appended to `out`.
-fn undo_by<M: VtModel>(
-    lazy: bool,
-    alloc: Global,
-    model: &M,
-    process: Lp<M>,
-    out: &mut Vec<Letter<M::Body>>,
-) -> Result<(Lp<M>, Answer), Refusal>
-    requires model { model.now ≡ process.model }
-    ensures same { IfOk result (λ r. IsSameProcess process r.0) }
-    ensures turn { IfOk result (λ r. GivesOut out.old.items out.new.items (λ given.
-        Took process.process r.0.process r.1 given
-        (undo_by (way_of lazy) (rules M.Model M.Body.cmp process.model) process.number
-        process.process))) }
-{
-    if lazy {
-        process.undo_lazily(alloc, model)
-    } else {
-        process.undo_one(alloc, model, out)
     }
 }
 

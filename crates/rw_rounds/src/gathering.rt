@@ -154,7 +154,7 @@ fn take_apart<M: VtModel>(
         } = worker.into_desk();
         holdings
             .shares
-            .push_back_reserved(VecDeque::from(processes));
+            .push_back_reserved(VecDeque::from(processes.into_list()));
         holdings.kept.push_reserved(kept);
         holdings.aside.push_reserved(aside);
         holdings.ports.push_reserved(port);

@@ -16,12 +16,14 @@ mod desk;
 mod gathering;
 mod pace;
 mod plan;
+mod processes;
 mod round;
 mod running;
 mod setting_up;
 mod sim;
 mod stop;
 mod stretch;
+mod tournament;
 mod worker;
 
 pub use pace::Pace;

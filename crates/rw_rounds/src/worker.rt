@@ -7,6 +7,7 @@ ghost use Rattle.rw_rounds.specs.Turns.{IsFit, TookTurn};
 
 use crate::desk::{Bench, Desk};
 use crate::plan::Plan;
+use crate::processes::Processes;
 use crate::sim::Traffic;
 use rw_board::{Board, Seat};
 use rw_exchange::Port;
@@ -77,7 +78,7 @@ impl<M: VtModel> Worker<M> {
             number,
             plan: *plan,
             collected,
-            processes,
+            processes: Processes::of(alloc, processes),
             kept: Vec::new(alloc),
             aside: Vec::new(alloc),
             port,
@@ -133,7 +134,7 @@ impl<M: VtModel> Worker<M> {
             board,
         };
         // What every process promises.
-        soundness(&desk.processes);
+        soundness(desk.processes.as_slice());
         let executed = desk.turn(&bench, &mut at_hand)?;
         Ok((Worker { desk, at_hand }, executed))
     }

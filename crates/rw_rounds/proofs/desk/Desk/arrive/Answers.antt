@@ -1,6 +1,5 @@
-use Rattle.std.proofs.Common.{◌≡◌, true, [], ◌∷◌, ◌++◌, length, length-append, refl, sym, ap, subst, arith}
+use Rattle.std.proofs.Common.{[], ◌∷◌, ◌++◌, length, length-append, refl, sym, ap, subst, arith}
 use Rattle.std.specs.Prelude.{◌/◌}
-use Rattle.std.proofs.lemmas.Option.{slice_get_read}
 use Rattle.rw_vt.specs.System.{rules}
 use Rattle.rw_vt.proofs.Laws.{laws_of}
 use Rattle.rw_rounds.specs.Bags.{Every}
@@ -11,62 +10,40 @@ use Rattle.rw_rounds.proofs.Stepping.{place_within, its_process, works_arrival, 
 use Rattle.rw_rounds.proofs.Sums.{every_append}
 use Rattle.rw_rounds.proofs.desk.Desk.arrive.Goals as goal
 
-pub arrive_by-requires-clause-model : goal.arrive_by-requires-clause-model
-arrive_by-requires-clause-model g c =
+pub arrive-requires-clause-place : goal.arrive-requires-clause-place
+arrive-requires-clause-place g c =
     let laws = laws_of g.met.M.Model g.met.M.Body.Ord.total in
-    let x = c.args.self.now in
-    let within = place_within laws c.args.bench.now.model.now (desk_of c.args.self.now) c.requires.ready.worker.fit c.args.letter c.requires.fair c.requires.own in
-    let there = slice_get_read x.processes.items (length x.processes.items) (c.args.letter.event.to / x.plan.workers) c.swap_remove-process.result refl within c.swap_remove-process.ensures.value in
-    let its = its_process laws c.args.bench.now.model.now (desk_of c.args.self.now) c.requires.ready.worker.fit c.args.letter c.requires.fair c.requires.own c.swap_remove-process.result there in
-    sym its.0
+    place_within laws c.args.bench.now.model.now (desk_of c.args.self.now) c.requires.ready.worker.fit c.args.letter c.requires.fair c.requires.own
 
-pub arrive_by-requires-clause-valid : goal.arrive_by-requires-clause-valid
-arrive_by-requires-clause-valid g c =
+pub arrive-requires-clause-model : goal.arrive-requires-clause-model
+arrive-requires-clause-model g c =
     let laws = laws_of g.met.M.Model g.met.M.Body.Ord.total in
-    let x = c.args.self.now in
-    let within = place_within laws c.args.bench.now.model.now (desk_of c.args.self.now) c.requires.ready.worker.fit c.args.letter c.requires.fair c.requires.own in
-    let there = slice_get_read x.processes.items (length x.processes.items) (c.args.letter.event.to / x.plan.workers) c.swap_remove-process.result refl within c.swap_remove-process.ensures.value in
-    let its = its_process laws c.args.bench.now.model.now (desk_of c.args.self.now) c.requires.ready.worker.fit c.args.letter c.requires.fair c.requires.own c.swap_remove-process.result there in
-    subst (λ k. g.M.Model.is_valid k c.args.letter.event ≡ true) (sym its.0) c.requires.fair.valid
+    λ l there. (its_process laws c.args.bench.now.model.now (desk_of c.args.self.now) c.requires.ready.worker.fit c.args.letter c.requires.fair c.requires.own l there).0
 
-pub arrive_by-requires-clause-here : goal.arrive_by-requires-clause-here
-arrive_by-requires-clause-here g c =
-    let laws = laws_of g.met.M.Model g.met.M.Body.Ord.total in
-    let x = c.args.self.now in
-    let within = place_within laws c.args.bench.now.model.now (desk_of c.args.self.now) c.requires.ready.worker.fit c.args.letter c.requires.fair c.requires.own in
-    let there = slice_get_read x.processes.items (length x.processes.items) (c.args.letter.event.to / x.plan.workers) c.swap_remove-process.result refl within c.swap_remove-process.ensures.value in
-    let its = its_process laws c.args.bench.now.model.now (desk_of c.args.self.now) c.requires.ready.worker.fit c.args.letter c.requires.fair c.requires.own c.swap_remove-process.result there in
-    its.1
+pub arrive-requires-clause-valid : goal.arrive-requires-clause-valid
+arrive-requires-clause-valid g c = c.requires.fair.valid
 
-pub put_back-requires : goal.put_back-requires
-put_back-requires g c =
+pub arrive-requires-clause-here : goal.arrive-requires-clause-here
+arrive-requires-clause-here g c =
     let laws = laws_of g.met.M.Model g.met.M.Body.Ord.total in
-    let x = c.args.self.now in
-    let within = place_within laws c.args.bench.now.model.now (desk_of c.args.self.now) c.requires.ready.worker.fit c.args.letter c.requires.fair c.requires.own in
-    record { place = omega (arith, c.swap_remove-process.ensures.len) }
+    λ l there. (its_process laws c.args.bench.now.model.now (desk_of c.args.self.now) c.requires.ready.worker.fit c.args.letter c.requires.fair c.requires.own l there).1
 
 pub returns-clause-works : goal.returns-clause-works
 returns-clause-works g c =
     let laws = laws_of g.met.M.Model g.met.M.Body.Ord.total in
     let x = c.args.self.now in
-    let within = place_within laws c.args.bench.now.model.now (desk_of c.args.self.now) c.requires.ready.worker.fit c.args.letter c.requires.fair c.requires.own in
-    let there = slice_get_read x.processes.items (length x.processes.items) (c.args.letter.event.to / x.plan.workers) c.swap_remove-process.result refl within c.swap_remove-process.ensures.value in
-    let its = its_process laws c.args.bench.now.model.now (desk_of c.args.self.now) c.requires.ready.worker.fit c.args.letter c.requires.fair c.requires.own c.swap_remove-process.result there in
-    let set = c.in_ok-put_back.ensures.back x.processes.items c.swap_remove-process.result within c.swap_remove-process.ensures.items in
-    let arrived = c.in_ok-process.ensures.arrived in
-    works_arrival laws c.args.bench.now.model.now (desk_of x) _ c.requires.ready.worker refl refl refl refl refl refl (c.args.letter.event.to / x.plan.workers) c.swap_remove-process.result c.in_ok-process.process there set c.in_ok-process.ensures.same c.args.letter c.requires.fair c.requires.own refl arrived.0 arrived.2 c.args.out.now.items c.arrive_by.new.out.items arrived.1
+    let one = c.in_ok-undone.ensures.arrived in
+    let arrived = one.by in
+    works_arrival laws c.args.bench.now.model.now (desk_of x) _ c.requires.ready.worker refl refl refl refl refl refl (c.args.letter.event.to / x.plan.workers) one.was one.is one.there one.set one.same c.args.letter c.requires.fair c.requires.own refl arrived.0 arrived.2 c.args.out.now.items c.arrive.new.out.items arrived.1
 
 pub returns-clause-ready : goal.returns-clause-ready
 returns-clause-ready g c =
     let laws = laws_of g.met.M.Model g.met.M.Body.Ord.total in
     let x = c.args.self.now in
-    let within = place_within laws c.args.bench.now.model.now (desk_of c.args.self.now) c.requires.ready.worker.fit c.args.letter c.requires.fair c.requires.own in
-    let there = slice_get_read x.processes.items (length x.processes.items) (c.args.letter.event.to / x.plan.workers) c.swap_remove-process.result refl within c.swap_remove-process.ensures.value in
-    let its = its_process laws c.args.bench.now.model.now (desk_of c.args.self.now) c.requires.ready.worker.fit c.args.letter c.requires.fair c.requires.own c.swap_remove-process.result there in
-    let set = c.in_ok-put_back.ensures.back x.processes.items c.swap_remove-process.result within c.swap_remove-process.ensures.items in
-    let arrived = c.in_ok-process.ensures.arrived in
+    let one = c.in_ok-undone.ensures.arrived in
+    let arrived = one.by in
     record {
-      worker = fit_after laws c.args.bench.now.model.now (role_of x) (desk_of x) _ (c.args.out.now.items ++ c.args.letter ∷ []) c.arrive_by.new.out.items 0 c.requires.ready.worker (works_arrival laws c.args.bench.now.model.now (desk_of x) _ c.requires.ready.worker refl refl refl refl refl refl (c.args.letter.event.to / x.plan.workers) c.swap_remove-process.result c.in_ok-process.process there set c.in_ok-process.ensures.same c.args.letter c.requires.fair c.requires.own refl arrived.0 arrived.2 c.args.out.now.items c.arrive_by.new.out.items arrived.1);
+      worker = fit_after laws c.args.bench.now.model.now (role_of x) (desk_of x) _ (c.args.out.now.items ++ c.args.letter ∷ []) c.arrive.new.out.items 0 c.requires.ready.worker (works_arrival laws c.args.bench.now.model.now (desk_of x) _ c.requires.ready.worker refl refl refl refl refl refl (c.args.letter.event.to / x.plan.workers) one.was one.is one.there one.set one.same c.args.letter c.requires.fair c.requires.own refl arrived.0 arrived.2 c.args.out.now.items c.arrive.new.out.items arrived.1);
       board = c.requires.ready.board;
     }
 
@@ -74,31 +51,22 @@ pub returns-clause-fair : goal.returns-clause-fair
 returns-clause-fair g c =
     let laws = laws_of g.met.M.Model g.met.M.Body.Ord.total in
     let x = c.args.self.now in
-    let within = place_within laws c.args.bench.now.model.now (desk_of c.args.self.now) c.requires.ready.worker.fit c.args.letter c.requires.fair c.requires.own in
-    let there = slice_get_read x.processes.items (length x.processes.items) (c.args.letter.event.to / x.plan.workers) c.swap_remove-process.result refl within c.swap_remove-process.ensures.value in
-    let its = its_process laws c.args.bench.now.model.now (desk_of c.args.self.now) c.requires.ready.worker.fit c.args.letter c.requires.fair c.requires.own c.swap_remove-process.result there in
-    let set = c.in_ok-put_back.ensures.back x.processes.items c.swap_remove-process.result within c.swap_remove-process.ensures.items in
-    let arrived = c.in_ok-process.ensures.arrived in
-    λ fair. subst (Every (IsFair (rules g.M.Model g.M.Body.Ord.cmp c.args.bench.now.model.now) x.collected)) (sym arrived.1) (every_append (IsFair (rules g.M.Model g.M.Body.Ord.cmp c.args.bench.now.model.now) x.collected) c.args.out.now.items arrived.0 fair (arrival_fair laws c.args.bench.now.model.now (desk_of x) _ c.requires.ready.worker refl refl refl refl refl refl (c.args.letter.event.to / x.plan.workers) c.swap_remove-process.result c.in_ok-process.process there set c.in_ok-process.ensures.same c.args.letter c.requires.fair c.requires.own refl arrived.0 arrived.2))
+    let one = c.in_ok-undone.ensures.arrived in
+    let arrived = one.by in
+    λ fair. subst (Every (IsFair (rules g.M.Model g.M.Body.Ord.cmp c.args.bench.now.model.now) x.collected)) (sym arrived.1) (every_append (IsFair (rules g.M.Model g.M.Body.Ord.cmp c.args.bench.now.model.now) x.collected) c.args.out.now.items arrived.0 fair (arrival_fair laws c.args.bench.now.model.now (desk_of x) _ c.requires.ready.worker refl refl refl refl refl refl (c.args.letter.event.to / x.plan.workers) one.was one.is one.there one.set one.same c.args.letter c.requires.fair c.requires.own refl arrived.0 arrived.2))
 
 pub returns-clause-falls : goal.returns-clause-falls
 returns-clause-falls g c =
     let laws = laws_of g.met.M.Model g.met.M.Body.Ord.total in
     let x = c.args.self.now in
-    let within = place_within laws c.args.bench.now.model.now (desk_of c.args.self.now) c.requires.ready.worker.fit c.args.letter c.requires.fair c.requires.own in
-    let there = slice_get_read x.processes.items (length x.processes.items) (c.args.letter.event.to / x.plan.workers) c.swap_remove-process.result refl within c.swap_remove-process.ensures.value in
-    let its = its_process laws c.args.bench.now.model.now (desk_of c.args.self.now) c.requires.ready.worker.fit c.args.letter c.requires.fair c.requires.own c.swap_remove-process.result there in
-    let set = c.in_ok-put_back.ensures.back x.processes.items c.swap_remove-process.result within c.swap_remove-process.ensures.items in
-    let arrived = c.in_ok-process.ensures.arrived in
-    omega (arith, arrival_sizes laws c.args.bench.now.model.now (desk_of x) _ c.requires.ready.worker refl refl refl refl refl refl (c.args.letter.event.to / x.plan.workers) c.swap_remove-process.result c.in_ok-process.process there set c.in_ok-process.ensures.same c.args.letter c.requires.fair c.requires.own refl arrived.0 arrived.2, ap length arrived.1, length-append c.args.out.now.items arrived.0)
+    let one = c.in_ok-undone.ensures.arrived in
+    let arrived = one.by in
+    omega (arith, arrival_sizes laws c.args.bench.now.model.now (desk_of x) _ c.requires.ready.worker refl refl refl refl refl refl (c.args.letter.event.to / x.plan.workers) one.was one.is one.there one.set one.same c.args.letter c.requires.fair c.requires.own refl arrived.0 arrived.2, ap length arrived.1, length-append c.args.out.now.items arrived.0)
 
 pub returns-clause-fewer : goal.returns-clause-fewer
 returns-clause-fewer g c =
     let laws = laws_of g.met.M.Model g.met.M.Body.Ord.total in
     let x = c.args.self.now in
-    let within = place_within laws c.args.bench.now.model.now (desk_of c.args.self.now) c.requires.ready.worker.fit c.args.letter c.requires.fair c.requires.own in
-    let there = slice_get_read x.processes.items (length x.processes.items) (c.args.letter.event.to / x.plan.workers) c.swap_remove-process.result refl within c.swap_remove-process.ensures.value in
-    let its = its_process laws c.args.bench.now.model.now (desk_of c.args.self.now) c.requires.ready.worker.fit c.args.letter c.requires.fair c.requires.own c.swap_remove-process.result there in
-    let set = c.in_ok-put_back.ensures.back x.processes.items c.swap_remove-process.result within c.swap_remove-process.ensures.items in
-    let arrived = c.in_ok-process.ensures.arrived in
-    arrival_dones laws c.args.bench.now.model.now (desk_of x) _ c.requires.ready.worker refl refl refl refl refl refl (c.args.letter.event.to / x.plan.workers) c.swap_remove-process.result c.in_ok-process.process there set c.in_ok-process.ensures.same c.args.letter c.requires.fair c.requires.own refl arrived.0 arrived.2
+    let one = c.in_ok-undone.ensures.arrived in
+    let arrived = one.by in
+    arrival_dones laws c.args.bench.now.model.now (desk_of x) _ c.requires.ready.worker refl refl refl refl refl refl (c.args.letter.event.to / x.plan.workers) one.was one.is one.there one.set one.same c.args.letter c.requires.fair c.requires.own refl arrived.0 arrived.2

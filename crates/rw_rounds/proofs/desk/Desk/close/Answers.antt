@@ -8,10 +8,10 @@ pub returns : goal.returns
 returns g c =
     let x = c.args.self.now in
     let least = c.least_of_processes-least.result in
-    let is = c.least_of_processes-least.ensures ∙ ap (λ ls. least_of_processes 1099511627776 (map (λ l. l.process) ls)) c.deref.ensures.value in
+    let is = c.least_of_processes-least.ensures ∙ ap (λ ls. least_of_processes 1099511627776 (map (λ l. l.process) ls)) c.as_slice.ensures in
     let noted =
     c.note_all.ensures.noted
-    ∙ ap (λ ls. record c.note.new.seat { noted = c.note.new.seat.noted ++ map (λ l. l.event.time) ls }) c.deref-2.ensures.value
+    ∙ ap (λ ls. record c.note.new.seat { noted = c.note.new.seat.noted ++ map (λ l. l.event.time) ls }) c.deref.ensures.value
     ∙ ap {A = SeatState} (λ s. record s { noted = s.noted ++ map (λ l. l.event.time) x.kept.items }) c.note.ensures.noted
     ∙ ap (λ n. record x.seat { noted = n }) (append_assoc x.seat.noted (least ∷ []) (map (λ l. l.event.time) x.kept.items))
     ∙ ap (λ t. record x.seat { noted = x.seat.noted ++ t ∷ map (λ l. l.event.time) x.kept.items }) is in

@@ -61,8 +61,8 @@ loop-letter-preserved g c =
       fewer = omega (arith, known.fewer, ap (λ v. dones v.items) c.in_ok-post.ensures.processes);
     }
 
-pub owns-requires : goal.owns-requires
-owns-requires g c = omega (arith, c.loop-letter.invariant.ready.worker.fit.number)
+pub owner-to-requires : goal.owner-to-requires
+owner-to-requires g c = omega (arith, c.loop-letter.invariant.ready.worker.fit.number)
 
 pub arrive-requires-clause-ready : goal.arrive-requires-clause-ready
 arrive-requires-clause-ready g c = c.loop-letter.invariant.ready

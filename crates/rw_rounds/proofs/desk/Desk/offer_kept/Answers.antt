@@ -70,7 +70,7 @@ post-requires-clause-other g c =
     let x = c.args.self.now in
     let known = c.loop-letter.invariant in
     let others = subst (Every (λ l. owner (role_of x) l ≡ x.number → ⊥)) c.in-Some.ensures.steps.0 known.others in
-    subst (λ r. owner r c.in-Some.letter ≡ r.number → ⊥) (sym known.works.after) others.0
+    λ e. subst (λ r. owner r c.in-Some.letter ≡ r.number → ⊥) (sym known.works.after) others.0 (sym c.owner-to.ensures.owner ∙ e)
 
 pub post-requires-clause-board : goal.post-requires-clause-board
 post-requires-clause-board g c = c.loop-letter.invariant.ready.board

@@ -17,8 +17,8 @@ turn-requires-clause-ready g c =
       worker =
           fit_and_sound g.M.Model g.M.Body.Ord.cmp c.args.model.now (desk_of x.desk)
           (fit_without_inbox laws c.args.model.now (record (desk_of x.desk) { inbox = x.at_hand.items }) own)
-          (λ place l there. c.soundness.ensures.starts place l (ap (λ ls. slice_get ls place) c.deref.ensures.value ∙ there))
-          (λ place l there. c.soundness.ensures.sound place l (ap (λ ls. slice_get ls place) c.deref.ensures.value ∙ there));
+          (λ place l there. c.soundness.ensures.starts place l (ap (λ ls. slice_get ls place) c.as_slice.ensures ∙ there))
+          (λ place l there. c.soundness.ensures.sound place l (ap (λ ls. slice_get ls place) c.as_slice.ensures ∙ there));
       board = subst (λ w. w.seat.board ≡ c.args.board.now.board) (sym c.self.view_is) c.requires.board;
     }
 

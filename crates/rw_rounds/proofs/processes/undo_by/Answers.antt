@@ -7,7 +7,7 @@ use Rattle.rw_lp.specs.Calls.{LogicalProcess, GivesOut, Took}
 use Rattle.rw_lp.specs.Arrival.{undo_by}
 use Rattle.rw_lp.specs.declared.answer.Answer.{Answer}
 use Rattle.rw_rounds.specs.Deeds.{way_of}
-use Rattle.rw_rounds.proofs.desk.undo_by.Goals as goal
+use Rattle.rw_rounds.proofs.processes.undo_by.Goals as goal
 
 pub returns-then-lazy-clause-turn : goal.returns-then-lazy-clause-turn
 returns-then-lazy-clause-turn g c =

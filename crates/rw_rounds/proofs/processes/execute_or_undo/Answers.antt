@@ -3,7 +3,7 @@ use Rattle.rw_vt.proofs.EventOrder.{events_exact}
 use Rattle.rw_vt.proofs.Sorting.{IsExactOrder}
 use Rattle.rw_rounds.specs.Deeds.{way_of}
 use Rattle.rw_rounds.proofs.Moving.{moved_undone}
-use Rattle.rw_rounds.proofs.desk.execute_or_undo.Goals as goal
+use Rattle.rw_rounds.proofs.processes.execute_or_undo.Goals as goal
 
 pub returns-clause-moved : goal.returns-clause-moved
 returns-clause-moved g c =
