@@ -22,6 +22,8 @@ use Rattle.rw_windows.specs.Batches.{MayFollow}
 use Rattle.rw_windows.specs.contracts.batch.Batch as Batch
 use Rattle.rw_windows.specs.contracts.batch.Batch.TheInside as BatchInside
 use Rattle.rw_windows.specs.contracts.batch.InTime as InTime
+use Rattle.rw_windows.specs.contracts.bells.Bells as Bells
+use Rattle.crossbeam_channel.proofs.channel.Receiver.TheSendSync.{the_send as receiver_may_move}
 use Rattle.rw_windows.specs.contracts.share.Share as Share
 use Rattle.rw_windows.specs.contracts.share.Share.TheInside as ShareInside
 
@@ -40,6 +42,12 @@ shot_may_move T = search (sendable, crosses) depth 20
 
 time_may_move : IsSend u64-field.row
 time_may_move = search sendable
+
+bells_may_move : IsSend (Bells.the_field).row
+bells_may_move =
+    let S = shape Bells.the_type in
+    let all : AllSend S.fields = (search (sendable, crosses) depth 40, (search (sendable, crosses, receiver_may_move) depth 40, tt)) in
+    struct_send S all
 
 module _ (M S B U : RattleType) (g : Ghosts M.Denot S.Denot B.Denot U.Denot) (o : ord.Ghosts B.Denot) (w : whole.Ghosts B.Denot) (e : eq.Ghosts B.Denot) (p : partial.Ghosts B.Denot) (c : clone.Ghosts B.Denot) where
   -- a port of batches, whose rings keep to the workers' promise
@@ -69,5 +77,5 @@ module _ (M S B U : RattleType) (g : Ghosts M.Denot S.Denot B.Denot U.Denot) (o 
       let t = time_may_move in
       let starts = shot_may_move (Vec.the_row S Global.the_row global.ghosts) in
       let given = shot_may_move (Vec.the_row (Event.the_row B) Global.the_row global.ghosts) in
-      let all : AllSend (shape T).fields = (n, (n, (t, (t, (states_may_move s, (events_may_move B b, (ends_may_move b, (lists_may_move b, (t, (t, (t, (t, (t, (starts, (given, tt))))))))))))))) in
+      let all : AllSend (shape T).fields = (n, (n, (t, (t, (states_may_move s, (events_may_move B b, (ends_may_move b, (bells_may_move, (lists_may_move b, (t, (t, (t, (t, (t, (starts, (given, tt)))))))))))))))) in
       view_send _ _ _ _ _ (recorded_send (Struct (shape T)) T.D T.to T.to_one (struct_send (shape T) all))

@@ -6,6 +6,7 @@ ghost use Rattle.rw_windows.specs.Running.{AreBegun};
 ghost use Rattle.rw_windows.specs.Working.{IsAhead};
 
 use crate::batch::{Batch, InTime};
+use crate::bells::{Bells, hang};
 use crate::share::Share;
 use rw_crew::{deal_out, first_of};
 use rw_exchange::{Greeting, Port};
@@ -14,8 +15,8 @@ use std::alloc::{AllocError, Global};
 use std::collections::VecDeque;
 use std::snapshot::Snapshot;
 
-/// How many slots a ring has. Workers go in lockstep, none more than a window ahead of another, so two would be enough.
-const CAPACITY: usize = 4;
+/// How many slots a ring has: more than a worker may be ahead of another, which is twice what each stays behind, and one.
+const CAPACITY: usize = 8;
 
 /// What the workers begin with, in the order of their numbers.
 #[derive(Drop)]
@@ -26,6 +27,8 @@ struct Supply<M: VtModel> {
     inboxes: VecDeque<Vec<Event<M::Body>>>,
     /// The port of each.
     ports: VecDeque<Port<Batch<M>, InTime>>,
+    /// The bells of each.
+    bells: VecDeque<Bells>,
     /// Where all processes start, once for each.
     starts: VecDeque<Snapshot<Vec<M::State>>>,
 }
@@ -112,6 +115,7 @@ fn supplies<M: VtModel>(
     ensures greeted { IfOk result (λ s.
         AreGreeted terms.workers (greeting model.now terms.workers terms.reach) s.ports.items
         × NoneItself terms.workers s.ports.items) }
+    ensures bells { IfOk result (λ s. length s.bells.items ≡ terms.workers) }
     ensures starts { IfOk result (λ s.
         map (λ x. x.value.items) s.starts.items ≡ replicate terms.workers states.items) }
 {
@@ -120,10 +124,12 @@ fn supplies<M: VtModel>(
     let shares = deal_out(alloc, terms.workers, states)?;
     let inboxes = deal_events(alloc, terms.workers, events)?;
     let ports = open_ports(alloc, model, terms)?;
+    let bells = hang(alloc, count)?;
     Ok(Supply {
         shares: VecDeque::from(shares),
         inboxes: VecDeque::from(inboxes),
         ports: VecDeque::from(ports),
+        bells: VecDeque::from(bells),
         starts: VecDeque::from(starts),
     })
 }
@@ -195,6 +201,7 @@ fn make_shares<M: VtModel>(
     requires shares { length supply.shares.items ≡ terms.workers }
     requires inboxes { length supply.inboxes.items ≡ terms.workers }
     requires ports { length supply.ports.items ≡ terms.workers }
+    requires bells { length supply.bells.items ≡ terms.workers }
     requires starts { length supply.starts.items ≡ terms.workers }
     ensures count { IfOk result (λ ws. length ws.items ≡ terms.workers) }
     ensures numbers { IfOk result (λ ws. (i : ℕ) (d : _) → i < terms.workers
@@ -227,6 +234,7 @@ fn next_share<M: VtModel>(
     requires shares { supply.old.shares.items ≢ [] }
     requires inboxes { supply.old.inboxes.items ≢ [] }
     requires ports { supply.old.ports.items ≢ [] }
+    requires bells { supply.old.bells.items ≢ [] }
     requires starts { supply.old.starts.items ≢ [] }
     ensures number { IfOk result (λ w. w.number ≡ number) }
     ensures states { IfOk result (λ w. map (λ h. h.items) supply.old.shares.items
@@ -235,6 +243,8 @@ fn next_share<M: VtModel>(
         ≡ w.given ∷ map (λ b. b.items) supply.new.inboxes.items) }
     ensures port { IfOk result (λ w.
         supply.old.ports.items ≡ w.port ∷ supply.new.ports.items) }
+    ensures bells { IfOk result (λ _.
+        length supply.old.bells.items ≡ length supply.new.bells.items + 1) }
     ensures starts { IfOk result (λ w. map (λ x. x.value.items) supply.old.starts.items
         ≡ w.starts ∷ map (λ x. x.value.items) supply.new.starts.items) }
     ensures new { IfOk result (HasNotBegun terms) }
@@ -242,8 +252,9 @@ fn next_share<M: VtModel>(
     let states = first_of(&mut supply.shares);
     let inbox = first_of(&mut supply.inboxes);
     let port = first_of(&mut supply.ports);
+    let bells = first_of(&mut supply.bells);
     let starts = first_of(&mut supply.starts);
-    new_share(alloc, terms, number, states, inbox, port, starts)
+    new_share(alloc, terms, number, states, inbox, port, bells, starts)
 }
 
 /// The share of a worker that has done nothing yet.
@@ -254,6 +265,7 @@ fn new_share<M: VtModel>(
     states: Vec<M::State>,
     inbox: Vec<Event<M::Body>>,
     port: Port<Batch<M>, InTime>,
+    bells: Bells,
     starts: Snapshot<Vec<M::State>>,
 ) -> Result<Share<M>, NoMemory>
     ensures number { IfOk result (λ w. w.number ≡ number) }
@@ -273,6 +285,7 @@ fn new_share<M: VtModel>(
         states,
         events: inbox,
         port,
+        bells,
         away,
         until: 0,
         heard: terms.reach,

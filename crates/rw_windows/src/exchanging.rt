@@ -59,7 +59,7 @@ impl<M: VtModel> Worker<M> {
             workers: Snapshot::of(&self.workers),
             to: Snapshot::of(&to),
         };
-        match send_waiting(rt, &mut self.port, to as usize, batch) {
+        match send_waiting(rt, &mut self.port, &self.bells, to as usize, batch) {
             Ok(()) => Ok(true),
             Err(back) => {
                 self.away[to as usize] = back.events;
@@ -106,7 +106,7 @@ impl<M: VtModel> Worker<M> {
         ensures reach { IfOk result (λ heard. IfSome heard (λ reach.
             reach ≤ last_reach (received_from self.new.port from))) }
     {
-        let Some(batch) = receive_waiting(rt, &mut self.port, from as usize) else {
+        let Some(batch) = receive_waiting(rt, &mut self.port, &self.bells, from as usize) else {
             return Ok(None);
         };
         self.pending.extend(&batch.events)?;

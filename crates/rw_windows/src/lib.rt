@@ -4,12 +4,15 @@
 //! nearer than that.
 //!
 //! A worker owns every process whose number is its own modulo the number of workers, and works in a thread of its own. The
-//! threads are those of whoever calls (`rw_crew::Hands`): their job is [`Work`], each with a [`Share`] of the run. In a
-//! window a worker executes, in order, what waits at its processes before the window's end. Then it sends each other worker
-//! one batch: the events for that one, and a time before which it sends nothing more, the lookahead after the first event
-//! that it has or may still hear of. It takes up one batch of each other worker, for which it waits, and its next window
-//! goes up to the least time that it was told or told others. So the workers go in lockstep, none more than a window ahead
-//! of another: there is a ring each way between any two of them, no barrier, no lock and no board.
+//! threads are those of whoever calls (`rw_crew::Hands`): their job is [`Work`], each with a [`Share`] of the run. A worker
+//! executes, in order, what waits at its processes before some time. Then it sends each other worker one batch: the events for
+//! that one, and a time before which it sends nothing more, the lookahead after the first event that it has or may still hear
+//! of. It takes up one batch of each other worker, for which it waits, and goes on up to the least time that it was told or
+//! told others.
+//!
+//! It goes by a third of the lookahead at a time, and takes up the batches of the others two behind. So one that has much to do
+//! in one part does not hold the others up, as long as it is no more than two parts behind them. There is a ring each way
+//! between any two workers, with a bell beside it for the one that sleeps while it waits, no barrier and no board.
 //!
 //! [`run_in_windows`] deals a run out to the workers, and puts together what they leave once all have come to the end. From
 //! there whoever called goes on: in windows up to a later end, or by another engine, as by `rw_serial::go_on`.
@@ -23,6 +26,7 @@
 
 mod batch;
 mod beginning;
+mod bells;
 mod ending;
 mod exchanging;
 mod running;

@@ -30,14 +30,14 @@ pub struct Left<M: VtModel> {
 /// Goes on with a run, from these states with these events, until all events before `end` are executed, in ticks, by
 /// `workers` workers, 1 to 16, each in a thread of its own. `hands` has the threads, the calling one among them.
 ///
-/// They go on window by window, and execute for good, so that nothing is ever undone (conservative synchronization: Chandy
-/// and Misra 1979). All that the model sends is at least `lookahead` ticks, 1 or more, after the event that it is sent for.
-/// So after each window a worker can say before which time it sends nothing more: the lookahead after the first event that
-/// it has or may still hear of. It says so to each other worker, with the events for that one, and hears what each other
-/// says. The next window goes up to the least that was said, or up to `end`.
+/// They execute for good, so that nothing is ever undone (conservative synchronization: Chandy and Misra 1979). All that the
+/// model sends is at least `lookahead` ticks, 1 or more, after the event that it is sent for. So again and again a worker can
+/// say before which time it sends nothing more: the lookahead after the first event that it has or may still hear of. It says
+/// so to each other worker, with the events for that one, and hears what each other says. It may go on up to the least that
+/// was said, or up to `end`.
 ///
-/// Each window costs a batch from each worker to each other one. Several workers cross a time in which nothing waits a
-/// lookahead at a window, also behind the last event: so `end` should not be far behind that.
+/// A window of the lookahead costs up to three batches from each worker to each other one, also where nothing waits, and behind
+/// the last event: so `end` should not be far behind that.
 ///
 /// What comes back is the model, and what is left of the run: no event before `end`, and from the states with the events that
 /// are left the run ends as it does from where it began, whatever more comes from outside, none of it before `end`.

@@ -1,6 +1,7 @@
 ghost use Rattle.std.specs.Prelude.{◌≡◌, ◌≤◌, true};
 
 use crate::batch::{Batch, InTime};
+use crate::bells::Bells;
 use rw_exchange::Port;
 use rw_vt::{Event, Model as VtModel};
 use std::marker::Model;
@@ -26,6 +27,8 @@ pub struct Share<M: VtModel> {
     pub(crate) events: Vec<Event<M::Body>>,
     /// Its ends of the rings to and from the others.
     pub(crate) port: Port<Batch<M>, InTime>,
+    /// The bells beside its rings.
+    pub(crate) bells: Bells,
     /// What is to be handed over to each worker.
     pub(crate) away: Vec<Vec<Event<M::Body>>>,
     /// Up to which time it has executed, in ticks.

@@ -2,18 +2,20 @@ ghost use Rattle.std.specs.Prelude.{◌≡◌, IfErr, IfNone, IfSome, OnOk};
 ghost use Rattle.rw_exchange.specs.Ports.{IsOther, SamePort};
 ghost use Rattle.rw_exchange.specs.Ports.{after_receiving, after_sending, free_to, received_from, sent_to};
 
+use crate::bells::Bells;
 use rw_exchange::{Port, Protocol};
 use std::sync::Wait;
 use std::thread;
 
-/// How often a ring is looked at before the processor is given to another thread.
-const TRIES: u32 = 128;
+/// How often a ring is looked at before the worker sleeps, which takes several microseconds: about as long.
+const TRIES: u32 = 1024;
 
-/// Sends an item to another worker, for which it waits while the ring has no room. The item comes back where another
+/// Sends an item to another worker and rings there; while the ring has no room it waits. The item comes back where another
 /// worker is gone.
 pub(crate) fn send_waiting<T: Drop, P: Protocol<T>, R: Wait>(
     rt: &R,
     port: &mut Port<T, P>,
+    bells: &Bells,
     to: usize,
     item: T,
 ) -> Result<(), T>
@@ -26,7 +28,10 @@ pub(crate) fn send_waiting<T: Drop, P: Protocol<T>, R: Wait>(
     let mut item = item;
     for _ in rt.forever() {
         match port.send(to, item) {
-            Ok(()) => return Ok(()),
+            Ok(()) => {
+                bells.ring(rt, to);
+                return Ok(());
+            }
             Err(back) => item = back,
         }
         if port.is_deserted() {
@@ -37,10 +42,12 @@ pub(crate) fn send_waiting<T: Drop, P: Protocol<T>, R: Wait>(
     unreachable!()
 }
 
-/// The next item from another worker, for which it waits. `None` where another worker is gone.
+/// The next item from another worker, for which it waits, after a while asleep: the processor may be wanted by others, maybe by
+/// the very one that it waits for. `None` where another worker is gone.
 pub(crate) fn receive_waiting<T: Drop, P: Protocol<T>, R: Wait>(
     rt: &R,
     port: &mut Port<T, P>,
+    bells: &Bells,
     from: usize,
 ) -> Option<T>
     requires other { IsOther port.old from }
@@ -62,8 +69,7 @@ pub(crate) fn receive_waiting<T: Drop, P: Protocol<T>, R: Wait>(
         if port.is_deserted() {
             return None;
         }
-        tries = 0;
-        thread::yield_now();
+        bells.hear(rt, from);
     }
     unreachable!()
 }

@@ -1,4 +1,4 @@
-ghost use Rattle.std.specs.Prelude.{◌≡◌, IfOk, OnOk, false};
+ghost use Rattle.std.specs.Prelude.{◌≡◌, IfOk, OnOk};
 ghost use Rattle.rw_windows.specs.Working.{IsAtWork, SameWorker};
 
 use crate::share::Share;
@@ -20,19 +20,18 @@ pub struct Work<'r, M: VtModel, R> {
 }
 
 impl<'r, M: VtModel, R: Wait> Work<'r, M, R> {
-    /// Tells the others how far the worker has come, hears how far they have, and goes on to the next window. Answers whether
-    /// all are still there.
+    /// Tells the others how far the worker has come, hears how far they had come some batches ago, and goes further. Answers
+    /// whether all are still there.
     fn go_on(&self, worker: &mut Worker<M>) -> Result<bool, Refusal>
         requires at_work { IsAtWork M.Model M.Body.cmp self.now.model worker.old }
         ensures at_work { OnOk result (IsAtWork M.Model M.Body.cmp self.now.model worker.new) }
         ensures same { OnOk result (SameWorker worker.old worker.new) }
-        ensures until { IfOk result (λ there. there ≡ false
-            → worker.new.until ≡ worker.old.until) }
     {
         if !worker.say(self.rt, self.alloc, &self.model)? {
             return Ok(false);
         }
-        if !worker.hear(self.rt, &self.model)? {
+        worker.note_idle();
+        if !worker.leaves_unheard() && !worker.hear(self.rt, &self.model)? {
             return Ok(false);
         }
         worker.go_further(&self.model);
@@ -50,14 +49,16 @@ impl<'r, M: VtModel, R: Wait> Job<Share<M>> for Work<'r, M, R> {
     fn run(&self, share: Share<M>) -> Result<Share<M>, Refusal> {
         let mut worker = Worker::of(self.alloc, share)?;
         let mut sent = Vec::new(self.alloc);
+        let mut are_there = true;
         worker.go_further(&self.model);
         for _ in self.rt.forever() {
             if worker.execute_next(self.alloc, &self.model, &mut sent)? {
                 continue;
             }
-            if worker.is_done() || !self.go_on(&mut worker)? {
+            if !are_there || (worker.is_done() && worker.all_are_idle()) {
                 return Ok(worker.into_share(self.alloc)?);
             }
+            are_there = self.go_on(&mut worker)?;
         }
         unreachable!()
     }

@@ -2,6 +2,7 @@ ghost use Rattle.std.specs.Prelude.{◌≡◌, ◌≤◌, ◌<◌, ◌≢◌, []
 ghost use Rattle.rw_windows.specs.Working.{HandedOver, IsAtWork, IsDealt, IsReordered, SameWorker};
 
 use crate::batch::{Batch, InTime};
+use crate::bells::Bells;
 use crate::share::Share;
 use rw_exchange::Port;
 use rw_serial::{Pending, Sorted};
@@ -9,6 +10,10 @@ use rw_vt::{Event, Model as VtModel, Refusal};
 use std::alloc::{AllocError, Global};
 use std::marker::Model;
 use std::snapshot::Snapshot;
+
+/// How many batches of each other worker are left to be heard later, where the lookahead has as many parts and one: so workers
+/// need not be equally fast in each of them. More parts would be more batches, and gain little.
+const UNHEARD: u32 = 2;
 
 /// One worker at work: its share of the run, of which what waits is in the order of execution.
 ///
@@ -29,6 +34,8 @@ pub(crate) struct Worker<M: VtModel> {
     pub(crate) pending: Pending<M::Body, Sorted<M::Body>>,
     /// Its ends of the rings to and from the others.
     pub(crate) port: Port<Batch<M>, InTime>,
+    /// The bells beside its rings.
+    pub(crate) bells: Bells,
     /// What is to be handed over to each worker.
     pub(crate) away: Vec<Vec<Event<M::Body>>>,
     /// Up to which time it executes, in ticks.
@@ -37,6 +44,10 @@ pub(crate) struct Worker<M: VtModel> {
     pub(crate) heard: u64,
     /// Before which time it sends nothing more, in ticks.
     pub(crate) said: u64,
+    /// How many batches of each other worker it has left to be heard later.
+    pub(crate) unheard: u32,
+    /// In how many batches it has said that it has nothing to do before the end, nor hears of anything.
+    pub(crate) idle: u32,
     /// How many events it executed.
     pub(crate) executed: u64,
     /// How many events it heard of.
@@ -84,6 +95,7 @@ impl<M: VtModel> Worker<M> {
             states,
             events,
             port,
+            bells,
             away,
             until,
             heard,
@@ -102,10 +114,13 @@ impl<M: VtModel> Worker<M> {
             states,
             pending,
             port,
+            bells,
             away,
             until,
             heard,
             said,
+            unheard: 0,
+            idle: 0,
             executed,
             received,
             starts,
@@ -125,10 +140,13 @@ impl<M: VtModel> Worker<M> {
             states,
             mut pending,
             port,
+            bells,
             away,
             until,
             heard,
             said,
+            unheard: _,
+            idle: _,
             executed,
             received,
             starts,
@@ -143,6 +161,7 @@ impl<M: VtModel> Worker<M> {
             states,
             events,
             port,
+            bells,
             away,
             until,
             heard,
@@ -157,12 +176,37 @@ impl<M: VtModel> Worker<M> {
     /// Whether it has executed all that is before the end, in the last window.
     pub(crate) fn is_done(&self) -> bool
         ensures done { result ≡ true → self.now.end ≤ self.now.until }
-        ensures not_yet { result ≡ false → self.now.until < self.now.end }
     {
         self.until >= self.end
     }
 
-    /// Goes on to the next window: up to what was heard and said, and not past the end.
+    /// Whether all workers have nothing to do before the end any more, as they said, it too, in the batches that are heard by
+    /// now. Each finds so after as many batches, so none waits for one that does not come.
+    pub(crate) fn all_are_idle(&self) -> bool {
+        self.heard >= self.end.saturating_add(self.lookahead) && self.idle > self.lag()
+    }
+
+    /// Counts the batch that it has just said, where it is idle by that.
+    pub(crate) fn note_idle(&mut self)
+        ensures same { self.new ≡ self.old }
+    {
+        if self.said >= self.end.saturating_add(self.lookahead) {
+            self.idle = self.idle.saturating_add(1);
+        }
+    }
+
+    /// Whether it leaves one more batch of each other worker to be heard later.
+    pub(crate) fn leaves_unheard(&mut self) -> bool
+        ensures same { self.new ≡ self.old }
+    {
+        if self.unheard >= self.lag() {
+            return false;
+        }
+        self.unheard += 1;
+        true
+    }
+
+    /// Goes further: up to what was heard and said, not past the end, and by a part of the lookahead, counted from what waits.
     pub(crate) fn go_further(&mut self, model: &M)
         requires at_work { IsAtWork M.Model M.Body.cmp model.now self.old }
         requires handed_over { HandedOver self.old }
@@ -170,7 +214,24 @@ impl<M: VtModel> Worker<M> {
         ensures same { SameWorker self.old self.new }
         ensures handed_over { HandedOver self.new }
     {
-        self.until = self.until.max(self.heard.min(self.said).min(self.end));
+        let parts = u64::from(self.lag()) + 1;
+        let first = self.pending.least_time().unwrap_or(u64::MAX);
+        let next = self
+            .until
+            .max(first)
+            .saturating_add(self.lookahead.div_ceil(parts));
+        let bound = self.heard.min(self.said).min(self.end).min(next);
+        self.until = self.until.max(bound);
+    }
+
+    /// How many batches of each other worker it stays behind: less than the lookahead has ticks.
+    fn lag(&self) -> u32 {
+        let most = self.lookahead.saturating_sub(1);
+        if most < u64::from(UNHEARD) {
+            most as u32
+        } else {
+            UNHEARD
+        }
     }
 
     /// Executes the next event of the window for good, with no undo record, and answers whether there was one. What it sends

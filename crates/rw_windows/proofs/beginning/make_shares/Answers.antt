@@ -13,6 +13,7 @@ loop-number-init g c =
       shares_left = omega (arith, c.requires.shares);
       inboxes_left = omega (arith, c.requires.inboxes);
       ports_left = omega (arith, c.requires.ports);
+      bells_left = omega (arith, c.requires.bells);
       starts_left = omega (arith, c.requires.starts);
       capacity = c.in_ok-shares.ensures.exact;
       count = c.in_ok-shares.ensures.len;
@@ -32,6 +33,9 @@ next_share-requires-clause-inboxes g c = λ empty. omega (arith, ap length empty
 
 pub next_share-requires-clause-ports : goal.next_share-requires-clause-ports
 next_share-requires-clause-ports g c = λ empty. omega (arith, ap length empty, c.loop-number.invariant.ports_left, c.loop-number-test.true)
+
+pub next_share-requires-clause-bells : goal.next_share-requires-clause-bells
+next_share-requires-clause-bells g c = λ empty. omega (arith, ap length empty, c.loop-number.invariant.bells_left, c.loop-number-test.true)
 
 pub next_share-requires-clause-starts : goal.next_share-requires-clause-starts
 next_share-requires-clause-starts g c = λ empty. omega (arith, ap length empty, c.loop-number.invariant.starts_left, c.loop-number-test.true)
@@ -56,6 +60,7 @@ loop-number-preserved g c =
       shares_left = omega (arith, shares, known.shares_left);
       inboxes_left = omega (arith, inboxes, known.inboxes_left);
       ports_left = omega (arith, ap length is.port, known.ports_left);
+      bells_left = omega (arith, is.bells, known.bells_left);
       starts_left = omega (arith, starts, known.starts_left);
       capacity = c.push_reserved.ensures.capacity ∙ known.capacity;
       count = omega (arith, c.push_reserved.ensures.len, known.count);

@@ -7,6 +7,7 @@ invariant-loop-number g l = record {
   shares_left : l.number + length l.supply.shares.items ≡ l.terms.workers;
   inboxes_left : l.number + length l.supply.inboxes.items ≡ l.terms.workers;
   ports_left : l.number + length l.supply.ports.items ≡ l.terms.workers;
+  bells_left : l.number + length l.supply.bells.items ≡ l.terms.workers;
   starts_left : l.number + length l.supply.starts.items ≡ l.terms.workers;
   capacity : vec_capacity l.shares ≡ l.terms.workers;
   count : vec_len l.shares ≡ l.number;

@@ -32,9 +32,12 @@ returns-clause-greeted g c =
     let t = c.args.terms in
     (subst (AreGreeted t.workers (greeting c.args.model.now t.workers t.reach)) (sym same) its.greeted, subst (NoneItself t.workers) (sym same) its.own)
 
+pub returns-clause-bells : goal.returns-clause-bells
+returns-clause-bells g c = ap length c.from-4.ensures.0 ∙ c.in_ok-bells.ensures.count
+
 pub returns-clause-starts : goal.returns-clause-starts
 returns-clause-starts g c =
-    ap (map (λ x. x.value.items)) c.from-4.ensures.0
+    ap (map (λ x. x.value.items)) c.from-5.ensures.0
     ∙ map_twice (λ v. v.items) (λ x. x.value) c.in_ok-starts.starts.items
     ∙ ap (map (λ v. v.items)) c.in_ok-starts.ensures
     ∙ map_replicate (λ v. v.items) c.args.terms.workers c.args.states
