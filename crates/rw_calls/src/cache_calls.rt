@@ -5,7 +5,7 @@ ghost use Rattle.rw_photo.specs.Events.{is_valid};
 ghost use Rattle.rw_photo.specs.Undoing.{TakesBack};
 
 use crate::setback::Setback;
-use rw_photo::{Body, CacheState, Config, Event, Photo, Policy, Shape, Undo};
+use rw_photo::{Body, CacheState, Config, Counters, Event, Photo, Policy, Shape, Undo};
 use rw_vt::Model;
 use std::alloc::Global;
 
@@ -72,27 +72,76 @@ pub const SPLIT_AND_MERGE: Course = Course {
     ],
 };
 
+/// What the edge has counted before the last event of a course, after it, and once it is reversed.
+#[derive(Clone, Copy)]
+struct Counted {
+    before: Counters,
+    after: Counters,
+    reversed: Counters,
+}
+
 /// Executes the events of the course and reverses the last one. Tells what the edge has counted before the last one,
 /// after it, and once it is reversed.
 pub fn tell<R: Print>(rt: &R, alloc: Global, course: &Course) -> Result<(), Setback> {
+    let Counted {
+        before,
+        after,
+        reversed,
+    } = follow(alloc, course)?;
+    println!(rt; "before {before:?}")?;
+    println!(rt; "after {after:?}")?;
+    println!(rt; "reversed {reversed:?}")?;
+    Ok(())
+}
+
+/// Executes the events of the course and reverses the last one.
+fn follow(alloc: Global, course: &Course) -> Result<Counted, Setback> {
     let photo = photo(course)?;
     let Some((last, first)) = course.bodies.split_last() else {
         return Err(Setback::Other);
     };
     let mut edge = photo.start(alloc, 0)?;
-    for body in first {
-        let _undo = execute(alloc, &photo, &mut edge, &event(*body))?;
+    execute_all(alloc, &photo, &mut edge, first)?;
+    execute_and_reverse(alloc, &photo, &mut edge, &event(*last))
+}
+
+/// Executes what happens at edge 0, first to last.
+fn execute_all(
+    alloc: Global,
+    photo: &Photo,
+    edge: &mut CacheState,
+    bodies: &[Body],
+) -> Result<(), Setback>
+    requires number { 0 < photo.now.config.edges + photo.now.config.origins }
+    requires well_formed { IsWellFormed photo.now.config 0 edge.old }
+    ensures well_formed { OnOk result (IsWellFormed photo.now.config 0 edge.new) }
+{
+    for body in bodies {
+        let _undo = execute(alloc, photo, edge, &event(*body))?;
     }
-    let before = edge.counters();
-    let event = event(*last);
-    let undo = execute(alloc, &photo, &mut edge, &event)?;
-    let after = edge.counters();
-    photo.reverse(alloc, 0, &mut edge, &event, undo)?;
-    let reversed = edge.counters();
-    println!(rt; "before {before:?}")?;
-    println!(rt; "after {after:?}")?;
-    println!(rt; "reversed {reversed:?}")?;
     Ok(())
+}
+
+/// Executes an event at edge 0 and reverses it.
+fn execute_and_reverse(
+    alloc: Global,
+    photo: &Photo,
+    edge: &mut CacheState,
+    event: &Event<Body>,
+) -> Result<Counted, Setback>
+    requires number { 0 < photo.now.config.edges + photo.now.config.origins }
+    requires well_formed { IsWellFormed photo.now.config 0 edge.old }
+{
+    let before = edge.counters();
+    let undo = execute(alloc, photo, edge, event)?;
+    let after = edge.counters();
+    photo.reverse(alloc, 0, edge, event, undo)?;
+    let reversed = edge.counters();
+    Ok(Counted {
+        before,
+        after,
+        reversed,
+    })
 }
 
 /// The model of an edge under least recently used, with a queue of this shape.
