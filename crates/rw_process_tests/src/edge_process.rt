@@ -105,20 +105,28 @@ fn cancelled(alloc: Global) -> Result<Desk<Photo>, Fail> {
     )
 }
 
-/// Goes through the lines, after which the edge has counted this.
-fn ends(
+/// Goes through the lines, after which the cache has counted this.
+pub fn ends(
+    desk: Desk<Photo>,
     alloc: Global,
     lines: &[Line<'_, Body>],
     counted: Counters,
-    desk: Desk<Photo>,
 ) -> Result<(), Fail> {
-    let desk = desk.does(alloc, lines)?;
-    let counters = desk.state().counters();
-    if counters == counted {
+    if counted_after(desk, alloc, lines)? == counted {
         Ok(())
     } else {
         Err(Fail::from("other counters"))
     }
+}
+
+/// Goes through the lines, and what the cache has then counted.
+fn counted_after(
+    desk: Desk<Photo>,
+    alloc: Global,
+    lines: &[Line<'_, Body>],
+) -> Result<Counters, Fail> {
+    let desk = desk.does(alloc, lines)?;
+    Ok(desk.state().counters())
 }
 
 /// The counters of an edge that has had `requests` requests of 4 bytes, each a miss, of which `coalesced` were coalesced
@@ -136,23 +144,24 @@ fn missed(requests: u64, coalesced: u64, late: u64) -> Counters {
 
 #[test]
 fn a_request_joins_the_one_before(rt: HostRuntime) -> Result<(), Fail> {
-    ends(rt.alloc(), &[], missed(2, 1, 0), joined(rt.alloc())?)
+    ends(joined(rt.alloc())?, rt.alloc(), &[], missed(2, 1, 0))
 }
 
 #[test]
 fn a_fill_makes_a_request_late(rt: HostRuntime) -> Result<(), Fail> {
-    ends(rt.alloc(), &[], missed(2, 0, 1), filled(rt.alloc())?)
+    ends(filled(rt.alloc())?, rt.alloc(), &[], missed(2, 0, 1))
 }
 
 #[test]
 fn a_cancelled_fill_is_undone(rt: HostRuntime) -> Result<(), Fail> {
-    ends(rt.alloc(), &[], missed(1, 0, 0), cancelled(rt.alloc())?)
+    ends(cancelled(rt.alloc())?, rt.alloc(), &[], missed(1, 0, 0))
 }
 
 #[test]
 fn an_anti_message_comes_before_its_message(rt: HostRuntime) -> Result<(), Fail> {
     let (first, second) = (request(5, 0), request(22, 1));
     ends(
+        cancelled(rt.alloc())?,
         rt.alloc(),
         &[
             Gives(ExecuteNext, &[]),
@@ -164,13 +173,13 @@ fn an_anti_message_comes_before_its_message(rt: HostRuntime) -> Result<(), Fail>
             Settled(&[first, second]),
         ],
         missed(2, 1, 0),
-        cancelled(rt.alloc())?,
     )
 }
 
 #[test]
 fn a_held_message_is_not_sent_again(rt: HostRuntime) -> Result<(), Fail> {
     ends(
+        filled(rt.alloc())?,
         rt.alloc(),
         &[
             Gives(UndoLazily, &[]),
@@ -179,13 +188,13 @@ fn a_held_message_is_not_sent_again(rt: HostRuntime) -> Result<(), Fail> {
             Ahead(&[request(5, 0), fill(21, 0), request(22, 1)], None, END),
         ],
         missed(2, 0, 1),
-        filled(rt.alloc())?,
     )
 }
 
 #[test]
 fn a_held_message_is_cancelled_that_is_not_sent_again(rt: HostRuntime) -> Result<(), Fail> {
     ends(
+        filled(rt.alloc())?,
         rt.alloc(),
         &[
             Gives(ArriveLazily(anti(fill(21, 0))), &[]),
@@ -194,13 +203,13 @@ fn a_held_message_is_cancelled_that_is_not_sent_again(rt: HostRuntime) -> Result
             Ahead(&[request(5, 0), request(22, 1)], None, END),
         ],
         missed(2, 1, 0),
-        filled(rt.alloc())?,
     )
 }
 
 #[test]
 fn a_held_message_is_cancelled_with_its_event(rt: HostRuntime) -> Result<(), Fail> {
     ends(
+        filled(rt.alloc())?,
         rt.alloc(),
         &[
             Gives(UndoLazily, &[]),
@@ -208,7 +217,6 @@ fn a_held_message_is_cancelled_with_its_event(rt: HostRuntime) -> Result<(), Fai
             Ahead(&[request(5, 0), fill(21, 0)], None, END),
         ],
         missed(1, 0, 1),
-        filled(rt.alloc())?,
     )
 }
 
@@ -229,32 +237,44 @@ fn a_fill_that_nobody_awaits_is_stored(rt: HostRuntime) -> Result<(), Fail> {
         inserted: 1,
         ..Counters::default()
     };
-    ends(rt.alloc(), &[], counted, stored(rt.alloc())?)
+    ends(stored(rt.alloc())?, rt.alloc(), &[], counted)
 }
 
 #[test]
 fn a_fill_that_nobody_awaits_is_taken_back(rt: HostRuntime) -> Result<(), Fail> {
     ends(
+        stored(rt.alloc())?,
         rt.alloc(),
         &[Gives(UndoOne, &[])],
         Counters::default(),
-        stored(rt.alloc())?,
     )
+}
+
+/// Caches that store what they are given: one edge and one origin.
+fn storing() -> Result<Photo, Fail> {
+    let shape = Shape::new(8, 4, 64).ok_or("shape")?;
+    let config = Config::new(1, 1, Policy::Lru, shape, shape, 3, 3, 10).ok_or("config")?;
+    Ok(Photo::new(config))
+}
+
+/// What edge 0 has counted that executes a fill at its start and takes it back, which sends nothing.
+fn taken_back(alloc: Global, photo: &Photo, fill: &Event<Body>) -> Result<Counters, Fail> {
+    if photo.processes() == 0 || fill.to != 0 || !photo.valid(fill) {
+        return Err(Fail::from("an event that is not valid here"));
+    }
+    let mut edge = photo.start(alloc, 0)?;
+    let sent = execute_and_reverse(alloc, photo, 0, &mut edge, fill)?;
+    if sent.is_empty() {
+        Ok(edge.counters())
+    } else {
+        Err(Fail::from("a fill that sends"))
+    }
 }
 
 #[test]
 fn a_fill_at_the_start_leaves_the_very_state(rt: HostRuntime) -> Result<(), Fail> {
-    let alloc = rt.alloc();
-    let shape = Shape::new(8, 4, 64).ok_or("shape")?;
-    let config = Config::new(1, 1, Policy::Lru, shape, shape, 3, 3, 10).ok_or("config")?;
-    let photo = Photo::new(config);
-    let fill = fill(21, 0);
-    assert!(rt; fill.to == 0);
-    assert!(rt; photo.valid(&fill));
-    let mut edge = photo.start(alloc, 0)?;
-    let sent = execute_and_reverse(alloc, &photo, 0, &mut edge, &fill)?;
-    assert!(rt; sent.is_empty());
-    assert_eq!(rt; edge.counters(), Counters::default());
+    let counted = taken_back(rt.alloc(), &storing()?, &fill(21, 0))?;
+    assert_eq!(rt; counted, Counters::default());
     Ok(())
 }
 
@@ -273,30 +293,58 @@ fn asked(number: u8) -> (Event<Body>, Event<Body>) {
     (request, miss)
 }
 
-#[test]
-fn the_past_is_committed_across_runs_of_records(rt: HostRuntime) -> Result<(), Fail> {
-    let alloc = rt.alloc();
+/// Two hundred such requests.
+fn requests(alloc: Global) -> Result<Vec<Event<Body>>, Fail> {
     let mut requests = Vec::new(alloc);
     for number in 0..200 {
         requests.push(asked(number).0)?;
     }
-    let mut desk = edge(alloc, Policy::Off, requests.clone()?)?;
+    Ok(requests)
+}
+
+/// The edge that has executed them all.
+fn executed(alloc: Global, edge: Desk<Photo>) -> Result<Desk<Photo>, Fail> {
+    let mut edge = edge;
     for number in 0..200 {
-        desk = desk.does(alloc, &[Gives(ExecuteNext, &[message(asked(number).1)])])?;
+        edge = edge.does(alloc, &[Gives(ExecuteNext, &[message(asked(number).1)])])?;
     }
-    let parts = requests.as_slice().split_at_checked(129);
-    let (committed, processed) = parts.ok_or("requests")?;
-    let lines = [
+    Ok(edge)
+}
+
+/// The edge that has undone all but the first 129.
+fn undone(alloc: Global, edge: Desk<Photo>) -> Result<Desk<Photo>, Fail> {
+    let mut edge = edge;
+    for number in (129..200).rev() {
+        edge = edge.does(alloc, &[Gives(UndoOne, &[anti(asked(number).1)])])?;
+    }
+    Ok(edge)
+}
+
+/// Goes through the collection of the first requests, and the undoing of the others.
+fn collects<'a>(
+    alloc: Global,
+    committed: &'a [Event<Body>],
+    processed: &'a [Event<Body>],
+    edge: Desk<Photo>,
+) -> Result<(), Fail> {
+    let collected = [
         Gives(Collect(130), &[]),
         Shows(committed, processed, None, END),
     ];
-    desk = desk.does(alloc, &lines)?;
-    for number in (129..200).rev() {
-        desk = desk.does(alloc, &[Gives(UndoOne, &[anti(asked(number).1)])])?;
-    }
-    let lines = [
+    let left = [
         Refuses(UndoOne, StepFault::NothingToUndo),
         Shows(committed, &[], Some(asked(129).0), 130),
     ];
-    ends(alloc, &lines, missed(129, 0, 0), desk)
+    let edge = undone(alloc, edge.does(alloc, &collected)?)?;
+    ends(edge, alloc, &left, missed(129, 0, 0))
+}
+
+#[test]
+fn the_past_is_committed_across_runs_of_records(rt: HostRuntime) -> Result<(), Fail> {
+    let alloc = rt.alloc();
+    let requests = requests(alloc)?;
+    let parts = requests.as_slice().split_at_checked(129);
+    let (committed, processed) = parts.ok_or("requests")?;
+    let edge = executed(alloc, edge(alloc, Policy::Off, requests.clone()?)?)?;
+    collects(alloc, committed, processed, edge)
 }

@@ -41,10 +41,10 @@ fn ahead(alloc: Global) -> Result<Desk<Stop>, Fail> {
 
 /// Goes through the lines, after which so many passengers have come.
 fn ends(
+    desk: Desk<Stop>,
     alloc: Global,
     lines: &[Line<'_, Note>],
     passengers: u64,
-    desk: Desk<Stop>,
 ) -> Result<(), Fail> {
     let desk = desk.does(alloc, lines)?;
     if desk.state().events == passengers {
@@ -57,6 +57,7 @@ fn ends(
 #[test]
 fn what_is_sent_again_as_it_was_is_not_sent(rt: HostRuntime) -> Result<(), Fail> {
     ends(
+        ahead(rt.alloc())?,
         rt.alloc(),
         &[
             Gives(UndoLazily, &[]),
@@ -65,13 +66,13 @@ fn what_is_sent_again_as_it_was_is_not_sent(rt: HostRuntime) -> Result<(), Fail>
             Ahead(&[passenger(5, 0), passenger(8, 1)], None, END),
         ],
         2,
-        ahead(rt.alloc())?,
     )
 }
 
 #[test]
 fn of_two_messages_the_one_that_changes_is_sent_anew(rt: HostRuntime) -> Result<(), Fail> {
     ends(
+        ahead(rt.alloc())?,
         rt.alloc(),
         &[
             Gives(
@@ -83,7 +84,6 @@ fn of_two_messages_the_one_that_changes_is_sent_anew(rt: HostRuntime) -> Result<
             Ahead(&[passenger(8, 1)], None, END),
         ],
         1,
-        ahead(rt.alloc())?,
     )
 }
 
@@ -92,6 +92,7 @@ fn of_equal_messages_the_one_that_came_first_goes_first(rt: HostRuntime) -> Resu
     // The later passenger is undone first. So the earlier one, executed again, takes the call of the later one for its own,
     // and cancels its own; then the later one sends the call anew.
     ends(
+        ahead(rt.alloc())?,
         rt.alloc(),
         &[
             Gives(UndoLazily, &[]),
@@ -102,7 +103,6 @@ fn of_equal_messages_the_one_that_came_first_goes_first(rt: HostRuntime) -> Resu
             Ahead(&[passenger(5, 0), passenger(8, 1)], None, END),
         ],
         2,
-        ahead(rt.alloc())?,
     )
 }
 
@@ -110,6 +110,7 @@ fn of_equal_messages_the_one_that_came_first_goes_first(rt: HostRuntime) -> Resu
 fn a_straggler_may_send_what_is_held(rt: HostRuntime) -> Result<(), Fail> {
     let late = passenger(6, 2);
     ends(
+        ahead(rt.alloc())?,
         rt.alloc(),
         &[
             Gives(ArriveLazily(message(late)), &[]),
@@ -118,7 +119,6 @@ fn a_straggler_may_send_what_is_held(rt: HostRuntime) -> Result<(), Fail> {
             Gives(ExecuteNext, &[message(call()), message(told(3))]),
         ],
         3,
-        ahead(rt.alloc())?,
     )
 }
 
@@ -126,6 +126,7 @@ fn a_straggler_may_send_what_is_held(rt: HostRuntime) -> Result<(), Fail> {
 fn what_is_held_is_cancelled_with_the_last_copy(rt: HostRuntime) -> Result<(), Fail> {
     let twice = passenger(8, 1);
     ends(
+        ahead(rt.alloc())?,
         rt.alloc(),
         &[
             Gives(UndoLazily, &[]),
@@ -137,7 +138,6 @@ fn what_is_held_is_cancelled_with_the_last_copy(rt: HostRuntime) -> Result<(), F
             Ahead(&[passenger(5, 0)], None, END),
         ],
         1,
-        ahead(rt.alloc())?,
     )
 }
 

@@ -3,6 +3,7 @@
 use crate::desk::Call::{ExecuteNext, UndoOne};
 use crate::desk::Desk;
 use crate::desk::Line::Gives;
+use crate::edge_process::ends;
 use rw_photo::{Body, CacheState, Config, Counters, Photo, Policy, Shape};
 use rw_ripqwarp::beginning;
 use rw_vt::{Event, Letter, Model};
@@ -86,27 +87,33 @@ fn cleared(to: u32, number: u64, anti: bool) -> Letter<Body> {
     Letter { event, anti }
 }
 
+/// The origin of three edges, which edge 1 is to have drop an object.
+fn origin(alloc: Global) -> Result<Desk<Photo>, Fail> {
+    let photo = Photo::new(config(3)?);
+    if photo.processes() <= 3 {
+        return Err(Fail::from("processes"));
+    }
+    let initial = Vec::from_array(alloc, [dropped()])?;
+    let start = photo.start(alloc, 3)?;
+    Desk::open(alloc, photo, 3, start, initial)
+}
+
 #[test]
 fn a_drop_tells_every_edge_but_one_and_is_taken_back(rt: HostRuntime) -> Result<(), Fail> {
-    let alloc = rt.alloc();
-    let photo = Photo::new(config(3)?);
-    assert!(rt; 3 < photo.processes());
-    let start = photo.start(alloc, 3)?;
-    let initial = Vec::from_array(alloc, [dropped()])?;
     let tells = [cleared(0, 0, false), cleared(2, 1, false)];
     let takes_back = [cleared(0, 0, true), cleared(2, 1, true)];
-    let desk = Desk::open(alloc, photo, 3, start, initial)?.does(
-        alloc,
+    let counted = Counters {
+        purges: 1,
+        ..Counters::default()
+    };
+    ends(
+        origin(rt.alloc())?,
+        rt.alloc(),
         &[
             Gives(ExecuteNext, &tells),
             Gives(UndoOne, &takes_back),
             Gives(ExecuteNext, &tells),
         ],
-    )?;
-    let expected = Counters {
-        purges: 1,
-        ..Counters::default()
-    };
-    assert_eq!(rt; desk.state().counters(), expected);
-    Ok(())
+        counted,
+    )
 }

@@ -49,11 +49,11 @@ fn ahead(alloc: Global) -> Result<Desk<Relay>, Fail> {
 
 /// Goes through the lines, which leave this journal and this state.
 fn ends(
+    desk: Desk<Relay>,
     alloc: Global,
     lines: &[Line<'_, Parcel>],
     journal: &[Event<Parcel>],
     state: Station,
-    desk: Desk<Relay>,
 ) -> Result<(), Fail> {
     let (left, at) = desk.does(alloc, lines)?.into_outcome();
     if left.as_slice() == journal && at == state {
@@ -67,6 +67,7 @@ fn ends(
 fn waits_for_its_parcels(rt: HostRuntime) -> Result<(), Fail> {
     let (first, _) = coming();
     ends(
+        opened(rt.alloc())?,
         rt.alloc(),
         &[
             Refuses(UndoOne, StepFault::NothingToUndo),
@@ -74,7 +75,6 @@ fn waits_for_its_parcels(rt: HostRuntime) -> Result<(), Fail> {
         ],
         &[],
         station(0, 0, 0),
-        opened(rt.alloc())?,
     )
 }
 
@@ -83,6 +83,7 @@ fn executes_its_parcels(rt: HostRuntime) -> Result<(), Fail> {
     let (first, second) = coming();
     let (first_on, second_on) = passed_on();
     ends(
+        opened(rt.alloc())?,
         rt.alloc(),
         &[
             Gives(ExecuteNext, &[message(first_on)]),
@@ -92,7 +93,6 @@ fn executes_its_parcels(rt: HostRuntime) -> Result<(), Fail> {
         ],
         &[],
         station(7, 4, 2),
-        opened(rt.alloc())?,
     )
 }
 
@@ -100,11 +100,11 @@ fn executes_its_parcels(rt: HostRuntime) -> Result<(), Fail> {
 fn has_nothing_left_to_execute(rt: HostRuntime) -> Result<(), Fail> {
     let lines = [Refuses(ExecuteNext, StepFault::NothingPending)];
     ends(
+        ahead(rt.alloc())?,
         rt.alloc(),
         &lines,
         &[],
         station(7, 4, 2),
-        ahead(rt.alloc())?,
     )
 }
 
@@ -113,6 +113,7 @@ fn an_undoing_gives_back_the_state(rt: HostRuntime) -> Result<(), Fail> {
     let (first, second) = coming();
     let (_, second_on) = passed_on();
     ends(
+        ahead(rt.alloc())?,
         rt.alloc(),
         &[
             Gives(UndoOne, &[anti(second_on)]),
@@ -120,7 +121,6 @@ fn an_undoing_gives_back_the_state(rt: HostRuntime) -> Result<(), Fail> {
         ],
         &[],
         station(3, 3, 1),
-        ahead(rt.alloc())?,
     )
 }
 
@@ -152,11 +152,11 @@ fn caught_up(alloc: Global) -> Result<Desk<Relay>, Fail> {
 #[test]
 fn a_late_parcel_is_executed_in_its_place(rt: HostRuntime) -> Result<(), Fail> {
     ends(
+        caught_up(rt.alloc())?,
         rt.alloc(),
         &[],
         &[],
         station(9, 4, 3),
-        caught_up(rt.alloc())?,
     )
 }
 
@@ -165,6 +165,7 @@ fn a_late_parcel_is_a_straggler_until_it_is_cancelled(rt: HostRuntime) -> Result
     let (first, second) = coming();
     let (late, _, _) = late();
     ends(
+        ahead(rt.alloc())?,
         rt.alloc(),
         &[
             Gives(Deliver(message(late)), &[]),
@@ -175,7 +176,6 @@ fn a_late_parcel_is_a_straggler_until_it_is_cancelled(rt: HostRuntime) -> Result
         ],
         &[],
         station(7, 4, 2),
-        ahead(rt.alloc())?,
     )
 }
 
@@ -184,6 +184,7 @@ fn what_a_late_parcel_changed_is_taken_back(rt: HostRuntime) -> Result<(), Fail>
     let (first, second) = coming();
     let (late, late_on, then_on) = late();
     ends(
+        caught_up(rt.alloc())?,
         rt.alloc(),
         &[
             Refuses(Deliver(anti(late)), StepFault::StillDone),
@@ -192,7 +193,6 @@ fn what_a_late_parcel_changed_is_taken_back(rt: HostRuntime) -> Result<(), Fail>
         ],
         &[],
         station(3, 3, 1),
-        caught_up(rt.alloc())?,
     )
 }
 
@@ -201,6 +201,7 @@ fn a_debt_is_paid(rt: HostRuntime) -> Result<(), Fail> {
     let (first, second) = coming();
     let owed = parcel(9, 2, 1, 0, 1);
     ends(
+        ahead(rt.alloc())?,
         rt.alloc(),
         &[
             Gives(Deliver(anti(owed)), &[]),
@@ -211,7 +212,6 @@ fn a_debt_is_paid(rt: HostRuntime) -> Result<(), Fail> {
         ],
         &[],
         station(7, 4, 2),
-        ahead(rt.alloc())?,
     )
 }
 
@@ -219,7 +219,9 @@ fn a_debt_is_paid(rt: HostRuntime) -> Result<(), Fail> {
 fn equal_copies_count(rt: HostRuntime) -> Result<(), Fail> {
     let (first, second) = coming();
     let (late, _, _) = late();
+    let desk = opened(rt.alloc())?;
     ends(
+        desk,
         rt.alloc(),
         &[
             Gives(Deliver(message(late)), &[]),
@@ -243,7 +245,6 @@ fn equal_copies_count(rt: HostRuntime) -> Result<(), Fail> {
         ],
         &[],
         station(0, 0, 0),
-        opened(rt.alloc())?,
     )
 }
 
@@ -252,6 +253,7 @@ fn the_past_is_committed(rt: HostRuntime) -> Result<(), Fail> {
     let (first, second) = coming();
     let (_, second_on) = passed_on();
     ends(
+        ahead(rt.alloc())?,
         rt.alloc(),
         &[
             Gives(Collect(8), &[]),
@@ -264,7 +266,6 @@ fn the_past_is_committed(rt: HostRuntime) -> Result<(), Fail> {
         ],
         &[first, second],
         station(7, 4, 2),
-        ahead(rt.alloc())?,
     )
 }
 
