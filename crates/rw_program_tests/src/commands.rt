@@ -55,6 +55,14 @@ impl Source for Given {
     }
 }
 
+/// Adds the words of a command line.
+fn push_words(alloc: Global, text: &str, words: &mut Vec<String>) -> Result<(), AllocError> {
+    for word in text.split(' ') {
+        words.push(String::from_str(alloc, word)?)?;
+    }
+    Ok(())
+}
+
 /// Does what `text`, a command line, asks of a trace; its exit status, and how many bytes are then written.
 fn ripqwarp<E: Write, R: Threads + Wait + Clock + Sync>(
     rt: &R,
@@ -64,12 +72,23 @@ fn ripqwarp<E: Write, R: Threads + Wait + Clock + Sync>(
     err: &mut E,
 ) -> Result<(u8, usize), AllocError> {
     let mut words = Vec::new(alloc);
-    for word in text.split(' ') {
-        words.push(String::from_str(alloc, word)?)?;
-    }
+    push_words(alloc, text, &mut words)?;
     let mut out = Out::new(Vec::new(alloc));
     let status = command(rt, alloc, words, &mut Given { trace }, &mut out, err);
     Ok((status, out.into_inner().len()))
+}
+
+/// The exit status of a command line, how many bytes are then written, and whether this is on standard error.
+fn answered<R: Threads + Wait + Clock + Sync>(
+    rt: &R,
+    alloc: Global,
+    text: &str,
+    trace: &'static [u8],
+    told: &str,
+) -> Result<(u8, usize, bool), AllocError> {
+    let mut err = Vec::new(alloc);
+    let (status, written) = ripqwarp(rt, alloc, text, trace, &mut err)?;
+    Ok((status, written, err.as_slice() == told.as_bytes()))
 }
 
 #[test]
@@ -94,19 +113,29 @@ fn a_run_in_rounds_tells_what_they_did(rt: HostRuntime) -> Result<(), AllocError
             "traffic rounds 3 executed 3 undone 0 ring 0 kept 0\n",
         ),
     ] {
-        let mut err = Vec::new(alloc);
-        let answer = ripqwarp(&rt, alloc, words, trace, &mut err)?;
-        assert_eq!(rt; answer, (0, 409), "for {words}");
-        assert!(rt; err.as_slice() == told.as_bytes(), "for {words}");
+        let answer = answered(&rt, alloc, words, trace, told)?;
+        assert_eq!(rt; answer, (0, 409, true), "for {words}");
     }
     Ok(())
+}
+
+/// How a sweep over this value of an option is answered, and whether that it is no list is told.
+fn answered_list<R: Threads + Wait + Clock + Sync>(
+    rt: &R,
+    alloc: Global,
+    option: &str,
+    value: &str,
+) -> Result<(u8, usize, bool), AllocError> {
+    let none = "no list of its values; see ripqwarp sweep --help\n";
+    let words = format!(in alloc; "ripqwarp sweep --{option} {value} nothing")?;
+    let told = format!(in alloc; "error: --{option}: {none}")?;
+    answered(rt, alloc, words.as_str(), TRACE, told.as_str())
 }
 
 // Lists that are none, and too long ones, are told before the trace is read.
 #[test]
 fn a_list_that_is_none_is_told(rt: HostRuntime) -> Result<(), AllocError> {
     let alloc = rt.alloc();
-    let none = "no list of its values; see ripqwarp sweep --help\n";
     for (option, value) in [
         ("policy", "lru,slru9"),
         ("sections", "1,,2"),
@@ -114,37 +143,38 @@ fn a_list_that_is_none_is_told(rt: HostRuntime) -> Result<(), AllocError> {
         ("edge-blocks", "16..65537x2"),
         ("origin-blocks", "4..64x1"),
     ] {
-        let words = format!(in alloc; "ripqwarp sweep --{option} {value} nothing")?;
-        let mut err = Vec::new(alloc);
-        let answer = ripqwarp(&rt, alloc, words.as_str(), TRACE, &mut err)?;
-        let told = format!(in alloc; "error: --{option}: {none}")?;
-        assert_eq!(rt; answer, (2, 0), "for {words}");
-        assert!(rt; err.as_slice() == told.as_bytes(), "for {words}");
+        let answer = answered_list(&rt, alloc, option, value)?;
+        assert_eq!(rt; answer, (2, 0, true), "for --{option} {value}");
     }
     Ok(())
 }
 
-// 64, 128 and 256 blocks under two policies: a header, and three lines for each of six configurations.
+/// Sweeps over 64, 128 and 256 blocks under two policies; the exit status, and how many lines are then written.
+fn sweep_of_six<R: Threads + Wait + Clock + Sync>(
+    rt: &R,
+    alloc: Global,
+    err: &mut Vec<u8>,
+    terminal: bool,
+) -> Result<(u8, usize), AllocError> {
+    let mut words = Vec::new(alloc);
+    let text = "ripqwarp sweep --policy off,lru --edge-blocks 64..300x2 --workers 1 -";
+    push_words(alloc, text, &mut words)?;
+    let mut out = Out::new(Vec::new(alloc));
+    let source = &mut Given { trace: TRACE };
+    let status = command_at(rt, alloc, words, source, &mut out, err, terminal);
+    let written = out.into_inner();
+    let lines = written.iter().filter(|byte| **byte == b'\n').count();
+    Ok((status, lines))
+}
+
+// A header, and three lines for each of six configurations.
 #[test]
 fn a_sweep_shows_how_far_it_is_on_a_terminal_alone(rt: HostRuntime) -> Result<(), AllocError> {
     let alloc = rt.alloc();
     for terminal in [false, true] {
-        let mut words = Vec::new(alloc);
-        for word in "ripqwarp sweep --policy off,lru --edge-blocks 64..300x2 --workers 1 -".split(
-            ' ',
-        ) {
-            words.push(String::from_str(alloc, word)?)?;
-        }
-        let mut out = Out::new(Vec::new(alloc));
         let mut err = Vec::new(alloc);
-        let source = &mut Given { trace: TRACE };
-        let status = command_at(&rt, alloc, words, source, &mut out, &mut err, terminal);
-        let lines = out
-            .into_inner()
-            .iter()
-            .filter(|byte| **byte == b'\n')
-            .count();
-        assert_eq!(rt; (status, lines), (0, 19));
+        let answer = sweep_of_six(&rt, alloc, &mut err, terminal)?;
+        assert_eq!(rt; answer, (0, 19));
         if terminal {
             assert!(rt; err.as_slice().ends_with(b"\r\x1b[Ksweep 6 of 6\r\x1b[K"));
         } else {

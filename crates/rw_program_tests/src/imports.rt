@@ -35,10 +35,15 @@ fn imported(
     Ok(import_oracle(alloc, log, &options, &mut Silent))
 }
 
+/// The four records imported so.
+fn four_imported(alloc: Global, strict: bool) -> Result<Result<Imported, ImportFault>, Fail> {
+    let log = four_records(alloc)?;
+    imported(alloc, log.as_slice(), strict)
+}
+
 #[test]
 fn records_become_rows(rt: HostRuntime) -> Result<(), Fail> {
-    let log = four_records(rt.alloc())?;
-    let answer = imported(rt.alloc(), log.as_slice(), false)??;
+    let answer = four_imported(rt.alloc(), false)??;
     assert_eq!(rt;
         answer.text.as_slice(),
         b"time,edge,object,size\n0,0,7,100\n2000,1,7,50\n".as_slice()
@@ -61,17 +66,19 @@ fn an_empty_log_is_a_trace_of_no_rows(rt: HostRuntime) -> Result<(), Fail> {
     Ok(())
 }
 
+/// The line of the fault with which an import ended.
+fn told(alloc: Global, answer: Result<Imported, ImportFault>) -> Result<String, Fail> {
+    let fault = answer.err().ok_or("kept")?;
+    Ok(format!(in alloc; "{fault}")?)
+}
+
 #[test]
 fn strict_names_the_first_row_left_out(rt: HostRuntime) -> Result<(), Fail> {
-    let log = four_records(rt.alloc())?;
-    let sized = imported(rt.alloc(), log.as_slice(), true)?
-        .err()
-        .ok_or("kept")?;
-    let line = format!(in rt.alloc(); "{sized}")?;
-    assert_eq!(rt; line.as_str(), "log: row 1 column 2: size");
-    let cut = imported(rt.alloc(), b"short", true)?.err().ok_or("kept")?;
-    let line = format!(in rt.alloc(); "{cut}")?;
-    assert_eq!(rt; line.as_str(), "log: row 0: length");
+    let alloc = rt.alloc();
+    let sized = told(alloc, four_imported(alloc, true)?)?;
+    assert_eq!(rt; sized.as_str(), "log: row 1 column 2: size");
+    let cut = told(alloc, imported(alloc, b"short", true)?)?;
+    assert_eq!(rt; cut.as_str(), "log: row 0: length");
     Ok(())
 }
 
@@ -89,20 +96,30 @@ fn named(alloc: Global, name: &[u8]) -> Result<Column, Fail> {
     Ok(Column::Named(Vec::from_slice(alloc, name)?))
 }
 
-#[test]
-fn fields_become_rows(rt: HostRuntime) -> Result<(), Fail> {
-    let layout = Layout {
+/// The layout in which all columns have names, but for that of the sizes.
+fn layout(alloc: Global) -> Result<Layout, Fail> {
+    Ok(Layout {
         delimiter: b';',
-        time: named(rt.alloc(), b"t")?,
-        object: named(rt.alloc(), b"o")?,
+        time: named(alloc, b"t")?,
+        object: named(alloc, b"o")?,
         size: Column::At(0),
-        edge: Some(named(rt.alloc(), b"e")?),
-        kind: Some(named(rt.alloc(), b"k")?),
-    };
+        edge: Some(named(alloc, b"e")?),
+        kind: Some(named(alloc, b"k")?),
+    })
+}
+
+/// Nine rows of fields, imported in this layout.
+fn fields_imported(alloc: Global) -> Result<Imported, Fail> {
+    let layout = layout(alloc)?;
     let options = Options::new(1000, 2, Dealing::ByRow, false).ok_or("options")?;
     let log =
         b"size;t;o;k;e\n5;10.5;b;GET;255\n6;9;a;get;256\n7;9.0000000009;a;Purge;3\n0;9;a;get;1\n8;12.25;b;get;0\n3;x;b;get;0\n3;1;;get;0\n3;1;b;no;0\n3;1\n";
-    let answer = import_csv(rt.alloc(), log.as_slice(), &layout, &options, &mut Silent)?;
+    Ok(import_csv(alloc, log.as_slice(), &layout, &options, &mut Silent)?)
+}
+
+#[test]
+fn fields_become_rows(rt: HostRuntime) -> Result<(), Fail> {
+    let answer = fields_imported(rt.alloc())?;
     assert_eq!(rt;
         answer.text.as_slice(),
         b"time,edge,object,size,kind\n1500,255,0,5,get\n0,3,1,7,purge\n3250,0,0,8,get\n".as_slice()

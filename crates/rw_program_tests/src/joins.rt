@@ -1,6 +1,7 @@
 // Parts of a sweep: cut and joined again they are the sweep, and each fault of a part has its line.
+use crate::bare_axes::bare_axes;
 use crate::pipe::Pipe;
-use rw_join::{join, join_of_parts};
+use rw_join::{JoinFault, join, join_of_parts};
 use rw_photo::Policy;
 use rw_progress::Silent;
 use rw_ripqwarp::Out;
@@ -21,33 +22,64 @@ const FRONT: &[u8] = b",lru,8,1,4,4,";
 
 const BACK: &[u8] = b",1,2,3,4,5,6,7,8,9,10,11,12,13,14,15,0.500000,1.000000,65536,77,99\n";
 
-/// Five configurations: one policy, with 1 to 5 blocks on the edge.
+/// Adds one policy, and 1 to 5 blocks on the edge.
+fn fill(axes: &mut Axes) -> Result<(), AllocError> {
+    axes.policies.push(Policy::Lru)?;
+    axes.sections.push(1)?;
+    axes.blocks.push(10)?;
+    axes.edge_blocks.extend_from_slice(&[1, 2, 3, 4, 5])?;
+    axes.origin_blocks.push(2)?;
+    Ok(())
+}
+
+/// The grid of these five configurations.
 fn grid(alloc: Global) -> Result<Grid, Fail> {
-    let axes = Axes {
-        edges: 1,
-        origins: 1,
-        up: 3,
-        down: 3,
-        back: 10,
-        policies: vec![in alloc; Policy::Lru]?,
-        sections: vec![in alloc; 1]?,
-        blocks: vec![in alloc; 10]?,
-        edge_blocks: vec![in alloc; 1, 2, 3, 4, 5]?,
-        origin_blocks: vec![in alloc; 2]?,
-    };
+    let mut axes = bare_axes(alloc);
+    fill(&mut axes)?;
     Ok(Grid::new(alloc, axes).ok().ok_or("grid")?)
+}
+
+/// Writes the table of the grid, or of a part of it.
+fn write_table<R: Threads + Sync>(
+    rt: &R,
+    alloc: Global,
+    part: Option<Part>,
+    out: &mut Out<Pipe>,
+) -> Result<(), Fail> {
+    let grid = grid(alloc)?;
+    let done = match part {
+        Some(part) => sweep_part(rt, alloc, TRACE, &grid, part, 1, &mut Silent, out),
+        None => sweep(rt, alloc, TRACE, &grid, 1, &mut Silent, out),
+    };
+    Ok(done.ok().ok_or("sweep")?)
 }
 
 /// The table of the grid, or of a part of it.
 fn swept<R: Threads + Sync>(rt: &R, alloc: Global, part: Option<Part>) -> Result<Vec<u8>, Fail> {
-    let grid = grid(alloc)?;
     let mut out = Out::new(Pipe::new(alloc, 1000, 99, false));
-    let done = match part {
-        Some(part) => sweep_part(rt, alloc, TRACE, &grid, part, 1, &mut Silent, &mut out),
-        None => sweep(rt, alloc, TRACE, &grid, 1, &mut Silent, &mut out),
-    };
-    done.ok().ok_or("sweep")?;
+    write_table(rt, alloc, part, &mut out)?;
     Ok(out.into_inner().held)
+}
+
+/// Adds the tables of so many parts of the grid, that of the last one first.
+fn push_parts<R: Threads + Sync>(
+    rt: &R,
+    alloc: Global,
+    count: u32,
+    parts: &mut Vec<Vec<u8>>,
+) -> Result<(), Fail> {
+    for index in (0..count).rev() {
+        let part = Part::new(index, count).ok_or("part")?;
+        parts.push(swept(rt, alloc, Some(part))?)?;
+    }
+    Ok(())
+}
+
+/// The table of the grid, joined of so many parts.
+fn joined<R: Threads + Sync>(rt: &R, alloc: Global, count: u32) -> Result<Vec<u8>, Fail> {
+    let mut parts = Vec::new(alloc);
+    push_parts(rt, alloc, count, &mut parts)?;
+    Ok(join(alloc, parts.as_slice(), Some(5)).ok().ok_or("join")?)
 }
 
 #[test]
@@ -57,12 +89,7 @@ fn parts_make_the_table(rt: HostRuntime) -> Result<(), Fail> {
     let alloc = rt.alloc();
     let whole = swept(&rt, alloc, None)?;
     for count in [1, 2, 5, 7] {
-        let mut parts = Vec::new(alloc);
-        for index in (0..count).rev() {
-            let part = Part::new(index, count).ok_or("part")?;
-            parts.push(swept(&rt, alloc, Some(part))?)?;
-        }
-        let joined = join(alloc, parts.as_slice(), Some(5)).ok().ok_or("join")?;
+        let joined = joined(&rt, alloc, count)?;
         assert!(rt; joined.as_slice() == whole.as_slice());
     }
     Ok(())
@@ -102,35 +129,55 @@ fn told(alloc: Global, places: &[(&str, usize)], of: Option<u64>) -> Result<Stri
     told_of(alloc, text, of)
 }
 
-/// What joining a text comes to, as a line.
-fn told_of(alloc: Global, text: Vec<u8>, of: Option<u64>) -> Result<String, Fail> {
+/// What joining a text gives.
+fn joined_alone(
+    alloc: Global,
+    text: Vec<u8>,
+    of: Option<u64>,
+) -> Result<Result<Vec<u8>, JoinFault>, Fail> {
     let mut parts = Vec::new(alloc);
     parts.push(text)?;
-    match join(alloc, parts.as_slice(), of) {
+    Ok(join(alloc, parts.as_slice(), of))
+}
+
+/// What joining a text comes to, as a line.
+fn told_of(alloc: Global, text: Vec<u8>, of: Option<u64>) -> Result<String, Fail> {
+    match joined_alone(alloc, text, of)? {
         Ok(table) => Ok(format!(in alloc; "{} bytes", table.len())?),
         Err(fault) => Ok(format!(in alloc; "{fault}")?),
     }
 }
 
+/// Places, each with the number of its lines, how many places are asked for, and what joining a part of these comes to.
+const PLACES: [(&[(&str, usize)], Option<u64>, &str); 8] = [
+    (&[("1", 3), ("0", 3)], Some(2), "754 bytes"),
+    (&[("0", 3), ("2", 3)], None, "join: place 1: missing"),
+    (&[("0", 3)], Some(2), "join: place 1: missing"),
+    (
+        &[("0", 3), ("1", 3)],
+        Some(1),
+        "join: place 1: more than are asked for",
+    ),
+    (
+        &[("0", 3), ("1", 3), ("0", 1)],
+        None,
+        "join: place 0: twice",
+    ),
+    (
+        &[("0", 3), ("1", 2)],
+        None,
+        "join: place 1: not three lines",
+    ),
+    (&[("00", 3)], None, "join: file 0 row 0 column 0: number"),
+    (&[("65536", 3)], None, "join: file 0 row 0 column 0: number"),
+];
+
 #[test]
 fn each_fault_of_a_place_has_its_line(rt: HostRuntime) -> Result<(), Fail> {
-    let alloc = rt.alloc();
-    let good = told(alloc, &[("1", 3), ("0", 3)], Some(2))?;
-    assert!(rt; good.as_str() == "754 bytes");
-    let gap = told(alloc, &[("0", 3), ("2", 3)], None)?;
-    assert!(rt; gap.as_str() == "join: place 1: missing");
-    let short = told(alloc, &[("0", 3)], Some(2))?;
-    assert!(rt; short.as_str() == "join: place 1: missing");
-    let long = told(alloc, &[("0", 3), ("1", 3)], Some(1))?;
-    assert!(rt; long.as_str() == "join: place 1: more than are asked for");
-    let twice = told(alloc, &[("0", 3), ("1", 3), ("0", 1)], None)?;
-    assert!(rt; twice.as_str() == "join: place 0: twice");
-    let two = told(alloc, &[("0", 3), ("1", 2)], None)?;
-    assert!(rt; two.as_str() == "join: place 1: not three lines");
-    let zero = told(alloc, &[("00", 3)], None)?;
-    assert!(rt; zero.as_str() == "join: file 0 row 0 column 0: number");
-    let large = told(alloc, &[("65536", 3)], None)?;
-    assert!(rt; large.as_str() == "join: file 0 row 0 column 0: number");
+    for (places, of, line) in PLACES {
+        let text = told(rt.alloc(), places, of)?;
+        assert!(rt; text.as_str() == line);
+    }
     Ok(())
 }
 
@@ -151,13 +198,18 @@ const FAULTS: [(&[u8], &str); 4] = [
     ),
 ];
 
+/// What joining a body behind the header comes to, as a line.
+fn told_body(alloc: Global, body: &[u8]) -> Result<String, Fail> {
+    let mut text = Vec::from_slice(alloc, HEADER)?;
+    text.extend_from_slice(body)?;
+    told_of(alloc, text, None)
+}
+
 #[test]
 fn each_fault_of_a_line_has_its_line(rt: HostRuntime) -> Result<(), Fail> {
     let alloc = rt.alloc();
     for (body, line) in FAULTS {
-        let mut text = Vec::from_slice(alloc, HEADER)?;
-        text.extend_from_slice(body)?;
-        assert!(rt; told_of(alloc, text, None)?.as_str() == line);
+        assert!(rt; told_body(alloc, body)?.as_str() == line);
     }
     let whole = Vec::from_slice(alloc, &HEADER[6..])?;
     assert!(rt; told_of(alloc, whole, None)?.as_str() == "join: file 0: header");

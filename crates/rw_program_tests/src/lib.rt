@@ -5,6 +5,8 @@
 //! They stand above the crates that they work through, so that each of those is proved once, without tests.
 
 #[cfg(test)]
+mod bare_axes;
+#[cfg(test)]
 mod commands;
 #[cfg(test)]
 mod imports;

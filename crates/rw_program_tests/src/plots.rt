@@ -78,19 +78,24 @@ fn another_header_is_refused(rt: HostRuntime) -> Result<(), Fail> {
     Ok(())
 }
 
+/// Whether this piece is in what is drawn of a body.
+fn is_drawn(alloc: Global, body: &[u8], measure: Measure, piece: &str) -> Result<bool, Fail> {
+    Ok(drawn(alloc, body, measure)?.as_str().contains(piece))
+}
+
 #[test]
 fn a_point_has_its_numbers(rt: HostRuntime) -> Result<(), Fail> {
     let row =
         b"a<b,8,1024,4,6,all,1,2,3,4,5,6,7,8,9,10,11,12,13,14,15,0.500000,1.000000,65536,20480,1500000\n";
-    let text = drawn(rt.alloc(), row, Measure::HitRatio)?;
-    assert!(rt;
-        text.as_str().contains("a&lt;b: Hit ratio 0.500000; flash 64 KiB (65536 bytes); 8 sections")
-    );
-    assert!(rt; text.as_str().contains(">64 KiB</text>"));
-    let text = drawn(rt.alloc(), row, Measure::BackendRequests)?;
-    assert!(rt; text.as_str().contains(">1.4 M</text>"));
-    let text = drawn(rt.alloc(), row, Measure::FlashWrites)?;
-    assert!(rt; text.as_str().contains(">20 KiB</text>"));
+    let title = "a&lt;b: Hit ratio 0.500000; flash 64 KiB (65536 bytes); 8 sections";
+    for (measure, piece) in [
+        (Measure::HitRatio, title),
+        (Measure::HitRatio, ">64 KiB</text>"),
+        (Measure::BackendRequests, ">1.4 M</text>"),
+        (Measure::FlashWrites, ">20 KiB</text>"),
+    ] {
+        assert!(rt; is_drawn(rt.alloc(), row, measure, piece)?, "for {piece}");
+    }
     Ok(())
 }
 

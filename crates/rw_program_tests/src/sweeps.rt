@@ -1,4 +1,5 @@
 // Tables of a trace over a grid, by one worker and by more, and faults.
+use crate::bare_axes::bare_axes;
 use crate::pipe::Pipe;
 use rw_photo::{Levels, Policy};
 use rw_progress::{Progress, Silent};
@@ -17,41 +18,61 @@ const TRACE: &[u8] = b"time,edge,object,size\n5,0,7,4\n100,0,8,4\n";
 const TABLE: &[u8] =
     b"policy,sections,block,edge_blocks,origin_blocks,caches,requests,hits,misses,coalesced,late,bypassed,inserted,evicted,reinserted,promoted,writes,splits,merges,hit_bytes,request_bytes,hit_ratio,byte_hit_ratio,flash_bytes,written_bytes,backend_requests\noff,1,10,1,2,edges,2,0,2,0,2,0,0,0,0,0,0,0,0,0,8,0.000000,0.000000,10,0,0\noff,1,10,1,2,origins,2,0,2,0,0,0,0,0,0,0,0,0,0,0,8,0.000000,0.000000,20,0,2\noff,1,10,1,2,all,4,0,4,0,2,0,0,0,0,0,0,0,0,0,16,0.000000,0.000000,30,0,2\nlru,1,10,1,2,edges,2,0,2,0,2,0,2,0,0,0,0,0,0,0,8,0.000000,0.000000,10,0,0\nlru,1,10,1,2,origins,2,0,2,0,0,0,2,0,0,0,0,0,0,0,8,0.000000,0.000000,20,0,2\nlru,1,10,1,2,all,4,0,4,0,2,0,4,0,0,0,0,0,0,0,16,0.000000,0.000000,30,0,2\nslru2,1,10,1,2,edges,2,0,2,0,2,0,2,0,0,0,0,0,0,0,8,0.000000,0.000000,10,0,0\nslru2,1,10,1,2,origins,2,0,2,0,0,0,2,0,0,0,0,0,0,0,8,0.000000,0.000000,20,0,2\nslru2,1,10,1,2,all,4,0,4,0,2,0,4,0,0,0,0,0,0,0,16,0.000000,0.000000,30,0,2\n";
 
-/// An edge and an origin, under so many of three policies.
-fn axes(alloc: Global, policies: usize, block: u64) -> Result<Axes, AllocError> {
-    let mut all = vec![in alloc; Policy::Off, Policy::Lru]?;
+/// Adds so many of three policies, and one value of all else.
+fn fill(axes: &mut Axes, policies: usize, block: u64) -> Result<(), AllocError> {
+    axes.policies.push(Policy::Off)?;
+    axes.policies.push(Policy::Lru)?;
     if let Some(levels) = Levels::new(2) {
-        all.push(Policy::Slru(levels))?;
+        axes.policies.push(Policy::Slru(levels))?;
     }
-    all.truncate(policies);
-    Ok(Axes {
-        edges: 1,
-        origins: 1,
-        up: 3,
-        down: 3,
-        back: 10,
-        policies: all,
-        sections: vec![in alloc; 1]?,
-        blocks: vec![in alloc; block]?,
-        edge_blocks: vec![in alloc; 1]?,
-        origin_blocks: vec![in alloc; 2]?,
-    })
+    axes.policies.truncate(policies);
+    axes.sections.push(1)?;
+    axes.blocks.push(block)?;
+    axes.edge_blocks.push(1)?;
+    axes.origin_blocks.push(2)?;
+    Ok(())
 }
 
-/// The table of a trace under three policies, by so many workers; None where there is none.
-fn table<R: Threads + Sync>(rt: &R, alloc: Global, trace: &[u8], workers: u32) -> Option<Vec<u8>> {
-    let grid = Grid::new(alloc, axes(alloc, 3, 10).ok()?).ok()?;
+/// An edge and an origin, under so many of three policies.
+fn axes(alloc: Global, policies: usize, block: u64) -> Result<Axes, AllocError> {
+    let mut axes = bare_axes(alloc);
+    fill(&mut axes, policies, block)?;
+    Ok(axes)
+}
+
+/// The grid of an edge and an origin under so many of three policies.
+fn grid(alloc: Global, policies: usize) -> Result<Grid, Fail> {
+    let axes = axes(alloc, policies, 10)?;
+    Ok(Grid::new(alloc, axes).ok().ok_or("grid")?)
+}
+
+/// Writes the table of a trace under three policies, by so many workers, and answers what the sweep does.
+fn swept<R: Threads + Sync>(
+    rt: &R,
+    alloc: Global,
+    trace: &[u8],
+    workers: u32,
+    out: &mut Out<Pipe>,
+) -> Result<Result<(), SimFault>, Fail> {
+    let grid = grid(alloc, 3)?;
+    Ok(sweep(rt, alloc, trace, &grid, workers, &mut Silent, out))
+}
+
+/// The table of two requests under three policies, by so many workers.
+fn table<R: Threads + Sync>(rt: &R, alloc: Global, workers: u32) -> Result<Vec<u8>, Fail> {
     let mut out = Out::new(Pipe::new(alloc, 1000, 9, false));
-    sweep(rt, alloc, trace, &grid, workers, &mut Silent, &mut out).ok()?;
-    Some(out.into_inner().held)
+    let swept = swept(rt, alloc, TRACE, workers, &mut out)?;
+    swept.ok().ok_or("sweep")?;
+    Ok(out.into_inner().held)
 }
 
 #[test]
-fn three_policies_over_two_requests(rt: HostRuntime) {
+fn three_policies_over_two_requests(rt: HostRuntime) -> Result<(), Fail> {
     for workers in [0, 1, 3, 64, 1000] {
-        let held = table(&rt, rt.alloc(), TRACE, workers);
-        assert!(rt; held.is_some_and(|text| text.as_slice() == TABLE));
+        let held = table(&rt, rt.alloc(), workers)?;
+        assert!(rt; held.as_slice() == TABLE);
     }
+    Ok(())
 }
 
 /// How often somebody was told, what last, and of how many.
@@ -82,7 +103,7 @@ impl Progress for Told {
 #[test]
 fn one_worker_tells_of_each_configuration(rt: HostRuntime) -> Result<(), Fail> {
     let alloc = rt.alloc();
-    let grid = Grid::new(alloc, axes(alloc, 3, 10)?).ok().ok_or("grid")?;
+    let grid = grid(alloc, 3)?;
     let mut out = Out::new(Pipe::new(alloc, 1000, 9, false));
     let mut told = Told {
         times: 0,
@@ -99,7 +120,7 @@ fn one_worker_tells_of_each_configuration(rt: HostRuntime) -> Result<(), Fail> {
 #[test]
 fn no_policy_leaves_the_header(rt: HostRuntime) -> Result<(), Fail> {
     let alloc = rt.alloc();
-    let grid = Grid::new(alloc, axes(alloc, 0, 10)?).ok().ok_or("grid")?;
+    let grid = grid(alloc, 0)?;
     let mut out = Out::new(Pipe::new(alloc, 1000, 9, false));
     let swept = sweep(&rt, alloc, TRACE, &grid, 4, &mut Silent, &mut out);
     assert!(rt; swept.is_ok() && grid.is_empty());
@@ -133,12 +154,11 @@ fn too_many_configurations_are_no_grid(rt: HostRuntime) -> Result<(), Fail> {
 #[test]
 fn faults_of_a_sweep(rt: HostRuntime) -> Result<(), Fail> {
     let alloc = rt.alloc();
-    let grid = Grid::new(alloc, axes(alloc, 3, 10)?).ok().ok_or("grid")?;
     let mut out = Out::new(Pipe::new(alloc, 100, 2, false));
     let bad = b"time,edge,object,size\n5,1,7,4\n";
-    let refused = sweep(&rt, alloc, bad, &grid, 2, &mut Silent, &mut out);
+    let refused = swept(&rt, alloc, bad, 2, &mut out)?;
     assert!(rt; matches!(refused, Err(SimFault::Trace(TraceFault::EdgeRange(0)))));
-    let cut_off = sweep(&rt, alloc, TRACE, &grid, 2, &mut Silent, &mut out);
+    let cut_off = swept(&rt, alloc, TRACE, 2, &mut out)?;
     assert!(rt; matches!(cut_off, Err(SimFault::Output)) && out.failures() == 1);
     assert!(rt; out.into_inner().held.as_slice() == &TABLE[..200]);
     Ok(())
@@ -161,11 +181,10 @@ fn first_lines(count: usize) -> &'static [u8] {
 #[test]
 fn a_writer_that_fails_holds_whole_lines(rt: HostRuntime) -> Result<(), Fail> {
     let alloc = rt.alloc();
-    let grid = Grid::new(alloc, axes(alloc, 3, 10)?).ok().ok_or("grid")?;
     for (fails_in, lines) in [(0, 0), (1, 1), (2, 4), (3, 7)] {
         for workers in [1, 2] {
             let mut out = Out::new(Pipe::new(alloc, 1000, fails_in, false));
-            let swept = sweep(&rt, alloc, TRACE, &grid, workers, &mut Silent, &mut out);
+            let swept = swept(&rt, alloc, TRACE, workers, &mut out)?;
             assert!(rt; matches!(swept, Err(SimFault::Output)) && out.failures() == 1);
             assert!(rt; out.into_inner().held.as_slice() == first_lines(lines));
         }
