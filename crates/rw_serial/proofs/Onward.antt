@@ -1,9 +1,9 @@
 -- A run that goes on: where it begins, and what is left of it where it ends.
-use Rattle.std.proofs.Common.{◌≡◌, ℕ, ◌+◌, ◌<◌, ◌≤◌, true, List, [], ◌∷◌, ◌++◌, refl, sym, subst, ap, ◌∙◌, arith, All, IsPermutation, append_assoc, append-nil, length, length-append, replicate, Option, Some, None, Bor, IfNone, IfSome}
+use Rattle.std.proofs.Common.{◌≡◌, ℕ, ◌+◌, ◌<◌, ◌≤◌, true, false, true≢false, List, [], ◌∷◌, ◌++◌, refl, sym, subst, ap, ◌∙◌, arith, All, IsPermutation, append_assoc, append-nil, length, length-append, replicate, Option, Some, None, Bor, IfNone, IfSome}
 use Rattle.std.specs.List.{slice_get}
-use Rattle.std.specs.Option.{option_copied, option_map}
+use Rattle.std.specs.Option.{is_some, option_copied, option_map}
 use Rattle.std.specs.declared.cmp.Ordering.{Ordering}
-use Rattle.std.proofs.lemmas.List.Elements.{All-cons, All-head, All-nil, All-weaker}
+use Rattle.std.proofs.lemmas.List.Elements.{All-append, All-cons, All-head, All-nil, All-weaker}
 use Rattle.std.proofs.lemmas.List.Sorted.{All-permutation, IsPermutation-append_comm, IsPermutation-append_left, IsPermutation-append_right, IsPermutation-sym, IsPermutation-trans, length_permutation}
 use Rattle.rw_vt.specs.declared.event.Event.{Event}
 use Rattle.rw_vt.specs.declared.model.Model.{Ghosts}
@@ -15,7 +15,8 @@ use Rattle.rw_vt.proofs.Rest.{rest_ends, rest_lawful}
 use Rattle.rw_vt.proofs.Runs.{IsLawful}
 use Rattle.rw_vt.proofs.Sorting.{IsExactOrder, Has-head, Has-tail}
 use Rattle.rw_serial.specs.Later.{HasMoved, IsLeastTime}
-use Rattle.rw_serial.specs.Pending.{HasMovedOn}
+use Rattle.rw_serial.specs.Pending.{AreAround, HasMovedOn}
+use Rattle.rw_serial.proofs.ByTime.{All-back}
 use Rattle.rw_serial.proofs.Lists.{at_list}
 use Rattle.rw_serial.proofs.Midrun.{IsMidrun, length-states, midrun_start}
 
@@ -131,3 +132,41 @@ least_of_first order (x ∷ xs) (Some f) is least =
       All-weaker (AtMost (event_cmp order) f.now) (λ e. f.now.time ≤ e.time) (λ e h. time_at_most order f.now e h) (x ∷ xs) least,
       λ all. let later = All-head (λ e. f.now.time < e.time) x xs all in absurd (omega arith),
     )
+
+-- the events at hand are of the least time, where there are any
+pub least_at_hand : {B : Type 0} (t : ℕ) (initial now later : List (Event B)) → AreAround t initial now later → (now ≡ [] → ⊥) → IsLeastTime (initial ++ (now ++ later)) (Some t)
+least_at_hand t initial [] later around some = absurd (some refl)
+least_at_hand t initial (x ∷ now) later around some = (
+  All-append (λ e. t ≤ e.time) initial (x ∷ (now ++ later)) around.initial_from
+      (All-append (λ e. t ≤ e.time) (x ∷ now) later (All-weaker (λ e. e.time ≡ t) (λ e. t ≤ e.time) (λ e m. omega arith) (x ∷ now) around.now_at)
+      (All-weaker (λ e. t < e.time) (λ e. t ≤ e.time) (λ e m. omega arith) later around.later_past)),
+  λ all.
+      let past = All-head (λ e. t < e.time) x (now ++ later) (All-back (λ e. t < e.time) initial (x ∷ (now ++ later)) all) in
+      let at = All-head (λ e. e.time ≡ t) x now around.now_at in
+      absurd (omega (arith, past, at)),
+)
+
+at_hand : {B : Type 0} (first : Option (Bor (Event B))) (now : List (Event B)) → option_copied first ≡ slice_get now 0 → is_some first ≡ true → now ≡ [] → ⊥
+at_hand None now is some none = true≢false (sym some)
+at_hand (Some f) [] is some none = cc
+at_hand (Some f) (x ∷ now) is some none = cc
+
+pub least_where_some : {B : Type 0} (t : ℕ) (initial now later : List (Event B)) (first : Option (Bor (Event B))) → AreAround t initial now later → option_copied first ≡ slice_get now 0 → is_some first ≡ true → IsLeastTime (initial ++ (now ++ later)) (Some t)
+least_where_some t initial now later first around is some = least_at_hand t initial now later around (at_hand first now is some)
+
+-- where nothing is at hand, the earlier of the first initial event's time and the least of the later ones
+none_at_hand : {B : Type 0} (first : Option (Bor (Event B))) (now : List (Event B)) → option_copied first ≡ slice_get now 0 → is_some first ≡ false → now ≡ []
+none_at_hand None [] is some = refl
+none_at_hand None (x ∷ now) is some = cc
+none_at_hand (Some f) now is some = absurd (true≢false some)
+
+pub least_where_none : {B : Type 0} (initial now later : List (Event B)) (first : Option (Bor (Event B))) (least : Option ℕ) → option_copied first ≡ slice_get now 0 → is_some first ≡ false → IsLeastTime (initial ++ later) least
+    → IsLeastTime (initial ++ (now ++ later)) least
+least_where_none initial now later first least is some h = subst (λ l. IsLeastTime (initial ++ (l ++ later)) least) (sym (none_at_hand first now is some)) h
+
+-- what is taken out where all is
+pub all_taken : {B : Type 0} {none sent all : List (Event B)} (initial waiting : List (Event B)) → none ≡ [] → IsPermutation (none ++ waiting) sent → all ≡ sent ++ initial → IsPermutation (initial ++ waiting) all
+all_taken {sent} initial waiting empty moved is =
+    subst (IsPermutation (initial ++ waiting)) (sym is)
+    (IsPermutation-trans (initial ++ waiting) (waiting ++ initial) (sent ++ initial) (IsPermutation-append_comm initial waiting)
+    (IsPermutation-append_left initial waiting sent (subst (λ l. IsPermutation (l ++ waiting) sent) empty moved)))

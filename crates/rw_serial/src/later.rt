@@ -135,9 +135,10 @@ fn move_front<B: Ord + Copy>(
     Ok(())
 }
 
-/// As many lanes as a model has delays in effect, and a heap for the rest. A model whose sends have at most three delays
-/// never comes to the heap: its events are executed in order of time, so those of one delay are.
-type Lanes<B> = Lane<B, Lane<B, Lane<B, Heap<B>>>>;
+/// As many lanes as a model has delays in effect, one for what other engines send a little later than its turn, and a heap for
+/// the rest. A model whose sends have at most four delays never comes to the heap: its events are executed in order of time, so
+/// those of one delay are.
+type Lanes<B> = Lane<B, Lane<B, Lane<B, Lane<B, Heap<B>>>>>;
 
 /// Events that were sent, until their time comes; it knows the least time of all. Contracts see them as a list, in no
 /// particular order.
@@ -165,7 +166,10 @@ impl<B: Ord + Copy> Later<B> {
         ensures { result ≡ [] }
     {
         Later {
-            lanes: Lane::new(alloc, Lane::new(alloc, Lane::new(alloc, Heap::new(alloc)))),
+            lanes: Lane::new(
+                alloc,
+                Lane::new(alloc, Lane::new(alloc, Lane::new(alloc, Heap::new(alloc)))),
+            ),
             least: None,
         }
     }

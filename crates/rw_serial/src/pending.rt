@@ -63,25 +63,42 @@ impl<B: Ord + Copy, S: Source<B>> Pending<B, S> {
     pub fn least_time(&self) -> Option<u64>
         ensures { IsLeastTime self.entry.now.events result }
     {
-        let sent = earlier(time_of(self.now.first()), self.later.least_time());
-        earlier(time_of(self.initial.first()), sent)
+        // What is left of the time that is reached comes before the rest.
+        if self.now.first().is_some() {
+            return Some(self.time);
+        }
+        earlier(time_of(self.initial.first()), self.later.least_time())
     }
 
     /// Takes events out, for another engine to go on with: all that were sent, and of the initial ones as many as `count` says,
     /// with all others of the last one's time. Where fewer initial events are left, none remains.
     ///
-    /// It costs what taking each of them does. After a refusal of memory some events are lost.
+    /// It costs what taking each of them does, and asks for the room of somewhat more than `count` at once. After a refusal of
+    /// memory some events are lost.
     pub fn take_out(&mut self, alloc: Global, count: usize) -> Result<Vec<Event<B>>, AllocError>
         ensures parts { IfOk result (λ taken.
             IsPermutation self.old.events (taken.items ++ self.new.events)) }
         ensures enough { IfOk result (λ taken.
             length taken.items < count → self.new.events ≡ []) }
     {
+        let mut taken = Vec::with_capacity(alloc, count.saturating_add(count / 8))?;
         self.time = 0;
-        let mut taken = Vec::new(alloc);
         move_sent(alloc, &mut self.now, &mut self.later, &mut taken)?;
         let last = move_first(&mut self.initial, count, &mut taken)?;
         move_at(&mut self.initial, last, &mut taken)?;
+        Ok(taken)
+    }
+
+    /// Takes all events out, for another engine to go on with.
+    ///
+    /// It costs what taking each of them does. After a refusal of memory some events are lost.
+    pub fn take_all(&mut self, alloc: Global) -> Result<Vec<Event<B>>, AllocError>
+        ensures { IfOk result (λ taken. IsPermutation self.old.events taken.items) }
+    {
+        self.time = 0;
+        let mut taken = Vec::new(alloc);
+        move_sent(alloc, &mut self.now, &mut self.later, &mut taken)?;
+        move_rest(&mut self.initial, &mut taken)?;
         Ok(taken)
     }
 
@@ -435,6 +452,19 @@ fn move_at<B: Ord + Copy, S: Source<B>>(
         if let Some(event) = initial.pop() {
             taken.push(event)?;
         }
+    }
+    Ok(())
+}
+
+/// Moves all initial events to the end of `taken`. Where memory is refused, some are lost.
+fn move_rest<B: Ord + Copy, S: Source<B>>(
+    initial: &mut Initial<B, S>,
+    taken: &mut Vec<Event<B>>,
+) -> Result<(), AllocError>
+    ensures { OnOk result (taken.new.items ≡ taken.old.items ++ initial.old) }
+{
+    while let Some(event) = initial.pop() {
+        taken.push(event)?;
     }
     Ok(())
 }

@@ -185,11 +185,32 @@ fn deal_events<B: Copy>(
         → slice_index_or (map (λ b. b.items) inboxes.items) i []
         ≡ filter (λ e. e.to % workers == i) events.now) }
 {
-    let mut inboxes = empty_lists(alloc, workers as usize)?;
+    // About as many events go to each worker.
+    let mut inboxes = lists_with_room(
+        alloc,
+        workers as usize,
+        2 * (events.len() / workers as usize),
+    )?;
     for event in events {
         inboxes[(event.to % workers) as usize].push(*event)?;
     }
     Ok(inboxes)
+}
+
+/// So many empty lists, each with room for so many values.
+fn lists_with_room<T: Drop>(
+    alloc: Global,
+    count: usize,
+    room: usize,
+) -> Result<Vec<Vec<T>>, NoMemory>
+    ensures { IfOk result (λ lists.
+        map (λ l. l.items) lists.items ≡ replicate count []) }
+{
+    let mut lists = Vec::with_capacity(alloc, count)?;
+    for _ in 0..count {
+        lists.push_reserved(Vec::with_capacity(alloc, room)?);
+    }
+    Ok(lists)
 }
 
 /// The shares, by worker, each with its part of the supply.

@@ -7,7 +7,7 @@ use crate::batch::Batch;
 use crate::waiting::{receive_waiting, send_waiting};
 use crate::worker::Worker;
 use rw_vt::{Model as VtModel, Refusal};
-use std::alloc::Global;
+use std::alloc::{AllocError, Global};
 use std::mem;
 use std::snapshot::Snapshot;
 use std::sync::Wait;
@@ -51,7 +51,7 @@ impl<M: VtModel> Worker<M> {
         ensures told { IfOk result (λ there. there ≡ true
             → self.new.away ≡ slice_set self.old.away to []) }
     {
-        let events = mem::replace(&mut self.away[to as usize], Vec::new(alloc));
+        let events = take_list(alloc, &mut self.away[to as usize])?;
         let batch = Batch {
             events,
             reach: self.said,
@@ -113,4 +113,15 @@ impl<M: VtModel> Worker<M> {
         self.received = self.received.wrapping_add(batch.events.len() as u64);
         Ok(Some(batch.reach))
     }
+}
+
+/// Takes what is in a list, and leaves it empty, with room for half as much again: what comes next is likely to be about as
+/// long.
+fn take_list<T: Drop>(alloc: Global, list: &mut Vec<T>) -> Result<Vec<T>, AllocError>
+    ensures taken { IfOk result (λ taken. taken.items ≡ list.old.items) }
+    ensures none { OnOk result (list.new.items ≡ []) }
+{
+    let length = list.len();
+    let room = Vec::with_capacity(alloc, length.saturating_add(length / 2))?;
+    Ok(mem::replace(list, room))
 }

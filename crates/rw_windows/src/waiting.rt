@@ -8,7 +8,7 @@ use std::sync::Wait;
 use std::thread;
 
 /// How often a ring is looked at before the worker sleeps, which takes several microseconds: about as long.
-const TRIES: u32 = 1024;
+const TRIES: u32 = 128;
 
 /// Sends an item to another worker and rings there; while the ring has no room it waits. The item comes back where another
 /// worker is gone.

@@ -1,4 +1,4 @@
-ghost use Rattle.std.specs.Prelude.{◌≡◌, IfOk, OnOk};
+ghost use Rattle.std.specs.Prelude.{◌≡◌, ◌≤◌, All, OnOk};
 ghost use Rattle.rw_windows.specs.Working.{IsAtWork, SameWorker};
 
 use crate::share::Share;
@@ -37,6 +37,27 @@ impl<'r, M: VtModel, R: Wait> Work<'r, M, R> {
         worker.go_further(&self.model);
         Ok(true)
     }
+
+    /// Executes window by window, until the worker has come to the end or another worker is gone.
+    fn go_to_the_end(&self, worker: &mut Worker<M>) -> Result<(), Refusal>
+        requires at_work { IsAtWork M.Model M.Body.cmp self.now.model worker.old }
+        ensures at_work { OnOk result (IsAtWork M.Model M.Body.cmp self.now.model worker.new) }
+        ensures same { OnOk result (SameWorker worker.old worker.new) }
+        ensures none { OnOk result (All (λ a. worker.new.until ≤ a.time) worker.new.waiting) }
+    {
+        let mut sent = Vec::new(self.alloc);
+        let mut are_there = true;
+        for _ in self.rt.forever() {
+            if worker.execute_next(self.alloc, &self.model, &mut sent)? {
+                continue;
+            }
+            if !are_there || (worker.is_done() && worker.all_are_idle()) {
+                return Ok(());
+            }
+            are_there = self.go_on(worker)?;
+        }
+        unreachable!()
+    }
 }
 
 impl<'r, M: VtModel, R: Wait> Job<Share<M>> for Work<'r, M, R> {
@@ -48,18 +69,8 @@ impl<'r, M: VtModel, R: Wait> Job<Share<M>> for Work<'r, M, R> {
 
     fn run(&self, share: Share<M>) -> Result<Share<M>, Refusal> {
         let mut worker = Worker::of(self.alloc, share)?;
-        let mut sent = Vec::new(self.alloc);
-        let mut are_there = true;
         worker.go_further(&self.model);
-        for _ in self.rt.forever() {
-            if worker.execute_next(self.alloc, &self.model, &mut sent)? {
-                continue;
-            }
-            if !are_there || (worker.is_done() && worker.all_are_idle()) {
-                return Ok(worker.into_share(self.alloc)?);
-            }
-            are_there = self.go_on(&mut worker)?;
-        }
-        unreachable!()
+        self.go_to_the_end(&mut worker)?;
+        Ok(worker.into_share(self.alloc)?)
     }
 }

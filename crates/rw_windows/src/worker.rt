@@ -152,7 +152,7 @@ impl<M: VtModel> Worker<M> {
             starts,
             given,
         } = self;
-        let events = pending.take_out(alloc, usize::MAX)?;
+        let events = pending.take_all(alloc)?;
         Ok(Share {
             number,
             workers,

@@ -1,0 +1,9 @@
+use Rattle.std.proofs.Common.{◌++◌, IsPermutation, subst}
+use Rattle.rw_serial.proofs.Onward.{all_taken}
+use Rattle.rw_serial.proofs.pending.Pending.take_all.Goals as goal
+
+pub returns : goal.returns
+returns g c =
+    let at = c.self.inside in
+    subst (λ w. IsPermutation w.events c.move_rest.new.taken.items) c.self.view_is
+    (all_taken at.initial (at.now ++ at.later) c.new-taken.ensures.items c.in_ok-move_sent.ensures.moved c.in_ok-move_rest.ensures)
