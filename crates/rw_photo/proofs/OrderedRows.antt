@@ -1,11 +1,12 @@
 -- Rows in order of time, and the events that they are.
-use Rattle.std.proofs.Common.{◌≡◌, ℕ, ◌+◌, ◌<◌, ◌≤◌, List, [], ◌∷◌, ◌⊎◌, inl, inr, sym, ◌∙◌, ap, arith}
-use Rattle.std.specs.Prelude.{All}
+use Rattle.std.proofs.Common.{◌≡◌, ℕ, ◌+◌, ◌<◌, ◌≤◌, List, [], ◌∷◌, ◌++◌, ◌⊎◌, inl, inr, sym, subst, ◌∙◌, ap, arith, append-nil, length, true, false, true≢false}
+use Rattle.std.specs.Prelude.{◌==◌, All}
 use Rattle.std.specs.declared.cmp.Ordering.{Ordering}
 use Rattle.std.specs.declared.cmp.Ordering.TheVariants.{Less, Equal}
 use Rattle.std.specs.Ordering.{is_gt, nat_cmp, ordering_then}
 use Rattle.std.specs.Cmp.{nat_cmp_is}
 use Rattle.std.proofs.lemmas.Bool.{cases_lt}
+use Rattle.std.proofs.lemmas.Grind.{common_steps}
 use Rattle.std.proofs.lemmas.List.Elements.{All-cons, All-nil}
 use Rattle.rw_vt.specs.Order.{AtMost, event_cmp}
 use Rattle.rw_vt.specs.System.{map_from}
@@ -13,7 +14,7 @@ use Rattle.rw_vt.specs.declared.event.Event.{Event}
 use Rattle.rw_trace.specs.declared.Row.{Row}
 use Rattle.rw_photo.specs.declared.body.Body.{Body}
 use Rattle.rw_photo.specs.Events.{event_of}
-use Rattle.rw_photo.specs.Rows.{AreInOrderFrom}
+use Rattle.rw_photo.specs.Rows.{AreInOrder, AreInOrderFrom}
 
 -- what is in order from a time is so from an earlier one
 pub from_earlier : (s t : ℕ) (rs : List Row) → s ≤ t → AreInOrderFrom t rs → AreInOrderFrom s rs
@@ -45,3 +46,12 @@ at_most_rows order e k (r ∷ rs) outside less h =
     All-cons (AtMost (event_cmp order) e) (event_of k r) (map_from (k + 1) event_of rs)
     (first_by_number order e (event_of k r) h.0 outside less)
     (at_most_rows order e (k + 1) rs outside (omega arith) (from_earlier e.time r.time rs h.0 h.1))
+
+-- rows in two parts, where the second one is gone on to
+pub turned : (rows others : List Row) → true ≡ (length rows == 0) → others ++ [] ≡ rows ++ others
+turned [] others none = append-nil others
+turned (r ∷ rows) others none = let some : (length (r ∷ rows) == 0) ≡ false = grind (arith, common_steps) in absurd (true≢false (none ∙ some))
+
+-- the second part is none
+pub in_order_whole : (rs : List Row) → AreInOrder rs → AreInOrder (rs ++ [])
+in_order_whole rs h = subst AreInOrder (sym (append-nil rs)) h

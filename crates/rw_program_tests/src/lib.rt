@@ -13,6 +13,8 @@ mod imports;
 #[cfg(test)]
 mod joins;
 #[cfg(test)]
+mod parts;
+#[cfg(test)]
 mod pipe;
 #[cfg(test)]
 mod plots;

@@ -1,6 +1,10 @@
-ghost use Rattle.std.specs.Prelude.{◌≡◌, ◌≢◌, ◌^◌, Err, All, IfOk, IfErr, OnOk};
+ghost use Rattle.std.specs.Prelude.{◌≡◌, ◌≢◌, ◌≤◌, ◌+◌, ◌++◌, ◌^◌, Ok, Err, All, IfOk, IfErr, OnOk, length};
 ghost use Rattle.rw_photo.specs.Simulation.{simulation};
 ghost use Rattle.rw_trace.specs.Laws.{IsRow};
+ghost use Rattle.rw_trace.specs.Limits.{most_rows};
+ghost use Rattle.rw_trace.specs.Trace.{trace_of};
+ghost use Rattle.rw_trace.specs.Unread.{records_of};
+ghost use Rattle.rw_trace.specs.declared.TraceFault.TheVariants.{Memory};
 ghost use Rattle.rw_engine.specs.Runs.{AreLastStates};
 ghost use Rattle.rw_engine.specs.Stretches.{MayStopInRounds};
 ghost use Rattle.rw_ripqwarp.specs.Simulate.{HasGoodPlan, IsReportOf, IsRunFault};
@@ -13,8 +17,8 @@ use crate::telling::{Telling, begin_events, begin_rows};
 use rw_engine::{Plan, Stop, Traffic, run_alone_from, run_in_rounds, run_in_rounds_from};
 use rw_photo::{CacheState, Config, OrderedRequests, Photo};
 use rw_progress::Progress;
-use rw_trace::{Row, read};
-use std::alloc::Global;
+use rw_trace::{Row, TraceFault, read, read_in_parts};
+use std::alloc::{AllocError, Global};
 use std::sync::Wait;
 use std::thread::Threads;
 
@@ -33,11 +37,12 @@ pub(crate) fn rounds_text<P: Progress, R: Threads + Wait + Sync>(
     ensures fault { IfErr result (IsRunFault (Mode.Warp plan) config.now bytes.now) }
     ensures unwritten { IfErr result (λ e. e ≢ SimFault.Output) }
 {
-    let trace = read(alloc, bytes, config.edges())?;
+    let (rows, others) = read_for(rt, alloc, bytes, config.edges(), plan.workers)?;
     let (states, traffic) = run_rows_in_rounds(
         rt,
         alloc,
-        trace.as_slice(),
+        rows.as_slice(),
+        others.as_slice(),
         config,
         plan,
         progress,
@@ -46,8 +51,31 @@ pub(crate) fn rounds_text<P: Progress, R: Threads + Wait + Sync>(
     Ok((text, traffic))
 }
 
-/// The state of each cache once the requests of these rows, and all that follows from them, are executed in rounds, and what
-/// the rounds did. Tells `progress` how far it has come, but where one worker runs rows that do not stand in order of time.
+/// The rows of a trace, in two parts of which the second one follows the first: two threads read them where there are several
+/// workers.
+fn read_for<R: Threads>(
+    rt: &R,
+    alloc: Global,
+    bytes: &[u8],
+    edges: u32,
+    workers: u32,
+) -> Result<(Vec<Row>, Vec<Row>), TraceFault>
+    ensures rows { IfOk result (λ r.
+        trace_of edges most_rows (records_of bytes.now) ≡ Ok (r.0.items ++ r.1.items)) }
+    ensures ranges { IfOk result (λ r. All (IsRow edges) (r.0.items ++ r.1.items)) }
+    ensures few { IfOk result (λ r. length r.0.items + length r.1.items ≤ most_rows) }
+    ensures fault { IfErr result (λ e.
+        e ≢ Memory → trace_of edges most_rows (records_of bytes.now) ≡ Err e) }
+{
+    if workers > 1 {
+        return read_in_parts(rt, alloc, bytes, edges);
+    }
+    let rows = read(alloc, bytes, edges)?;
+    Ok((rows, Vec::new(alloc)))
+}
+
+/// The state of each cache once the requests of these rows, of which `others` follow `rows`, and all that follows from them, are
+/// executed in rounds, and what the rounds did. Tells `progress` how far it has come, but where one worker runs rows that do not stand in order of time.
 ///
 /// # Errors
 ///
@@ -56,25 +84,29 @@ fn run_rows_in_rounds<P: Progress, R: Threads + Wait + Sync>(
     rt: &R,
     alloc: Global,
     rows: &[Row],
+    others: &[Row],
     config: &Config,
     plan: Plan,
     progress: &mut P,
 ) -> Result<(Vec<CacheState>, Traffic), Stop>
-    requires { All (IsRow config.now.edges) rows.now }
-    ensures outcome { IfOk result (λ r. AreLastStates (simulation config.now rows.now) r.0.items) }
+    requires ranges { All (IsRow config.now.edges) (rows.now ++ others.now) }
+    requires few { length rows.now + length others.now ≤ most_rows }
+    ensures outcome { IfOk result (λ r.
+        AreLastStates (simulation config.now (rows.now ++ others.now)) r.0.items) }
     ensures in_range { OnOk result (HasGoodPlan (Mode.Warp plan)) }
     ensures stops { IfErr result (MayStopInRounds plan) }
 {
     let photo = Photo::new(*config);
-    let Some(source) = OrderedRequests::new(rows) else {
-        let (starts, initial) = beginning_of_rows(alloc, rows, config)?;
+    let Some(source) = OrderedRequests::of_parts(rows, others) else {
+        let rows = joined(alloc, rows, others)?;
+        let (starts, initial) = beginning_of_rows(alloc, rows.as_slice(), config)?;
         if plan.workers > 1 {
             begin_events(initial.as_slice(), progress);
         }
         return run_in_rounds(rt, alloc, photo, starts, initial, plan, progress);
     };
     let starts = starts(alloc, &photo)?;
-    begin_rows(rows, progress);
+    begin_rows(rows, others, progress);
     if plan.workers == 1 {
         let source = Telling {
             source,
@@ -84,4 +116,14 @@ fn run_rows_in_rounds<P: Progress, R: Threads + Wait + Sync>(
         return run_alone_from(alloc, &photo, starts, source, plan);
     }
     run_in_rounds_from(rt, alloc, photo, starts, source, plan, progress)
+}
+
+/// Rows in two parts, in one list.
+fn joined(alloc: Global, rows: &[Row], others: &[Row]) -> Result<Vec<Row>, AllocError>
+    ensures { IfOk result (λ all. all.items ≡ rows.now ++ others.now) }
+{
+    let mut all = Vec::with_capacity(alloc, rows.len().saturating_add(others.len()))?;
+    all.extend_from_slice(rows)?;
+    all.extend_from_slice(others)?;
+    Ok(all)
 }

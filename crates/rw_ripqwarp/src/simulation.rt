@@ -233,7 +233,7 @@ fn last_states_and_tell<P: Progress>(
         return last_states(alloc, &photo, starts, initial);
     };
     let starts = starts(alloc, &photo)?;
-    begin_rows(rows, progress);
+    begin_rows(rows, &[], progress);
     let source = Telling {
         source,
         progress,

@@ -31,9 +31,9 @@ impl<'a, S: Source<Body>, P: Progress> Source<Body> for Telling<'a, S, P> {
     }
 }
 
-/// Tells from which time to which the rows of a trace go that stand in order.
-pub(crate) fn begin_rows<P: Progress>(rows: &[Row], progress: &mut P) {
-    if let (Some(first), Some(last)) = (rows.first(), rows.last()) {
+/// Tells from which time to which the rows of a trace go that stand in order, of which `others` follow `rows`.
+pub(crate) fn begin_rows<P: Progress>(rows: &[Row], others: &[Row], progress: &mut P) {
+    if let (Some(first), Some(last)) = (rows.first(), others.last().or(rows.last())) {
         progress.begin(first.time, last.time);
     }
 }

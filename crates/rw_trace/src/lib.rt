@@ -8,6 +8,8 @@
 //!
 //! Worked examples: `rw_cache_tests/src/traces.rt`.
 
+mod parts;
+
 ghost use Rattle.std.specs.Prelude.{All, ◌≡◌, ◌≢◌, ◌≤◌, ◌∷◌, [], Ok, Err, Some, IfOk, IfNone, IfSome, length, IfErr, MatchBool, MatchResult, true};
 ghost use Rattle.csv.specs.Reading.{error_kind, stops_reader};
 ghost use Rattle.csv.specs.Records.{fields_of};
@@ -19,6 +21,7 @@ ghost use Rattle.rw_trace.specs.declared.TraceFault.TheVariants.{Memory, Number}
 ghost use Rattle.rw_trace.specs.declared.Version.TheVariants.{First, Second};
 
 use csv::{ByteRecord, Error, ErrorKind, Reader, ReaderBuilder};
+pub use parts::read_in_parts;
 use std::alloc::Global;
 
 /// What a row of a trace says of its object.
@@ -35,12 +38,12 @@ pub enum Kind {
 pub struct Row {
     /// When, in ticks: at most [`MAX_TIME`].
     pub time: u64,
-    /// At which edge cache, from 0.
-    pub edge: u32,
     /// Of which object.
     pub object: u64,
     /// The object's size in bytes: 1 to [`MAX_SIZE`].
     pub size: u64,
+    /// At which edge cache, from 0.
+    pub edge: u32,
     /// Whether the object is asked for or purged: a get, where the header has no kind.
     pub kind: Kind,
 }

@@ -1,4 +1,4 @@
-use Rattle.std.proofs.Common.{◌≡◌, ◌∙◌, ◌^◌, List, Ok, ap, length, map, subst}
+use Rattle.std.proofs.Common.{◌≡◌, ◌∙◌, ◌^◌, ◌++◌, List, Ok, ap, length, map, subst}
 use Rattle.rw_vt.specs.Limits.{end_of_time}
 use Rattle.rw_vt.specs.System.{IsOutcome}
 use Rattle.rw_trace.specs.declared.Row.{Row}
@@ -15,24 +15,27 @@ use Rattle.rw_ripqwarp.proofs.rounds.rounds_text.Goals as goal
 pub report_of_states-requires : goal.report_of_states-requires
 report_of_states-requires g c =
     let outcome = c.in_ok-states.ensures.outcome in
-    ap length c.as_slice-2.ensures.value ∙ length-of-caches c.args.config.now c.as_slice.result.now outcome.0 c.in_ok-states.states.items outcome.1
+    ap length c.as_slice-3.ensures.value ∙ length-of-caches c.args.config.now (c.as_slice.result.now ++ c.as_slice-2.result.now) outcome.0 c.in_ok-states.states.items outcome.1
 
 pub returns-in_err-states-clause-fault : goal.returns-in_err-states-clause-fault
 returns-in_err-states-clause-fault g c =
-    let accepted = subst (λ n. trace_of n (2 ^ 24) (records_of c.args.bytes.now) ≡ Ok c.in_ok-trace.trace.items) c.edges.ensures c.in_ok-trace.ensures.rows in
-    stop-is-fault-in-rounds c.from_residual-in_err-states.result c.args.config.now c.args.bytes.now c.args.plan c.in_err-states.field-0.0 (record { rows = c.in_ok-trace.trace.items; accepted = accepted }) c.in_err-states.ensures.stops c.from_residual-in_err-states.ensures.1
+    let rows : List Row = c.in_ok-rows.rows.items ++ c.in_ok-rows.others.items in
+    let accepted = subst (λ n. trace_of n (2 ^ 24) (records_of c.args.bytes.now) ≡ Ok rows) c.edges.ensures c.in_ok-rows.ensures.rows in
+    stop-is-fault-in-rounds c.from_residual-in_err-states.result c.args.config.now c.args.bytes.now c.args.plan c.in_err-states.field-0.0 (record { rows = rows; accepted = accepted }) c.in_err-states.ensures.stops c.from_residual-in_err-states.ensures.1
 
 pub returns-clause-text : goal.returns-clause-text
 returns-clause-text g c =
     let config : Config = c.args.config.now in
-    let rows : List Row = c.in_ok-trace.trace.items in
+    let rows : List Row = c.in_ok-rows.rows.items ++ c.in_ok-rows.others.items in
     let states : List Cache = c.in_ok-states.states.items in
     let last = c.in_ok-states.ensures.outcome in
+    let both : c.as_slice.result.now ++ c.as_slice-2.result.now ≡ rows =
+    ap (λ l. l ++ c.as_slice-2.result.now) c.as_slice.ensures.value ∙ ap (λ l. c.in_ok-rows.rows.items ++ l) c.as_slice-2.ensures.value in
     record {
       rows = rows;
       journals = last.0;
       states = states;
-      accepted = subst (λ n. trace_of n (2 ^ 24) (records_of c.args.bytes.now) ≡ Ok rows) c.edges.ensures c.in_ok-trace.ensures.rows;
-      outcome = subst (λ rs. IsOutcome (simulation config rs) end_of_time last.0 states) c.as_slice.ensures.value last.1;
-      told = c.in_ok-text.ensures ∙ ap (λ (ss : List Cache). report_text config (map (λ s. s.counters) ss)) c.as_slice-2.ensures.value;
+      accepted = subst (λ n. trace_of n (2 ^ 24) (records_of c.args.bytes.now) ≡ Ok rows) c.edges.ensures c.in_ok-rows.ensures.rows;
+      outcome = subst (λ rs. IsOutcome (simulation config rs) end_of_time last.0 states) both last.1;
+      told = c.in_ok-text.ensures ∙ ap (λ (ss : List Cache). report_text config (map (λ s. s.counters) ss)) c.as_slice-3.ensures.value;
     }

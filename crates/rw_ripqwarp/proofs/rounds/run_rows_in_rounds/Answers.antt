@@ -1,11 +1,12 @@
-use Rattle.std.proofs.Common.{◌≡◌, ℕ, List, Some, ◌∙◌, ap, subst}
+use Rattle.std.proofs.Common.{◌≡◌, ◌++◌, ℕ, List, Some, ◌∙◌, ap, subst}
 use Rattle.std.specs.Prelude.{slice_get}
 use Rattle.rw_photo.specs.declared.config.Config.{Config}
 use Rattle.rw_photo.specs.Cache.{Cache, IsWellFormed}
 use Rattle.rw_photo.specs.Simulation.{starts_of}
 use Rattle.std.specs.Result.{IfOk}
-use Rattle.rw_vt.specs.System.{System}
+use Rattle.rw_vt.specs.System.{System, map_from}
 use Rattle.rw_photo.specs.declared.body.Body.{Body}
+use Rattle.rw_photo.specs.Events.{event_of}
 use Rattle.rw_engine.specs.Runs.{AreLastStates}
 use Rattle.rw_ripqwarp.proofs.InOrder.{runs-rows}
 use Rattle.rw_ripqwarp.proofs.Stopping.{good-plan}
@@ -22,7 +23,7 @@ run_alone_from-requires g c =
     let are : starts ≡ starts_of config = c.in_ok-starts-2.ensures.states ∙ ap starts_of c.new-photo.ensures in
     let well : (p : ℕ) (s : Cache) → slice_get starts p ≡ Some s → IsWellFormed config p s =
     subst (λ (k : Config). (p : ℕ) (s : Cache) → slice_get starts p ≡ Some s → IsWellFormed k p s) c.new-photo.ensures c.in_ok-starts-2.ensures.well_formed in
-    record { ready = ready-at config c.new-photo.result starts c.in-Some.source c.new-photo.ensures (ready config starts c.in-Some.source are well (c.in-Some.ensures.valid config c.requires)) }
+    record { ready = ready-at config c.new-photo.result starts c.in-Some.source c.new-photo.ensures (ready config starts c.in-Some.source are well (c.in-Some.ensures.valid config c.requires.ranges)) }
 
 pub run_in_rounds_from-requires-clause-ready : goal.run_in_rounds_from-requires-clause-ready
 run_in_rounds_from-requires-clause-ready g c κs within =
@@ -31,13 +32,14 @@ run_in_rounds_from-requires-clause-ready g c κs within =
     let are : starts ≡ starts_of config = c.in_ok-starts-2.ensures.states ∙ ap starts_of c.new-photo.ensures in
     let well : (p : ℕ) (s : Cache) → slice_get starts p ≡ Some s → IsWellFormed config p s =
     subst (λ (k : Config). (p : ℕ) (s : Cache) → slice_get starts p ≡ Some s → IsWellFormed k p s) c.new-photo.ensures c.in_ok-starts-2.ensures.well_formed in
-    ready-at config c.new-photo.result starts c.in-Some.source c.new-photo.ensures (ready config starts c.in-Some.source are well (c.in-Some.ensures.valid config c.requires))
+    ready-at config c.new-photo.result starts c.in-Some.source c.new-photo.ensures (ready config starts c.in-Some.source are well (c.in-Some.ensures.valid config c.requires.ranges))
 
 pub returns-in_default-clause-outcome : goal.returns-in_default-clause-outcome
 returns-in_default-clause-outcome g c =
     let made = c.in_ok-starts.ensures in
+    let all = c.as_slice.ensures.value ∙ c.in_ok-rows.ensures in
     subst (λ (y : System Cache Body). IfOk c.run_in_rounds.result (λ r. AreLastStates y r.0.items))
-    (runs-rows c.args.config.now c.new-photo.result c.args.rows.now c.in_ok-starts.starts.items c.in_ok-starts.initial.items c.new-photo.ensures made.starts made.initial) c.run_in_rounds.ensures.states
+    (runs-rows c.args.config.now c.new-photo.result (c.args.rows.now ++ c.args.others.now) c.in_ok-starts.starts.items c.in_ok-starts.initial.items c.new-photo.ensures made.starts (made.initial ∙ ap (map_from 0 event_of) all)) c.run_in_rounds.ensures.states
 
 pub returns-in_default-clause-in_range : goal.returns-in_default-clause-in_range
 returns-in_default-clause-in_range g c = good-plan c.run_in_rounds.result c.args.plan c.run_in_rounds.ensures.plan
@@ -45,7 +47,7 @@ returns-in_default-clause-in_range g c = good-plan c.run_in_rounds.result c.args
 pub returns-then-plan-eq1-clause-outcome : goal.returns-then-plan-eq1-clause-outcome
 returns-then-plan-eq1-clause-outcome g c =
     subst (λ (y : System Cache Body). IfOk c.run_alone_from.result (λ r. AreLastStates y r.0.items))
-    (runs-rows c.args.config.now c.new-photo.result c.args.rows.now c.in_ok-starts-2.starts.items c.in-Some.source c.new-photo.ensures (c.in_ok-starts-2.ensures.states ∙ ap starts_of c.new-photo.ensures) c.in-Some.ensures.events)
+    (runs-rows c.args.config.now c.new-photo.result (c.args.rows.now ++ c.args.others.now) c.in_ok-starts-2.starts.items c.in-Some.source c.new-photo.ensures (c.in_ok-starts-2.ensures.states ∙ ap starts_of c.new-photo.ensures) c.in-Some.ensures.events)
     c.run_alone_from.ensures.states
 
 pub returns-then-plan-eq1-clause-in_range : goal.returns-then-plan-eq1-clause-in_range
@@ -54,7 +56,7 @@ returns-then-plan-eq1-clause-in_range g c = good-plan c.run_alone_from.result c.
 pub returns-clause-outcome : goal.returns-clause-outcome
 returns-clause-outcome g c =
     subst (λ (y : System Cache Body). IfOk c.run_in_rounds_from.result (λ r. AreLastStates y r.0.items))
-    (runs-rows c.args.config.now c.new-photo.result c.args.rows.now c.in_ok-starts-2.starts.items c.in-Some.source c.new-photo.ensures (c.in_ok-starts-2.ensures.states ∙ ap starts_of c.new-photo.ensures) c.in-Some.ensures.events)
+    (runs-rows c.args.config.now c.new-photo.result (c.args.rows.now ++ c.args.others.now) c.in_ok-starts-2.starts.items c.in-Some.source c.new-photo.ensures (c.in_ok-starts-2.ensures.states ∙ ap starts_of c.new-photo.ensures) c.in-Some.ensures.events)
     c.run_in_rounds_from.ensures.states
 
 pub returns-clause-in_range : goal.returns-clause-in_range

@@ -1,8 +1,14 @@
 use Rattle.std.proofs.Common.{◌≡◌, ℕ, List, Some, ◌∙◌, ap, subst}
 use Rattle.std.specs.Prelude.{slice_get}
+use Rattle.std.specs.Result.{IfOk}
+use Rattle.rw_vt.specs.Limits.{end_of_time}
+use Rattle.rw_vt.specs.System.{IsOutcome, System}
+use Rattle.rw_vt.specs.declared.event.Event.{Event}
+use Rattle.rw_photo.specs.declared.body.Body.{Body}
 use Rattle.rw_photo.specs.declared.config.Config.{Config}
 use Rattle.rw_photo.specs.Cache.{Cache, IsWellFormed}
 use Rattle.rw_photo.specs.Simulation.{starts_of}
+use Rattle.rw_ripqwarp.proofs.InOrder.{runs-rows}
 use Rattle.rw_ripqwarp.proofs.Runs.{ready, ready-at}
 use Rattle.rw_ripqwarp.proofs.simulation.last_states_and_tell.Goals as goal
 
@@ -17,3 +23,9 @@ last_states_from-requires g c =
     let well : (p : ℕ) (s : Cache) → slice_get starts p ≡ Some s → IsWellFormed config p s =
     subst (λ (k : Config). (p : ℕ) (s : Cache) → slice_get starts p ≡ Some s → IsWellFormed k p s) c.new-photo.ensures c.in_ok-starts-2.ensures.well_formed in
     record { ready = ready-at config c.new-photo.result starts c.in-Some.source c.new-photo.ensures (ready config starts c.in-Some.source are well (c.in-Some.ensures.valid config c.requires)) }
+
+pub returns-clause-outcome : goal.returns-clause-outcome
+returns-clause-outcome g c =
+    subst (λ (y : System Cache Body). IfOk c.last_states_from.result (λ states. (journals : List (List (Event Body))) × IsOutcome y end_of_time journals states.items))
+    (runs-rows c.args.config.now c.new-photo.result c.args.rows.now c.in_ok-starts-2.starts.items c.in-Some.source c.new-photo.ensures (c.in_ok-starts-2.ensures.states ∙ ap starts_of c.new-photo.ensures) c.in-Some.ensures.events)
+    c.last_states_from.ensures.outcome

@@ -1,8 +1,15 @@
-use Rattle.std.proofs.Common.{rules, ◌+◌, ◌≤◌, ◌^◌, length}
+use Rattle.std.proofs.Common.{◌+◌, ◌≤◌, ◌^◌, ◌++◌, [], All, append-nil, length, rules, subst, sym, true, ◌≡◌}
+use Rattle.rw_vt.specs.System.{map_from}
+use Rattle.rw_photo.specs.Events.{event_of, is_valid}
+use Rattle.rw_photo.proofs.OrderedRows.{in_order_whole}
 use Rattle.rw_photo.proofs.ValidRows.{valid-rows}
 use Rattle.rw_photo.proofs.ordered_requests.OrderedRequests.new.Goals as goal
 
-pub returns-then-are_in_order-clause-valid : goal.returns-then-are_in_order-clause-valid
-returns-then-are_in_order-clause-valid c =
-    let few : 0 + length c.args.rows.now ≤ 2 ^ 64 = search rules in
-    λ config ranges. valid-rows config 0 c.args.rows.now few ranges
+pub returns-in_default-clause-none : goal.returns-in_default-clause-none
+returns-in_default-clause-none c order = c.in_default.ensures.none [] (in_order_whole c.args.rows.now order)
+
+pub returns-clause-valid : goal.returns-clause-valid
+returns-clause-valid c =
+    let rows = c.args.rows.now in
+    let few : 0 + length rows ≤ 2 ^ 64 = search rules in
+    λ config ranges. subst (λ rs. All (λ e. is_valid config e ≡ true) (map_from 0 event_of rs)) (sym (append-nil rows)) (valid-rows config 0 rows few ranges)

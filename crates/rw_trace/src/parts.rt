@@ -1,0 +1,125 @@
+ghost use Rattle.std.specs.Prelude.{All, ◌≡◌, ◌≢◌, ◌≤◌, ◌+◌, ◌++◌, Ok, Err, IfOk, IfErr, IfSome, length};
+ghost use Rattle.rw_trace.specs.Laws.{IsFaultOf, IsNoTrace, IsRow, IsTrace};
+ghost use Rattle.rw_trace.specs.Limits.{most_rows};
+ghost use Rattle.rw_trace.specs.Cut.{AreRowsUnder, IsCut};
+ghost use Rattle.rw_trace.specs.Trace.{trace_of};
+ghost use Rattle.rw_trace.specs.Unread.{records_of};
+ghost use Rattle.rw_trace.specs.declared.TraceFault.TheVariants.{Memory};
+
+use crate::{MAX_ROWS, Row, TraceFault, next, open, read, rows_left, version_of_header};
+use csv::ByteRecord;
+use memchr::{memchr, memrchr};
+use std::alloc::Global;
+use std::thread;
+use std::thread::Threads;
+
+/// How long a text is at least that is worth a thread, in bytes.
+const WORTH: usize = 1 << 18;
+
+/// The rows of a trace of at most [`MAX_ROWS`] rows, in two parts of which the second one follows the first. Where the trace is
+/// long, two threads read them: one is started for it, and gone afterwards.
+///
+/// The text is cut behind a line near its middle, if no field before that is quoted. Where anything is wrong with a part, or
+/// memory is refused, all is read once more, by one thread, and is the first part.
+///
+/// # Errors
+///
+/// Those of [`read`].
+pub fn read_in_parts<R: Threads>(
+    rt: &R,
+    alloc: Global,
+    bytes: &[u8],
+    edges: u32,
+) -> Result<(Vec<Row>, Vec<Row>), TraceFault>
+    ensures rows { IfOk result (λ r.
+        trace_of edges most_rows (records_of bytes.now) ≡ Ok (r.0.items ++ r.1.items)) }
+    ensures fault { IfErr result (λ e.
+        e ≢ Memory → trace_of edges most_rows (records_of bytes.now) ≡ Err e) }
+    ensures law { IfOk result (λ r.
+        IsTrace edges most_rows (records_of bytes.now) (r.0.items ++ r.1.items)) }
+    ensures ranges { IfOk result (λ r. All (IsRow edges) (r.0.items ++ r.1.items)) }
+    ensures few { IfOk result (λ r. length r.0.items + length r.1.items ≤ most_rows) }
+    ensures refused { IfErr result (λ e.
+        e ≢ Memory → IsNoTrace edges most_rows (records_of bytes.now)) }
+    ensures first { IfErr result (λ e.
+        e ≢ Memory → IsFaultOf edges most_rows (records_of bytes.now) e) }
+{
+    if let Some((before, behind)) = cut(bytes)
+        && let Some(parts) = read_both(rt, alloc, before, behind, edges)
+    {
+        return Ok(parts);
+    }
+    let rows = read(alloc, bytes, edges)?;
+    Ok((rows, Vec::new(alloc)))
+}
+
+/// Both parts of a text that is cut behind a line near its middle. `None` where it is short, or where a field might go on
+/// behind the cut.
+fn cut(bytes: &[u8]) -> Option<(&[u8], &[u8])>
+    ensures parts { IfSome result (λ parts. bytes.now ≡ parts.0.now ++ parts.1.now) }
+    ensures cut { IfSome result (λ parts. IsCut parts.0.now parts.1.now) }
+{
+    if bytes.len() < WORTH {
+        return None;
+    }
+    let (half, _) = bytes.split_at_checked(bytes.len() / 2)?;
+    let line = memrchr(b'\n', half)?;
+    let (before, behind) = bytes.split_at_checked(line + 1)?;
+    if before.len() < 3 || memchr(b'"', before).is_some() || behind.first() == Some(&0xEF) {
+        return None;
+    }
+    Some((before, behind))
+}
+
+/// The rows of a text that is cut in two, of each part. `None` where something is wrong with one, or memory is refused.
+fn read_both<R: Threads>(
+    rt: &R,
+    alloc: Global,
+    before: &[u8],
+    behind: &[u8],
+    edges: u32,
+) -> Option<(Vec<Row>, Vec<Row>)>
+    requires cut { IsCut before.now behind.now }
+    ensures law { IfSome result (λ r.
+        IsTrace edges most_rows (records_of (before.now ++ behind.now)) (r.0.items ++ r.1.items)) }
+    ensures few { IfSome result (λ r. length r.0.items + length r.1.items ≤ most_rows) }
+{
+    let (rest, first) = thread::join(
+        rt,
+        move || -> Result<Vec<Row>, TraceFault>
+            ensures { IfOk result (λ v.
+                AreRowsUnder edges (records_of before.entry.now) (records_of behind.entry.now)
+                v.items) }
+        { read_under(alloc, before, behind, edges) },
+        move || -> Result<Vec<Row>, TraceFault>
+            ensures { IfOk result (λ v.
+                IsTrace edges most_rows (records_of before.entry.now) v.items) }
+        { read(alloc, before, edges) },
+    );
+    let first = first.ok()?;
+    let rest = rest.ok()?;
+    if (first.len() + rest.len()) as u64 > MAX_ROWS {
+        return None;
+    }
+    Some((first, rest))
+}
+
+/// The rows of a text without a header, under that of another one.
+fn read_under(
+    alloc: Global,
+    headed: &[u8],
+    bytes: &[u8],
+    edges: u32,
+) -> Result<Vec<Row>, TraceFault>
+    ensures { IfOk result (λ v.
+        AreRowsUnder edges (records_of headed.now) (records_of bytes.now) v.items) }
+{
+    let mut reader = open(alloc, headed);
+    let mut fields = ByteRecord::new(alloc);
+    if !next(&mut reader, &mut fields)? {
+        return Err(TraceFault::Header);
+    }
+    let version = version_of_header(&fields).ok_or(TraceFault::Header)?;
+    let mut reader = open(alloc, bytes);
+    rows_left(alloc, &mut reader, &mut fields, version, edges, MAX_ROWS)
+}
