@@ -1,10 +1,7 @@
-ghost use Rattle.std.specs.Prelude.{◌≡◌, ◌≢◌, ◌≤◌, ◌+◌, ◌++◌, ◌^◌, Ok, Err, All, IfOk, IfErr, OnOk, length};
+ghost use Rattle.std.specs.Prelude.{◌≡◌, ◌≢◌, ◌≤◌, ◌+◌, ◌++◌, All, IfOk, IfErr, OnOk, length};
 ghost use Rattle.rw_photo.specs.Simulation.{simulation};
 ghost use Rattle.rw_trace.specs.Laws.{IsRow};
 ghost use Rattle.rw_trace.specs.Limits.{most_rows};
-ghost use Rattle.rw_trace.specs.Trace.{trace_of};
-ghost use Rattle.rw_trace.specs.Unread.{records_of};
-ghost use Rattle.rw_trace.specs.declared.TraceFault.TheVariants.{Memory};
 ghost use Rattle.rw_engine.specs.Runs.{AreLastStates};
 ghost use Rattle.rw_engine.specs.Stretches.{MayStopInRounds};
 ghost use Rattle.rw_ripqwarp.specs.Simulate.{HasGoodPlan, IsReportOf, IsRunFault};
@@ -14,10 +11,12 @@ use crate::report_text::report_of_states;
 use crate::sim_fault::SimFault;
 use crate::simulation::{beginning_of_rows, starts};
 use crate::telling::{Telling, begin_events, begin_rows};
-use rw_engine::{Plan, Stop, Traffic, run_alone_from, run_in_rounds, run_in_rounds_from};
-use rw_photo::{CacheState, Config, OrderedRequests, Photo};
+use rw_engine::{
+    Plan, Stop, Traffic, run_alone, run_alone_from, run_in_rounds, run_in_rounds_from,
+};
+use rw_photo::{CacheState, Config, OrderedRequests, Photo, Policy};
 use rw_progress::Progress;
-use rw_trace::{Row, TraceFault, read, read_in_parts};
+use rw_trace::{Row, read_in_parts};
 use std::alloc::{AllocError, Global};
 use std::sync::Wait;
 use std::thread::Threads;
@@ -37,7 +36,8 @@ pub(crate) fn rounds_text<P: Progress, R: Threads + Wait + Sync>(
     ensures fault { IfErr result (IsRunFault (Mode.Warp plan) config.now bytes.now) }
     ensures unwritten { IfErr result (λ e. e ≢ SimFault.Output) }
 {
-    let (rows, others) = read_for(rt, alloc, bytes, config.edges(), plan.workers)?;
+    let readers = readers_of(config, &plan);
+    let (rows, others) = read_in_parts(rt, alloc, bytes, config.edges(), readers)?;
     let (states, traffic) = run_rows_in_rounds(
         rt,
         alloc,
@@ -51,27 +51,20 @@ pub(crate) fn rounds_text<P: Progress, R: Threads + Wait + Sync>(
     Ok((text, traffic))
 }
 
-/// The rows of a trace, in two parts of which the second one follows the first: two threads read them where there are several
-/// workers.
-fn read_for<R: Threads>(
-    rt: &R,
-    alloc: Global,
-    bytes: &[u8],
-    edges: u32,
-    workers: u32,
-) -> Result<(Vec<Row>, Vec<Row>), TraceFault>
-    ensures rows { IfOk result (λ r.
-        trace_of edges most_rows (records_of bytes.now) ≡ Ok (r.0.items ++ r.1.items)) }
-    ensures ranges { IfOk result (λ r. All (IsRow edges) (r.0.items ++ r.1.items)) }
-    ensures few { IfOk result (λ r. length r.0.items + length r.1.items ≤ most_rows) }
-    ensures fault { IfErr result (λ e.
-        e ≢ Memory → trace_of edges most_rows (records_of bytes.now) ≡ Err e) }
-{
-    if workers > 1 {
-        return read_in_parts(rt, alloc, bytes, edges);
+/// Whether one worker goes on alone, however many the plan has: caches that admit nothing only look up what a request names,
+/// which is too little to hand over to another thread.
+fn goes_alone(config: &Config, plan: &Plan) -> bool {
+    plan.workers == 1 || matches!(config.policy, Policy::Off)
+}
+
+/// How many threads read the trace, the calling one among them. With those that go on with the run, no more threads are started
+/// than the plan has workers: two read where all workers may go on, and up to four where one goes on alone.
+fn readers_of(config: &Config, plan: &Plan) -> u32 {
+    if goes_alone(config, plan) {
+        plan.workers
+    } else {
+        2
     }
-    let rows = read(alloc, bytes, edges)?;
-    Ok((rows, Vec::new(alloc)))
 }
 
 /// The state of each cache once the requests of these rows, of which `others` follow `rows`, and all that follows from them, are
@@ -97,17 +90,19 @@ fn run_rows_in_rounds<P: Progress, R: Threads + Wait + Sync>(
     ensures stops { IfErr result (MayStopInRounds plan) }
 {
     let photo = Photo::new(*config);
+    let alone = goes_alone(config, &plan);
     let Some(source) = OrderedRequests::of_parts(rows, others) else {
         let rows = joined(alloc, rows, others)?;
         let (starts, initial) = beginning_of_rows(alloc, rows.as_slice(), config)?;
-        if plan.workers > 1 {
-            begin_events(initial.as_slice(), progress);
+        if alone {
+            return run_alone(alloc, &photo, starts, initial, plan);
         }
+        begin_events(initial.as_slice(), progress);
         return run_in_rounds(rt, alloc, photo, starts, initial, plan, progress);
     };
     let starts = starts(alloc, &photo)?;
     begin_rows(rows, others, progress);
-    if plan.workers == 1 {
+    if alone {
         let source = Telling {
             source,
             progress,

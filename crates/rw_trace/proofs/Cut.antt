@@ -267,5 +267,22 @@ trace_cut edges most a b first rest cut one more few =
       few = omega (arith, few, length-append first rest);
     }
 
+pub under_cut : (edges : ℕ) (headed : List (List (List ℕ))) (a b : List ℕ) (first rest : List Row) → IsCut a b → AreRowsUnder edges headed (records_of a) first → AreRowsUnder edges headed (records_of b) rest
+    → AreRowsUnder edges headed (records_of (a ++ b)) (first ++ rest)
+under_cut edges headed a b first rest cut one more =
+    let heads : one.head ∷ one.body ≡ more.head ∷ more.body = sym one.parts ∙ more.parts in
+    let head : one.head ≡ more.head = cc in
+    let version : Some one.version ≡ Some more.version = sym one.is_header ∙ ap version_of head ∙ more.is_header in
+    let same : one.version ≡ more.version = cc in
+    let both = written-both one.version edges (records_of a) (records_of b) first rest one.written (subst (λ v. WriteRows v edges (records_of b) rest) (sym same) more.written) in
+    record {
+      head = one.head;
+      body = one.body;
+      parts = one.parts;
+      version = one.version;
+      is_header = one.is_header;
+      written = subst (λ rs. WriteRows one.version edges rs (first ++ rest)) (sym (records_cut a b cut)) both;
+    }
+
 pub in_ranges : (edges most : ℕ) (recs : List (List (List ℕ))) (rows : List Row) → IsTrace edges most recs rows → All (IsRow edges) rows
 in_ranges edges most recs rows h = rows-in_range h.version edges h.body rows h.written

@@ -17,19 +17,21 @@ use std::thread::Threads;
 const WORTH: usize = 1 << 18;
 
 /// The rows of a trace of at most [`MAX_ROWS`] rows, in two parts of which the second one follows the first. Where the trace is
-/// long, two threads read them: one is started for it, and gone afterwards.
+/// long, several threads read them: two for two or three `readers`, four for more. They are started for it, all but the calling
+/// one, and gone afterwards.
 ///
-/// The text is cut behind a line near its middle, if no field before that is quoted. Where anything is wrong with a part, or
-/// memory is refused, all is read once more, by one thread, and is the first part.
+/// The text is cut behind a line near its middle, if no field before that is quoted; for four threads, so is each half that is
+/// long. Where anything is wrong with a part, or memory is refused, all is read once more, by one thread, and is the first part.
 ///
 /// # Errors
 ///
 /// Those of [`read`].
-pub fn read_in_parts<R: Threads>(
+pub fn read_in_parts<R: Threads + Sync>(
     rt: &R,
     alloc: Global,
     bytes: &[u8],
     edges: u32,
+    readers: u32,
 ) -> Result<(Vec<Row>, Vec<Row>), TraceFault>
     ensures rows { IfOk result (λ r.
         trace_of edges most_rows (records_of bytes.now) ≡ Ok (r.0.items ++ r.1.items)) }
@@ -44,13 +46,22 @@ pub fn read_in_parts<R: Threads>(
     ensures first { IfErr result (λ e.
         e ≢ Memory → IsFaultOf edges most_rows (records_of bytes.now) e) }
 {
-    if let Some((before, behind)) = cut(bytes)
-        && let Some(parts) = read_both(rt, alloc, before, behind, edges)
+    if let Some((before, behind)) = cut_for(bytes, readers)
+        && let Some(parts) = read_both(rt, alloc, before, behind, edges, readers / 2)
     {
         return Ok(parts);
     }
     let rows = read(alloc, bytes, edges)?;
     Ok((rows, Vec::new(alloc)))
+}
+
+/// Both parts of a text that is cut behind a line near its middle, for at least two readers. `None` where it is short, or
+/// where a field might go on behind the cut.
+fn cut_for(bytes: &[u8], readers: u32) -> Option<(&[u8], &[u8])>
+    ensures parts { IfSome result (λ parts. bytes.now ≡ parts.0.now ++ parts.1.now) }
+    ensures cut { IfSome result (λ parts. IsCut parts.0.now parts.1.now) }
+{
+    if readers < 2 { None } else { cut(bytes) }
 }
 
 /// Both parts of a text that is cut behind a line near its middle. `None` where it is short, or where a field might go on
@@ -71,13 +82,15 @@ fn cut(bytes: &[u8]) -> Option<(&[u8], &[u8])>
     Some((before, behind))
 }
 
-/// The rows of a text that is cut in two, of each part. `None` where something is wrong with one, or memory is refused.
-fn read_both<R: Threads>(
+/// The rows of a text that is cut in two, of each part, which so many threads read. `None` where something is wrong with one,
+/// or memory is refused.
+fn read_both<R: Threads + Sync>(
     rt: &R,
     alloc: Global,
     before: &[u8],
     behind: &[u8],
     edges: u32,
+    readers: u32,
 ) -> Option<(Vec<Row>, Vec<Row>)>
     requires cut { IsCut before.now behind.now }
     ensures law { IfSome result (λ r.
@@ -90,11 +103,11 @@ fn read_both<R: Threads>(
             ensures { IfOk result (λ v.
                 AreRowsUnder edges (records_of before.entry.now) (records_of behind.entry.now)
                 v.items) }
-        { read_under(alloc, before, behind, edges) },
+        { read_rest(rt, alloc, before, behind, edges, readers) },
         move || -> Result<Vec<Row>, TraceFault>
             ensures { IfOk result (λ v.
                 IsTrace edges most_rows (records_of before.entry.now) v.items) }
-        { read(alloc, before, edges) },
+        { read_headed(rt, alloc, before, edges, readers) },
     );
     let first = first.ok()?;
     let rest = rest.ok()?;
@@ -102,6 +115,83 @@ fn read_both<R: Threads>(
         return None;
     }
     Some((first, rest))
+}
+
+/// The rows of a trace, which one or two threads read: a fault where something is wrong, whatever it is.
+fn read_headed<R: Threads + Sync>(
+    rt: &R,
+    alloc: Global,
+    bytes: &[u8],
+    edges: u32,
+    readers: u32,
+) -> Result<Vec<Row>, TraceFault>
+    ensures { IfOk result (λ v. IsTrace edges most_rows (records_of bytes.now) v.items) }
+{
+    let Some((before, behind)) = cut_for(bytes, readers) else {
+        return read(alloc, bytes, edges);
+    };
+    let (rest, first) = thread::join(
+        rt,
+        move || -> Result<Vec<Row>, TraceFault>
+            ensures { IfOk result (λ v.
+                AreRowsUnder edges (records_of before.entry.now) (records_of behind.entry.now)
+                v.items) }
+        { read_under(alloc, before, behind, edges) },
+        move || -> Result<Vec<Row>, TraceFault>
+            ensures { IfOk result (λ v.
+                IsTrace edges most_rows (records_of before.entry.now) v.items) }
+        { read(alloc, before, edges) },
+    );
+    let first = first?;
+    let rest = rest?;
+    if (first.len() + rest.len()) as u64 > MAX_ROWS {
+        return Err(TraceFault::TooManyRows);
+    }
+    joined(first, &rest)
+}
+
+/// The rows of a text without a header, under that of another one, which one or two threads read.
+fn read_rest<R: Threads + Sync>(
+    rt: &R,
+    alloc: Global,
+    headed: &[u8],
+    bytes: &[u8],
+    edges: u32,
+    readers: u32,
+) -> Result<Vec<Row>, TraceFault>
+    ensures { IfOk result (λ v.
+        AreRowsUnder edges (records_of headed.now) (records_of bytes.now) v.items) }
+{
+    let Some((before, behind)) = cut_for(bytes, readers) else {
+        return read_under(alloc, headed, bytes, edges);
+    };
+    let (rest, first) = thread::join(
+        rt,
+        move || -> Result<Vec<Row>, TraceFault>
+            ensures { IfOk result (λ v.
+                AreRowsUnder edges (records_of headed.entry.now) (records_of behind.entry.now)
+                v.items) }
+        { read_under(alloc, headed, behind, edges) },
+        move || -> Result<Vec<Row>, TraceFault>
+            ensures { IfOk result (λ v.
+                AreRowsUnder edges (records_of headed.entry.now) (records_of before.entry.now)
+                v.items) }
+        { read_under(alloc, headed, before, edges) },
+    );
+    let first = first?;
+    let rest = rest?;
+    joined(first, &rest)
+}
+
+/// Rows, and those that follow them.
+fn joined(rows: Vec<Row>, others: &[Row]) -> Result<Vec<Row>, TraceFault>
+    ensures { IfOk result (λ all. all.items ≡ rows.items ++ others.now) }
+{
+    let mut rows = rows;
+    if rows.extend_from_slice(others).is_err() {
+        return Err(TraceFault::Memory);
+    }
+    Ok(rows)
 }
 
 /// The rows of a text without a header, under that of another one.

@@ -16,6 +16,9 @@ use Rattle.rw_ripqwarp.proofs.rounds.run_rows_in_rounds.Goals as goal
 pub run_in_rounds-requires-clause-ready : goal.run_in_rounds-requires-clause-ready
 run_in_rounds-requires-clause-ready g c κs within = ready-at c.args.config.now c.new-photo.result c.in_ok-starts.starts.items c.in_ok-starts.initial.items c.new-photo.ensures c.in_ok-starts.ensures.ready
 
+pub run_alone-requires : goal.run_alone-requires
+run_alone-requires g c = record { ready = ready-at c.args.config.now c.new-photo.result c.in_ok-starts.starts.items c.in_ok-starts.initial.items c.new-photo.ensures c.in_ok-starts.ensures.ready }
+
 pub run_alone_from-requires : goal.run_alone_from-requires
 run_alone_from-requires g c =
     let config : Config = c.args.config.now in
@@ -44,14 +47,24 @@ returns-in_default-clause-outcome g c =
 pub returns-in_default-clause-in_range : goal.returns-in_default-clause-in_range
 returns-in_default-clause-in_range g c = good-plan c.run_in_rounds.result c.args.plan c.run_in_rounds.ensures.plan
 
-pub returns-then-plan-eq1-clause-outcome : goal.returns-then-plan-eq1-clause-outcome
-returns-then-plan-eq1-clause-outcome g c =
+pub returns-then-alone-clause-outcome : goal.returns-then-alone-clause-outcome
+returns-then-alone-clause-outcome g c =
+    let made = c.in_ok-starts.ensures in
+    let all = c.as_slice.ensures.value ∙ c.in_ok-rows.ensures in
+    subst (λ (y : System Cache Body). IfOk c.run_alone.result (λ r. AreLastStates y r.0.items))
+    (runs-rows c.args.config.now c.new-photo.result (c.args.rows.now ++ c.args.others.now) c.in_ok-starts.starts.items c.in_ok-starts.initial.items c.new-photo.ensures made.starts (made.initial ∙ ap (map_from 0 event_of) all)) c.run_alone.ensures.states
+
+pub returns-then-alone-clause-in_range : goal.returns-then-alone-clause-in_range
+returns-then-alone-clause-in_range g c = good-plan c.run_alone.result c.args.plan c.run_alone.ensures.plan
+
+pub returns-then-alone-2-clause-outcome : goal.returns-then-alone-2-clause-outcome
+returns-then-alone-2-clause-outcome g c =
     subst (λ (y : System Cache Body). IfOk c.run_alone_from.result (λ r. AreLastStates y r.0.items))
     (runs-rows c.args.config.now c.new-photo.result (c.args.rows.now ++ c.args.others.now) c.in_ok-starts-2.starts.items c.in-Some.source c.new-photo.ensures (c.in_ok-starts-2.ensures.states ∙ ap starts_of c.new-photo.ensures) c.in-Some.ensures.events)
     c.run_alone_from.ensures.states
 
-pub returns-then-plan-eq1-clause-in_range : goal.returns-then-plan-eq1-clause-in_range
-returns-then-plan-eq1-clause-in_range g c = good-plan c.run_alone_from.result c.args.plan c.run_alone_from.ensures.plan
+pub returns-then-alone-2-clause-in_range : goal.returns-then-alone-2-clause-in_range
+returns-then-alone-2-clause-in_range g c = good-plan c.run_alone_from.result c.args.plan c.run_alone_from.ensures.plan
 
 pub returns-clause-outcome : goal.returns-clause-outcome
 returns-clause-outcome g c =
