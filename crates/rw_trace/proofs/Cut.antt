@@ -1,6 +1,6 @@
 -- A text that is cut behind a line is read in two parts.
-use Rattle.std.proofs.Common.{◌≡◌, ◌≢◌, ◌<◌, ◌≤◌, ◌+◌, ◌⊎◌, inl, inr, ℕ, zero, suc, List, [], ◌∷◌, ◌++◌, length, Bool, true, false, Option, Some, None, refl, sym, ap, ◌∙◌, arith, subst, length-append, All, true≢false}
-use Rattle.std.specs.Prelude.{◌-◌, ◌==◌, ◌||◌, ⊤, slice_get}
+use Rattle.std.proofs.Common.{Global, Vec, ◌≡◌, ◌≢◌, ◌<◌, ◌≤◌, ◌+◌, ◌⊎◌, inl, inr, ℕ, zero, suc, List, [], ◌∷◌, ◌++◌, length, Bool, true, false, Option, Some, None, refl, sym, ap, ◌∙◌, arith, subst, length-append, All}
+use Rattle.std.specs.Prelude.{◌-◌, ◌==◌, ⊤, slice_get, IfSome, IsSomeAnd}
 use Rattle.std.proofs.lemmas.Grind.{common_steps}
 use Rattle.std.proofs.lemmas.List.Elements.{All-head, All-tail}
 use Rattle.csv.specs.Machine.{Read, in_field, next_record, step}
@@ -12,6 +12,7 @@ use Rattle.rw_trace.proofs.Records.{left-more, left-none}
 use Rattle.rw_trace.proofs.Laws.{rows-in_range}
 use Rattle.rw_trace.specs.Laws.{IsRow, IsTrace, WriteRows}
 use Rattle.rw_trace.specs.Cut.{AreRowsUnder, IsCut}
+use Rattle.rw_trace.specs.Limits.{most_rows}
 use Rattle.rw_trace.specs.Trace.{version_of}
 use Rattle.rw_trace.specs.Unread.{records_left, records_of}
 use Rattle.rw_trace.specs.declared.Row.{Row}
@@ -286,3 +287,30 @@ under_cut edges headed a b first rest cut one more =
 
 pub in_ranges : (edges most : ℕ) (recs : List (List (List ℕ))) (rows : List Row) → IsTrace edges most recs rows → All (IsRow edges) rows
 in_ranges edges most recs rows h = rows-in_range h.version edges h.body rows h.written
+
+-- what is read of each part, together
+pub trace-both : (edges : ℕ) (a b : List ℕ) (first rest : Option (Vec Row Global)) (both : Option (Vec Row Global × Vec Row Global)) → IsCut a b
+    → IfSome first (λ v. IsTrace edges most_rows (records_of a) v.items) → IfSome rest (λ v. AreRowsUnder edges (records_of a) (records_of b) v.items)
+    → IfSome both (λ r. first ≡ Some r.0) → IfSome both (λ r. rest ≡ Some r.1) → IfSome both (λ r. length r.0.items + length r.1.items ≤ most_rows)
+    → IfSome both (λ r. IsTrace edges most_rows (records_of (a ++ b)) (r.0.items ++ r.1.items))
+trace-both edges a b first rest None cut one more is_first is_rest few = tt
+trace-both edges a b first rest (Some r) cut one more is_first is_rest few =
+    trace_cut edges most_rows a b r.0.items r.1.items cut (rw is_first at one) (rw is_rest at more) few
+
+pub trace-joined : (edges : ℕ) (text a b : List ℕ) (first rest all : Option (Vec Row Global)) → text ≡ a ++ b → IsCut a b
+    → IfSome first (λ v. IsTrace edges most_rows (records_of a) v.items) → IfSome rest (λ v. AreRowsUnder edges (records_of a) (records_of b) v.items)
+    → IfSome all (λ v. IsSomeAnd first (λ f. IsSomeAnd rest (λ r. (v.items ≡ f.items ++ r.items) × (length f.items + length r.items ≤ most_rows))))
+    → IfSome all (λ v. IsTrace edges most_rows (records_of text) v.items)
+trace-joined edges text a b first rest None parts cut one more both = tt
+trace-joined edges text a b None rest (Some v) parts cut one more both = absurd both
+trace-joined edges text a b (Some f) None (Some v) parts cut one more both = absurd both
+trace-joined edges text a b (Some f) (Some r) (Some v) parts cut one more both = rw (parts, both.0) (trace_cut edges most_rows a b f.items r.items cut one more both.1)
+
+pub under-joined : (edges : ℕ) (headed : List (List (List ℕ))) (text a b : List ℕ) (first rest all : Option (Vec Row Global)) → text ≡ a ++ b → IsCut a b
+    → IfSome first (λ v. AreRowsUnder edges headed (records_of a) v.items) → IfSome rest (λ v. AreRowsUnder edges headed (records_of b) v.items)
+    → IfSome all (λ v. IsSomeAnd first (λ f. IsSomeAnd rest (λ r. (v.items ≡ f.items ++ r.items) × (length f.items + length r.items ≤ most_rows))))
+    → IfSome all (λ v. AreRowsUnder edges headed (records_of text) v.items)
+under-joined edges headed text a b first rest None parts cut one more both = tt
+under-joined edges headed text a b None rest (Some v) parts cut one more both = absurd both
+under-joined edges headed text a b (Some f) None (Some v) parts cut one more both = absurd both
+under-joined edges headed text a b (Some f) (Some r) (Some v) parts cut one more both = rw (parts, both.0) (under_cut edges headed a b f.items r.items cut one more)

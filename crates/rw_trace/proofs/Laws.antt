@@ -1,6 +1,6 @@
 -- What is read is what the format says.
-use Rattle.std.proofs.Common.{◌≡◌, ◌≤◌, ◌+◌, ◌-◌, ◌*◌, ◌^◌, ℕ, List, [], ◌∷◌, ◌++◌, length, Bool, true, false, Option, Some, None, nat_lt, nat_le, Ok, Err, Result, Decides, refl, arith, sym, ◌∙◌, ap, subst}
-use Rattle.std.specs.Prelude.{◌==◌, ◌||◌, ◌<◌, All, IsSomeAnd, IfErr}
+use Rattle.std.proofs.Common.{◌≡◌, ◌≤◌, ◌+◌, ◌⊎◌, inl, inr, ◌-◌, ◌*◌, ◌^◌, ℕ, zero, suc, List, [], ◌∷◌, ◌++◌, length, Bool, true, false, Option, Some, None, nat_lt, nat_le, Ok, Err, Result, Decides, refl, arith, sym, ◌∙◌, ap, subst}
+use Rattle.std.specs.Prelude.{◌==◌, ◌||◌, ◌&&◌, ◌<◌, All, IsSomeAnd, IfErr, MatchOption}
 use Rattle.std.proofs.lemmas.List.Elements.{All-cons, All-nil}
 use Rattle.std.specs.Char.{is_ascii_digit}
 use Rattle.std.specs.List.{list_all}
@@ -13,8 +13,9 @@ use Rattle.std.proofs.Math.Nat.{pow-succ'}
 use Rattle.csv.specs.Records.{field_at}
 use Rattle.rw_trace.proofs.Numbers.{is-number}
 use Rattle.rw_trace.specs.Limits.{greatest_size, latest_time}
-use Rattle.rw_trace.specs.Laws.{IsNumber, IsRow, IsTrace, Lacks, LacksKind, WriteRows, Writes, WritesKind, WritesRow, decimal}
+use Rattle.rw_trace.specs.Laws.{IsFaultOf, IsFirstFault, IsNumber, IsRow, IsTrace, IsWrong, Lacks, LacksKind, WriteRows, Writes, WritesKind, WritesRow, decimal}
 use Rattle.rw_trace.specs.Trace.{column_of, is_text, is_text_at, kind_at, word_of, number_in, number_of, row_of, rows_of, trace_of, value_after, version_of, width_of}
+use Rattle.rw_trace.specs.Unread.{LacksHeader}
 use Rattle.rw_trace.specs.declared.Kind.{Kind}
 use Rattle.rw_trace.specs.declared.Kind.TheVariants.{Get, Purge}
 use Rattle.rw_trace.specs.declared.Row.{Row}
@@ -170,12 +171,6 @@ trace-complete edges most recs rows h = rw (h.parts, h.headed) (rows-complete h.
 pub no_trace : (edges most : ℕ) (recs : List (List (List ℕ))) (e : TraceFault) → trace_of edges most recs ≡ Err e → (rows : List Row) → ¬ (IsTrace edges most recs rows)
 no_trace edges most recs e h rows t = let both = sym (trace-complete edges most recs rows t) ∙ h in cc
 
--- a fault behind the header is that of the trace
-pub behind : (version : Version) (edges most : ℕ) (recs rs : List (List (List ℕ))) (h : List (List ℕ)) (e : TraceFault) → recs ≡ h ∷ rs → version_of h ≡ Some version → rows_of version edges most 0 rs ≡ Err e
-    → trace_of edges most recs ≡ Err e
-unfolding trace_of
-behind version edges most recs rs h e parts headed k = rw (parts, headed) k
-
 -- the fault of a column that is refused
 named : (row column : ℕ) (fields : List (List ℕ)) (e : TraceFault) → column_of row column fields ≡ Err e → e ≡ fault.Number row column
 unfolding column_of
@@ -207,3 +202,152 @@ rows-in_range version edges (r ∷ rs) (w ∷ ws) h =
     All-cons (IsRow edges) w ws
     (record { time = h.0.time_within; edge = h.0.edge_within; object = fits-written (field_at r 2) w.object h.0.object; some = h.0.size_above; few = h.0.size_within })
     (rows-in_range version edges rs ws h.1)
+
+-- a column that writes no number is refused
+column-lacks : (row column : ℕ) (fields : List (List ℕ)) → Lacks fields column → column_of row column fields ≡ Err (fault.Number row column)
+unfolding column_of
+column-lacks row column fields h = by (field_at fields column) refl h
+  where
+    by : (o : Option (List ℕ)) → field_at fields column ≡ o → ((n : ℕ) → ¬ (IsSomeAnd o (λ f. IsNumber f n))) → column_of row column fields ≡ Err (fault.Number row column)
+    by None e k = rw e refl
+    by (Some f) e k = read (number_of f) refl
+      where
+        read : (m : Option ℕ) → number_of f ≡ m → column_of row column fields ≡ Err (fault.Number row column)
+        read None g = rw (e, g) refl
+        read (Some n) g = absurd (k n (number-law f n g))
+
+-- a record that writes no kind has none
+kind-none : (version : Version) (fields : List (List ℕ)) → LacksKind version fields → kind_at version fields ≡ None
+kind-none version fields h = by (kind_at version fields) refl
+  where
+    by : (o : Option Kind) → kind_at version fields ≡ o → kind_at version fields ≡ None
+    by None e = e
+    by (Some k) e = absurd (h k (kind-law version fields k e))
+
+le-yes : (a b : ℕ) → a ≤ b → nat_le a b ≡ true
+le-yes a b h = grind (arith, common_steps)
+
+le-no : (a b : ℕ) → b < a → nat_le a b ≡ false
+le-no a b h = grind (arith, common_steps)
+
+lt-yes : (a b : ℕ) → a < b → nat_lt a b ≡ true
+lt-yes a b h = grind (arith, common_steps)
+
+lt-no : (a b : ℕ) → b ≤ a → nat_lt a b ≡ false
+lt-no a b h = grind (arith, common_steps)
+
+-- a size in its range, and one that is not
+size-yes : (n : ℕ) → 1 ≤ n → n ≤ greatest_size → (nat_le 1 n && nat_le n greatest_size) ≡ true
+size-yes n some few = rw (le-yes 1 n some, le-yes n greatest_size few) refl
+
+size-no : (n : ℕ) → (n ≡ 0) ⊎ (greatest_size < n) → (nat_le 1 n && nat_le n greatest_size) ≡ false
+size-no n h = elim h [
+  | inl none ↦ rw (le-no 1 n (omega arith)) refl
+  | inr more ↦ by (nat_le 1 n) (le-no n greatest_size more)
+]
+  where
+    by : (b : Bool) → nat_le n greatest_size ≡ false → (b && nat_le n greatest_size) ≡ false
+    by true e = e
+    by false e = refl
+
+-- what is wrong in a record is what it is refused for
+pub wrong-complete : (version : Version) (edges n : ℕ) (fields : List (List ℕ)) (e : TraceFault) → IsWrong version edges n fields e → row_of version edges n fields ≡ Err e
+unfolding row_of
+wrong-complete version edges n fields (fault.RowLength k) h =
+    let other : (length fields == width_of version) ≡ false = grind (arith, common_steps, h.1) in
+    rw (other, h.0) refl
+wrong-complete version edges n fields (fault.Number k zero) h =
+    let (at, wide, below, good, lacks) = h in
+    rw (eq-eqb (length fields) (width_of version) wide, column-lacks n 0 fields lacks, at) refl
+wrong-complete version edges n fields (fault.Number k (suc zero)) h =
+    let (at, wide, below, good, lacks) = h in
+    let (t, writes_t, early) = good.1 in
+    rw (eq-eqb (length fields) (width_of version) wide, column-complete n 0 t fields writes_t, le-yes t latest_time early, column-lacks n 1 fields lacks, at) refl
+wrong-complete version edges n fields (fault.Number k (suc (suc zero))) h =
+    let (at, wide, below, good, lacks) = h in
+    let (t, writes_t, early) = good.0.1 in
+    let (d, writes_d, known) = good.1 in
+    rw (eq-eqb (length fields) (width_of version) wide, column-complete n 0 t fields writes_t, le-yes t latest_time early, column-complete n 1 d fields writes_d, lt-yes d edges known, column-lacks n 2 fields lacks, at) refl
+wrong-complete version edges n fields (fault.Number k (suc (suc (suc zero)))) h =
+    let (at, wide, below, good, lacks) = h in
+    let (t, writes_t, early) = good.0.0.1 in
+    let (d, writes_d, known) = good.0.1 in
+    let (o, writes_o) = good.1 in
+    rw (eq-eqb (length fields) (width_of version) wide, column-complete n 0 t fields writes_t, le-yes t latest_time early, column-complete n 1 d fields writes_d, lt-yes d edges known, column-complete n 2 o fields writes_o, column-lacks n 3 fields lacks, at) refl
+wrong-complete version edges n fields (fault.Number k (suc (suc (suc (suc c))))) h = absurd (omega (arith, h.2))
+wrong-complete version edges n fields (fault.TimeRange k) h =
+    let (at, wide, found) = h in
+    let (t, writes_t, late) = found in
+    rw (eq-eqb (length fields) (width_of version) wide, column-complete n 0 t fields writes_t, le-no t latest_time late, at) refl
+wrong-complete version edges n fields (fault.EdgeRange k) h =
+    let (at, wide, good, found) = h in
+    let (d, writes_d, unknown) = found in
+    let (t, writes_t, early) = good.1 in
+    rw (eq-eqb (length fields) (width_of version) wide, column-complete n 0 t fields writes_t, le-yes t latest_time early, column-complete n 1 d fields writes_d, lt-no d edges unknown, at) refl
+wrong-complete version edges n fields (fault.SizeRange k) h =
+    let (at, wide, good, found) = h in
+    let (s, writes_s, other) = found in
+    let (t, writes_t, early) = good.0.0.1 in
+    let (d, writes_d, known) = good.0.1 in
+    let (o, writes_o) = good.1 in
+    rw (eq-eqb (length fields) (width_of version) wide, column-complete n 0 t fields writes_t, le-yes t latest_time early, column-complete n 1 d fields writes_d, lt-yes d edges known, column-complete n 2 o fields writes_o, column-complete n 3 s fields writes_s, size-no s other, at) refl
+wrong-complete version edges n fields (fault.Kind k) h =
+    let (at, wide, good, lacks) = h in
+    let (t, writes_t, early) = good.0.0.0.1 in
+    let (d, writes_d, known) = good.0.0.1 in
+    let (o, writes_o) = good.0.1 in
+    let (s, writes_s, some, few) = good.1 in
+    rw (eq-eqb (length fields) (width_of version) wide, column-complete n 0 t fields writes_t, le-yes t latest_time early, column-complete n 1 d fields writes_d, lt-yes d edges known, column-complete n 2 o fields writes_o, column-complete n 3 s fields writes_s, size-yes s some few, kind-none version fields lacks, at) refl
+wrong-complete version edges n fields fault.Header h = absurd h
+wrong-complete version edges n fields fault.TooManyRows h = absurd h
+wrong-complete version edges n fields fault.Memory h = absurd h
+
+-- good rows, and then one that is wrong or one too many, are refused for it
+rows-wrong : (version : Version) (edges most n m : ℕ) (good : List (List (List ℕ))) (ws : List Row) (bad : List (List ℕ)) (rest : List (List (List ℕ))) (e : TraceFault)
+    → m ≡ n + length ws → WriteRows version edges good ws → ((m < most) × IsWrong version edges m bad e) ⊎ ((m ≡ most) × (e ≡ fault.TooManyRows))
+    → rows_of version edges most n (good ++ bad ∷ rest) ≡ Err e
+unfolding WriteRows rows_of
+rows-wrong version edges most n m [] [] bad rest e is h told = elim told [
+  | inl wrong ↦
+      let same : m ≡ n = omega arith in
+      let other : (n == most) ≡ false = grind (arith, common_steps, wrong.0) in
+      rw (other, wrong-complete version edges n bad e (subst (λ k. IsWrong version edges k bad e) same wrong.1)) refl
+  | inr many ↦
+      let all : (n == most) ≡ true = eq-eqb n most (omega arith) in
+      rw (all, many.1) refl
+]
+rows-wrong version edges most n m [] (w ∷ ws) bad rest e is h told = absurd h
+rows-wrong version edges most n m (r ∷ rs) [] bad rest e is h told = absurd h
+rows-wrong version edges most n m (r ∷ rs) (w ∷ ws) bad rest e is h told =
+    let few : m ≤ most = elim told [ inl wrong ↦ omega arith | inr many ↦ omega arith ] in
+    let other : (n == most) ≡ false = grind (arith, common_steps) in
+    rw (other, row-complete version edges n r w h.0, rows-wrong version edges most (n + 1) m rs ws bad rest e (omega arith) h.1 told) refl
+
+-- the first fault behind the header is what the rows are refused for
+pub fault-complete : (version : Version) (edges most : ℕ) (recs : List (List (List ℕ))) (e : TraceFault) → IsFirstFault version edges most recs e → rows_of version edges most 0 recs ≡ Err e
+fault-complete version edges most recs e h = rw h.parts (rows-wrong version edges most 0 (length h.rows) h.good h.rows h.bad h.rest e (omega arith) h.written h.told)
+
+-- why a trace is refused is its fault
+pub trace-fault : (edges most : ℕ) (recs : List (List (List ℕ))) (e : TraceFault) → IsFaultOf edges most recs e → trace_of edges most recs ≡ Err e
+unfolding trace_of
+trace-fault edges most [] e h = rw h refl
+trace-fault edges most (r ∷ body) e h = by (version_of r) refl h
+  where
+    by : (o : Option Version) → version_of r ≡ o → MatchOption o (e ≡ fault.Header) (λ version. IsFirstFault version edges most body e) → trace_of edges most (r ∷ body) ≡ Err e
+    by None is k = rw (is, k) refl
+    by (Some version) is k = rw is (fault-complete version edges most body e k)
+
+-- records without a header are refused for that
+pub header-fault : (edges most : ℕ) (recs : List (List (List ℕ))) (e : TraceFault) → LacksHeader recs → e ≡ fault.Header → IsFaultOf edges most recs e
+header-fault edges most [] e h is = is
+header-fault edges most (r ∷ body) e h is = rw h is
+
+-- the rows behind a header are a trace
+pub headed-trace : (version : Version) (edges most : ℕ) (recs rs : List (List (List ℕ))) (h : List (List ℕ)) (rows : List Row) → recs ≡ h ∷ rs → version_of h ≡ Some version
+    → WriteRows version edges rs rows × (length rows ≤ most) → IsTrace edges most recs rows
+headed-trace version edges most recs rs h rows parts headed law = record { head = h; body = rs; parts = parts; version = version; headed = headed; written = law.0; few = law.1 }
+
+-- the first fault behind a header is why the trace is refused
+pub headed-fault : (version : Version) (edges most : ℕ) (recs rs : List (List (List ℕ))) (h : List (List ℕ)) (e : TraceFault) → recs ≡ h ∷ rs → version_of h ≡ Some version
+    → IsFirstFault version edges most rs e → IsFaultOf edges most recs e
+headed-fault version edges most recs rs h e parts headed first = rw (parts, headed) first

@@ -15,9 +15,9 @@ ghost use Rattle.csv.specs.Reading.{error_kind, stops_reader};
 ghost use Rattle.csv.specs.Records.{fields_of};
 ghost use Rattle.rw_trace.specs.Laws.{IsFaultOf, IsFirstFault, IsNoTrace, IsNumber, IsRow, IsTrace, IsWrong, Lacks, LacksKind, WriteRows, Writes, WritesKind, WritesRow};
 ghost use Rattle.rw_trace.specs.Limits.{greatest_size, latest_time, most_digits, most_rows};
-ghost use Rattle.rw_trace.specs.Trace.{column_of, is_header, is_text_at, kind_at, names_numbers, number_of, row_of, rows_of, trace_of, version_of, width_of};
-ghost use Rattle.rw_trace.specs.Unread.{Steady, records_of, unread};
-ghost use Rattle.rw_trace.specs.declared.TraceFault.TheVariants.{Memory, Number};
+ghost use Rattle.rw_trace.specs.Trace.{column_of, is_header, is_text_at, kind_at, names_numbers, number_of, trace_of, version_of, width_of};
+ghost use Rattle.rw_trace.specs.Unread.{LacksHeader, Steady, records_of, unread};
+ghost use Rattle.rw_trace.specs.declared.TraceFault.TheVariants.{Header, Memory, Number};
 ghost use Rattle.rw_trace.specs.declared.Version.TheVariants.{First, Second};
 
 use csv::{ByteRecord, Error, ErrorKind, Reader, ReaderBuilder};
@@ -182,9 +182,7 @@ fn kind_of_record(fields: &ByteRecord, version: Version) -> Option<Kind>
 }
 
 /// The row that a record writes, or what is first wrong in it.
-#[tactic(auto, unfolding(crate::specs::Trace::row_of))]
 fn row_at(fields: &ByteRecord, version: Version, edges: u32, row: u64) -> Result<Row, TraceFault>
-    ensures value { result ≡ row_of version edges row (fields_of fields.now) }
     ensures law { IfOk result (λ r. WritesRow version edges (fields_of fields.now) r) }
     ensures wrong { IfErr result (λ e. IsWrong version edges row (fields_of fields.now) e) }
 {
@@ -292,8 +290,23 @@ fn open(alloc: Global, bytes: &[u8]) -> Reader<&[u8]>
         .from_reader(alloc, bytes)
 }
 
+/// The version whose header the next record is. `fields` is that record then.
+fn next_version(reader: &mut Reader<&[u8]>, fields: &mut ByteRecord) -> Result<Version, TraceFault>
+    requires { Steady reader.old }
+    ensures steady { IfOk result (λ _. Steady reader.new) }
+    ensures gives { IfOk result (λ _.
+        unread reader.old ≡ fields_of fields.new ∷ unread reader.new) }
+    ensures headed { IfOk result (λ version. version_of (fields_of fields.new) ≡ Some version) }
+    ensures lacks { IfErr result (λ e.
+        e ≢ Memory → (e ≡ Header) × LacksHeader (unread reader.old)) }
+{
+    if !next(reader, fields)? {
+        return Err(TraceFault::Header);
+    }
+    version_of_header(fields).ok_or(TraceFault::Header)
+}
+
 /// The rows of the records that are left, or the first fault among them.
-#[tactic(auto, using(crate::proofs::Rows::row_rules))]
 fn rows_left(
     alloc: Global,
     reader: &mut Reader<&[u8]>,
@@ -303,13 +316,8 @@ fn rows_left(
     most: u64,
 ) -> Result<Vec<Row>, TraceFault>
     requires { Steady reader.old }
-    ensures rows { IfOk result (λ v.
-        rows_of version edges most 0 (unread reader.old) ≡ Ok v.items) }
     ensures law { IfOk result (λ v.
         WriteRows version edges (unread reader.old) v.items × (length v.items ≤ most)) }
-    ensures ranges { IfOk result (λ v. All (IsRow edges) v.items) }
-    ensures fault { IfErr result (λ e.
-        e ≢ Memory → rows_of version edges most 0 (unread reader.old) ≡ Err e) }
     ensures first { IfErr result (λ e.
         e ≢ Memory → IsFirstFault version edges most (unread reader.old) e) }
 {
@@ -329,6 +337,22 @@ fn rows_left(
     Ok(rows)
 }
 
+/// The rows of the trace whose records are left, or its first fault.
+fn trace_left(
+    alloc: Global,
+    reader: &mut Reader<&[u8]>,
+    fields: &mut ByteRecord,
+    edges: u32,
+    most: u64,
+) -> Result<Vec<Row>, TraceFault>
+    requires { Steady reader.old }
+    ensures law { IfOk result (λ v. IsTrace edges most (unread reader.old) v.items) }
+    ensures first { IfErr result (λ e. e ≢ Memory → IsFaultOf edges most (unread reader.old) e) }
+{
+    let version = next_version(reader, fields)?;
+    rows_left(alloc, reader, fields, version, edges, most)
+}
+
 /// The rows of a trace, where row `most` and all behind it are one row too many.
 ///
 /// # Errors
@@ -336,7 +360,6 @@ fn rows_left(
 /// The first fault of the trace: that of the first faulty row, within it first its length, then its columns from the
 /// left, in each the number before its range, and last its kind. `Memory` where a request for memory was refused;
 /// nothing is said of the trace then.
-#[tactic(auto, unfolding(crate::specs::Trace::trace_of))]
 pub fn read_up_to(
     alloc: Global,
     bytes: &[u8],
@@ -354,11 +377,7 @@ pub fn read_up_to(
 {
     let mut reader = open(alloc, bytes);
     let mut fields = ByteRecord::new(alloc);
-    if !next(&mut reader, &mut fields)? {
-        return Err(TraceFault::Header);
-    }
-    let version = version_of_header(&fields).ok_or(TraceFault::Header)?;
-    rows_left(alloc, &mut reader, &mut fields, version, edges, most)
+    trace_left(alloc, &mut reader, &mut fields, edges, most)
 }
 
 /// The rows of a trace of at most [`MAX_ROWS`] rows.

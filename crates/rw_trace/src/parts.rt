@@ -1,12 +1,12 @@
-ghost use Rattle.std.specs.Prelude.{All, ◌≡◌, ◌≢◌, ◌≤◌, ◌+◌, ◌++◌, Ok, Err, IfOk, IfErr, IfSome, length};
+ghost use Rattle.std.specs.Prelude.{All, ◌≡◌, ◌≢◌, ◌≤◌, ◌+◌, ◌++◌, Ok, Err, Some, IfOk, IfErr, IfSome, IsSomeAnd, length, slice_get, true};
 ghost use Rattle.rw_trace.specs.Laws.{IsFaultOf, IsNoTrace, IsRow, IsTrace};
 ghost use Rattle.rw_trace.specs.Limits.{most_rows};
 ghost use Rattle.rw_trace.specs.Cut.{AreRowsUnder, IsCut};
 ghost use Rattle.rw_trace.specs.Trace.{trace_of};
-ghost use Rattle.rw_trace.specs.Unread.{records_of};
+ghost use Rattle.rw_trace.specs.Unread.{IsHeaded, records_of};
 ghost use Rattle.rw_trace.specs.declared.TraceFault.TheVariants.{Memory};
 
-use crate::{MAX_ROWS, Row, TraceFault, next, open, read, rows_left, version_of_header};
+use crate::{MAX_ROWS, Row, TraceFault, Version, next_version, open, read, rows_left};
 use csv::ByteRecord;
 use memchr::{memchr, memrchr};
 use std::alloc::Global;
@@ -73,13 +73,29 @@ fn cut(bytes: &[u8]) -> Option<(&[u8], &[u8])>
     if bytes.len() < WORTH {
         return None;
     }
-    let (half, _) = bytes.split_at_checked(bytes.len() / 2)?;
-    let line = memrchr(b'\n', half)?;
-    let (before, behind) = bytes.split_at_checked(line + 1)?;
-    if before.len() < 3 || memchr(b'"', before).is_some() || behind.first() == Some(&0xEF) {
-        return None;
+    let line = middle_line(bytes)?;
+    let (before, behind) = bytes.split_at(line + 1);
+    if are_apart(before, behind) {
+        Some((before, behind))
+    } else {
+        None
     }
-    Some((before, behind))
+}
+
+/// Where the last line of the first half of a text ends.
+fn middle_line(bytes: &[u8]) -> Option<usize>
+    ensures { IfSome result (λ line. slice_get bytes.now line ≡ Some 10) }
+{
+    memrchr(b'\n', &bytes[..bytes.len() / 2])
+}
+
+/// Whether no field goes on from one text into the next one, and the first one alone may begin with a byte order mark.
+fn are_apart(before: &[u8], behind: &[u8]) -> bool
+    ensures long { result ≡ true → 3 ≤ length before.now }
+    ensures plain { result ≡ true → All (λ b. b ≢ 34) before.now }
+    ensures unmarked { result ≡ true → slice_get behind.now 0 ≢ Some 0xEF }
+{
+    before.len() >= 3 && memchr(b'"', before).is_none() && behind.first() != Some(&0xEF)
 }
 
 /// The rows of a text that is cut in two, of each part, which so many threads read. `None` where something is wrong with one,
@@ -99,58 +115,49 @@ fn read_both<R: Threads + Sync>(
 {
     let (rest, first) = thread::join(
         rt,
-        move || -> Result<Vec<Row>, TraceFault>
-            ensures { IfOk result (λ v.
+        move || -> Option<Vec<Row>>
+            ensures { IfSome result (λ v.
                 AreRowsUnder edges (records_of before.entry.now) (records_of behind.entry.now)
                 v.items) }
         { read_rest(rt, alloc, before, behind, edges, readers) },
-        move || -> Result<Vec<Row>, TraceFault>
-            ensures { IfOk result (λ v.
+        move || -> Option<Vec<Row>>
+            ensures { IfSome result (λ v.
                 IsTrace edges most_rows (records_of before.entry.now) v.items) }
         { read_headed(rt, alloc, before, edges, readers) },
     );
-    let first = first.ok()?;
-    let rest = rest.ok()?;
-    if (first.len() + rest.len()) as u64 > MAX_ROWS {
-        return None;
-    }
-    Some((first, rest))
+    both(first, rest)
 }
 
-/// The rows of a trace, which one or two threads read: a fault where something is wrong, whatever it is.
+/// The rows of a trace, which one or two threads read. `None` where something is wrong, whatever it is.
 fn read_headed<R: Threads + Sync>(
     rt: &R,
     alloc: Global,
     bytes: &[u8],
     edges: u32,
     readers: u32,
-) -> Result<Vec<Row>, TraceFault>
-    ensures { IfOk result (λ v. IsTrace edges most_rows (records_of bytes.now) v.items) }
+) -> Option<Vec<Row>>
+    ensures { IfSome result (λ v. IsTrace edges most_rows (records_of bytes.now) v.items) }
 {
     let Some((before, behind)) = cut_for(bytes, readers) else {
-        return read(alloc, bytes, edges);
+        return read(alloc, bytes, edges).ok();
     };
     let (rest, first) = thread::join(
         rt,
-        move || -> Result<Vec<Row>, TraceFault>
-            ensures { IfOk result (λ v.
+        move || -> Option<Vec<Row>>
+            ensures { IfSome result (λ v.
                 AreRowsUnder edges (records_of before.entry.now) (records_of behind.entry.now)
                 v.items) }
         { read_under(alloc, before, behind, edges) },
-        move || -> Result<Vec<Row>, TraceFault>
-            ensures { IfOk result (λ v.
+        move || -> Option<Vec<Row>>
+            ensures { IfSome result (λ v.
                 IsTrace edges most_rows (records_of before.entry.now) v.items) }
-        { read(alloc, before, edges) },
+        { read(alloc, before, edges).ok() },
     );
-    let first = first?;
-    let rest = rest?;
-    if (first.len() + rest.len()) as u64 > MAX_ROWS {
-        return Err(TraceFault::TooManyRows);
-    }
-    joined(first, &rest)
+    joined(first, rest)
 }
 
-/// The rows of a text without a header, under that of another one, which one or two threads read.
+/// The rows of a text without a header, under that of another one, which one or two threads read. `None` where something is
+/// wrong, whatever it is.
 fn read_rest<R: Threads + Sync>(
     rt: &R,
     alloc: Global,
@@ -158,8 +165,8 @@ fn read_rest<R: Threads + Sync>(
     bytes: &[u8],
     edges: u32,
     readers: u32,
-) -> Result<Vec<Row>, TraceFault>
-    ensures { IfOk result (λ v.
+) -> Option<Vec<Row>>
+    ensures { IfSome result (λ v.
         AreRowsUnder edges (records_of headed.now) (records_of bytes.now) v.items) }
 {
     let Some((before, behind)) = cut_for(bytes, readers) else {
@@ -167,49 +174,59 @@ fn read_rest<R: Threads + Sync>(
     };
     let (rest, first) = thread::join(
         rt,
-        move || -> Result<Vec<Row>, TraceFault>
-            ensures { IfOk result (λ v.
+        move || -> Option<Vec<Row>>
+            ensures { IfSome result (λ v.
                 AreRowsUnder edges (records_of headed.entry.now) (records_of behind.entry.now)
                 v.items) }
         { read_under(alloc, headed, behind, edges) },
-        move || -> Result<Vec<Row>, TraceFault>
-            ensures { IfOk result (λ v.
+        move || -> Option<Vec<Row>>
+            ensures { IfSome result (λ v.
                 AreRowsUnder edges (records_of headed.entry.now) (records_of before.entry.now)
                 v.items) }
         { read_under(alloc, headed, before, edges) },
     );
+    joined(first, rest)
+}
+
+/// The rows of both parts, where each was read, and they are not too many.
+fn both(first: Option<Vec<Row>>, rest: Option<Vec<Row>>) -> Option<(Vec<Row>, Vec<Row>)>
+    ensures first { IfSome result (λ r. first ≡ Some r.0) }
+    ensures rest { IfSome result (λ r. rest ≡ Some r.1) }
+    ensures few { IfSome result (λ r. length r.0.items + length r.1.items ≤ most_rows) }
+{
     let first = first?;
     let rest = rest?;
-    joined(first, &rest)
-}
-
-/// Rows, and those that follow them.
-fn joined(rows: Vec<Row>, others: &[Row]) -> Result<Vec<Row>, TraceFault>
-    ensures { IfOk result (λ all. all.items ≡ rows.items ++ others.now) }
-{
-    let mut rows = rows;
-    if rows.extend_from_slice(others).is_err() {
-        return Err(TraceFault::Memory);
+    if (first.len() + rest.len()) as u64 > MAX_ROWS {
+        return None;
     }
-    Ok(rows)
+    Some((first, rest))
 }
 
-/// The rows of a text without a header, under that of another one.
-fn read_under(
-    alloc: Global,
-    headed: &[u8],
-    bytes: &[u8],
-    edges: u32,
-) -> Result<Vec<Row>, TraceFault>
-    ensures { IfOk result (λ v.
+/// The rows of both parts behind one another, where each was read, and they are not too many.
+fn joined(first: Option<Vec<Row>>, rest: Option<Vec<Row>>) -> Option<Vec<Row>>
+    ensures { IfSome result (λ all. IsSomeAnd first (λ a. IsSomeAnd rest (λ b.
+        (all.items ≡ a.items ++ b.items) × (length a.items + length b.items ≤ most_rows)))) }
+{
+    let (mut rows, rest) = both(first, rest)?;
+    rows.extend_from_slice(&rest).ok()?;
+    Some(rows)
+}
+
+/// The rows of a text without a header, under that of another one. `None` where something is wrong, whatever it is.
+fn read_under(alloc: Global, headed: &[u8], bytes: &[u8], edges: u32) -> Option<Vec<Row>>
+    ensures { IfSome result (λ v.
         AreRowsUnder edges (records_of headed.now) (records_of bytes.now) v.items) }
 {
-    let mut reader = open(alloc, headed);
     let mut fields = ByteRecord::new(alloc);
-    if !next(&mut reader, &mut fields)? {
-        return Err(TraceFault::Header);
-    }
-    let version = version_of_header(&fields).ok_or(TraceFault::Header)?;
+    let version = version_of_text(alloc, headed, &mut fields)?;
     let mut reader = open(alloc, bytes);
-    rows_left(alloc, &mut reader, &mut fields, version, edges, MAX_ROWS)
+    rows_left(alloc, &mut reader, &mut fields, version, edges, MAX_ROWS).ok()
+}
+
+/// The version whose header a text begins with. `fields` is its first record then.
+fn version_of_text(alloc: Global, bytes: &[u8], fields: &mut ByteRecord) -> Option<Version>
+    ensures { IfSome result (λ version. IsHeaded version (records_of bytes.now)) }
+{
+    let mut reader = open(alloc, bytes);
+    next_version(&mut reader, fields).ok()
 }

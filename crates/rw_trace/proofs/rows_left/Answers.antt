@@ -1,18 +1,16 @@
--- A row at fault gives the fault of the trace, and a good row goes behind those read so far.
-use Rattle.std.proofs.Common.{inl, inr, ◌≡◌, ◌∙◌, ◌∷◌, ◌++◌, [], true, refl, sym, arith, rules, append_assoc}
+-- A row at fault is the first fault of the trace, and a good row goes behind those read so far.
+use Rattle.std.proofs.Common.{inl, inr, ◌≡◌, ◌∙◌, ◌∷◌, ◌++◌, [], true, refl, arith, rules, append_assoc}
 use Rattle.std.specs.Result.{is_ok}
 use Rattle.std.proofs.lemmas.Result.{err_from_is_err_and}
 use Rattle.std.proofs.lemmas.Grind.{common_steps}
 use Rattle.csv.specs.Records.{fields_of}
 use Rattle.rw_trace.specs.Unread.{unread}
-use Rattle.rw_trace.proofs.Laws.{none-written, rows-in_range, write-more}
-use Rattle.rw_trace.proofs.Rows.{all_before-none, rows-fault, rows-more}
+use Rattle.rw_trace.proofs.Laws.{none-written, write-more}
 use Rattle.rw_trace.proofs.rows_left.Goals as goal
 
 pub loop-at-init : goal.loop-at-init
 loop-at-init c = rw c.new-rows.ensures.items (record {
   steady = c.requires;
-  meaning = all_before-none _;
   count = refl;
   written = ([], refl, none-written c.args.version c.args.edges);
 })
@@ -28,15 +26,9 @@ loop-at-preserved c =
     let (body, left, written) = inv.written in
     record {
       steady = c.in_ok-next.ensures.steady found;
-      meaning = rw items (inv.meaning ∙ rw gave (rows-more c.args.version c.args.edges c.args.most c.loop-at.at f (unread c.next.new.reader) c.in_ok-one.one c.loop-at.rows.items c.loop-at-test.true (sym c.in_ok-one.ensures.value)));
       count = rw items (grind (arith, common_steps));
       written = (body ++ (f ∷ []), left ∙ rw (gave, append_assoc) refl, rw items (write-more c.args.version c.args.edges body c.loop-at.rows.items f c.in_ok-one.one written c.in_ok-one.ensures.law));
     }
-
-pub returns-in_err-one-clause-fault : goal.returns-in_err-one-clause-fault
-returns-in_err-one-clause-fault c =
-    let p = err_from_is_err_and c.from_residual-in_err-one.result c.from_residual-in_err-one.ensures.1 in
-    rw (p.1, p.2) (λ _. grind (arith, rows-fault))
 
 pub returns-in_err-one-clause-first : goal.returns-in_err-one-clause-first
 returns-in_err-one-clause-first c =
@@ -70,9 +62,3 @@ returns-then-branch-clause-first c =
       written = written;
       told = inr (omega arith, refl);
     }
-
-pub returns-then-not-branch-clause-ranges : goal.returns-then-not-branch-clause-ranges
-returns-then-not-branch-clause-ranges c = let (body, left, written) = c.loop-at.invariant.written in rows-in_range c.args.version c.args.edges body c.loop-at.rows.items written
-
-pub returns-clause-ranges : goal.returns-clause-ranges
-returns-clause-ranges c = let (body, left, written) = c.loop-at.invariant.written in rows-in_range c.args.version c.args.edges body c.loop-at.rows.items written
