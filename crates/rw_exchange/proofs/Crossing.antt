@@ -71,6 +71,10 @@ module _ {T P : Type 0} where
   out_there None h = h
   out_there (Some p) h = refl
 
+  out_here : (x : Option (Producer T Global P)) → IsSome x → IsSome (out_ring x)
+  out_here None h = h
+  out_here (Some p) h = refl
+
   in_there : (x : Option (Consumer T Global P)) → IsSome (in_ring x) → IsSome x
   in_there None h = h
   in_there (Some c) h = refl
@@ -84,6 +88,11 @@ module _ {T P : Type 0} where
   end_there olds news k e lt some =
       let lt' : k < length news = subst (λ z. k < z) (sym (length-map olds in_ring) ∙ (ap length (sym e) ∙ length-map news in_ring)) lt in
       in_there (get_or news k None) (subst IsSome (sym (get_or-map in_ring olds k None None lt) ∙ (ap (λ z. get_or z k None) (sym e) ∙ get_or-map in_ring news k None None lt')) (in_here (get_or olds k None) some))
+
+  pub out_end_there : (olds news : List (Option (Producer T Global P))) (k : ℕ) → map out_ring news ≡ map out_ring olds → k < length olds → IsSome (get_or olds k None) → IsSome (get_or news k None)
+  out_end_there olds news k e lt some =
+      let lt' : k < length news = subst (λ z. k < z) (sym (length-map olds out_ring) ∙ (ap length (sym e) ∙ length-map news out_ring)) lt in
+      out_there (get_or news k None) (subst IsSome (sym (get_or-map out_ring olds k None None lt) ∙ (ap (λ z. get_or z k None) (sym e) ∙ get_or-map out_ring news k None None lt')) (out_here (get_or olds k None) some))
 
   -- the ends of one worker
   pub ends_fit : (n own : ℕ) (rows columns : List (List (Option Ring))) (outs : List (Option (Producer T Global P))) (ins : List (Option (Consumer T Global P))) → AreCrossed n n rows columns → own < n

@@ -1,4 +1,4 @@
-use Rattle.std.proofs.Common.{rules, ◌≡◌, ◌<◌, List, [], ◌∷◌, ◌++◌, map, length, subst, sym, ap, ◌∙◌, arith, set, get_or, not, ◌==◌}
+use Rattle.std.proofs.Common.{◌≡◌, ◌<◌, List, [], ◌∷◌, ◌++◌, map, length, subst, sym, ap, ◌∙◌, arith, set, get_or, not, ◌==◌}
 use Rattle.std.proofs.lemmas.List.{map_push, length-map}
 use Rattle.std.proofs.lemmas.List.Elements.{All-nil, All-same, All-push}
 use Rattle.rw_exchange.specs.Rings.{out_ring, out_rings, in_rings, in_table, out_sent, in_received, received_table, push_each, AllButOwn, HasCapacity, KnowsFree, NothingSent}
@@ -11,9 +11,9 @@ pub loop-k-init : goal.loop-k-init
 loop-k-init g c =
     let none : c.in_ok-row.row.items ≡ [] = c.in_ok-row.ensures.items in
     record {
-      columns = search rules;
-      length = search rules;
-      room = search rules;
+      columns = sym c.len-count.ensures;
+      length = c.in_ok-row.ensures.len;
+      room = c.in_ok-row.ensures.exact;
       rings = sym (ap (λ xs. push_each (in_table c.args.columns.now.items) (out_rings xs)) none ∙ push_none (in_table c.args.columns.now.items));
       others = subst (λ xs. AllButOwn c.args.own (out_rings xs)) (sym none) (λ k lt. absurd (omega arith));
       capacity = All-same (HasCapacity c.args.capacity) _ _ none (All-nil (HasCapacity c.args.capacity));
@@ -52,3 +52,36 @@ loop-k-preserved g c =
       sent = λ quiet. All-same NothingSent _ _ items (All-push NothingSent xs x (inv.sent quiet) (c.in_ok-producer.ensures.new (quiet c.loop-k.k)).0);
       received = λ quiet nothing. c.in_ok-push_at.ensures.received (c.in_ok-producer.ensures.new (quiet c.loop-k.k)).1 (inv.received quiet nothing);
     }
+
+pub push_at-requires : goal.push_at-requires
+push_at-requires g c = omega (arith, c.loop-k.invariant.columns, c.loop-k-test.true)
+
+pub push_reserved-requires : goal.push_reserved-requires
+push_reserved-requires g c = omega (arith, c.loop-k.invariant.length, c.loop-k.invariant.room, c.loop-k-test.true)
+
+pub returns-clause-length : goal.returns-clause-length
+returns-clause-length g c = omega (arith, c.loop-k.invariant.length, c.loop-k.auto.k-end, c.loop-k-test.false, c.len-count.ensures)
+
+pub returns-clause-rings : goal.returns-clause-rings
+returns-clause-rings g c = c.loop-k.invariant.rings
+
+pub returns-clause-others : goal.returns-clause-others
+returns-clause-others g c = c.loop-k.invariant.others
+
+pub returns-clause-capacity : goal.returns-clause-capacity
+returns-clause-capacity g c = c.loop-k.invariant.capacity
+
+pub returns-clause-lists : goal.returns-clause-lists
+returns-clause-lists g c = c.loop-k.invariant.lists
+
+pub returns-clause-first : goal.returns-clause-first
+returns-clause-first g c = c.loop-k.invariant.first
+
+pub returns-clause-free : goal.returns-clause-free
+returns-clause-free g c = c.loop-k.invariant.free
+
+pub returns-clause-sent : goal.returns-clause-sent
+returns-clause-sent g c = c.loop-k.invariant.sent
+
+pub returns-clause-received : goal.returns-clause-received
+returns-clause-received g c = c.loop-k.invariant.received

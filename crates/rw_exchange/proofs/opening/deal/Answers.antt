@@ -1,6 +1,6 @@
 use Rattle.std.proofs.Common.{◌≡◌, ◌≢◌, ℕ, ◌<◌, [], ◌∷◌, ◌++◌, map, length, All, sym, ap, ◌∙◌, arith, get_or, None, IsSome, ⊎_elim}
 use Rattle.std.proofs.lemmas.List.{length-map, nil_from_length}
-use Rattle.std.proofs.lemmas.List.Elements.{All-tail, All-same, All-push}
+use Rattle.std.proofs.lemmas.List.Elements.{All-head, All-nil, All-tail, All-same, All-push}
 use Rattle.rw_exchange.specs.Ports.{outs_of, intos_of}
 use Rattle.rw_exchange.specs.Rings.{out_ring, in_ring, out_rings, in_rings, out_table, in_table, out_sent, out_free, in_received, sent_table, received_table, HasCapacity}
 use Rattle.rw_exchange.proofs.Crossing.{next_is, moves_on, all_walked, numbered_more, opening_of, ends_fit, all_know}
@@ -8,6 +8,46 @@ use Rattle.rw_exchange.proofs.Kept.{stay}
 use Rattle.rw_exchange.proofs.opening.deal.Given as given
 use Rattle.rw_exchange.proofs.opening.deal.Goals as goal
 use Rattle.rw_exchange.proofs.opening.deal.Goals.{After-len}
+
+pub loop-outs-init : goal.loop-outs-init
+loop-outs-init g c =
+    let none : c.in_ok-ports.ports.items ≡ [] = c.in_ok-ports.ensures.items in
+    let rows = c.args.rows.items in
+    let cols = c.args.columns.items in
+    let columns : c.zip-outs-items.result.b.rest.items ≡ cols = c.zip-outs-items.ensures.second.0 in
+    let a : c.into_iter-outs-iterator.result.a.rest.items ≡ rows = ap (λ z. z.a.rest.items) c.into_iter-outs-iterator.ensures.into_iter_gives ∙ ap (λ i. i.rest.items) c.zip-outs-items.ensures.first ∙ c.into_iter.ensures.rest in
+    let b : c.into_iter-outs-iterator.result.b.rest.items ≡ cols = ap (λ z. z.b.rest.items) c.into_iter-outs-iterator.ensures.into_iter_gives ∙ columns in
+    record {
+      room = c.in_ok-ports.ensures.exact;
+      rows = omega (arith, c.in_ok-ports.ensures.len, ap length a, length-map rows (λ r. out_rings r.items), c.requires.crossed.senders);
+      others = omega (arith, c.in_ok-ports.ensures.len, ap length b, length-map cols (λ r. in_rings r.items), c.requires.crossed.receivers);
+      out = ap (λ ps. outs_of ps ++ out_table c.into_iter-outs-iterator.result.a.rest.items) none;
+      into = ap (λ ps. intos_of ps ++ in_table c.into_iter-outs-iterator.result.b.rest.items) none;
+      sent = ap (λ ps. map (λ p. p.sent) ps ++ sent_table c.into_iter-outs-iterator.result.a.rest.items) none;
+      received = ap (λ ps. map (λ p. p.received) ps ++ received_table c.into_iter-outs-iterator.result.b.rest.items) none;
+      free = ap (λ ps. map (λ p. p.free) ps ++ map (λ v. map out_free v.items) c.into_iter-outs-iterator.result.a.rest.items) none;
+      numbered = λ i d lt. absurd (omega (arith, ap length none));
+      same = All-same (λ p. p.capacity ≡ c.args.capacity) _ _ none (All-nil (λ p. p.capacity ≡ c.args.capacity));
+      lists = All-same (λ p. (length p.sent ≡ length p.out) × (length p.received ≡ length p.into)) _ _ none (All-nil (λ p. (length p.sent ≡ length p.out) × (length p.received ≡ length p.into)));
+      capacity = All-same (λ v. All (HasCapacity c.args.capacity) v.items) _ _ a c.requires.capacity;
+    }
+
+pub of-port-requires-clause-capacity : goal.of-port-requires-clause-capacity
+of-port-requires-clause-capacity g c =
+    All-head (λ v. All (HasCapacity c.args.capacity) v.items) c.in-Some.outs c.next.new.self.a.rest.items
+    (All-same (λ v. All (HasCapacity c.args.capacity) v.items) _ _ (sym c.in-Some.ensures.steps.0.0) c.loop-outs.invariant.capacity)
+
+pub push_reserved-requires : goal.push_reserved-requires
+push_reserved-requires g c = omega (arith, c.loop-outs.invariant.room, c.loop-outs.invariant.rows, ap length c.in-Some.ensures.steps.0.0)
+
+pub returns-clause-count : goal.returns-clause-count
+returns-clause-count g c =
+    let inv = c.loop-outs.invariant in
+    let zero : length c.loop-outs.outs-iterator.a.rest.items ≡ 0 = ⊎_elim (λ rows. sym c.loop-outs.outs-iterator.a.rest.ok.0 ∙ rows.1.0) (λ columns. omega (arith, c.loop-outs.outs-iterator.b.rest.ok.0, columns.1.0, inv.rows, inv.others)) c.in-None.ensures.steps in
+    omega (arith, zero, inv.rows)
+
+pub returns-clause-capacity : goal.returns-clause-capacity
+returns-clause-capacity g c = c.loop-outs.invariant.same
 
 pub of-port-requires-clause-same : goal.of-port-requires-clause-same
 of-port-requires-clause-same g c =

@@ -16,3 +16,21 @@ returns-clause-own g c i within =
       ap (λ z. entry z i i) c.in_ok-ports.ensures.sent ∙ none.0,
       ap (λ z. entry z i i) c.in_ok-ports.ensures.received ∙ none.1,
     )
+
+pub deal-requires-clause-crossed : goal.deal-requires-clause-crossed
+deal-requires-clause-crossed g c = c.in_ok-rows.ensures.crossed
+
+pub deal-requires-clause-capacity : goal.deal-requires-clause-capacity
+deal-requires-clause-capacity g c = c.in_ok-rows.ensures.capacity
+
+pub returns-clause-count : goal.returns-clause-count
+returns-clause-count g c = c.in_ok-ports.ensures.count
+
+pub returns-clause-opening : goal.returns-clause-opening
+returns-clause-opening g c = c.in_ok-ports.ensures.opening
+
+pub returns-clause-stays : goal.returns-clause-stays
+returns-clause-stays g c = c.in_ok-ports.ensures.stays
+
+pub returns-clause-capacity : goal.returns-clause-capacity
+returns-clause-capacity g c = c.in_ok-ports.ensures.capacity

@@ -1,10 +1,30 @@
-use Rattle.std.proofs.Common.{◌≡◌, ℕ, ◌+◌, ◌<◌, List, [], ◌∷◌, ◌++◌, map, length, subst, sym, ap, ◌∙◌, arith, vec_len, get_or, None}
+use Rattle.std.proofs.Common.{refl, ◌≡◌, ℕ, ◌+◌, ◌<◌, List, [], ◌∷◌, ◌++◌, map, length, subst, sym, ap, ◌∙◌, arith, vec_len, get_or, None}
 use Rattle.std.proofs.lemmas.List.{map_push, length-map, append_assoc, length-append, map-append, get_or_at}
 use Rattle.rtrb.specs.Fifo.{EachAllowed}
 use Rattle.rw_exchange.specs.Rings.{cell, in_table, out_ring, out_rings, out_sent, received_table}
 use Rattle.rw_exchange.specs.Ports.{entry}
 use Rattle.rw_exchange.proofs.Settles.{fifo_more, each_of_row, others_more}
 use Rattle.rw_exchange.proofs.settling.gather.Goals as goal
+
+pub loop-out-init : goal.loop-out-init
+loop-out-init g c =
+    let len : vec_len c.in_ok-lists.lists ≡ 0 = c.in_ok-lists.ensures.len in
+    let begun : c.into_iter-out-iterator.result.rest.items ≡ c.args.row.items = c.into_iter-out-iterator.ensures.into_iter_gives.0 in
+    record {
+      room = c.in_ok-lists.ensures.exact ∙ c.len.ensures;
+      count = omega (arith, len, ap length begun, c.args.row.ok.0);
+      walked = begun;
+      done = sym len;
+      columns = refl;
+      rings = refl;
+      fifo = λ j lt. absurd (omega (arith, len, lt));
+      allowed = λ j lt. absurd (omega (arith, len, lt));
+      untouched = λ j le. refl;
+      others = λ j i other. refl;
+    }
+
+pub push_reserved-requires : goal.push_reserved-requires
+push_reserved-requires g c = omega (arith, c.loop-out.invariant.room, c.loop-out.invariant.count, ap length c.in-Some.ensures.steps.0)
 
 pub loop-out-preserved : goal.loop-out-preserved
 loop-out-preserved g c =
@@ -71,3 +91,20 @@ rest_at-requires-clause-place g c =
     let within : n < vec_len c.args.row = omega (arith, ap length r, inv.count) in
     let deep = c.requires.deep n within in
     subst (λ k. c.args.own < length (get_or (in_table c.loop-out.columns.items) k [])) (sym at) (subst (λ t. c.args.own < length (get_or t n [])) (sym inv.rings) deep)
+
+pub returns-clause-rings : goal.returns-clause-rings
+returns-clause-rings g c = c.loop-out.invariant.rings
+
+pub returns-clause-length : goal.returns-clause-length
+returns-clause-length g c =
+    let zero : length c.loop-out.out-iterator.rest.items ≡ 0 = sym c.loop-out.out-iterator.rest.ok.0 ∙ c.in-None.ensures.steps.0 in
+    omega (arith, zero, c.loop-out.invariant.count)
+
+pub returns-clause-fifo : goal.returns-clause-fifo
+returns-clause-fifo g c j lt = let all = returns-clause-length g c in c.loop-out.invariant.fifo j (omega (arith, all, lt))
+
+pub returns-clause-allowed : goal.returns-clause-allowed
+returns-clause-allowed g c j lt = let all = returns-clause-length g c in c.loop-out.invariant.allowed j (omega (arith, all, lt))
+
+pub returns-clause-others : goal.returns-clause-others
+returns-clause-others g c = c.loop-out.invariant.others

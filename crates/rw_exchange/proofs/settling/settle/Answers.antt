@@ -1,11 +1,48 @@
-use Rattle.std.proofs.Common.{◌≡◌, ◌+◌, ◌<◌, [], ◌∷◌, ◌++◌, map, length, subst, sym, ap, ◌∙◌, arith, vec_len, get_or}
+use Rattle.std.proofs.Common.{refl, ◌≡◌, ◌+◌, ◌<◌, [], ◌∷◌, ◌++◌, map, length, subst, sym, ap, ◌∙◌, arith, vec_len, get_or}
 use Rattle.std.proofs.lemmas.List.{map_push, length-map, append_assoc, length-append}
-use Rattle.std.proofs.lemmas.List.Elements.{All-same, All-push, All-map, All-weaker}
+use Rattle.std.proofs.lemmas.List.Elements.{All-nil, All-same, All-push, All-map, All-weaker}
 use Rattle.rtrb.specs.Fifo.{EachAllowed}
-use Rattle.rw_exchange.specs.Rings.{cell, in_table, out_ring, in_rings, out_sent, sent_table, received_table}
+use Rattle.rw_exchange.specs.Rings.{cell, in_table, out_ring, out_rings, in_rings, out_sent, sent_table, received_table}
 use Rattle.rw_exchange.specs.Ports.{entry}
 use Rattle.rw_exchange.proofs.Settles.{row_here, walked_at, table_more, each_of_table, none_left}
 use Rattle.rw_exchange.proofs.settling.settle.Goals as goal
+
+pub loop-row-init : goal.loop-row-init
+loop-row-init g c =
+    let none : c.in_ok-lists.lists.items ≡ [] = c.in_ok-lists.ensures.items in
+    let len : vec_len c.in_ok-lists.lists ≡ 0 = c.in_ok-lists.ensures.len in
+    let rows = c.in_ok-rows.rows.items in
+    let ports = c.args.ports.items in
+    let many : length rows ≡ length ports = sym (length-map rows (λ r. out_rings r.items)) ∙ (ap length c.in_ok-rows.ensures.out ∙ length-map ports (λ p. p.out)) in
+    record {
+      room = c.in_ok-lists.ensures.exact ∙ c.len.ensures;
+      count = omega (arith, len, ap length c.into_iter-row-iterator.ensures.into_iter_gives.0, many, c.args.ports.ok.0);
+      walked = refl;
+      done = sym len;
+      wide = All-same (λ list. vec_len list ≡ vec_len c.args.ports) _ _ none (All-nil (λ list. vec_len list ≡ vec_len c.args.ports));
+      rings = refl;
+      fifo = λ i j lt l. absurd (omega (arith, len, lt));
+      allowed = λ i j lt l. absurd (omega (arith, len, lt));
+      untouched = λ j i le. refl;
+    }
+
+pub push_reserved-requires : goal.push_reserved-requires
+push_reserved-requires g c = omega (arith, c.loop-row.invariant.room, c.loop-row.invariant.count, ap length c.in-Some.ensures.steps.0)
+
+pub returns-clause-count : goal.returns-clause-count
+returns-clause-count g c =
+    let inv = c.loop-row.invariant in
+    let zero : length c.loop-row.row-iterator.rest.items ≡ 0 = sym c.loop-row.row-iterator.rest.ok.0 ∙ c.in-None.ensures.steps.0 in
+    ap length c.of.ensures ∙ (length-map c.loop-row.lists.items (λ r. map (λ v. v.items) r.items) ∙ (sym c.loop-row.lists.ok.0 ∙ omega (arith, zero, inv.count)))
+
+pub returns-clause-fifo : goal.returns-clause-fifo
+returns-clause-fifo g c from to l lt =
+    let inv = c.loop-row.invariant in
+    let zero : length c.loop-row.row-iterator.rest.items ≡ 0 = sym c.loop-row.row-iterator.rest.ok.0 ∙ c.in-None.ensures.steps.0 in
+    ap (λ t. entry t to from ++ entry c.of.result from to) (sym c.in_ok-rows.ensures.received)
+    ∙ (ap (λ t. entry (received_table c.in_ok-rows.columns.items) to from ++ entry t from to) c.of.ensures
+    ∙ (inv.fifo from to (omega (arith, zero, inv.count)) lt
+    ∙ (ap (λ z. entry (sent_table z) from to) c.into_iter-row-iterator.ensures.into_iter_gives.0 ∙ ap (λ t. entry t from to) c.in_ok-rows.ensures.sent)))
 
 pub gather-requires-clause-length : goal.gather-requires-clause-length
 gather-requires-clause-length g c =

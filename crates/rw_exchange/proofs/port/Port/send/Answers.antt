@@ -1,8 +1,11 @@
-use Rattle.std.proofs.Common.{◌≡◌, ◌<◌, length, subst, sym, ap, ◌∙◌}
+use Rattle.std.proofs.Common.{◌≡◌, ◌<◌, length, map, set, subst, sym, ap, ◌∙◌, arith}
+use Rattle.std.proofs.lemmas.List.{length-map}
+use Rattle.std.proofs.lemmas.List.Elements.{All-set}
 use Rattle.std.proofs.lemmas.Result.{on_ok_weaker, on_err_weaker, IfErr-weaker}
-use Rattle.rw_exchange.specs.Rings.{HasCapacity, out_free}
+use Rattle.rw_exchange.specs.Rings.{HasCapacity, out_ring, out_free}
 use Rattle.rw_exchange.specs.Ports.{sent_to, free_to}
-use Rattle.rw_exchange.proofs.Ends.{sends, sends_nothing, sent_is, free_is, free_now, within_outs, err_too, one_less, same_sent}
+use Rattle.rw_exchange.proofs.Crossing.{out_end_there}
+use Rattle.rw_exchange.proofs.Ends.{stays, sends, sends_nothing, sent_is, free_is, free_now, within_outs, err_too, one_less, same_sent}
 use Rattle.rw_exchange.proofs.port.Port.send.Goals as goal
 
 pub returns-clause-ok : goal.returns-clause-ok
@@ -39,3 +42,19 @@ returns-clause-succeeds g c =
 
 pub returns-clause-same : goal.returns-clause-same
 returns-clause-same g c = same_sent c.push.result c.args.self.now _ c.args.to c.args.item (returns-clause-ok g c) (returns-clause-err g c)
+
+-- a port has the ends that it had
+pub invariant_of-self : goal.invariant_of-self
+invariant_of-self g c =
+    let inv = c.self.invariant in
+    let olds = c.self.inside.outs.items in
+    let n = c.self.inside.capacity in
+    let lt : c.args.to < length olds = within_outs c.self.inside.worker n olds c.self.inside.ins.items c.args.self.now c.self.view_is c.args.to c.requires.other.0 in
+    let news = set olds c.args.to c.push.new.lane in
+    let rings : map out_ring news ≡ map out_ring olds = stays out_ring olds c.args.to c.index_mut.result.now c.push.new.lane lt c.index_mut.ensures.value c.push.ensures.ring in
+    let long : length news ≡ length olds = sym (length-map news out_ring) ∙ (ap length rings ∙ length-map olds out_ring) in
+    let had : HasCapacity n c.index_mut.result.now = subst (HasCapacity n) (sym c.index_mut.ensures.value) (inv.2 c.args.to c.index_mut.result.now lt) in (
+      inv.0 ∙ sym long,
+      λ k within other. let old : k < length olds = omega (arith, long, within) in (out_end_there olds news k rings old (inv.1 k old other).0, (inv.1 k old other).1),
+      All-set (HasCapacity n) olds c.args.to c.push.new.lane (c.push.ensures.capacity n had) inv.2,
+    )
