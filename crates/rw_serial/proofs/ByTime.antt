@@ -4,7 +4,7 @@ use Rattle.std.specs.Prelude.{nat_le, IsTrue, ◌↔◌}
 use Rattle.std.specs.BinaryHeap.{IsUpperBound}
 use Rattle.std.specs.Cmp.{IsTotalOrder}
 use Rattle.std.specs.List.{slice_get}
-use Rattle.std.specs.Option.{option_map}
+use Rattle.std.specs.Option.{option_map, option_to_list}
 use Rattle.std.specs.Prelude.{Result, Ok, Err, OnErr}
 use Rattle.std.specs.declared.cmp.Ordering.{Ordering}
 use Rattle.std.specs.declared.cmp.Reverse.{Reverse}
@@ -40,6 +40,13 @@ joined_by_place {E} a b c d =
   where
     middle : IsPermutation (b ++ (c ++ d)) (c ++ (b ++ d))
     middle = subst (λ l. IsPermutation l (c ++ (b ++ d))) (append_assoc b c d) (subst (IsPermutation ((b ++ c) ++ d)) (append_assoc c b d) (IsPermutation-append_left d (b ++ c) (c ++ b) (IsPermutation-append_comm b c)))
+
+-- what is gone of two lists, and what is left of them
+gone_two : {E : Type 0} (xs us ys vs gone done : List E) → IsPermutation xs (gone ++ us) → IsPermutation ys (done ++ vs) → IsPermutation (xs ++ ys) ((gone ++ done) ++ (us ++ vs))
+gone_two xs us ys vs gone done h k =
+    IsPermutation-trans (xs ++ ys) ((gone ++ us) ++ (done ++ vs)) ((gone ++ done) ++ (us ++ vs))
+    (IsPermutation-trans (xs ++ ys) ((gone ++ us) ++ ys) ((gone ++ us) ++ (done ++ vs)) (IsPermutation-append_left ys xs (gone ++ us) h) (IsPermutation-append_right (gone ++ us) ys (done ++ vs) k))
+    (joined_by_place gone us done vs)
 
 -- Least times
 
@@ -107,29 +114,38 @@ module _ {B : Type 0} where
       let whole = subst (λ l. IsLane l last) is lane in
       record { by_time = by_time_rest gone left whole.by_time; within = All-back (λ e. e.time ≤ last) gone left whole.within }
 
-  pub lane_push : (es : List (Event B)) (e : Event B) (last : ℕ) → last ≤ e.time → IsLane es last → IsLane (es ++ e ∷ []) e.time
-  lane_push es e last l lane =
-      let within = All-weaker (λ f. f.time ≤ last) (λ f. f.time ≤ e.time) (λ f m. omega arith) es lane.within in
-      record { by_time = by_time_push es e lane.by_time within; within = All-push (λ f. f.time ≤ e.time) es e within (omega arith) }
+  pub lane_push : (es : List (Event B)) (e : Event B) → All (λ f. f.time ≤ e.time) es → AreByTime es → IsLane (es ++ e ∷ []) e.time
+  lane_push es e within up = record { by_time = by_time_push es e up within; within = All-push (λ f. f.time ≤ e.time) es e within (omega arith) }
 
-  -- what leaves a lane and what leaves the others
-  pub moved_both : (t : ℕ) (xs us ys vs taken all whole moved : List (Event B)) → xs ≡ moved ++ us → all ≡ taken ++ moved → All (λ e. e.time ≡ t) moved → All (λ e. t < e.time) us → HasMoved t ys vs all whole → HasMoved t (xs ++ ys) (us ++ vs) taken whole
-  moved_both t xs us ys vs taken all whole moved is behind at later h = record {
-    moved = moved ++ h.moved;
-    behind = h.behind ∙ ap (λ l. l ++ h.moved) behind ∙ append_assoc taken moved h.moved;
-    parts = subst (λ l. IsPermutation (l ++ ys) ((moved ++ h.moved) ++ (us ++ vs))) (sym is) (IsPermutation-trans ((moved ++ us) ++ ys) ((moved ++ us) ++ (h.moved ++ vs)) ((moved ++ h.moved) ++ (us ++ vs)) (IsPermutation-append_right (moved ++ us) ys (h.moved ++ vs) h.parts) (joined_by_place moved us h.moved vs));
-    of_time = All-append (λ e. e.time ≡ t) moved h.moved at h.of_time;
-    later = All-append (λ e. t < e.time) us vs later h.later;
+  -- the first of a list by time is a least one
+  pub taken_least : (xs us : List (Event B)) (next : Option (Event B)) → xs ≡ option_to_list next ++ us → AreByTime xs → IfSome next (λ e. All (λ f. e.time ≤ f.time) xs)
+  taken_least xs us None is up = tt
+  taken_least xs us (Some e) is up = subst (All (λ f. e.time ≤ f.time)) (sym is) (first_by_time e us (subst AreByTime is up)).0
+
+  -- what leaves one store and what leaves the other
+  pub moved_two : {t : ℕ} {xs us ys vs taken all whole : List (Event B)} → HasMoved t xs us taken all → HasMoved t ys vs all whole → HasMoved t (xs ++ ys) (us ++ vs) taken whole
+  moved_two {t} {xs} {us} {ys} {vs} {taken} h k = record {
+    moved = h.moved ++ k.moved;
+    behind = k.behind ∙ ap (λ l. l ++ k.moved) h.behind ∙ append_assoc taken h.moved k.moved;
+    parts = gone_two xs us ys vs h.moved k.moved h.parts k.parts;
+    of_time = All-append (λ e. e.time ≡ t) h.moved k.moved h.of_time k.of_time;
+    later = All-append (λ e. t < e.time) us vs h.later k.later;
   }
 
-  pub left_both : (xs us ys vs gone : List (Event B)) → xs ≡ gone ++ us → IsLeft ys vs → IsLeft (xs ++ ys) (us ++ vs)
-  left_both xs us ys vs gone is h = record {
-    gone = gone ++ h.gone;
-    parts = subst (λ l. IsPermutation (l ++ ys) ((gone ++ h.gone) ++ (us ++ vs))) (sym is) (IsPermutation-trans ((gone ++ us) ++ ys) ((gone ++ us) ++ (h.gone ++ vs)) ((gone ++ h.gone) ++ (us ++ vs)) (IsPermutation-append_right (gone ++ us) ys (h.gone ++ vs) h.parts) (joined_by_place gone us h.gone vs));
-  }
+  pub left_two : {xs us ys vs : List (Event B)} → IsLeft xs us → IsLeft ys vs → IsLeft (xs ++ ys) (us ++ vs)
+  left_two {xs} {us} {ys} {vs} h k = record { gone = h.gone ++ k.gone; parts = gone_two xs us ys vs h.gone k.gone h.parts k.parts }
+
+  pub left_moved : {t : ℕ} {xs us taken all : List (Event B)} → HasMoved t xs us taken all → IsLeft xs us
+  left_moved h = record { gone = h.moved; parts = h.parts }
 
   pub left_same : (xs : List (Event B)) → IsLeft xs xs
   left_same xs = record { gone = []; parts = IsPermutation-refl xs }
+
+  pub left_on : {xs ys zs : List (Event B)} → IsLeft xs ys → IsLeft ys zs → IsLeft xs zs
+  left_on {xs} {ys} {zs} h k = record {
+    gone = h.gone ++ k.gone;
+    parts = subst (IsPermutation xs) (sym (append_assoc h.gone k.gone zs)) (IsPermutation-trans xs (h.gone ++ ys) (h.gone ++ (k.gone ++ zs)) h.parts (IsPermutation-append_right h.gone ys (k.gone ++ zs) k.parts));
+  }
 
   -- where the least time is another, all that is not earlier than a time is later
   pub all_later : (xs : List (Event B)) (least : Option ℕ) (t : ℕ) → IsLeastTime xs least → All (λ e. t ≤ e.time) xs → (least ≡ Some t → ⊥) → All (λ e. t < e.time) xs
@@ -143,6 +159,11 @@ module _ {B : Type 0} where
   -- there is something where there is a least time
   pub some_least : (xs : List (Event B)) (t : ℕ) → IsLeastTime xs (Some t) → xs ≡ [] → ⊥
   some_least xs t h none = h.1 (subst (All (λ e. t < e.time)) (sym none) (All-nil (λ e. t < e.time)))
+
+  -- so what is taken of it is not none
+  pub one_there : (P : Type 0) (t : ℕ) (xs : List (Event B)) (next : Option (Event B)) → IsLeastTime xs (Some t) → IfNone next (xs ≡ []) → IfNone next P
+  one_there P t xs None least none = absurd (some_least xs t least none)
+  one_there P t xs (Some e) least none = tt
 
   -- the least time of a list by time is that of its first
   pub first_least : (xs : List (Event B)) → AreByTime xs → IsLeastTime xs (option_map (λ e. e.time) (slice_get xs 0))
@@ -185,6 +206,16 @@ put_behind xs ys vs e h = subst (λ l. IsPermutation l (xs ++ vs)) (sym (append_
 pub on_err : {T E P : Type 0} (r : Result T E) → P → OnErr r P
 on_err (Ok x) h = tt
 on_err (Err y) h = h
+
+-- one is taken from the front
+pub taken_first : {E : Type 0} (xs us : List E) (next : Option E) → xs ≡ option_to_list next ++ us → IfSome next (λ e. IsPermutation xs (e ∷ us))
+taken_first xs us None is = tt
+taken_first xs us (Some e) is = subst (λ l. IsPermutation l (e ∷ us)) (sym is) (IsPermutation-refl (e ∷ us))
+
+-- one is taken of those before others, where there is one
+pub taken_before : {E : Type 0} (xs us ys : List E) (next : Option E) → IfSome next (λ e. IsPermutation xs (e ∷ us)) → IfSome next (λ e. IsPermutation (xs ++ ys) (e ∷ (us ++ ys)))
+taken_before xs us ys None h = tt
+taken_before xs us ys (Some e) h = IsPermutation-append_left ys xs (e ∷ us) h
 
 -- one is taken of those behind others, where there is one
 pub taken_behind : {E : Type 0} (xs ys vs : List E) (next : Option E) → IfSome next (λ e. IsPermutation ys (e ∷ vs)) → IfSome next (λ e. IsPermutation (xs ++ ys) (e ∷ (xs ++ vs)))

@@ -23,6 +23,11 @@ pub first_stands : {B : Type 0} (order : B → B → Ordering) (first : Option (
 first_stands order None others before = ap (λ l. slice_get l 0) (sym before)
 first_stands order (Some e) others before = refl
 
+-- where there is none, there is nothing
+pub none_first : {B : Type 0} (order : B → B → Ordering) (first : Option (Event B)) (others : List (Event B)) → StandsBefore order first others → IfNone first (option_to_list first ++ others ≡ [])
+none_first order None others before = before
+none_first order (Some e) others before = tt
+
 -- and a least one
 pub first_least : {B : Type 0} (order : B → B → Ordering) → IsExactOrder (event_cmp order) → (first : Option (Event B)) (others : List (Event B)) → StandsBefore order first others
     → IfSome first (λ e. All (AtMost (event_cmp order) e) (option_to_list first ++ others))

@@ -9,14 +9,14 @@ use Rattle.std.specs.declared.cmp.Ordering.{Ordering}
 use Rattle.std.specs.declared.cmp.Ordering.TheVariants.{Less}
 use Rattle.std.proofs.lemmas.Bool.Decides.{nat_tests}
 use Rattle.std.proofs.lemmas.Cmp.{upto}
-use Rattle.std.proofs.lemmas.List.Elements.{All-append, All-cons, All-head, All-nil, All-take, All-weaker}
+use Rattle.std.proofs.lemmas.List.Elements.{All-append, All-cons, All-head, All-nil, All-push, All-take, All-weaker}
 use Rattle.std.proofs.lemmas.List.Sorted.{All-permutation, IsPermutation-append_left, IsPermutation-append_right, IsPermutation-sym, IsPermutation-trans}
 use Rattle.rw_vt.specs.declared.event.Event.{Event}
 use Rattle.rw_vt.specs.Order.{AtMost, event_cmp}
 use Rattle.rw_vt.proofs.EventOrder.{time_at_most}
 use Rattle.rw_serial.specs.Later.{HasMoved, IsLeastTime, IsLeft}
 use Rattle.rw_serial.specs.Pending.{AreAround, IsDue, IsTakenFromOne, due_of, time_or}
-use Rattle.rw_serial.proofs.ByTime.{All-back, All-front, joined_by_place, late_left, none_permuted}
+use Rattle.rw_serial.proofs.ByTime.{All-back, All-front, joined_by_place, late_left, none_permuted, put_before, put_behind}
 
 -- First elements
 
@@ -91,6 +91,24 @@ module _ {B : Type 0} (order : B → B → Ordering) where
   all_from [] first t is least low = All-nil (λ e. t ≤ e.time)
   all_from (x ∷ xs) None t is least low = cc
   all_from (x ∷ xs) (Some f) t is least low = All-weaker (AtMost (event_cmp order) f.now) (λ e. t ≤ e.time) (λ e h. let l = time_at_most order f.now e h in omega arith) (x ∷ xs) least
+
+  -- where no time is due, the first initial event is before all that were sent, or there are none of these
+  pub due_none : (xs ys : List (Event B)) (first : Option (Bor (Event B))) (least : Option ℕ) → option_copied first ≡ slice_get xs 0 → IsLeastTime ys least → due_of (option_copied first) least ≡ None → IsDue xs ys
+  due_none [] ys first None is low none = low
+  due_none (x ∷ xs) ys first None is low none = subst (All (λ e. x.time < e.time)) (sym low) (All-nil (λ e. x.time < e.time))
+  due_none [] ys None (Some t) is low none = cc
+  due_none [] ys (Some f) (Some t) is low none = cc
+  due_none (x ∷ xs) ys None (Some t) is low none = cc
+  due_none (x ∷ xs) ys (Some f) (Some t) is low none = go (nat_lt f.now.time t) refl none
+    where
+      same : f.now ≡ x
+      same = cc
+
+      go : (b : Bool) → nat_lt f.now.time t ≡ b → cond b None (Some t) ≡ None → All (λ e. x.time < e.time) ys
+      go true is_lt h =
+          let l : f.now.time < t = grind (arith, nat_tests) in
+          subst (λ w. All (λ e. w.time < e.time) ys) same (All-weaker (λ e. t ≤ e.time) (λ e. f.now.time < e.time) (λ e m. omega arith) ys low.0)
+      go false is_lt h = cc
 
   -- what is taken is not before the time that is reached
   taken_from : (t : ℕ) (xs ys us vs : List (Event B)) (e : Event B) → All (λ f. t ≤ f.time) xs → All (λ f. t ≤ f.time) ys → IsTakenFromOne xs ys (Some e) us vs → t ≤ e.time
@@ -182,12 +200,6 @@ module _ {B : Type 0} {t : ℕ} {later left room all now : List (Event B)} (h : 
   moved_now : IsPermutation h.moved now
   moved_now = subst (λ l. IsPermutation l now) (h.behind ∙ ap (λ l. l ++ h.moved) clear) filled
 
-  pub refilled : (ys : List (Event B)) → ys ≡ [] → IsPermutation (ys ++ later) (now ++ left)
-  refilled ys none = subst (λ l. IsPermutation (l ++ later) (now ++ left)) (sym none) (IsPermutation-trans later (h.moved ++ left) (now ++ left) h.parts (IsPermutation-append_left left h.moved now moved_now))
-
-  pub around_refilled : (xs : List (Event B)) → All (λ e. t ≤ e.time) xs → AreAround t xs now left
-  around_refilled xs from = record { initial_from = from; now_at = All-permutation (λ e. e.time ≡ t) h.moved now moved_now h.of_time; later_past = h.later }
-
   pub some_moved : IsLeastTime later (Some t) → now ≡ [] → ⊥
   some_moved least none =
       let empty = none_permuted now h.moved (IsPermutation-sym h.moved now moved_now) none in
@@ -197,6 +209,13 @@ module _ {B : Type 0} {t : ℕ} {later left room all now : List (Event B)} (h : 
 
 pub around_left : {B : Type 0} (t : ℕ) (xs ys later left : List (Event B)) → AreAround t xs ys later → IsLeft later left → AreAround t xs ys left
 around_left t xs ys later left around h = record { initial_from = around.initial_from; now_at = around.now_at; later_past = late_left (λ e. t < e.time) later h.gone left h.parts around.later_past }
+
+pub around_lost : {B : Type 0} (t : ℕ) (xs ys vs later left : List (Event B)) → AreAround t xs ys later → (gone : List (Event B)) × (ys ≡ gone ++ vs) → IsLeft later left → AreAround t xs vs left
+around_lost t xs ys vs later left around lost h = record {
+  initial_from = around.initial_from;
+  now_at = All-back (λ e. e.time ≡ t) lost.0 vs (subst (All (λ e. e.time ≡ t)) lost.1 around.now_at);
+  later_past = late_left (λ e. t < e.time) later h.gone left h.parts around.later_past;
+}
 
 pub around_added : {B T E : Type 0} (t : ℕ) (xs ys later sent new : List (Event B)) (r : Result T E) → AreAround t xs ys later → All (λ e. t < e.time) sent → OnOk r (IsPermutation (later ++ sent) new) → OnErr r ((n : ℕ) × IsPermutation (later ++ take n sent) new) → AreAround t xs ys new
 around_added t xs ys later sent new (Ok x) around past added some = record {
@@ -226,6 +245,44 @@ added_to_all xs ys later sent new h =
     (IsPermutation-append_right xs ((ys ++ later) ++ sent) (ys ++ new)
     (subst (λ l. IsPermutation l (ys ++ new)) (sym (append_assoc ys later sent)) (IsPermutation-append_right ys (later ++ sent) new h)))
 
+-- Events of time 0, and later ones
+
+module _ {B : Type 0} where
+  abbrev pub AreApart : List (Event B) → List (Event B) → List (Event B) → Type 0
+  AreApart es start later = IsPermutation es (start ++ later) × All (λ e. e.time ≡ 0) start × All (λ e. 0 < e.time) later
+
+  pub put_at_start : (es all start front later back : List (Event B)) (e : Event B) → all ≡ es ++ e ∷ [] → e.time ≡ 0 → front ≡ start ++ e ∷ [] → back ≡ later → AreApart es start later → AreApart all front back
+  put_at_start es all start front later back e more at is same apart = (
+    subst (λ l. IsPermutation l (front ++ back)) (sym more) (subst (λ l. IsPermutation (es ++ e ∷ []) (front ++ l)) (sym same)
+        (IsPermutation-trans (es ++ e ∷ []) ((start ++ later) ++ e ∷ []) (front ++ later) (IsPermutation-append_left (e ∷ []) es (start ++ later) apart.0) (put_before start front later e is))),
+    subst (All (λ f. f.time ≡ 0)) (sym is) (All-push (λ f. f.time ≡ 0) start e apart.1 at),
+    subst (All (λ f. 0 < f.time)) (sym same) apart.2,
+  )
+
+  pub put_later : (es all start front later back : List (Event B)) (e : Event B) → all ≡ es ++ e ∷ [] → 0 < e.time → front ≡ start → IsPermutation (later ++ e ∷ []) back → AreApart es start later → AreApart all front back
+  put_later es all start front later back e more past same put apart = (
+    subst (λ l. IsPermutation l (front ++ back)) (sym more) (subst (λ l. IsPermutation (es ++ e ∷ []) (l ++ back)) (sym same)
+        (IsPermutation-trans (es ++ e ∷ []) ((start ++ later) ++ e ∷ []) (start ++ back) (IsPermutation-append_left (e ∷ []) es (start ++ later) apart.0) (put_behind start later back e put))),
+    subst (All (λ f. f.time ≡ 0)) (sym same) apart.1,
+    All-permutation (λ f. 0 < f.time) (later ++ e ∷ []) back put (All-push (λ f. 0 < f.time) later e apart.2 past),
+  )
+
+  -- those of time 0 come to hand
+  pub around_start : (xs start now later : List (Event B)) → All (λ e. e.time ≡ 0) start → All (λ e. 0 < e.time) later → IsPermutation start now → AreAround 0 xs now later
+  around_start xs start now later at past moved = record { initial_from = λ k d l. omega arith; now_at = All-permutation (λ e. e.time ≡ 0) start now moved at; later_past = past }
+
+-- What is taken where a time is due
+
+module _ {B : Type 0} where
+  pub taken_due : (t : ℕ) (xs ys : List (Event B)) (next : Option (Event B)) → IfSome next (λ e. e.time ≡ t) → All (λ f. t ≤ f.time) xs → All (λ f. t ≤ f.time) ys
+      → IfSome next (λ e. All (λ f. e.time ≤ f.time) ys × All (λ f. e.time ≤ f.time) xs)
+  taken_due t xs ys None at from low = tt
+  taken_due t xs ys (Some e) at from low = (All-weaker (λ f. t ≤ f.time) (λ f. e.time ≤ f.time) (λ f m. omega arith) ys low, All-weaker (λ f. t ≤ f.time) (λ f. e.time ≤ f.time) (λ f m. omega arith) xs from)
+
+  pub due_there : (P : Type 0) (t : ℕ) (ys : List (Event B)) (next : Option (Event B)) → IsLeastTime ys (Some t) → IfNone next (All (λ e. t < e.time) ys) → IfNone next P
+  due_there P t ys None low none = absurd (low.1 none)
+  due_there P t ys (Some e) low none = tt
+
 -- What a call says of the event that it gives
 
 pub taken_at : {E : Type 0} {next : Option E} {x : E} {before after : List E} → next ≡ Some x → IfSome next (λ e. IsPermutation before (e ∷ after)) → IsPermutation before (x ∷ after)
@@ -239,3 +296,7 @@ reached_at {t} is h = subst (λ o. IfSome o (λ e. t ≡ e.time)) is h
 
 pub none_at : {E : Type 0} {next : Option E} {xs : List E} → next ≡ None → IfNone next (xs ≡ []) → xs ≡ []
 none_at {xs} is h = subst (λ o. IfNone o (xs ≡ [])) is h
+
+pub reached_is : {B : Type 0} (next : Option (Event B)) (s t : ℕ) → t ≡ time_or next s → IfSome next (λ e. t ≡ e.time)
+reached_is None s t is = tt
+reached_is (Some e) s t is = is

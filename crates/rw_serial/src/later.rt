@@ -1,6 +1,6 @@
-ghost use Rattle.std.specs.Prelude.{◌≡◌, ◌<◌, ◌≤◌, ◌++◌, [], ◌∷◌, All, IfNone, IfSome, IsPermutation, List, OnErr, OnOk};
+ghost use Rattle.std.specs.Prelude.{◌≡◌, ◌<◌, ◌≤◌, ◌++◌, [], ◌∷◌, All, IfNone, IfSome, IsPermutation, List, OnErr, OnOk, true};
 ghost use Rattle.rw_vt.specs.declared.event.Event.{Event};
-ghost use Rattle.rw_serial.specs.Later.{AreByTime, HasMoved, IsLeastTime, IsLeft};
+ghost use Rattle.rw_serial.specs.Later.{HasMoved, IsLeastTime, IsLeft};
 
 use crate::fifo::Fifo;
 use crate::heap::Heap;
@@ -40,46 +40,132 @@ pub trait Store<B: Ord + Copy>: Drop {
         ensures left { OnErr result (IsLeft (events self.old) (events self.new)) };
 }
 
-/// Events whose times never fall, and a store for those that would break that. What is put in costs no comparison with what
-/// is there.
+/// Events whose times never fall. Contracts see them as a list in order.
 #[derive(Drop)]
-pub struct Lane<B: Ord + Copy, R: Store<B>> {
+struct Lane<B: Ord + Copy> {
     events: Fifo<Event<B>>,
     /// The time of the last event that came here.
     last: u64,
-    others: R,
 }
 
-impl<B: Ord + Copy, R: Store<B>> Model for Lane<B, R> {
-    ghost use Rattle.std.specs.Prelude.{◌++◌, List};
+impl<B: Ord + Copy> Model for Lane<B> {
+    ghost use Rattle.std.specs.Prelude.{List};
     ghost use Rattle.rw_vt.specs.declared.event.Event.{Event};
     ghost use Rattle.rw_serial.specs.Later.{IsLane};
 
     ghost Value = { List (Event B) };
 
-    ghost view = { λ l. l.events ++ R.events l.others };
+    ghost view = { λ l. l.events };
 
     ghost invariant = { λ l. IsLane l.events l.last };
 }
 
-impl<B: Ord + Copy, R: Store<B>> Lane<B, R> {
-    /// An empty lane before an empty store.
-    fn new(alloc: Global, others: R) -> Self
-        ensures { result ≡ R.events others }
+impl<B: Ord + Copy> Lane<B> {
+    /// No events.
+    fn new(alloc: Global) -> Self
+        ensures { result ≡ [] }
     {
         Lane {
             events: Fifo::new(alloc),
             last: 0,
+        }
+    }
+
+    /// The time of the first event, which is the least. `None` only where there is no event.
+    #[inline]
+    fn least_time(&self) -> Option<u64>
+        ensures { IsLeastTime self.now result }
+    {
+        time_of(self.events.first())
+    }
+
+    /// Whether an event of this time may come behind those that are there.
+    #[inline]
+    fn takes(&self, time: u64) -> bool
+        ensures { result ≡ true → All (λ e. e.time ≤ time) self.now }
+    {
+        self.last <= time
+    }
+
+    /// Adds an event, than which none is later, at the end. Where memory is refused, nothing has changed.
+    #[inline]
+    fn push(&mut self, event: Event<B>) -> Result<(), AllocError>
+        requires { All (λ e. e.time ≤ event.time) self.old }
+        ensures added { OnOk result (self.new ≡ self.old ++ event ∷ []) }
+        ensures unchanged { OnErr result (self.new ≡ self.old) }
+    {
+        self.events.push(event)?;
+        self.last = event.time;
+        Ok(())
+    }
+
+    /// Takes the first event, than which none is earlier. `None` only where there is none.
+    #[inline]
+    fn pop(&mut self) -> Option<Event<B>>
+        ensures taken { IfSome result (λ e. IsPermutation self.old (e ∷ self.new)) }
+        ensures least { IfSome result (λ e. All (λ f. e.time ≤ f.time) self.old) }
+        ensures none { IfNone result (self.old ≡ []) }
+    {
+        self.events.pop()
+    }
+
+    /// Moves the events of a time, than which none is earlier, to the end of `taken`. Where memory is refused, some events
+    /// are lost.
+    #[inline(always)]
+    fn take(&mut self, time: u64, taken: &mut Vec<Event<B>>) -> Result<(), AllocError>
+        requires { All (λ e. time ≤ e.time) self.old }
+        ensures moved { OnOk result
+            (HasMoved time self.old self.new taken.old.items taken.new.items) }
+        ensures left { OnErr result (IsLeft self.old self.new) }
+    {
+        while is_time(self.least_time(), time) {
+            if let Some(event) = self.pop() {
+                taken.push(event)?;
+            }
+        }
+        Ok(())
+    }
+}
+
+/// Two lanes, and a store for the events that would break their order. What is put into a lane costs no comparison with what is
+/// there.
+#[derive(Drop)]
+pub struct TwoLanes<B: Ord + Copy, R: Store<B>> {
+    first: Lane<B>,
+    second: Lane<B>,
+    others: R,
+}
+
+impl<B: Ord + Copy, R: Store<B>> Model for TwoLanes<B, R> {
+    ghost use Rattle.std.specs.Prelude.{◌++◌, List};
+    ghost use Rattle.rw_vt.specs.declared.event.Event.{Event};
+
+    ghost Value = { List (Event B) };
+
+    ghost view = { λ l. l.first ++ (l.second ++ R.events l.others) };
+}
+
+impl<B: Ord + Copy, R: Store<B>> TwoLanes<B, R> {
+    /// Two empty lanes before an empty store.
+    fn new(alloc: Global, others: R) -> Self
+        ensures { result ≡ R.events others }
+    {
+        TwoLanes {
+            first: Lane::new(alloc),
+            second: Lane::new(alloc),
             others,
         }
     }
 }
 
-impl<B: Ord + Copy, R: Store<B>> Store<B> for Lane<B, R> {
+impl<B: Ord + Copy, R: Store<B>> Store<B> for TwoLanes<B, R> {
     ghost events = { λ l. l };
 
     fn least_time(&self) -> Option<u64> {
-        earlier(time_of(self.events.first()), self.others.least_time())
+        earlier(
+            self.first.least_time(),
+            earlier(self.second.least_time(), self.others.least_time()),
+        )
     }
 
     #[inline]
@@ -87,10 +173,10 @@ impl<B: Ord + Copy, R: Store<B>> Store<B> for Lane<B, R> {
         ensures added { OnOk result (IsPermutation (self.old ++ event ∷ []) self.new) }
         ensures unchanged { OnErr result (self.new ≡ self.old) }
     {
-        if self.last <= event.time {
-            self.events.push(event)?;
-            self.last = event.time;
-            Ok(())
+        if self.first.takes(event.time) {
+            self.first.push(event)
+        } else if self.second.takes(event.time) {
+            self.second.push(event)
         } else {
             self.others.put(event)
         }
@@ -98,8 +184,10 @@ impl<B: Ord + Copy, R: Store<B>> Store<B> for Lane<B, R> {
 
     #[inline]
     fn take_one(&mut self, time: u64) -> Option<Event<B>> {
-        if is_time(time_of(self.events.first()), time) {
-            self.events.pop()
+        if is_time(self.first.least_time(), time) {
+            self.first.pop()
+        } else if is_time(self.second.least_time(), time) {
+            self.second.pop()
         } else {
             self.others.take_one(time)
         }
@@ -107,38 +195,16 @@ impl<B: Ord + Copy, R: Store<B>> Store<B> for Lane<B, R> {
 
     #[inline]
     fn take(&mut self, time: u64, taken: &mut Vec<Event<B>>) -> Result<(), AllocError> {
-        move_front(&mut self.events, time, taken)?;
+        self.first.take(time, taken)?;
+        self.second.take(time, taken)?;
         self.others.take(time, taken)
     }
-}
-
-/// Moves the events of a time, than which none is earlier, from the front of a lane to the end of `taken`. Where memory is
-/// refused, some events are lost.
-#[inline(always)]
-fn move_front<B: Ord + Copy>(
-    events: &mut Fifo<Event<B>>,
-    time: u64,
-    taken: &mut Vec<Event<B>>,
-) -> Result<(), AllocError>
-    requires by_time { AreByTime events.old }
-    requires least { All (λ e. time ≤ e.time) events.old }
-    ensures moved { OnOk result ((moved : List (Event B)) × (events.old ≡ moved ++ events.new)
-        × (taken.new.items ≡ taken.old.items ++ moved) × All (λ e. e.time ≡ time) moved
-        × All (λ e. time < e.time) events.new) }
-    ensures rest { (gone : List (Event B)) × (events.old ≡ gone ++ events.new) }
-{
-    while is_time(time_of(events.first()), time) {
-        if let Some(event) = events.pop() {
-            taken.push(event)?;
-        }
-    }
-    Ok(())
 }
 
 /// As many lanes as a model has delays in effect, one for what other engines send a little later than its turn, and a heap for
 /// the rest. A model whose sends have at most four delays never comes to the heap: its events are executed in order of time, so
 /// those of one delay are.
-type Lanes<B> = Lane<B, Lane<B, Lane<B, Lane<B, Heap<B>>>>>;
+type Lanes<B> = TwoLanes<B, TwoLanes<B, Heap<B>>>;
 
 /// Events that were sent, until their time comes; it knows the least time of all. Contracts see them as a list, in no
 /// particular order.
@@ -166,10 +232,7 @@ impl<B: Ord + Copy> Later<B> {
         ensures { result ≡ [] }
     {
         Later {
-            lanes: Lane::new(
-                alloc,
-                Lane::new(alloc, Lane::new(alloc, Lane::new(alloc, Heap::new(alloc)))),
-            ),
+            lanes: TwoLanes::new(alloc, TwoLanes::new(alloc, Heap::new(alloc))),
             least: None,
         }
     }
@@ -220,7 +283,9 @@ impl<B: Ord + Copy> Later<B> {
 
     /// Moves all events to the end of `rest`, in order of time. Where memory is refused, some events are lost.
     pub fn move_to(&mut self, rest: &mut Vec<Event<B>>) -> Result<(), AllocError>
-        ensures { OnOk result (IsPermutation (rest.old.items ++ self.old) rest.new.items) }
+        ensures none { OnOk result (self.new ≡ []) }
+        ensures moved { OnOk result (IsPermutation (rest.old.items ++ self.old) rest.new.items) }
+        ensures left { IsLeft self.old self.new }
     {
         while let Some(time) = self.least_time() {
             self.take(time, rest)?;

@@ -1,5 +1,6 @@
-ghost use Rattle.std.specs.Prelude.{◌≡◌, ◌+◌, ◌<◌, ◌≤◌, ◌++◌, ℕ, [], ◌∷◌, false, true, All, IfNone, IfOk, IfSome, IsNone, IsPermutation, IsSome, IsTrue, OnErr, OnOk, length, option_copied, take};
+ghost use Rattle.std.specs.Prelude.{◌≡◌, ◌+◌, ◌<◌, ◌≤◌, ◌++◌, ℕ, [], ◌∷◌, false, true, All, IfNone, IfOk, IfSome, IsNone, IsPermutation, IsSome, IsTrue, List, OnErr, OnOk, length, option_copied, take};
 ghost use Rattle.rw_vt.specs.Order.{event_cmp, AtMost};
+ghost use Rattle.rw_vt.specs.declared.event.Event.{Event};
 ghost use Rattle.rw_serial.specs.Later.{IsLeastTime, IsLeft};
 ghost use Rattle.rw_serial.specs.Pending.{AreAround, HasMovedOn, IsDue, IsNextEvent, IsReached, IsTakenFromOne, due_of, time_or};
 
@@ -82,8 +83,8 @@ impl<B: Ord + Copy, S: Source<B>> Pending<B, S> {
             length taken.items < count → self.new.events ≡ []) }
     {
         let mut taken = Vec::with_capacity(alloc, count.saturating_add(count / 8))?;
+        move_sent(&mut self.now, &mut self.later, &mut taken)?;
         self.time = 0;
-        move_sent(alloc, &mut self.now, &mut self.later, &mut taken)?;
         let last = move_first(&mut self.initial, count, &mut taken)?;
         move_at(&mut self.initial, last, &mut taken)?;
         Ok(taken)
@@ -95,9 +96,9 @@ impl<B: Ord + Copy, S: Source<B>> Pending<B, S> {
     pub fn take_all(&mut self, alloc: Global) -> Result<Vec<Event<B>>, AllocError>
         ensures { IfOk result (λ taken. IsPermutation self.old.events taken.items) }
     {
-        self.time = 0;
         let mut taken = Vec::new(alloc);
-        move_sent(alloc, &mut self.now, &mut self.later, &mut taken)?;
+        move_sent(&mut self.now, &mut self.later, &mut taken)?;
+        self.time = 0;
         move_rest(&mut self.initial, &mut taken)?;
         Ok(taken)
     }
@@ -109,16 +110,13 @@ impl<B: Ord + Copy, S: Source<B>> Pending<B, S> {
     pub fn put_back(&mut self, alloc: Global, events: Vec<Event<B>>) -> Result<(), AllocError>
         ensures { OnOk result (IsPermutation (self.old.events ++ events.items) self.new.events) }
     {
-        self.time = 0;
         let mut sent = events;
-        move_sent(alloc, &mut self.now, &mut self.later, &mut sent)?;
+        move_sent(&mut self.now, &mut self.later, &mut sent)?;
+        self.time = 0;
         sent.sort_unstable();
-        let mut later = Later::new(alloc);
-        put_all(&mut later, &sent)?;
         self.room.clear();
-        later.take(0, &mut self.room)?;
+        put_apart(&sent, &mut self.room, &mut self.later)?;
         self.now.fill(&mut self.room);
-        self.later = later;
         Ok(())
     }
 
@@ -400,19 +398,40 @@ fn put_all<B: Ord + Copy>(later: &mut Later<B>, events: &[Event<B>]) -> Result<(
 
 /// Moves all events that were sent to the end of `taken`. Where memory is refused, some events are lost.
 fn move_sent<B: Ord + Copy>(
-    alloc: Global,
     now: &mut Slice<B>,
     later: &mut Later<B>,
     taken: &mut Vec<Event<B>>,
 ) -> Result<(), AllocError>
-    ensures none { (now.new ≡ []) × (later.new ≡ []) }
+    ensures none { OnOk result ((now.new ≡ []) × (later.new ≡ [])) }
     ensures moved { OnOk result
         (IsPermutation (taken.old.items ++ (now.old ++ later.old)) taken.new.items) }
+    ensures around { (t : ℕ) (initial : List (Event B)) → AreAround t initial now.old later.old
+        → AreAround t initial now.new later.new }
 {
-    let mut at_hand = mem::replace(now, Slice::new(alloc));
-    let mut others = mem::replace(later, Later::new(alloc));
-    at_hand.move_to(taken)?;
-    others.move_to(taken)
+    now.move_to(taken)?;
+    later.move_to(taken)
+}
+
+/// Puts events where nothing is: those of time 0 into `start`, and the others into `later`. Where memory is refused, some
+/// events are lost.
+fn put_apart<B: Ord + Copy>(
+    events: &[Event<B>],
+    start: &mut Vec<Event<B>>,
+    later: &mut Later<B>,
+) -> Result<(), AllocError>
+    requires none { (start.old.items ≡ []) × (later.old ≡ []) }
+    ensures put { OnOk result (IsPermutation events.now (start.new.items ++ later.new)) }
+    ensures start { OnOk result (All (λ e. e.time ≡ 0) start.new.items) }
+    ensures later { All (λ e. 0 < e.time) later.new }
+{
+    for event in events {
+        if event.time == 0 {
+            start.push(*event)?;
+        } else {
+            later.put(*event)?;
+        }
+    }
+    Ok(())
 }
 
 /// Moves as many initial events as `count` says to the end of `taken`, or all where there are fewer, and answers the time of

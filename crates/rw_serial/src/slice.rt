@@ -1,5 +1,6 @@
-ghost use Rattle.std.specs.Prelude.{◌≡◌, ◌++◌, [], ◌∷◌, All, IfNone, IfSome, IsPermutation, OnErr, OnOk, option_copied, option_to_list, slice_get};
+ghost use Rattle.std.specs.Prelude.{◌≡◌, ◌++◌, [], ◌∷◌, All, IfNone, IfSome, IsPermutation, List, OnErr, OnOk, option_copied, option_to_list, slice_get};
 ghost use Rattle.rw_vt.specs.Order.{event_cmp, AtMost};
+ghost use Rattle.rw_vt.specs.declared.event.Event.{Event};
 
 use rw_vt::Event;
 use std::alloc::{AllocError, Global};
@@ -61,7 +62,9 @@ impl<B: Ord + Copy> Slice<B> {
 
     /// Moves all events to the end of `rest`. Where memory is refused, some events are lost.
     pub fn move_to(&mut self, rest: &mut Vec<Event<B>>) -> Result<(), AllocError>
-        ensures { OnOk result (rest.new.items ≡ rest.old.items ++ self.old) }
+        ensures none { OnOk result (self.new ≡ []) }
+        ensures moved { OnOk result (rest.new.items ≡ rest.old.items ++ self.old) }
+        ensures left { (gone : List (Event B)) × (self.old ≡ gone ++ self.new) }
     {
         while let Some(event) = self.pop() {
             rest.push(event)?;

@@ -1,4 +1,4 @@
-use Rattle.std.proofs.Common.{rules, arith, true, false, ◌≡◌, All, ◌<◌, ◌^◌, ◌-◌, ◌∙◌, sym, subst, refl, [], ◌∷◌, ◌++◌, get_or, length, replicate}
+use Rattle.std.proofs.Common.{rules, arith, IsPermutation, true, false, ◌≡◌, All, ◌<◌, ◌^◌, ◌-◌, ◌∙◌, sym, subst, refl, [], ◌∷◌, ◌++◌, get_or, length, replicate}
 use Rattle.std.specs.List.{slice_set}
 use Rattle.std.proofs.lemmas.List.Sorted.{IsPermutation-refl}
 use Rattle.std.proofs.lemmas.Result.{err_from_is_err_and}
@@ -46,7 +46,7 @@ events-smaller g c =
     let x = c.in-Some.event in
     midrun_falls c.events.invariant.2 (taken_at c.in-Some.is c.in_ok-pop.ensures.taken) (least_at (event_cmp g.M.Body.Ord.cmp) c.events.pending.events c.in-Some.is c.in_ok-pop.ensures.least)
     c.execute.new.states.items (slice_set journals x.to (get_or journals x.to [] ++ x ∷ [])) c.execute.new.sent.items c.extend.new.self.events
-    c.in_ok-execute.ensures.states refl c.in_ok-execute.ensures.sends (search rules) (2 ^ 40) (λ e inside. inside.time)
+    c.in_ok-execute.ensures.states refl c.in_ok-execute.ensures.sends (subst (λ l. IsPermutation (c.pop.new.self.events ++ l) c.extend.new.self.events) c.deref.ensures.value c.in_ok-extend.ensures.added) (2 ^ 40) (λ e inside. inside.time)
 
 pub events-preserved : goal.events-preserved
 events-preserved g c =
@@ -61,7 +61,7 @@ events-preserved g c =
       λ limit none. c.in_ok-enter.ensures.entered there limit journals within (c.events.invariant.1 limit none),
       midrun_step_by c.events.invariant.2 (taken_at c.in-Some.is c.in_ok-pop.ensures.taken) (least_at (event_cmp g.M.Body.Ord.cmp) c.events.pending.events c.in-Some.is c.in_ok-pop.ensures.least)
           c.execute.new.states.items entered c.execute.new.sent.items c.extend.new.self.events
-          c.in_ok-execute.ensures.states refl c.in_ok-execute.ensures.sends (search rules),
+          c.in_ok-execute.ensures.states refl c.in_ok-execute.ensures.sends (subst (λ l. IsPermutation (c.pop.new.self.events ++ l) c.extend.new.self.events) c.deref.ensures.value c.in_ok-extend.ensures.added),
     )
 
 pub returns-in_err-execute-clause-exhausted : goal.returns-in_err-execute-clause-exhausted
@@ -90,3 +90,18 @@ returns-then-not-branch-clause-used_up g c =
     let fewer = midrun_fewer run taken least (2 ^ 40) (next_inside run taken least).time in
     let no_room : c.in_ok-enter.field-0 ≡ false = search rules in
     λ _ limit none. let full = c.in_ok-enter.ensures.full no_room limit c.events.invariant.0 (c.events.invariant.1 limit none) in omega arith
+
+pub returns-in_err-pop-clause-exhausted : goal.returns-in_err-pop-clause-exhausted
+returns-in_err-pop-clause-exhausted g c =
+    let p = err_from_is_err_and c.from_residual.result c.from_residual.ensures.1 in
+    rw (p.1, p.2) (λ e. cc)
+
+pub returns-in_err-enter-clause-exhausted : goal.returns-in_err-enter-clause-exhausted
+returns-in_err-enter-clause-exhausted g c =
+    let p = err_from_is_err_and c.from_residual-in_err-enter.result c.from_residual-in_err-enter.ensures.1 in
+    rw (p.1, p.2) (λ e. cc)
+
+pub returns-in_err-extend-clause-exhausted : goal.returns-in_err-extend-clause-exhausted
+returns-in_err-extend-clause-exhausted g c =
+    let p = err_from_is_err_and c.from_residual-in_err-extend.result c.from_residual-in_err-extend.ensures.1 in
+    rw (p.1, p.2) (λ e. cc)

@@ -1,4 +1,4 @@
-use Rattle.std.proofs.Common.{rules, arith, All, ◌≡◌, ◌+◌, ◌<◌, ◌^◌, sym, subst, refl, [], ◌∷◌, ◌++◌, ◌∙◌, get_or, length, replicate}
+use Rattle.std.proofs.Common.{arith, IsPermutation, All, ◌≡◌, ◌+◌, ◌<◌, ◌^◌, sym, subst, refl, [], ◌∷◌, ◌++◌, ◌∙◌, get_or, length, replicate}
 use Rattle.std.specs.List.{slice_set}
 use Rattle.std.proofs.lemmas.List.Sorted.{IsPermutation-refl}
 use Rattle.std.proofs.lemmas.Result.{err_from_is_err_and}
@@ -59,7 +59,7 @@ loop-executed-preserved g c =
       entered,
       midrun_step_by run taken least
           c.execute.new.states.items entered c.execute.new.sent.items c.extend.new.self.events
-          c.in_ok-execute.ensures.states refl c.in_ok-execute.ensures.sends (search rules),
+          c.in_ok-execute.ensures.states refl c.in_ok-execute.ensures.sends (subst (λ l. IsPermutation (c.pop.new.self.events ++ l) c.extend.new.self.events) c.deref.ensures.value c.in_ok-extend.ensures.added),
       count_entered journals x.to x c.loop-executed.executed (subst (λ n. x.to < n) (sym run.count) inside.to) c.loop-executed.invariant.2,
     )
 
@@ -104,3 +104,13 @@ pub returns-clause-count : goal.returns-clause-count
 returns-clause-count g c =
     let all : c.args.limit ≡ c.loop-executed.executed = omega arith in
     (omega arith, midrun_counted c.loop-executed.invariant.1 c.args.limit (all ∙ c.loop-executed.invariant.2))
+
+pub returns-in_err-pop-clause-exhausted : goal.returns-in_err-pop-clause-exhausted
+returns-in_err-pop-clause-exhausted g c =
+    let p = err_from_is_err_and c.from_residual.result c.from_residual.ensures.1 in
+    rw (p.1, p.2) (λ e. cc)
+
+pub returns-in_err-extend-clause-exhausted : goal.returns-in_err-extend-clause-exhausted
+returns-in_err-extend-clause-exhausted g c =
+    let p = err_from_is_err_and c.from_residual-in_err-extend.result c.from_residual-in_err-extend.ensures.1 in
+    rw (p.1, p.2) (λ e. cc)

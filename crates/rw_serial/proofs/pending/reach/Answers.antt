@@ -1,7 +1,7 @@
 use Rattle.std.proofs.Common.{◌≤◌, [], ◌∷◌, ◌∙◌, refl, subst, sym, true≢false}
 use Rattle.rw_serial.specs.Pending.{AreAround, IsNextEvent}
 use Rattle.rw_serial.proofs.ByTime.{all_later, late_left, left_same, on_err}
-use Rattle.rw_serial.proofs.Next.{lost_after, next_initial, next_reached, not_none, reached_alone, reached_gathered}
+use Rattle.rw_serial.proofs.Next.{lost_after, next_initial, next_reached, not_none, reached_alone, reached_before, reached_gathered, some_first}
 use Rattle.rw_serial.proofs.Waiting.{no_first}
 use Rattle.rw_serial.proofs.pending.reach.Goals as goal
 
@@ -48,3 +48,8 @@ returns-clause-taken g c =
     let past = all_later mid c.least_time.result first.time c.least_time.ensures late (λ is. true≢false (sym (c.is_time.ensures.1 is) ∙ c.if-is_time.false)) in
     let went = c.in_ok-take_lesser.ensures in
     λ _. next_reached g.B.Ord.cmp c.args.time c.take_lesser.new.next (reached_alone hand due.taken due.least.1 past) went.taken went.least (not_none _ c.take_lesser.new.next went.some)
+
+pub returns-then-is_some-clause-reached : goal.returns-then-is_some-clause-reached
+returns-then-is_some-clause-reached g c =
+    let some = some_first c.first.result c.args.now.now c.first.ensures.first (sym c.is_some.ensures ∙ c.if-is_some.true) in
+    λ _. (refl, reached_before c.args.time c.args.initial.now c.args.now.now c.args.later.now c.requires some)

@@ -1,13 +1,19 @@
-use Rattle.std.proofs.Common.{◌++◌, [], IsPermutation, arith, refl, subst}
+use Rattle.std.proofs.Common.{◌++◌, IsPermutation, refl, subst}
+use Rattle.std.proofs.lemmas.List.Sorted.{IsPermutation-append_left}
 use Rattle.rw_serial.proofs.Onward.{put_in_again}
-use Rattle.rw_serial.proofs.Waiting.{around_refilled, refilled}
+use Rattle.rw_serial.proofs.Waiting.{around_start}
 use Rattle.rw_serial.proofs.pending.Pending.put_back.Goals as goal
-
-pub invariant_of-self-2 : goal.invariant_of-self-2
-invariant_of-self-2 g c = around_refilled c.in_ok-take.ensures.moved c.clear.ensures.items c.fill.ensures c.self.inside.initial (λ k d l. omega arith)
 
 pub returns : goal.returns
 returns g c =
-    subst (λ w. IsPermutation (w.events ++ c.args.events.items) (c.self.inside.initial ++ (c.fill.new.self ++ c.take.new.self))) c.self.view_is
-    (put_in_again c.self.inside.initial c.self.inside.now c.self.inside.later c.args.events.items c.in_ok-move_sent.ensures.moved c.sort_unstable.ensures.permutation c.deref.ensures.value c.new-later.ensures c.in_ok-put_all.ensures.added
-    (refilled c.in_ok-take.ensures.moved c.clear.ensures.items c.fill.ensures [] refl))
+    let at = c.self.inside in
+    let later = c.put_apart.new.later in
+    subst (λ w. IsPermutation (w.events ++ c.args.events.items) (at.initial ++ (c.fill.new.self ++ later))) c.self.view_is
+    (put_in_again at.initial at.now at.later c.args.events.items c.in_ok-move_sent.ensures.moved c.sort_unstable.ensures.permutation c.deref.ensures.value refl c.in_ok-put_apart.ensures.put
+    (IsPermutation-append_left later c.put_apart.new.start.items c.fill.new.self c.fill.ensures))
+
+pub invariant_of-self : goal.invariant_of-self
+invariant_of-self g c = c.move_sent.ensures.around c.self.inside.time c.self.inside.initial c.self.invariant
+
+pub invariant_of-self-2 : goal.invariant_of-self-2
+invariant_of-self-2 g c = around_start c.self.inside.initial c.put_apart.new.start.items c.fill.new.self c.put_apart.new.later c.in_ok-put_apart.ensures.start c.put_apart.ensures.later c.fill.ensures

@@ -7,3 +7,6 @@ returns g c =
     let at = c.self.inside in
     subst (λ w. IsPermutation w.events c.move_rest.new.taken.items) c.self.view_is
     (all_taken at.initial (at.now ++ at.later) c.new-taken.ensures.items c.in_ok-move_sent.ensures.moved c.in_ok-move_rest.ensures)
+
+pub invariant_of-self : goal.invariant_of-self
+invariant_of-self g c = c.move_sent.ensures.around c.self.inside.time c.self.inside.initial c.self.invariant

@@ -1,0 +1,20 @@
+use Rattle.std.proofs.Common.{◌≡◌, ◌++◌, ◌∙◌, ap, append-nil, drop, sym}
+use Rattle.rw_serial.proofs.Lists.{dropped, dropped_all}
+use Rattle.rw_serial.proofs.fifo.Fifo.pop.Goals as goal
+use Rattle.rw_serial.proofs.fifo.Fifo.pop.Goals.{then-self-len, else-self-len}
+
+pub returns : goal.returns
+returns g c =
+    let before = c.self.inside in
+    let q = c.if-self-len.self-inside in
+    let lookup = c.in_ok-value.ensures.lookup in
+    let same : drop q.taken q.front.items ++ q.back.items ≡ c.args.self.now = elim c.if-self-len.branch [
+      | then-self-len w ↦ ap (λ r. drop r.taken r.front.items ++ r.back.items) w.self-inside-is
+          ∙ ap (λ l. w.swap.new.x.items ++ l) w.clear.ensures.items ∙ append-nil w.swap.new.x.items ∙ ap (λ v. v.items) w.swap.ensures.x_after
+          ∙ ap (λ l. l ++ before.back.items) (sym (dropped_all before.front.items before.taken (w.if-self-len.true ∙ c.len.ensures ∙ before.front.ok.0))) ∙ c.self.view_is
+      | else-self-len w ↦ ap (λ r. drop r.taken r.front.items ++ r.back.items) w.self-inside-is ∙ c.self.view_is
+    ] in
+    record {
+      taken = sym same ∙ ap (λ l. l ++ q.back.items) (dropped q.front.items c.deref.result.now q.taken c.in_ok-value.field-0.now c.deref.ensures.value lookup.0 lookup.1);
+      none = tt;
+    }

@@ -1,0 +1,19 @@
+use Rattle.std.proofs.Common.{◌<◌, ◌++◌, [], ◌∷◌, ◌∙◌, IsPermutation, ap, arith, subst, sym, take}
+use Rattle.std.proofs.lemmas.List.{take_more}
+use Rattle.rw_serial.proofs.Waiting.{put_at_start, put_later}
+use Rattle.rw_serial.proofs.pending.put_apart.Goals as goal
+use Rattle.rw_serial.proofs.pending.put_apart.Goals.{then-event-eq0+in_ok-push, else-event-eq0+in_ok-put}
+
+pub loop-event-preserved : goal.loop-event-preserved
+loop-event-preserved g c =
+    let es = c.args.events.now in
+    let n = c.loop-event.event-index in
+    let e = c.event-item.result in
+    let before = c.loop-event in
+    let after = c.if-event-eq0 in
+    let more = take_more es n e c.loop-event-test.true ∙ ap (λ w. take n es ++ w ∷ []) (sym c.event-item.is) in
+    elim after.branch [
+      | then-event-eq0+in_ok-push w ↦ put_at_start (take n es) _ before.start.items after.start.items before.later after.later e more w.if-event-eq0.true (ap (λ v. v.items) w.start-is ∙ w.in_ok-push.ensures.items) w.later-is before.invariant
+      | else-event-eq0+in_ok-put w ↦ let past : 0 < e.time = omega (arith, w.if-event-eq0.false) in
+          put_later (take n es) _ before.start.items after.start.items before.later after.later e more past (ap (λ v. v.items) w.start-is) (subst (IsPermutation (before.later ++ e ∷ [])) (sym w.later-is) w.in_ok-put.ensures.added) before.invariant
+    ]
