@@ -11,6 +11,7 @@ mod Lasts
 mod Arriving
 mod Balance
 mod Own
+mod Undoing
 pub mod WithBags
 mod PutBack
 pub mod Cited

@@ -2,6 +2,7 @@ pub mod HeldMessages
 pub mod Process
 pub mod Sound
 pub mod Past
+pub mod PendingAgain
 pub mod Calls
 pub mod Arrival
 pub mod Cut

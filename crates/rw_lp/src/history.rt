@@ -8,6 +8,7 @@ ghost use Rattle.rw_vt.specs.declared.refusal.Refusal.TheVariants.{Memory};
 ghost use Rattle.rw_lp.specs.Process.{is_less_than_last, split_last};
 ghost use Rattle.rw_lp.specs.HeldBack.{letters_given, held_after};
 ghost use Rattle.rw_lp.specs.Past.{HistoryState, IsFor, TookBack, IsFolded, done_in, history_of};
+ghost use Rattle.rw_lp.specs.Cut.{IsKept, seen_of};
 
 use crate::held_back::HeldBack;
 use crate::runs::Runs;
@@ -118,12 +119,7 @@ impl<M: VtModel> History<M> {
         ensures fold { OnOk result (IsFolded M.Model self) }
     {
         let mut history = self;
-        let past = &mut *history.past;
-        let undo = model.execute(alloc, past.number, &mut past.state, &event, &mut past.sends)?;
-        held.resend(event, past.sends.as_slice(), out)?;
-        let sends = Sends::take_from(alloc, &mut past.sends);
-        past.done.push(event)?;
-        past.records.push(UndoRecord { sends, undo })?;
+        history.past.execute(alloc, model, event, held, out)?;
         Ok(history)
     }
 
@@ -138,15 +134,8 @@ impl<M: VtModel> History<M> {
         ensures memory { IfErr result (λ e. e ≡ Memory) }
     {
         let mut history = self;
-        let past = &mut *history.past;
-        let Some(UndoRecord { sends, undo }) = past.records.pop() else {
-            return Ok((history, None));
-        };
-        let Some(event) = past.done.pop() else {
-            unreachable!();
-        };
-        model.reverse(alloc, past.number, &mut past.state, &event, undo)?;
-        Ok((history, Some(Undone { event, sends })))
+        let undone = history.past.undo(alloc, model)?;
+        Ok((history, undone))
     }
 
     /// Commits the processed events of time below `time`, and drops the records that would take them back. Takes no memory.
@@ -226,6 +215,86 @@ impl<M: VtModel> History<M> {
         } = Box::into_inner(self.past);
         done.truncate(cut);
         (done, state)
+    }
+}
+
+impl<M: VtModel> Past<M> {
+    /// Executes an event that is not a straggler: see [`History::execute`].
+    fn execute(
+        &mut self,
+        alloc: Global,
+        model: &M,
+        event: Event<M::Body>,
+        held: &mut HeldBack<M>,
+        out: &mut Vec<Letter<M::Body>>,
+    ) -> Result<(), Refusal>
+        requires kept { IsKept M.Model (event_cmp M.Body.cmp) self.old }
+        requires model { model.now ≡ self.old.model.value }
+        requires valid { M.is_valid model.now event ≡ true }
+        requires here { event.to ≡ self.old.number }
+        requires late { is_less_than_last (event_cmp M.Body.cmp) event
+            (split_last (done_in (seen_of self.old))) ≡ false }
+        ensures kept { OnOk result (IsKept M.Model (event_cmp M.Body.cmp) self.new) }
+        ensures after { OnOk result (seen_of self.new ≡ record (seen_of self.old) {
+          processed = (seen_of self.old).processed ++ event ∷ [];
+          state = (M.step model.now self.old.number self.old.state event).0;
+        }) }
+        ensures sent { OnOk result (out.new.items ≡ out.old.items ++ letters_given
+            (event_cmp M.Body.cmp) event
+            (M.step model.now self.old.number self.old.state event).1 held.old) }
+        ensures held { OnOk result (held.new ≡ held_after (event_cmp M.Body.cmp) event
+            (M.step model.now self.old.number self.old.state event).1 held.old) }
+        ensures exhausted { (result ≡ Err Refusal.Exhausted)
+            ↔ (M.is_exhausted model.now self.old.state ≡ true) }
+    {
+        let undo = model.execute(alloc, self.number, &mut self.state, &event, &mut self.sends)?;
+        held.resend(event, self.sends.as_slice(), out)?;
+        self.note(alloc, event, undo)?;
+        Ok(())
+    }
+
+    /// Notes an event that was executed, with the record that takes it back: the sends that wait, and what the model gave.
+    fn note(
+        &mut self,
+        alloc: Global,
+        event: Event<M::Body>,
+        undo: M::Undo,
+    ) -> Result<(), AllocError>
+        ensures done { OnOk result (self.new.done.items ≡ self.old.done.items ++ event ∷ []) }
+        ensures records { OnOk result (self.new.records ≡ self.old.records ++ record {
+          sends = self.old.sends.items;
+          undo = undo;
+        } ∷ []) }
+        ensures nothing_waits { OnOk result (self.new.sends.items ≡ []) }
+        ensures others { OnOk result (self.new ≡ record self.old {
+          done = self.new.done;
+          records = self.new.records;
+          sends = self.new.sends;
+        }) }
+    {
+        let sends = Sends::take_from(alloc, &mut self.sends);
+        self.records.push(UndoRecord { sends, undo })?;
+        self.done.push(event)?;
+        Ok(())
+    }
+
+    /// Takes the last processed event back, if there is one: see [`History::undo`].
+    fn undo(&mut self, alloc: Global, model: &M) -> Result<Option<Undone<M::Body>>, Refusal>
+        requires kept { IsKept M.Model (event_cmp M.Body.cmp) self.old }
+        requires model { model.now ≡ self.old.model.value }
+        ensures kept { OnOk result (IsKept M.Model (event_cmp M.Body.cmp) self.new) }
+        ensures back { IfOk result (λ undone. TookBack M.Model (event_cmp M.Body.cmp)
+            (seen_of self.old) (seen_of self.new) undone) }
+        ensures memory { IfErr result (λ e. e ≡ Memory) }
+    {
+        let Some(UndoRecord { sends, undo }) = self.records.pop() else {
+            return Ok(None);
+        };
+        let Some(event) = self.done.pop() else {
+            unreachable!();
+        };
+        model.reverse(alloc, self.number, &mut self.state, &event, undo)?;
+        Ok(Some(Undone { event, sends }))
     }
 }
 

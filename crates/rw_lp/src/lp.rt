@@ -1,7 +1,8 @@
-ghost use Rattle.std.specs.Prelude.{◌≡◌, ◌<◌, ◌≤◌, ◌++◌, ◌∷◌, ◌↔◌, ◌^◌, true, false, List, [], IfOk, IfErr, OnOk, MatchOption, All};
+ghost use Rattle.std.specs.Prelude.{◌≡◌, ◌<◌, ◌≤◌, ◌++◌, ◌∷◌, ◌↔◌, ◌^◌, true, false, List, [], IfOk, IfErr, OnOk, MatchOption, Some, All};
 ghost use Rattle.rw_vt.specs.Limits.{end_of_time};
 ghost use Rattle.rw_vt.specs.Order.{copies, event_cmp, has, AtMost, Each, Has, IsAscending, IsFirst, IsLeastOf};
 ghost use Rattle.rw_vt.specs.System.{state_after, rules};
+ghost use Rattle.rw_vt.specs.Letters.{letters_of};
 ghost use Rattle.rw_vt.specs.declared.event.Event.{Event};
 ghost use Rattle.rw_vt.specs.declared.event.Letter.{Letter};
 ghost use Rattle.rw_vt.specs.declared.refusal.Refusal.TheVariants.{Memory};
@@ -9,6 +10,8 @@ ghost use Rattle.rw_lp.specs.HeldMessages.{held_messages};
 ghost use Rattle.rw_lp.specs.Process.{ProcessState, done, deliver, execute_next, undo_one, collect};
 ghost use Rattle.rw_lp.specs.Calls.{LogicalProcess, process_of, new_process, MeetsNext, Took, letters_taken, IsSameProcess, GivesOut, execution_by, undoing_by, lazy_undoing_by, IsDelivered, least_outstanding};
 ghost use Rattle.rw_lp.specs.Past.{IsFor};
+ghost use Rattle.rw_lp.specs.PendingAgain.{IsPendingAgain, sent_by, held_by};
+ghost use Rattle.rw_lp.specs.declared.undo_record.Undone.{Undone};
 ghost use Rattle.rw_lp.specs.Own.{AreFor};
 ghost use Rattle.rw_lp.specs.HeldBack.{antis_unless, held_unless};
 ghost use Rattle.rw_lp.specs.Sound.{Balance, IsSoundOnceCollected, KeepsBalance, StartsWell};
@@ -184,24 +187,14 @@ impl<M: VtModel> Lp<M> {
             held,
         } = self;
         let (history, undone) = history.undo(alloc, model)?;
-        let Some(Undone { event, sends }) = undone else {
-            let lp = Lp {
-                history,
-                pending,
-                debts,
-                held,
-            };
-            return Ok((lp, Answer::Refused(StepFault::NothingToUndo)));
-        };
-        sends.cancel(out)?;
-        pending.put(event)?;
+        let answer = cancel_undone(undone, &mut pending, out)?;
         let lp = Lp {
             history,
             pending,
             debts,
             held,
         };
-        Ok((lp, Answer::Done))
+        Ok((lp, answer))
     }
 
     /// Takes the last processed event back as [`undo_one`](Self::undo_one) does, but sends no anti-messages: what it had sent is
@@ -223,24 +216,14 @@ impl<M: VtModel> Lp<M> {
             held,
         } = self;
         let (history, undone) = history.undo(alloc, model)?;
-        let Some(Undone { event, sends }) = undone else {
-            let lp = Lp {
-                history,
-                pending,
-                debts,
-                held,
-            };
-            return Ok((lp, Answer::Refused(StepFault::NothingToUndo)));
-        };
-        let held = held.hold(event, &sends)?;
-        pending.put(event)?;
+        let (held, answer) = hold_undone(undone, &mut pending, held)?;
         let lp = Lp {
             history,
             pending,
             debts,
             held,
         };
-        Ok((lp, Answer::Done))
+        Ok((lp, answer))
     }
 
     /// A letter arrives: the fewest undoings are made after which it is accepted and, if it is a message, no processed event
@@ -428,12 +411,11 @@ impl<M: VtModel> Lp<M> {
         let Lp {
             history,
             mut pending,
-            mut debts,
+            debts,
             held,
         } = self;
         pending.move_to(there)?;
-        debts.move_to(owed)?;
-        held.move_to(owed)?;
+        move_owed(debts, held, owed)?;
         let (_journal, state) = history.into_outcome();
         Ok(state)
     }
@@ -451,6 +433,61 @@ impl<M: VtModel> Lp<M> {
         } = self;
         history.into_outcome()
     }
+}
+
+/// Appends what is owed, in order, and then what is held.
+fn move_owed<M: VtModel>(
+    debts: Bag<M>,
+    held: HeldBack<M>,
+    owed: &mut Vec<Event<M::Body>>,
+) -> Result<(), AllocError>
+    ensures { OnOk result (owed.new.items
+        ≡ owed.old.items ++ (debts ++ held_messages held)) }
+{
+    let mut debts = debts;
+    debts.move_to(owed)?;
+    held.move_to(owed)
+}
+
+/// The event that was taken back, if there is one, is pending again, and what it had sent is cancelled: see
+/// [`Lp::undo_one`].
+fn cancel_undone<M: VtModel>(
+    undone: Option<Undone<M::Body>>,
+    pending: &mut Bag<M>,
+    out: &mut Vec<Letter<M::Body>>,
+) -> Result<Answer, AllocError>
+    ensures pending { IfOk result (λ a.
+        IsPendingAgain (event_cmp M.Body.cmp) undone pending.old a pending.new) }
+    ensures out { OnOk result
+        (out.new.items ≡ out.old.items ++ letters_of true (sent_by undone)) }
+{
+    let Some(Undone { event, sends }) = undone else {
+        return Ok(Answer::Refused(StepFault::NothingToUndo));
+    };
+    sends.cancel(out)?;
+    pending.put(event)?;
+    Ok(Answer::Done)
+}
+
+/// The event that was taken back, if there is one, is pending again, and what it had sent is held: see
+/// [`Lp::undo_lazily`].
+fn hold_undone<M: VtModel>(
+    undone: Option<Undone<M::Body>>,
+    pending: &mut Bag<M>,
+    held: HeldBack<M>,
+) -> Result<(HeldBack<M>, Answer), AllocError>
+    requires last { (u : Undone M.Body) → undone ≡ Some u
+        → All (λ h. AtMost (event_cmp M.Body.cmp) u.event h.undone) held }
+    ensures pending { IfOk result (λ r.
+        IsPendingAgain (event_cmp M.Body.cmp) undone pending.old r.1 pending.new) }
+    ensures held { IfOk result (λ r. r.0 ≡ held ++ held_by undone) }
+{
+    let Some(Undone { event, sends }) = undone else {
+        return Ok((held, Answer::Refused(StepFault::NothingToUndo)));
+    };
+    let held = held.hold(event, &sends)?;
+    pending.put(event)?;
+    Ok((held, Answer::Done))
 }
 
 /// A letter comes to what is pending, owed and held beside this history: see [`Lp::deliver`].

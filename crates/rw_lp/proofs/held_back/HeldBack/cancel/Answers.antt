@@ -1,6 +1,7 @@
-use Rattle.std.proofs.Common.{◌≡◌, arith, ap, sym, ◌∙◌, subst}
+use Rattle.std.proofs.Common.{◌≡◌, true, ◌++◌, arith, ap, sym, ◌∙◌, subst}
 use Rattle.std.specs.Prelude.{slice_range}
 use Rattle.rw_vt.specs.Order.{event_cmp, copies}
+use Rattle.rw_vt.specs.Letters.{letters_of}
 use Rattle.rw_vt.proofs.EventOrder.{events_exact}
 use Rattle.rw_vt.proofs.Sorting.{IsExactOrder}
 use Rattle.rw_lp.specs.declared.held_back.Pairs.{Pairs}
@@ -34,3 +35,20 @@ invariant_of-self-2 g c =
           let rest : copies cmp m (held_messages c.drop_between.new.values.items) ≡ copies cmp m (held_messages (held_without cmp c.args.event hs)) = ap (λ l. copies cmp m (held_messages l)) left in
           omega (arith, slice, rest, count_parts cmp m c.args.event hs, known.1 m, c.forget.ensures.less m),
     )
+
+pub returns-clause-out : goal.returns-clause-out
+returns-clause-out g c =
+    let cmp = event_cmp g.M.Body.Ord.cmp in
+    let hs = c.deref_mut-kept.result.now.pairs.items in
+    let run : IsRunOf cmp c.args.event hs c.run_of-from.result.0 c.run_of-from.result.1 = subst (λ l. IsRunOf cmp c.args.event l c.run_of-from.result.0 c.run_of-from.result.1) c.as_slice.ensures.value c.run_of-from.ensures in
+    let seen : hs ≡ c.args.self.now = ap (λ (v : Pairs g.row.M.Denot g.row.M-State.Denot g.row.M-Body.Denot g.row.M-Undo.Denot). v.pairs.items) c.deref_mut-kept.ensures.value ∙ c.self.view_is in
+    c.in_ok-give_antis.ensures.given
+    ∙ ap (λ l. c.args.out.now.items ++ letters_of true l) (ap (λ l. held_messages (slice_range l c.run_of-from.result.0 c.run_of-from.result.1)) c.deref.ensures.value ∙ sym run.there ∙ ap (held_with cmp c.args.event) seen)
+
+pub returns-clause-left : goal.returns-clause-left
+returns-clause-left g c =
+    let cmp = event_cmp g.M.Body.Ord.cmp in
+    let hs = c.deref_mut-kept.result.now.pairs.items in
+    let run : IsRunOf cmp c.args.event hs c.run_of-from.result.0 c.run_of-from.result.1 = subst (λ l. IsRunOf cmp c.args.event l c.run_of-from.result.0 c.run_of-from.result.1) c.as_slice.ensures.value c.run_of-from.ensures in
+    let seen : hs ≡ c.args.self.now = ap (λ (v : Pairs g.row.M.Denot g.row.M-State.Denot g.row.M-Body.Denot g.row.M-Undo.Denot). v.pairs.items) c.deref_mut-kept.ensures.value ∙ c.self.view_is in
+    c.drop_between.ensures ∙ sym run.others ∙ ap (held_without cmp c.args.event) seen

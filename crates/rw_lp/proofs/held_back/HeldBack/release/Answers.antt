@@ -76,3 +76,11 @@ returns-clause-there g c =
     let known : AreFalling cmp hs × AreCounted cmp ms (held_messages hs) = subst (λ (v : Pairs g.row.M.Denot g.row.M-State.Denot g.row.M-Body.Denot g.row.M-Undo.Denot). AreFalling cmp v.pairs.items × AreCounted cmp v.messages (held_messages v.pairs.items)) (sym c.deref_mut-kept.ensures.value) c.self.invariant in
     let seen : hs ≡ c.args.self.now = ap (λ (v : Pairs g.row.M.Denot g.row.M-State.Denot g.row.M-Body.Denot g.row.M-Undo.Denot). v.pairs.items) c.deref_mut-kept.ensures.value ∙ c.self.view_is in
     sym (ap (holds cmp m) (sym seen) ∙ sym (held_test o m ms hs known.1) ∙ sym c.take.ensures.there ∙ c.if-not-take.false)
+
+pub returns-clause-rest : goal.returns-clause-rest
+returns-clause-rest g c = λ yes.
+    let cmp = event_cmp g.M.Body.Ord.cmp in
+    let m = c.args.message in
+    let hs = c.deref_mut-kept.result.now.pairs.items in
+    let seen : hs ≡ c.args.self.now = ap (λ (v : Pairs g.row.M.Denot g.row.M-State.Denot g.row.M-Body.Denot g.row.M-Undo.Denot). v.pairs.items) c.deref_mut-kept.ensures.value ∙ c.self.view_is in
+    c.remove-released.ensures.items ∙ ap (λ l. remove l c.in-Some.at) (sym c.as_slice.ensures.value) ∙ c.in-Some.ensures.1 ∙ ap (held_without_first cmp m) (c.as_slice.ensures.value ∙ seen)

@@ -1,11 +1,12 @@
-use Rattle.std.proofs.Common.{arith, ap, sym, ◌∙◌, ◌++◌, ◌≡◌, ◌∷◌, false, true, drop, suc, ◌+◌, subst}
+use Rattle.std.proofs.Common.{arith, [], refl, append-nil, append_assoc, length-drop, ap, sym, ◌∙◌, ◌++◌, ◌≡◌, ◌∷◌, false, true, drop, suc, ◌+◌, subst}
 use Rattle.std.proofs.Math.Seq.{drop-cons}
 use Rattle.std.specs.Global.{Vec}
 use Rattle.rw_vt.specs.declared.event.Letter.{Letter}
 use Rattle.rw_vt.specs.Letters.{letters_of}
 use Rattle.rw_vt.specs.Order.{event_cmp}
-use Rattle.rw_lp.specs.HeldMessages.{holds, unheld_sends}
+use Rattle.rw_lp.specs.HeldMessages.{holds, unheld_sends, held_with, held_without}
 use Rattle.std.proofs.lemmas.Result.{on_ok_weaker}
+use Rattle.std.proofs.lemmas.List.{nil_from_length}
 use Rattle.rw_lp.proofs.HeldRuns.{none_held, more_sent, more_released}
 use Rattle.rw_lp.proofs.held_back.HeldBack.resend.Goals.{then-not-release+in_ok-push, else-not-release}
 use Rattle.rw_lp.proofs.held_back.HeldBack.resend.Goals as goal
@@ -37,3 +38,29 @@ loop-send-preserved g c =
           subst (λ (v : Vec (Letter g.row.M-Body.Denot)). (v.items ++ letters_of false (unheld_sends cmp (drop (i + 1) all) c.release.new.self).0 ≡ total) × ((unheld_sends cmp (drop (i + 1) all) c.release.new.self).1 ≡ left)) (sym w.out-is)
           (more_released cmp all i s c.loop-send.self c.release.new.self left c.loop-send.out.items total next there (c.release.ensures.rest w.if-not-release.false) c.loop-send.invariant)
     ]
+
+pub loop-send-init : goal.loop-send-init
+loop-send-init g c = (refl, refl)
+
+pub returns-clause-out : goal.returns-clause-out
+returns-clause-out g c =
+    let cmp = event_cmp g.M.Body.Ord.cmp in
+    let all = c.args.sends.now in
+    let h = c.loop-send.self in
+    let none : drop c.loop-send.send-index all ≡ [] = nil_from_length (drop c.loop-send.send-index all) (omega (arith, length-drop c.loop-send.send-index all, c.loop-send-test.false)) in
+    let left : h ≡ (unheld_sends cmp all c.args.self.now).1 = ap (λ l. (unheld_sends cmp l h).1) (sym none) ∙ c.loop-send.invariant.1 in
+    let first = letters_of false (unheld_sends cmp all c.args.self.now).0 in
+    let given : c.loop-send.out.items ≡ c.args.out.now.items ++ first = sym (append-nil c.loop-send.out.items) ∙ ap (λ l. c.loop-send.out.items ++ letters_of false (unheld_sends cmp l h).0) (sym none) ∙ c.loop-send.invariant.0 in
+    on_ok_weaker c.cancel.result
+    (λ is. is ∙ ap (λ l. l ++ letters_of true (held_with cmp c.args.event h)) given ∙ ap (λ k. (c.args.out.now.items ++ first) ++ letters_of true (held_with cmp c.args.event k)) left
+    ∙ append_assoc c.args.out.now.items first (letters_of true (held_with cmp c.args.event (unheld_sends cmp all c.args.self.now).1)))
+    c.cancel.ensures.out
+
+pub returns-clause-left : goal.returns-clause-left
+returns-clause-left g c =
+    let cmp = event_cmp g.M.Body.Ord.cmp in
+    let all = c.args.sends.now in
+    let h = c.loop-send.self in
+    let none : drop c.loop-send.send-index all ≡ [] = nil_from_length (drop c.loop-send.send-index all) (omega (arith, length-drop c.loop-send.send-index all, c.loop-send-test.false)) in
+    let left : h ≡ (unheld_sends cmp all c.args.self.now).1 = ap (λ l. (unheld_sends cmp l h).1) (sym none) ∙ c.loop-send.invariant.1 in
+    on_ok_weaker c.cancel.result (λ is. is ∙ ap (held_without cmp c.args.event) left) c.cancel.ensures.left
