@@ -56,3 +56,9 @@ returns g c = record {
       in
       omega (arith, more, rings, held.events h));
 }
+
+pub join-requires-clause-some : goal.join-requires-clause-some
+join-requires-clause-some g c =
+    let held = c.in_ok-shares.field-0.shares.items in
+    let many = ap length c.in_ok-shares.ensures.shares in
+    omega (arith, c.requires.some, many, length-map held (λ h. h.items), length-map c.args.shares.items (λ w. w.states))

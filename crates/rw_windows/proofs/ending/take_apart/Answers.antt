@@ -1,4 +1,4 @@
-use Rattle.std.proofs.Common.{◌≡◌, ◌∷◌, ◌++◌, map, sym, ap, ◌∙◌, arith}
+use Rattle.std.proofs.Common.{◌≡◌, ◌∷◌, ◌++◌, append-nil, map, sym, ap, ◌∙◌, arith}
 use Rattle.std.proofs.lemmas.List.{nil_from_length}
 use Rattle.rw_vt.specs.Order.{weigh}
 use Rattle.rw_vt.specs.System.{flatten}
@@ -42,3 +42,17 @@ returns-clause-events g c h =
     let all = c.loop-share.invariant.events h in
     let left = ap (λ z. weigh h (flatten (map (λ w. w.waiting ++ flatten w.away) z))) none in
     omega (arith, all, left)
+
+pub returns-clause-shares : goal.returns-clause-shares
+returns-clause-shares g c =
+    let rest = c.loop-share.share-iterator.rest in
+    let none = nil_from_length rest.items (sym rest.ok.0 ∙ c.in-None.ensures.steps.0) in
+    let held = map (λ h. h.items) c.loop-share.holdings.shares.items in
+    sym (append-nil held) ∙ ap (λ z. held ++ map (λ w. w.states) z) (sym none) ∙ c.loop-share.invariant.shares
+
+pub returns-clause-ports : goal.returns-clause-ports
+returns-clause-ports g c =
+    let rest = c.loop-share.share-iterator.rest in
+    let none = nil_from_length rest.items (sym rest.ok.0 ∙ c.in-None.ensures.steps.0) in
+    let held = c.loop-share.holdings.ports.items in
+    sym (append-nil held) ∙ ap (λ z. held ++ map (λ w. w.port) z) (sym none) ∙ c.loop-share.invariant.ports
