@@ -1,7 +1,8 @@
-use Rattle.std.proofs.Common.{◌≡◌, ◌∷◌, ◌++◌, append-nil, map, sym, ap, ◌∙◌, arith}
-use Rattle.std.proofs.lemmas.List.{nil_from_length}
+use Rattle.std.proofs.Common.{◌≡◌, ◌∷◌, ◌++◌, map, sym, ap, ◌∙◌, arith}
+use Rattle.std.proofs.lemmas.List.{length-map, nil_from_length}
 use Rattle.rw_vt.specs.Order.{weigh}
 use Rattle.rw_vt.specs.System.{flatten}
+use Rattle.rw_crew.proofs.Lists.{all_walked}
 use Rattle.rw_windows.proofs.Lists.{one_walked}
 use Rattle.rw_windows.proofs.Sums.{weigh-append}
 use Rattle.rw_windows.proofs.ending.take_apart.Goals as goal
@@ -46,13 +47,9 @@ returns-clause-events g c h =
 pub returns-clause-shares : goal.returns-clause-shares
 returns-clause-shares g c =
     let rest = c.loop-share.share-iterator.rest in
-    let none = nil_from_length rest.items (sym rest.ok.0 ∙ c.in-None.ensures.steps.0) in
-    let held = map (λ h. h.items) c.loop-share.holdings.shares.items in
-    sym (append-nil held) ∙ ap (λ z. held ++ map (λ w. w.states) z) (sym none) ∙ c.loop-share.invariant.shares
+    all_walked _ _ _ c.loop-share.invariant.shares (length-map rest.items (λ w. w.states) ∙ sym rest.ok.0 ∙ c.in-None.ensures.steps.0)
 
 pub returns-clause-ports : goal.returns-clause-ports
 returns-clause-ports g c =
     let rest = c.loop-share.share-iterator.rest in
-    let none = nil_from_length rest.items (sym rest.ok.0 ∙ c.in-None.ensures.steps.0) in
-    let held = c.loop-share.holdings.ports.items in
-    sym (append-nil held) ∙ ap (λ z. held ++ map (λ w. w.port) z) (sym none) ∙ c.loop-share.invariant.ports
+    all_walked _ _ _ c.loop-share.invariant.ports (length-map rest.items (λ w. w.port) ∙ sym rest.ok.0 ∙ c.in-None.ensures.steps.0)
