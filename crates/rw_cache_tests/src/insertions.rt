@@ -41,16 +41,23 @@ struct Example {
     marks: usize,
 }
 
+/// What a call did: its trail, and what it answers beside that.
+#[derive(Drop)]
+struct Done {
+    trail: Trail,
+    answer: Answer,
+}
+
 /// Makes the call, where its condition holds.
 fn make(
     alloc: Global,
     queue: &mut Queue,
     policy: Policy,
     call: Call,
-) -> Result<Option<(Trail, Answer)>, Refusal>
+) -> Result<Option<Done>, Refusal>
     requires well_formed { IsWellFormedQueue queue.old }
     requires stores { policy ≢ Off }
-    ensures leads { IfOk result (λ done. IfSome done (λ d. Leads d.0 queue.old queue.new)) }
+    ensures leads { IfOk result (λ done. IfSome done (λ d. Leads d.trail queue.old queue.new)) }
     ensures kept { OnOk result (IsWellFormedQueue queue.new) }
 {
     let block = queue.block_size();
@@ -64,16 +71,18 @@ fn make(
                 splits,
                 merges,
             } = tally;
-            let counts = [evicted, reinserted, writes, splits, merges];
-            Ok(Some((trail, Answer::Counts(counts))))
+            let answer = Answer::Counts([evicted, reinserted, writes, splits, merges]);
+            Ok(Some(Done { trail, answer }))
         }
         Call::Promote(object) if resident(queue, object) => {
             let (trail, changed) = promote(alloc, queue, policy, object)?;
-            Ok(Some((trail, Answer::Changed(changed))))
+            let answer = Answer::Changed(changed);
+            Ok(Some(Done { trail, answer }))
         }
         Call::Purge(object) if resident(queue, object) => {
             let trail = purge(alloc, queue, object)?;
-            Ok(Some((trail, Answer::Nothing)))
+            let answer = Answer::Nothing;
+            Ok(Some(Done { trail, answer }))
         }
         _ => Ok(None),
     }
@@ -92,7 +101,7 @@ fn follow<R: Abort>(
     ensures leads { IfOk result (λ trail. Leads trail queue.old queue.new) }
     ensures kept { OnOk result (IsWellFormedQueue queue.new) }
 {
-    let (trail, answer) = make(alloc, queue, policy, example.call)?.expect(
+    let Done { trail, answer } = make(alloc, queue, policy, example.call)?.expect(
         rt,
         "the condition holds",
     );
@@ -394,6 +403,15 @@ fn split<R: Abort>(rt: &R, alloc: Global) -> Result<Queue, Fail>
     Ok(queue)
 }
 
+/// The queue after the splits and the purges of all that it held.
+fn emptied<R: Abort>(rt: &R, alloc: Global) -> Result<Queue, Fail>
+    ensures { IfOk result (λ q. IsWellFormedQueue q) }
+{
+    let mut queue = split(rt, alloc)?;
+    forward(rt, alloc, &mut queue, Policy::Lru, &EMPTIES)?;
+    Ok(queue)
+}
+
 /// The queue after the promotions but the last.
 fn promoted<R: Abort>(rt: &R, alloc: Global) -> Result<Queue, Fail>
     ensures { IfOk result (λ q. IsWellFormedQueue q) }
@@ -548,22 +566,54 @@ fn targets(alloc: Global, queue: &Queue, levels: Levels) -> Result<Vec<u32>, NoM
     Ok(targets)
 }
 
-#[test]
-fn an_object_has_a_level_and_a_level_its_target(rt: HostRuntime) -> Result<(), Fail> {
-    let queue = split(&rt, rt.alloc())?;
-    for (segments, of_objects, of_levels) in [
-        (2, [1, 1, 2, 2], [1, 0].as_slice()),
-        (3, [1, 1, 2, 2], [1, 0, 0].as_slice()),
-        (4, [1, 2, 3, 3], [2, 1, 0, 0].as_slice()),
-        (8, [1, 3, 5, 5], [2, 2, 1, 1, 0, 0, 0, 0].as_slice()),
-    ] {
-        let levels = Levels::new(segments).ok_or("levels")?;
-        let [a, b, c, d] = of_objects;
-        assert!(rt; levels_of(&queue, levels) == [Some(a), Some(b), Some(c), Some(d), None]);
-        assert!(rt; targets(rt.alloc(), &queue, levels)?.as_slice() == of_levels);
+/// Segments, the levels of objects 1 to 5 under so many, and where each level goes, the lowest first.
+type Aim = (u8, [Option<u8>; 5], &'static [u32]);
+
+/// After the splits.
+const AIMS: [Aim; 4] = [
+    (2, [Some(1), Some(1), Some(2), Some(2), None], &[1, 0]),
+    (3, [Some(1), Some(1), Some(2), Some(2), None], &[1, 0, 0]),
+    (4, [Some(1), Some(2), Some(3), Some(3), None], &[2, 1, 0, 0]),
+    (
+        8,
+        [Some(1), Some(3), Some(5), Some(5), None],
+        &[2, 2, 1, 1, 0, 0, 0, 0],
+    ),
+];
+
+/// Where nothing is stored, as after purges, each level but the highest goes to the tail.
+const AIM_OF_NOTHING: Aim = (3, [None; 5], &[2, 2, 0]);
+
+/// Asserts that the levels of objects and the targets of levels are these.
+fn must_aim<R: Abort>(rt: &R, alloc: Global, queue: &Queue, aim: Aim) -> Result<(), Fail>
+    requires { IsWellFormedQueue queue.now }
+{
+    let (segments, of_objects, of_levels) = aim;
+    let levels = Levels::new(segments).ok_or("levels")?;
+    assert!(rt; levels_of(queue, levels) == of_objects);
+    assert!(rt; targets(alloc, queue, levels)?.as_slice() == of_levels);
+    Ok(())
+}
+
+/// Asserts it of each after the splits, and that without segments all goes to the head.
+fn must_aim_each<R: Abort>(rt: &R, alloc: Global, aims: &[Aim]) -> Result<(), Fail> {
+    let queue = split(rt, alloc)?;
+    for aim in aims {
+        must_aim(rt, alloc, &queue, *aim)?;
     }
     assert_eq!(rt; target(&queue, Policy::Lru, 3), 0);
     Ok(())
+}
+
+#[test]
+fn an_object_has_a_level_and_a_level_its_target(rt: HostRuntime) -> Result<(), Fail> {
+    must_aim_each(&rt, rt.alloc(), &AIMS)
+}
+
+#[test]
+fn a_level_of_nothing_goes_to_the_tail(rt: HostRuntime) -> Result<(), Fail> {
+    let queue = emptied(&rt, rt.alloc())?;
+    must_aim(&rt, rt.alloc(), &queue, AIM_OF_NOTHING)
 }
 
 #[test]
@@ -582,14 +632,4 @@ fn segments_are_two_to_eight(rt: HostRuntime) {
             "for {segments}"
         );
     }
-}
-
-// Where nothing is stored, as after purges, each level but the highest goes to the tail.
-#[test]
-fn a_level_of_nothing_goes_to_the_tail(rt: HostRuntime) -> Result<(), Fail> {
-    let mut queue = split(&rt, rt.alloc())?;
-    forward(&rt, rt.alloc(), &mut queue, Policy::Lru, &EMPTIES)?;
-    let levels = Levels::new(3).ok_or("levels")?;
-    assert!(rt; targets(rt.alloc(), &queue, levels)?.as_slice() == [2, 2, 0].as_slice());
-    Ok(())
 }

@@ -1,6 +1,7 @@
 // Traces: what is read from their bytes, and the fault of each that is refused.
 use rw_trace::{Kind, MAX_ROWS, Row, TraceFault, read, read_up_to};
 use std::alloc::Global;
+use std::process::Abort;
 use std::test::Fail;
 
 /// What is read from a body behind the header, with one edge and at most `most` rows.
@@ -88,6 +89,15 @@ fn a_body_gives_its_rows_or_its_first_fault(rt: HostRuntime) -> Result<(), Fail>
     Ok(())
 }
 
+/// Asserts that each of these traces of one edge, whole with their headers, is read so.
+fn must_read_each<R: Abort>(rt: &R, alloc: Global, traces: &[(&[u8], &str)]) -> Result<(), Fail> {
+    for (row, (bytes, want)) in traces.iter().enumerate() {
+        let text = told(alloc, &read(alloc, bytes, 1))?;
+        assert_eq!(rt; text.as_str(), *want, "row {row}");
+    }
+    Ok(())
+}
+
 /// Whole traces, whose headers are looked at.
 const HEADERS: [(&[u8], &str); 10] = [
     (b"", "trace: header"),
@@ -104,11 +114,7 @@ const HEADERS: [(&[u8], &str); 10] = [
 
 #[test]
 fn a_header_is_its_four_words_or_five(rt: HostRuntime) -> Result<(), Fail> {
-    for (row, (bytes, want)) in HEADERS.iter().enumerate() {
-        let text = told(rt.alloc(), &read(rt.alloc(), bytes, 1))?;
-        assert_eq!(rt; text.as_str(), *want, "row {row}");
-    }
-    Ok(())
+    must_read_each(&rt, rt.alloc(), &HEADERS)
 }
 
 /// Whole traces of both versions, with gets and purges.
@@ -162,11 +168,7 @@ const KINDS: [(&[u8], &str); 12] = [
 
 #[test]
 fn a_row_is_a_get_or_a_purge(rt: HostRuntime) -> Result<(), Fail> {
-    for (row, (bytes, want)) in KINDS.iter().enumerate() {
-        let text = told(rt.alloc(), &read(rt.alloc(), bytes, 1))?;
-        assert_eq!(rt; text.as_str(), *want, "row {row}");
-    }
-    Ok(())
+    must_read_each(&rt, rt.alloc(), &KINDS)
 }
 
 /// Bodies behind the header, each with the most rows that are taken and with what is read.
