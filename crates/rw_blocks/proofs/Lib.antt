@@ -19,3 +19,6 @@ pub mod Tails
 pub mod Firsts
 pub mod ByObject
 pub mod Cited
+pub mod Undone
+pub mod Errors
+pub mod Devices

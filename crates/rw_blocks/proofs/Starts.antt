@@ -1,12 +1,13 @@
 -- The start state is well formed.
-use Rattle.std.proofs.Common.{◌≡◌, ℕ, ◌+◌, refl, arith, inl, inr}
+use Rattle.std.proofs.Common.{◌≡◌, ℕ, zero, suc, ◌+◌, ◌<◌, [], ◌∷◌, get_or, refl, arith, inl, inr}
 use Rattle.std.proofs.lemmas.Bool.{cases_eq}
 use Rattle.std.specs.List.Sorted.{IsStrictlySortedBy}
 use Rattle.rw_blocks.specs.declared.Kind.{Kind}
 use Rattle.rw_blocks.specs.declared.Kind.TheVariants.{Device, Virtual}
-use Rattle.rw_blocks.specs.State.{ShapeState, IsShape, start_of}
+use Rattle.rw_blocks.specs.State.{ShapeState, IsShape, new_section, section_in, start_of}
 use Rattle.rw_blocks.specs.Sums.{bytes_held}
 use Rattle.rw_blocks.specs.Loose.{IsLoose, IsWellFormedQueue, count}
+use Rattle.rw_blocks.specs.Weights.{weight_in, IsWeighed}
 use Rattle.rw_blocks.proofs.Grown.{one, one-other, one-both}
 
 start-count : (l : ShapeState) (kind : Kind) (b : ℕ) → count kind (start_of l) b ≡ one Device 0 kind b + one Virtual 1 kind b
@@ -44,4 +45,10 @@ IsWellFormed-start l shaped =
       few_devices = omega arith;
     }
 
-pub ruleset start_laws = (IsWellFormed-start)
+-- no bytes are in the one section that is there at the start
+pub IsWeighed-start : IsWeighed [] (new_section 0 1 ∷ []) (0 ∷ [])
+IsWeighed-start = record { long = refl; each = at }
+  where
+    at : (i : ℕ) → i < 1 → get_or (0 ∷ []) i 0 ≡ weight_in [] (section_in (new_section 0 1 ∷ []) i)
+    at zero lt = refl
+    at (suc i) lt = absurd (omega arith)

@@ -475,3 +475,8 @@ absent_from-position ss b none j lt =
     by_test (nat_lt (position_or_len (has_block b) ss) (length ss))
     (λ h. let w : IsNone (Some (position_or_len (has_block b) ss)) = rw h at none in absurd (cc))
     (λ h. fails_before_first (has_block b) ss j no_section (omega (arith, ltb-false _ _ h)))
+
+-- where there is no section, nothing is asked of tags
+pub IsTagged-nothing : (ss : List SectionState) (tags : List ℕ) (owner : ℕ → Option ℕ) → ss ≡ [] → 0 < length ss → IsTagged ss tags owner
+IsTagged-nothing [] tags owner none some = absurd (omega arith)
+IsTagged-nothing (s ∷ ss) tags owner none some = absurd (cc)

@@ -63,7 +63,6 @@ impl Queue {
     /// # Errors
     ///
     /// [`NoMemory`] where memory was refused.
-    #[tactic(auto, using(crate::proofs::Starts::start_laws))]
     pub fn new(alloc: Global, shape: Shape) -> Result<Queue, NoMemory>
         ensures start { IfOk result (λ q. q ≡ start_of shape) }
         ensures well_formed { IfOk result (λ q. IsWellFormedQueue q) }

@@ -1,5 +1,5 @@
 // The shape of a queue.
-ghost use Rattle.std.specs.Prelude.{◌≡◌, ◌↔◌, IsSome, IfSome};
+ghost use Rattle.std.specs.Prelude.{◌≡◌, ◌≤◌, ◌↔◌, IsSome, IfSome, IsTrue};
 ghost use Rattle.rw_blocks.specs.Limits.{largest_block, most_blocks, most_sections};
 ghost use Rattle.rw_blocks.specs.State.{IsShape, shape_state};
 
@@ -42,9 +42,9 @@ impl Shape {
         ensures in_range { IsSome result ↔ IsShape sections block blocks }
         ensures shape { IfSome result (λ s. s ≡ shape_state sections block blocks) }
     {
-        if (1..=Self::MAX_SECTIONS).contains(&sections)
-            && (1..=Self::MAX_BLOCK).contains(&block)
-            && (1..=Self::MAX_BLOCKS).contains(&blocks)
+        if is_in_range(sections, Self::MAX_SECTIONS)
+            && is_in_range(block, Self::MAX_BLOCK)
+            && is_in_range(blocks, Self::MAX_BLOCKS)
         {
             Some(Shape {
                 sections,
@@ -63,6 +63,13 @@ impl Shape {
     {
         (self.sections, self.block, self.blocks)
     }
+}
+
+/// Whether the number is one of 1 to `most`.
+fn is_in_range(number: u64, most: u64) -> bool
+    ensures { IsTrue result ↔ (1 ≤ number) × (number ≤ most) }
+{
+    (1..=most).contains(&number)
 }
 
 /// Each of the constants of [`Shape`] is the limit that stands in `specs/Limits.antt`, which the definitions cite. The

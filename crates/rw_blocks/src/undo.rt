@@ -26,28 +26,31 @@ impl Queue {
         match mark {
             Mark::Add { object } => {
                 self.take_row(object);
+                Ok(())
             }
-            Mark::Remove { object, row } => self.put_row_again(object, row)?,
+            Mark::Remove { object, row } => self.put_row_again(object, row),
             Mark::Rehome {
                 object,
                 home,
                 place,
-            } => self.move_back(object, home, place)?,
+            } => self.move_back(object, home, place),
             Mark::Replace { object, place } => {
                 let home = self.row(object).unwrap().home;
-                self.move_back(object, home, place)?;
+                self.move_back(object, home, place)
             }
-            Mark::Seal { section, kind } => self.unseal(section, kind),
+            Mark::Seal { section, kind } => {
+                self.unseal(section, kind);
+                Ok(())
+            }
             Mark::TakeOut {
                 section,
                 position,
                 serial,
                 kind,
-            } => self.put_back(section, position, serial, kind)?,
-            Mark::Split { section } => self.unsplit(section)?,
-            Mark::Merge { section, seam } => self.unmerge(section, seam)?,
+            } => self.put_back(section, position, serial, kind),
+            Mark::Split { section } => self.unsplit(section),
+            Mark::Merge { section, seam } => self.unmerge(section, seam),
         }
-        Ok(())
     }
 
     /// Gives an object that has no row the one that it had.
@@ -58,8 +61,7 @@ impl Queue {
         ensures { OnOk result (self.new ≡ with_row self.old object row) }
     {
         let section = self.sections.section_of(row.place).unwrap();
-        self.put_row(object, row, section)?;
-        Ok(())
+        self.put_row(object, row, section)
     }
 
     /// Gives an object the home and the place that it had.
@@ -70,8 +72,7 @@ impl Queue {
         ensures { OnOk result (self.new ≡ undo_of (Rehome object home place) self.old) }
     {
         let size = self.take_row(object).size;
-        self.put_row_again(object, Place { size, home, place })?;
-        Ok(())
+        self.put_row_again(object, Place { size, home, place })
     }
 
     /// Makes the block that was sealed active again, as if the one that took its place was never made.
@@ -113,7 +114,6 @@ impl Queue {
         requires { IsUndoable (Merge section seam) self.old }
         ensures { OnOk result (self.new ≡ undo_of (Merge section seam) self.old) }
     {
-        self.part(section, seam)?;
-        Ok(())
+        self.part(section, seam)
     }
 }

@@ -1,5 +1,6 @@
 use Rattle.std.proofs.Common.{sym, ap, subst, ◌∙◌, ◌≡◌, ℕ, refl}
 use Rattle.std.specs.Prelude.{Some}
+use Rattle.std.proofs.lemmas.Result.{on_ok_weaker}
 use Rattle.rw_blocks.specs.declared.Place.{Place}
 use Rattle.rw_blocks.specs.State.{QueueState, row_at, row_or}
 use Rattle.rw_blocks.specs.Loose.{IsLoose}
@@ -27,5 +28,6 @@ put_row_again-requires-clause-before c =
 
 pub returns : goal.returns
 returns c =
-    c.in_ok-put_row_again.ensures
-    ∙ again c.args.self.now c.take_row-size.new.self c.args.object c.args.home c.args.place c.take_row-size.result c.requires.loose c.take_row-size.ensures.row c.take_row-size.ensures.rest
+    on_ok_weaker c.put_row_again.result
+    (λ is. is ∙ again c.args.self.now c.take_row-size.new.self c.args.object c.args.home c.args.place c.take_row-size.result c.requires.loose c.take_row-size.ensures.row c.take_row-size.ensures.rest)
+    c.put_row_again.ensures

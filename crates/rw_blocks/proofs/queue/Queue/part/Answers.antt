@@ -10,6 +10,7 @@ use Rattle.rw_blocks.specs.Undo.{lower_of, parted_at, IsJoined}
 use Rattle.rw_blocks.specs.Tags.{Parts, ComesFrom}
 use Rattle.rw_blocks.specs.Weights.{IsWeighed, CanHave, weight_from, weight_in}
 use Rattle.rw_blocks.proofs.Parting.{parts-at, from-at, weight-parted, weight-lower, IsWeighed-part}
+use Rattle.rw_blocks.proofs.Errors.{on_error}
 use Rattle.rw_blocks.proofs.queue.Queue.part.Goals as goal
 
 pub part-requires-clause-parts : goal.part-requires-clause-parts
@@ -68,3 +69,24 @@ invariant_of-self-2 c =
       λ some. rw c.in_ok-part.ensures.parted
           (subst (λ (z : QueueState). IsWeighed z.rows (parted_at z.sections c.args.section c.args.seam) (set c.insert.new.self.items c.args.section left)) (sym c.self.view_is) new),
     )
+
+pub returns-in_err-insert : goal.returns-in_err-insert
+returns-in_err-insert c = record { parted = on_error _ _ c.from_residual.result c.from_residual.ensures.1 }
+
+pub returns-in_err-part : goal.returns-in_err-part
+returns-in_err-part c = record { parted = on_error _ _ c.from_residual-in_err-part.result c.from_residual-in_err-part.ensures.1 }
+
+pub weight_from-lower-requires-clause-loose : goal.weight_from-lower-requires-clause-loose
+weight_from-lower-requires-clause-loose c = c.requires.loose
+
+pub weight_from-lower-requires-clause-there : goal.weight_from-lower-requires-clause-there
+weight_from-lower-requires-clause-there c = c.requires.there
+
+pub weight_from-lower-requires-clause-within : goal.weight_from-lower-requires-clause-within
+weight_from-lower-requires-clause-within c = c.requires.within
+
+pub part-requires-clause-there : goal.part-requires-clause-there
+part-requires-clause-there c = subst (λ (z : QueueState). c.args.section < length z.sections) (sym c.self.view_is) c.requires.there
+
+pub part-requires-clause-within : goal.part-requires-clause-within
+part-requires-clause-within c = subst (λ (z : QueueState). c.args.seam.upper_sealed ≤ length (section_in z.sections c.args.section).sealed) (sym c.self.view_is) c.requires.within

@@ -7,6 +7,7 @@ use Rattle.rw_blocks.specs.Sums.{total}
 use Rattle.rw_blocks.proofs.Laws.{Undoes-after_rehome}
 use Rattle.rw_blocks.proofs.Kept.{IsLoose-after_rehome}
 use Rattle.rw_blocks.proofs.Moving.{moved, gone-row, room-again}
+use Rattle.rw_blocks.proofs.Errors.{if_error, on_error}
 use Rattle.rw_blocks.proofs.queue.Queue.rehome.Goals as goal
 
 pub put_row-requires-clause-new : goal.put_row-requires-clause-new
@@ -43,3 +44,12 @@ pub returns-clause-kept : goal.returns-clause-kept
 returns-clause-kept c =
     let is : row_at c.args.self.now c.args.object ≡ Some c.take_row-size.result = c.take_row-size.ensures.row in
     rw (returns-clause-effect c) (IsLoose-after_rehome _ _ _ c.take_row-size.result c.requires.loose c.requires.there is (rw is at c.requires.fits))
+
+pub returns-in_err-put_row-clause-effect : goal.returns-in_err-put_row-clause-effect
+returns-in_err-put_row-clause-effect c = on_error _ _ c.from_residual.result c.from_residual.ensures.1
+
+pub returns-in_err-put_row-clause-undoes : goal.returns-in_err-put_row-clause-undoes
+returns-in_err-put_row-clause-undoes c = if_error _ _ c.from_residual.result c.from_residual.ensures.1
+
+pub returns-in_err-put_row-clause-kept : goal.returns-in_err-put_row-clause-kept
+returns-in_err-put_row-clause-kept c = on_error _ _ c.from_residual.result c.from_residual.ensures.1

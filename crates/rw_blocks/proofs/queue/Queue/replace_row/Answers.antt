@@ -20,6 +20,7 @@ use Rattle.rw_blocks.proofs.Present.{row-there}
 use Rattle.rw_blocks.proofs.Filed.{write-again}
 use Rattle.rw_blocks.proofs.Moving.{room-again}
 use Rattle.rw_blocks.proofs.Weighed.{IsWeighed-insert, IsWeighed-remove, row-le-weight, bytes_where-le}
+use Rattle.rw_blocks.proofs.Errors.{if_error, on_error}
 use Rattle.rw_blocks.proofs.queue.Queue.replace_row.Goals as goal
 
 at_some : (o : Option ℕ) (i : ℕ) (P : ℕ → Type 0) → o ≡ Some i → IfSome o P → P i
@@ -178,3 +179,12 @@ returns-then-row-active-clause-undoes c =
 
 pub returns-then-row-active-clause-kept : goal.returns-then-row-active-clause-kept
 returns-then-row-active-clause-kept c = c.requires.loose
+
+pub returns-in_err-replace-clause-effect : goal.returns-in_err-replace-clause-effect
+returns-in_err-replace-clause-effect c = on_error _ _ c.from_residual.result c.from_residual.ensures.1
+
+pub returns-in_err-replace-clause-undoes : goal.returns-in_err-replace-clause-undoes
+returns-in_err-replace-clause-undoes c = if_error _ _ c.from_residual.result c.from_residual.ensures.1
+
+pub returns-in_err-replace-clause-kept : goal.returns-in_err-replace-clause-kept
+returns-in_err-replace-clause-kept c = on_error _ _ c.from_residual.result c.from_residual.ensures.1

@@ -12,6 +12,7 @@ use Rattle.rw_blocks.proofs.Present.{absent-none}
 use Rattle.rw_blocks.proofs.Parting.{unused}
 use Rattle.rw_blocks.proofs.Holding.{has_block-sealing}
 use Rattle.rw_blocks.proofs.Weighed.{IsWeighed-set}
+use Rattle.rw_blocks.proofs.Errors.{if_error, on_error}
 use Rattle.rw_blocks.proofs.queue.Queue.seal.Goals as goal
 
 pub seal-requires-clause-fresh : goal.seal-requires-clause-fresh
@@ -49,3 +50,12 @@ returns-clause-undoes c =
 
 pub returns-clause-kept : goal.returns-clause-kept
 returns-clause-kept c = rw (returns-clause-effect c) (IsLoose-after_seal _ _ _ c.requires.loose c.requires.there)
+
+pub returns-in_err-seal-clause-effect : goal.returns-in_err-seal-clause-effect
+returns-in_err-seal-clause-effect c = on_error _ _ c.from_residual.result c.from_residual.ensures.1
+
+pub returns-in_err-seal-clause-undoes : goal.returns-in_err-seal-clause-undoes
+returns-in_err-seal-clause-undoes c = if_error _ _ c.from_residual.result c.from_residual.ensures.1
+
+pub returns-in_err-seal-clause-kept : goal.returns-in_err-seal-clause-kept
+returns-in_err-seal-clause-kept c = on_error _ _ c.from_residual.result c.from_residual.ensures.1

@@ -3,6 +3,7 @@ use Rattle.std.proofs.lemmas.Grind.{common_steps}
 use Rattle.rw_blocks.specs.State.{QueueState}
 use Rattle.rw_blocks.proofs.Laws.{Undoes-after_split}
 use Rattle.rw_blocks.proofs.Moved.{IsLoose-after_split}
+use Rattle.rw_blocks.proofs.Errors.{if_error, on_error}
 use Rattle.rw_blocks.proofs.queue.Queue.split.Goals as goal
 
 pub part-requires-clause-after : goal.part-requires-clause-after
@@ -22,3 +23,12 @@ returns-clause-undoes c =
 
 pub returns-clause-kept : goal.returns-clause-kept
 returns-clause-kept c = rw (returns-clause-effect c) (IsLoose-after_split _ _ _ c.requires.loose c.requires.there c.requires.few)
+
+pub returns-in_err-part-clause-effect : goal.returns-in_err-part-clause-effect
+returns-in_err-part-clause-effect c = on_error _ _ c.from_residual.result c.from_residual.ensures.1
+
+pub returns-in_err-part-clause-undoes : goal.returns-in_err-part-clause-undoes
+returns-in_err-part-clause-undoes c = if_error _ _ c.from_residual.result c.from_residual.ensures.1
+
+pub returns-in_err-part-clause-kept : goal.returns-in_err-part-clause-kept
+returns-in_err-part-clause-kept c = on_error _ _ c.from_residual.result c.from_residual.ensures.1

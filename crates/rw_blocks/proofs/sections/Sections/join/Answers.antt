@@ -1,14 +1,14 @@
 use Rattle.std.proofs.Common.{arith, sym, ap, subst, ◌∙◌, ◌≡◌, ◌<◌, ◌+◌, ℕ, List, Bool, cond, length, get_or, nat_eq}
 use Rattle.std.specs.Prelude.{Some, None, remove}
 use Rattle.std.specs.HashMap.{get}
-use Rattle.std.proofs.lemmas.Grind.{common_steps}
 use Rattle.std.proofs.lemmas.List.{get_or_default}
 use Rattle.std.proofs.lemmas.List.Edits.{get_or-remove_below}
 use Rattle.rw_blocks.specs.State.{SectionState, no_section, section_in}
 use Rattle.rw_blocks.specs.Sums.{has_block}
 use Rattle.rw_blocks.specs.Primitives.{section_joining}
 use Rattle.rw_blocks.specs.Tags.{tag_in, IsTagged, Joins, is_vanishing}
-use Rattle.rw_blocks.proofs.Tagged.{IsTagged-join}
+use Rattle.rw_blocks.proofs.Tagged.{IsTagged-join, IsTagged-nothing}
+use Rattle.rw_blocks.proofs.Errors.{of_error, on_error}
 use Rattle.rw_blocks.proofs.sections.Sections.join.Goals as goal
 
 pub invariant_of-self-2 : goal.invariant_of-self-2
@@ -23,11 +23,12 @@ invariant_of-self-2 c = λ some.
     let u : SectionState = section_in ss i in
     let l : SectionState = section_in ss (i + 1) in
     let gone : ℕ → Bool = is_vanishing c.args.vanished l in
-    let items : c.replace-list.result.items ≡ ss = cc in
-    let list : c.remove-lower.new.self.items ≡ remove ss (i + 1) = grind (arith, common_steps) in
-    let lower : c.remove-lower.result ≡ l = grind (arith, common_steps, get_or_default {X = SectionState}) in
-    let new-tags : c.remove.new.self.items ≡ remove tags (i + 1) = grind (arith, common_steps) in
-    let tag : c.index-tag.result.now ≡ tag_in tags i = grind (arith, common_steps) in
+    let items : c.replace-list.result.items ≡ ss = ap (λ v. v.items) c.replace-list.ensures.value in
+    let list : c.remove-lower.new.self.items ≡ remove ss (i + 1) = c.remove-lower.ensures.items ∙ ap (λ zs. remove zs (i + 1)) items in
+    let lower : c.remove-lower.result ≡ l =
+    c.remove-lower.ensures.value ∙ (ap (λ zs. get_or zs (i + 1) c.remove-lower.result) items ∙ get_or_default ss (i + 1) c.remove-lower.result no_section within) in
+    let new-tags : c.remove.new.self.items ≡ remove tags (i + 1) = c.remove.ensures.items in
+    let tag : c.index-tag.result.now ≡ tag_in tags i = c.index-tag.ensures ∙ get_or_default tags i c.index-tag.result.now 0 (omega arith) in
     let d : SectionState = c.index_mut.result.now in
     let upper : c.index_mut.result.now ≡ u =
     c.index_mut.ensures.value ∙ (ap (λ (zs : List SectionState). get_or zs i d) list ∙ (get_or-remove_below ss (i + 1) d i (omega arith) within ∙ get_or_default ss i d no_section (omega arith))) in
@@ -41,3 +42,24 @@ invariant_of-self-2 c = λ some.
     ∙ ap (λ (y : ℕ). cond (has_block b l) (cond (gone b) None (Some y)) (get nat_eq c.self.inside.owners b)) tag) in
     rw (list, is, new-tags)
     (IsTagged-join ss tags (λ b. get nat_eq c.self.inside.owners b) (λ b. get nat_eq c.retag.new.owners b) gone i (section_joining c.args.vanished u l) t within joins owner)
+
+pub remove-lower-requires : goal.remove-lower-requires
+remove-lower-requires c = let there = c.requires.there in omega (arith, ap length (ap (λ v. v.items) c.replace-list.ensures.value ∙ c.self.view_is))
+
+pub invariant_of-self : goal.invariant_of-self
+invariant_of-self c = λ some. IsTagged-nothing _ _ _ (ap (λ v. v.items) c.replace-list.ensures.after ∙ c.new.ensures.items) some
+
+pub returns-in_err-retag-clause-joined : goal.returns-in_err-retag-clause-joined
+returns-in_err-retag-clause-joined c = on_error _ _ c.from_residual.result c.from_residual.ensures.1
+
+pub returns-in_err-retag-clause-refused : goal.returns-in_err-retag-clause-refused
+returns-in_err-retag-clause-refused c = of_error _ c.from_residual.result (ap (λ v. v.items) c.replace-list.ensures.after ∙ c.new.ensures.items)
+
+pub invariant_of-self-in_err-join : goal.invariant_of-self-in_err-join
+invariant_of-self-in_err-join c = λ some. IsTagged-nothing _ _ _ (ap (λ v. v.items) c.replace-list.ensures.after ∙ c.new.ensures.items) some
+
+pub returns-in_err-join-clause-joined : goal.returns-in_err-join-clause-joined
+returns-in_err-join-clause-joined c = on_error _ _ c.from_residual-in_err-join.result c.from_residual-in_err-join.ensures.1
+
+pub returns-in_err-join-clause-refused : goal.returns-in_err-join-clause-refused
+returns-in_err-join-clause-refused c = of_error _ c.from_residual-in_err-join.result (ap (λ v. v.items) c.replace-list.ensures.after ∙ c.new.ensures.items)
