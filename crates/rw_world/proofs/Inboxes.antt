@@ -44,8 +44,17 @@ drop_head (a ∷ xs) zero x rest h = (let is : a ≡ x = cc in ap Some is, let i
 drop_head (a ∷ xs) (suc n) x rest h = let r = drop_head xs n x rest h in let e : suc n + 1 ≡ suc (n + 1) = omega arith in (r.0, ap (λ i. drop i (a ∷ xs)) e ∙ r.1)
 
 -- one more in front of what is still to come
-pub opened_more : {A C : Type 0} (f : ℕ → A → C) (made : List C) (n : ℕ) (x : A) (rest : List A) → made ++ map_from n f (x ∷ rest) ≡ (made ++ f n x ∷ []) ++ map_from (n + 1) f rest
+opened_more : {A C : Type 0} (f : ℕ → A → C) (made : List C) (n : ℕ) (x : A) (rest : List A) → made ++ map_from n f (x ∷ rest) ≡ (made ++ f n x ∷ []) ++ map_from (n + 1) f rest
 opened_more f made n x rest = sym (append_assoc made (f n x ∷ []) (map_from (n + 1) f rest))
+
+-- one more made of the first of what is still to come
+pub made_next : {A C : Type 0} (f : ℕ → A → C) (made now all : List C) (n : ℕ) (x : A) (p : C) (rest items : List A) → now ≡ made ++ p ∷ [] → p ≡ f n x → items ≡ x ∷ rest → made ++ map_from n f items ≡ all
+    → now ++ map_from (n + 1) f rest ≡ all
+made_next f made now all n x p rest items is p_is items_are known =
+    ap (λ l. l ++ map_from (n + 1) f rest) (is ∙ ap (λ a. made ++ a ∷ []) p_is)
+    ∙ sym (opened_more f made n x rest)
+    ∙ ap (λ l. made ++ map_from n f l) (sym items_are)
+    ∙ known
 
 -- of what is sorted out, the first is what goes to the next process
 pub first_of : {V X : Type 0} (f : V → List X) (boxes : List V) (b : V) (rest : List V) (want : ℕ → List X) → boxes ≡ b ∷ rest → ((k : ℕ) → k < length boxes → get_or (map f boxes) k [] ≡ want k) → f b ≡ want 0

@@ -1,17 +1,19 @@
 -- From what a body did with one process to the step that it made.
-use Rattle.std.proofs.Common.{◌≡◌, ℕ, zero, suc, ◌<◌, List, [], ◌∷◌, ◌++◌, length, map, take, drop, refl, sym, ap, ◌∙◌, subst, arith, append-nil, inl, inr, Some}
+use Rattle.std.proofs.Common.{◌≡◌, ℕ, zero, suc, ◌<◌, ◌≤◌, List, [], ◌∷◌, ◌++◌, length, map, take, drop, refl, sym, ap, ◌∙◌, subst, arith, append-nil, inl, inr, Some, None}
 use Rattle.std.specs.Prelude.{◌⊎◌, slice_get, slice_set}
 use Rattle.std.specs.Option.{option_map}
 use Rattle.std.specs.declared.cmp.Ordering.{Ordering}
 use Rattle.std.proofs.lemmas.Bool.{cases_eq}
 use Rattle.std.proofs.lemmas.List.{map-set, length-map}
-use Rattle.std.proofs.lemmas.Option.{slice_get-map}
+use Rattle.std.proofs.lemmas.Option.{slice_get-map, slice_get_past}
 use Rattle.rw_vt.specs.declared.event.Letter.{Letter}
 use Rattle.rw_vt.specs.declared.model.Model.{Ghosts}
 use Rattle.rw_vt.specs.Order.{event_cmp}
 use Rattle.rw_vt.specs.System.{Rules, System, rules}
 use Rattle.rw_lp.specs.declared.answer.Answer.{Answer}
 use Rattle.rw_lp.specs.declared.answer.Answer.TheVariants.{Done, Refused}
+use Rattle.rw_lp.specs.declared.answer.StepFault.{StepFault}
+use Rattle.rw_lp.specs.declared.answer.StepFault.TheVariants.{NoSuchProcess, NoSuchLetter}
 use Rattle.rw_lp.specs.Process as process
 use Rattle.rw_lp.specs.Process.{ProcessState, Turn, Turned, Stays, execute_next, undo_one, undo_lazily}
 use Rattle.rw_lp.specs.Calls.{LogicalProcess, MeetsNext, Took}
@@ -19,7 +21,7 @@ use Rattle.rw_world.specs.declared.parts.Parts.{Parts}
 use Rattle.rw_world.specs.declared.step.Step.{Step}
 use Rattle.rw_world.specs.declared.step.Step.TheVariants.{Execute, Undo, UndoLazily, Deliver}
 use Rattle.rw_world.specs.WorldState.{WorldState}
-use Rattle.rw_world.specs.Steps.{world_after, turn_at, remove_at, deliver_to, deliver_letter, apply}
+use Rattle.rw_world.specs.Steps.{refusal, world_after, turn_at, remove_at, deliver_to, deliver_letter, apply}
 use Rattle.rw_world.specs.Calls.{system_of, with_world, world_of, simulation_of, AreNumbered, IsWhole, Made, ExecutesAt}
 use Rattle.rw_world.proofs.Lookups.{get-set_same, get-set_other, set_there}
 
@@ -148,3 +150,28 @@ module _ {M S B U : Type 0} (model : Ghosts M S B U) (order : B → B → Orderi
     there = slice_get-map (λ l. l.process) x.processes.items p ∙ ap (option_map (λ l. l.process)) there;
     meets = subst (λ m. MeetsNext (event_cmp order) old.process (model.is_exhausted m)) (whole.numbered p old there).0 h;
   }
+
+  -- a step that the world refuses leaves the parts as they are
+  pub made_refused : (step : Step) (fault : StepFault) → apply (system_of model order (simulation_of x)) (world_of x) step ≡ refusal (world_of x) fault → Made model order x x step (Refused fault)
+  made_refused step fault eq = record {
+    world = ap (λ r. with_world (simulation_of x) r.0) (sym eq);
+    answered = sym (ap (λ r. r.1) eq);
+    numbered = whole.numbered;
+  }
+
+  -- where there is no process p, it takes no turn
+  nowhere : (p : ℕ) → length x.processes.items ≤ p → slice_get (world_of x).processes p ≡ None
+  nowhere p h = slice_get_past (world_of x).processes p (omega (arith, h, length-map x.processes.items (λ l. l.process)))
+
+  pub execute_nowhere : (p : ℕ) → length x.processes.items ≤ p → Made model order x x (Execute p) (Refused NoSuchProcess)
+  execute_nowhere p h = made_refused (Execute p) NoSuchProcess (ap (turn_at (world_of x) p (execute_next (rules model order x.model) p)) (nowhere p h))
+
+  pub undo_nowhere : (p : ℕ) → length x.processes.items ≤ p → Made model order x x (Undo p) (Refused NoSuchProcess)
+  undo_nowhere p h = made_refused (Undo p) NoSuchProcess (ap (turn_at (world_of x) p (undo_one (rules model order x.model) p)) (nowhere p h))
+
+  pub undo_lazily_nowhere : (p : ℕ) → length x.processes.items ≤ p → Made model order x x (UndoLazily p) (Refused NoSuchProcess)
+  undo_lazily_nowhere p h = made_refused (UndoLazily p) NoSuchProcess (ap (turn_at (world_of x) p (undo_lazily (rules model order x.model) p)) (nowhere p h))
+
+  -- where there is no letter i, none comes
+  pub deliver_nowhere : (i : ℕ) → length x.letters.items ≤ i → Made model order x x (Deliver i) (Refused NoSuchLetter)
+  deliver_nowhere i h = made_refused (Deliver i) NoSuchLetter (ap (deliver_letter (system_of model order (simulation_of x)) (world_of x) i) (slice_get_past x.letters.items i h))

@@ -1,11 +1,12 @@
 -- What the undoing of a process's last processed event leaves as it is, and that it comes to an end.
-use Rattle.std.proofs.Common.{◌≡◌, ℕ, ◌<◌, true, false, List, [], ◌∷◌, ◌++◌, length, length-append, map, refl, sym, ap, ◌∙◌, subst, arith, Option, Some, None}
-use Rattle.std.specs.Prelude.{◌==◌, slice_get, slice_set, slice_index_or}
+use Rattle.std.proofs.Common.{◌≡◌, ℕ, ◌+◌, ◌<◌, ◌≤◌, true, false, List, [], ◌∷◌, ◌++◌, length, length-append, refl, sym, ap, ◌∙◌, subst, arith, Option, Some, None, inl, inr}
+use Rattle.std.specs.Prelude.{◌==◌, ◌⊎◌, slice_get, slice_set, slice_index_or}
 use Rattle.std.specs.Option.{option_map}
 use Rattle.std.specs.declared.cmp.Ordering.{Ordering}
+use Rattle.std.proofs.lemmas.Bool.{cases_eq}
 use Rattle.std.proofs.lemmas.Bool.Decides.{nat_tests}
 use Rattle.std.proofs.lemmas.List.{length-map, length-set}
-use Rattle.std.proofs.lemmas.Option.{same_Some, slice_get-map, slice_get_read}
+use Rattle.std.proofs.lemmas.Option.{same_Some, slice_get-map, slice_get_read, slice_get_within}
 use Rattle.rw_vt.specs.declared.event.Event.{Event}
 use Rattle.rw_vt.specs.declared.event.Letter.{Letter}
 use Rattle.rw_vt.specs.declared.model.Model.{Ghosts}
@@ -93,7 +94,7 @@ some_length : {A : Type 0} (xs : List A) → (length xs == 0) ≡ false → 0 < 
 some_length [] h = cc
 some_length (x ∷ xs) h = omega arith
 
-zero_test : (n : ℕ) → (n == 0) ≡ true → n ≡ 0
+pub zero_test : (n : ℕ) → (n == 0) ≡ true → n ≡ 0
 zero_test n h = grind (arith, nat_tests)
 
 none_length : {A : Type 0} (xs : List A) → (length xs == 0) ≡ true → xs ≡ []
@@ -110,3 +111,15 @@ module _ {M S B U : Type 0} (x : Parts M S B U) (p : ℕ) (l : LogicalProcess M 
 
   pub none_left : (length its == 0) ≡ true → HasNothingProcessed p x
   none_left h u at = ap (λ u. u.processed) (same_Some u l.process (sym at ∙ stands_at)) ∙ sym its_are ∙ none_length its h
+
+-- where process n has nothing processed left either, none up to it has
+pub none_more : {M S B U : Type 0} (x z : Parts M S B U) (n : ℕ) → ((p : ℕ) → p < n → HasNothingProcessed p x) → KeepsOthersUndone n x z → HasNothingProcessed n z → (p : ℕ) → p < n + 1 → HasNothingProcessed p z
+none_more x z n before others here p h = go (cases_eq p n)
+  where
+    go : (p ≡ n) ⊎ (p ≡ n → ⊥) → HasNothingProcessed p z
+    go (inl e) = subst (λ q. HasNothingProcessed q z) (sym e) here
+    go (inr ne) = others p ne (before p (omega arith))
+
+-- what holds of each process that is there holds at each number
+pub none_at_all : {M S B U : Type 0} (x : Parts M S B U) (n : ℕ) → length x.processes.items ≤ n → ((p : ℕ) → p < n → HasNothingProcessed p x) → (p : ℕ) → HasNothingProcessed p x
+none_at_all x n all known p u at = known p (omega (arith, all, slice_get_within (world_of x).processes p u at, length-map x.processes.items (λ l. l.process))) u at

@@ -1,6 +1,8 @@
-ghost use Rattle.std.specs.Prelude.{◌≡◌, ◌<◌, ◌==◌, ℕ, [], IfOk, IfErr, All, filter, length, map, slice_index_or};
+ghost use Rattle.std.specs.Prelude.{◌≡◌, ◌<◌, ◌==◌, ◌∷◌, ◌++◌, ℕ, true, [], IfOk, IfErr, OnOk, All, filter, length, map, slice_index_or};
+ghost use Rattle.rw_vt.specs.Order.{event_cmp};
 ghost use Rattle.rw_vt.specs.System.{IsReady, map_from, system};
 ghost use Rattle.rw_vt.specs.declared.refusal.Refusal.TheVariants.{Memory};
+ghost use Rattle.rw_lp.specs.Calls.{new_process};
 ghost use Rattle.rw_world.specs.WorldState.{opening_process};
 
 use rw_lp::Lp;
@@ -27,10 +29,35 @@ pub fn open_processes<M: VtModel>(
     let mut processes = Vec::with_capacity(alloc, count as usize)?;
     let mut number = 0;
     for (start, inbox) in starts.into_iter().zip(inboxes) {
-        processes.push(Lp::new(alloc, model, number, start, inbox)?)?;
+        open_process(alloc, model, number, start, inbox, &mut processes)?;
         number += 1;
     }
     Ok(processes)
+}
+
+/// Appends process `number` in its start state, with the events of `inbox` pending. Refused only as
+/// `Memory`.
+fn open_process<M: VtModel>(
+    alloc: Global,
+    model: &M,
+    number: u32,
+    start: M::State,
+    inbox: Vec<Event<M::Body>>,
+    processes: &mut Vec<Lp<M>>,
+) -> Result<(), Refusal>
+    requires number { number < M.process_count model.now }
+    requires start { M.IsWellFormed model.now number start }
+    requires initial { All (λ e.
+        (M.is_valid model.now e ≡ true) × (e.to ≡ number)) inbox.items }
+    ensures opened { OnOk result (processes.new.items ≡ processes.old.items ++ (record {
+      model = model.now;
+      number = number;
+      process = new_process (event_cmp M.Body.cmp) start inbox.items;
+    }) ∷ []) }
+    ensures memory { IfErr result (λ e. e ≡ Memory) }
+{
+    processes.push(Lp::new(alloc, model, number, start, inbox)?)?;
+    Ok(())
 }
 
 /// For each of `count` processes the events that go to it, in the order of `events`.

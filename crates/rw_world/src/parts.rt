@@ -1,4 +1,5 @@
-ghost use Rattle.std.specs.Prelude.{◌≡◌, ◌<◌, ◌≤◌, ℕ, true, IfOk, IfErr, OnOk, length, map, slice_get, Some};
+ghost use Rattle.std.specs.Prelude.{◌≡◌, ◌<◌, ◌≤◌, ℕ, true, List, IfOk, IfErr, OnOk, length, map, slice_get, slice_set, Some};
+ghost use Rattle.std.specs.List.{swap_remove};
 ghost use Rattle.rw_vt.specs.Order.{event_cmp, Each};
 ghost use Rattle.rw_vt.specs.declared.refusal.Refusal.TheVariants.{Memory};
 ghost use Rattle.rw_lp.specs.Calls.{LogicalProcess};
@@ -63,7 +64,7 @@ impl<M: VtModel> Parts<M> {
         }
         let process = self.processes.swap_remove(place);
         let (process, answer) = process.execute_next(alloc, &self.model, &mut self.letters)?;
-        put_back(&mut self.processes, place, process)?;
+        give_back(&mut self.processes, place, process)?;
         Ok(answer)
     }
 
@@ -80,7 +81,7 @@ impl<M: VtModel> Parts<M> {
         }
         let process = self.processes.swap_remove(place);
         let (process, answer) = process.undo_one(alloc, &self.model, &mut self.letters)?;
-        put_back(&mut self.processes, place, process)?;
+        give_back(&mut self.processes, place, process)?;
         Ok(answer)
     }
 
@@ -98,7 +99,7 @@ impl<M: VtModel> Parts<M> {
         }
         let process = self.processes.swap_remove(place);
         let (process, answer) = process.undo_lazily(alloc, &self.model)?;
-        put_back(&mut self.processes, place, process)?;
+        give_back(&mut self.processes, place, process)?;
         Ok(answer)
     }
 
@@ -117,7 +118,7 @@ impl<M: VtModel> Parts<M> {
         let place = letter.event.to as usize;
         let process = self.processes.swap_remove(place);
         let (process, answer) = process.deliver(letter, &mut self.letters)?;
-        put_back(&mut self.processes, place, process)?;
+        give_back(&mut self.processes, place, process)?;
         if let Answer::Done = answer {
             let _delivered = self.letters.remove(number as usize);
         }
@@ -191,7 +192,25 @@ fn collect_all<M: VtModel>(processes: &mut Vec<Lp<M>>, time: u64) -> Result<(), 
 {
     for place in 0..processes.len() {
         let process = processes.swap_remove(place);
-        put_back(processes, place, process.collect(time)?)?;
+        give_back(processes, place, process.collect(time)?)?;
     }
+    Ok(())
+}
+
+/// Puts `process` where `swap_remove(place)` has just taken one out; all others stand as they did
+/// before. Refused only as `Memory`; the processes are then only good for dropping.
+fn give_back<M: VtModel>(
+    processes: &mut Vec<Lp<M>>,
+    place: usize,
+    process: Lp<M>,
+) -> Result<(), Refusal>
+    requires place { place ≤ length processes.old.items }
+    ensures back { OnOk result ((before : List (LogicalProcess M M.State M.Body))
+        (taken : LogicalProcess M M.State M.Body) → place < length before
+        → processes.old.items ≡ swap_remove before place taken
+        → processes.new.items ≡ slice_set before place process) }
+    ensures memory { IfErr result (λ e. e ≡ Memory) }
+{
+    put_back(processes, place, process)?;
     Ok(())
 }

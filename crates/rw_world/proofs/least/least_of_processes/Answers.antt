@@ -1,5 +1,5 @@
 use Rattle.std.proofs.Common.{◌+◌, ◌∷◌, min, drop, map, sym, ap, ◌∙◌, arith}
-use Rattle.std.proofs.lemmas.List.{at_drop_more}
+use Rattle.std.proofs.lemmas.List.{at_drop_more, drop_all}
 use Rattle.rw_world.specs.WorldState.{least_of_processes}
 use Rattle.rw_world.proofs.Floors.{processes_more}
 use Rattle.rw_world.proofs.least.least_of_processes.Goals as goal
@@ -20,3 +20,6 @@ loop-process-preserved g c =
           ∙ sym (at_drop_more (λ l. least_of_processes now (map (λ x. x.process) l)) ps k p c.loop-process-test.true)
           ∙ c.loop-process.invariant.found;
     }
+
+pub returns : goal.returns
+returns g c = sym (ap (λ l. least_of_processes c.loop-process.least (map (λ x. x.process) l)) (drop_all c.loop-process.process-index c.args.processes.now (omega arith))) ∙ c.loop-process.invariant.found

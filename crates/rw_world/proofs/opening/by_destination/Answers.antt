@@ -1,6 +1,7 @@
 use Rattle.std.proofs.Common.{◌≡◌, ◌<◌, [], length, map, get_or, sym, ap, ◌∙◌, subst, arith}
-use Rattle.std.proofs.lemmas.List.{length-set, length-map}
+use Rattle.std.proofs.lemmas.List.{length-set, length-map, take_all, length-replicate, get_or-replicate}
 use Rattle.rw_world.proofs.Inboxes.{pushed_at, sorted_more}
+use Rattle.std.specs.Prelude.{filter, ◌==◌}
 use Rattle.rw_world.proofs.opening.by_destination.Goals as goal
 
 pub index_mut-requires : goal.index_mut-requires
@@ -24,4 +25,18 @@ loop-event-preserved g c =
     record {
       long = length-set lists e.to c.push.new.self ∙ known.long;
       sorted_out = λ q at. ap (λ l. get_or l q []) pushed ∙ sorted_more boxes c.args.count es k e (long ∙ known.long) inside c.loop-event-test.true c.event-item.is known.sorted_out q at;
+    }
+
+pub returns-clause-len : goal.returns-clause-len
+returns-clause-len g c = c.loop-event.invariant.long
+
+pub returns-clause-each : goal.returns-clause-each
+returns-clause-each g c = λ q at. c.loop-event.invariant.sorted_out q at ∙ ap (filter (λ e. e.to == q)) (take_all c.loop-event.event-index c.args.events.now (omega arith))
+
+pub loop-event-init : goal.loop-event-init
+loop-event-init g c =
+    let boxes = c.in_ok-lists.ensures in
+    record {
+      long = sym (length-map c.in_ok-lists.lists.items (λ l. l.items)) ∙ ap length boxes ∙ length-replicate c.args.count [];
+      sorted_out = λ q at. ap (λ l. get_or l q []) boxes ∙ get_or-replicate c.args.count q [] [] at;
     }

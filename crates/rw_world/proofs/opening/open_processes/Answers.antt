@@ -6,7 +6,8 @@ use Rattle.rw_vt.specs.Order.{event_cmp}
 use Rattle.rw_vt.specs.System.{system, map_from}
 use Rattle.rw_lp.specs.Calls.{LogicalProcess, new_process}
 use Rattle.rw_world.specs.WorldState.{opening_process}
-use Rattle.rw_world.proofs.Inboxes.{all_to, drop_head, first_of, rest_of, opened_more}
+use Rattle.rw_world.proofs.Inboxes.{all_to, drop_head, first_of, rest_of, made_next}
+use Rattle.std.proofs.lemmas.Result.{err_from_is_err_and, IfOk-from_err}
 use Rattle.rw_world.proofs.opening.open_processes.Goals as goal
 
 pub by_destination-requires : goal.by_destination-requires
@@ -31,13 +32,13 @@ loop-start-init g c =
       opened = rw (c.in_ok-processes.ensures.items, starts) refl;
     }
 
-pub new-requires-clause-start : goal.new-requires-clause-start
-new-requires-clause-start g c =
+pub open_process-requires-clause-start : goal.open_process-requires-clause-start
+open_process-requires-clause-start g c =
     let r : c.loop-start.start-iterator.a.rest.items ≡ c.in-Some.start ∷ c.next.new.self.a.rest.items = c.in-Some.ensures.steps.0.0 in
     c.requires.ready.well_formed c.loop-start.number c.in-Some.start (drop_head c.args.starts.items c.loop-start.number c.in-Some.start c.next.new.self.a.rest.items (sym c.loop-start.invariant.left ∙ r)).0
 
-pub new-requires-clause-initial : goal.new-requires-clause-initial
-new-requires-clause-initial g c =
+pub open_process-requires-clause-initial : goal.open_process-requires-clause-initial
+open_process-requires-clause-initial g c =
     let n = c.loop-start.number in
     let q : c.loop-start.start-iterator.b.rest.items ≡ c.in-Some.inbox ∷ c.next.new.self.b.rest.items = c.in-Some.ensures.steps.1.0 in
     let inbox = first_of (λ j. j.items) c.loop-start.start-iterator.b.rest.items c.in-Some.inbox c.next.new.self.b.rest.items (λ k. filter (λ e. e.to == (n + k)) c.args.events.now) q c.loop-start.invariant.sorted_out in
@@ -59,7 +60,7 @@ loop-start-preserved g c =
     let inbox = first_of (λ j. j.items) c.loop-start.start-iterator.b.rest.items c.in-Some.inbox c.next.new.self.b.rest.items (λ k. filter (λ e. e.to == (n + k)) c.args.events.now) q known.sorted_out in
     let z : n + 0 ≡ n = omega arith in
     let mine : c.in-Some.inbox.items ≡ filter (λ e. e.to == n) c.args.events.now = inbox ∙ ap (λ m. filter (λ e. e.to == m) c.args.events.now) z in
-    let is : c.in_ok-new.field-0 ≡ opened n start = c.in_ok-new.ensures.opened ∙ ap (λ l. let p : LogicalProcess g.row.M.Denot g.row.M-State.Denot g.row.M-Body.Denot = record { model = c.args.model.now; number = n; process = new_process (event_cmp g.M.Body.Ord.cmp) start l } in p) mine in
+    let is = ap (λ l. let p : LogicalProcess g.row.M.Denot g.row.M-State.Denot g.row.M-Body.Denot = record { model = c.args.model.now; number = n; process = new_process (event_cmp g.M.Body.Ord.cmp) start l } in p) mine in
     record {
       room = omega (arith, known.room, ap length r);
       boxes = omega (arith, known.boxes, ap length r, ap length q);
@@ -68,11 +69,7 @@ loop-start-preserved g c =
           let further : n + suc k ≡ n + 1 + k = omega arith in
           rest_of (λ j. j.items) c.loop-start.start-iterator.b.rest.items c.in-Some.inbox c.next.new.self.b.rest.items (λ k. filter (λ e. e.to == (n + k)) c.args.events.now) q known.sorted_out k within
           ∙ ap (λ m. filter (λ e. e.to == m) c.args.events.now) further;
-      opened =
-          ap (λ l. l ++ map_from (n + 1) opened rest) (c.in_ok-push.ensures.items ∙ ap (λ p. made ++ p ∷ []) is)
-          ∙ sym (opened_more opened made n start rest)
-          ∙ ap (λ l. made ++ map_from n opened l) (sym r)
-          ∙ known.opened;
+      opened = made_next opened made _ _ n start _ rest _ c.in_ok-open_process.ensures.opened is r known.opened;
     }
 
 pub returns-clause-opened : goal.returns-clause-opened
@@ -84,3 +81,24 @@ returns-clause-opened g c =
     let zero : length rest.items ≡ 0 = ⊎_elim (λ starts. sym rest.ok.0 ∙ starts.1.0) (λ boxes. omega (arith, c.loop-start.start-iterator.b.rest.ok.0, boxes.1.0, known.boxes)) c.in-None.ensures.steps in
     let none : rest.items ≡ [] = nil_from_length rest.items zero in
     sym (append-nil c.loop-start.processes.items) ∙ (ap (λ l. c.loop-start.processes.items ++ map_from c.loop-start.number opened l) (sym none) ∙ known.opened)
+
+pub returns-in_err-inboxes : goal.returns-in_err-inboxes
+returns-in_err-inboxes g c =
+    let p = err_from_is_err_and c.from_residual.result c.from_residual.ensures.1 in
+    record { opened = IfOk-from_err _ _ c.from_residual.ensures.0; memory = rw (p.1, p.2) refl }
+
+pub returns-in_err-processes : goal.returns-in_err-processes
+returns-in_err-processes g c =
+    let p = err_from_is_err_and c.from_residual-in_err-processes.result c.from_residual-in_err-processes.ensures.1 in
+    record { opened = IfOk-from_err _ _ c.from_residual-in_err-processes.ensures.0; memory = rw (p.1, p.2) refl }
+
+pub returns-in_err-open_process : goal.returns-in_err-open_process
+returns-in_err-open_process g c =
+    let p = err_from_is_err_and c.from_residual-in_err-open_process.result c.from_residual-in_err-open_process.ensures.1 in
+    record { opened = IfOk-from_err _ _ c.from_residual-in_err-open_process.ensures.0; memory = rw (p.1, p.2) c.in_err-open_process.ensures.memory }
+
+pub open_process-requires-clause-number : goal.open_process-requires-clause-number
+open_process-requires-clause-number g c = omega (arith, c.processes-count.ensures, c.loop-start.invariant.room, ap length c.in-Some.ensures.steps.0.0)
+
+pub overflow_add-number : goal.overflow_add-number
+overflow_add-number g c = omega (arith, c.processes-count.type_inv, c.loop-start.invariant.room, ap length c.in-Some.ensures.steps.0.0)

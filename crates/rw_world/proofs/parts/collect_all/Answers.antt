@@ -17,8 +17,8 @@ collect-requires g c =
     let there = next_is c.args.time k xs l (omega arith) (c.swap_remove-process.ensures.value ∙ ap (λ ys. get_or ys k l) c.loop-place.invariant) in
     record { pending = (c.requires.quiet k l there).0; debts = (c.requires.quiet k l there).1 }
 
-pub put_back-requires : goal.put_back-requires
-put_back-requires g c =
+pub give_back-requires : goal.give_back-requires
+give_back-requires g c =
     let long : length c.loop-place.processes.items ≡ length c.args.processes.now.items = ap length c.loop-place.invariant ∙ length-collected_to c.args.time c.loop-place.place c.args.processes.now.items (omega arith) in
     record { place = omega (arith, c.swap_remove-process.ensures.len) }
 
@@ -30,7 +30,7 @@ loop-place-preserved g c =
     let l = c.swap_remove-process.result in
     let long : length ys ≡ length xs = ap length c.loop-place.invariant ∙ length-collected_to c.args.time k xs (omega arith) in
     let within : k < length ys = omega arith in
-    c.in_ok-put_back.ensures.back ys l within c.swap_remove-process.ensures.items
+    c.in_ok-give_back.ensures.back ys l within c.swap_remove-process.ensures.items
     ∙ ap (λ z. Rattle.std.specs.Prelude.slice_set ys k z) c.in_ok-collect.ensures.collected
     ∙ map_over_more (after_collecting c.args.time) xs ys k l (omega arith) c.loop-place.invariant c.swap_remove-process.ensures.value
 

@@ -1,7 +1,8 @@
-use Rattle.std.proofs.Common.{◌≡◌, [], ◌∷◌, ◌++◌, length, map, refl, sym, ap, ◌∙◌, subst, append_assoc, append-nil}
+use Rattle.std.proofs.Common.{◌≡◌, [], ◌∷◌, ◌++◌, map, sym, ap, ◌∙◌}
 use Rattle.rw_vt.specs.System.{flatten}
 use Rattle.rw_world.specs.Leaving.{owed_at}
 use Rattle.rw_world.proofs.Resting.{none_length, list_taken, all_taken}
+use Rattle.std.proofs.lemmas.Result.{IfOk-from_err}
 use Rattle.rw_world.proofs.rest.take_apart.Goals as goal
 
 pub loop-process-init : goal.loop-process-init
@@ -42,3 +43,18 @@ returns-clause-owed g c =
     let rest = c.loop-process.process-iterator.rest in
     let none : rest.items ≡ [] = none_length rest.items (sym rest.ok.0 ∙ c.in-None.ensures.steps.0) in
     all_taken c.loop-process.owed.items _ _ (ap (λ ks. flatten (map owed_at ks)) none) c.loop-process.invariant.owed
+
+pub returns-in_err-states : goal.returns-in_err-states
+returns-in_err-states g c =
+    let err = c.from_residual.ensures.0 in
+    record { states = IfOk-from_err _ _ err; there = IfOk-from_err _ _ err; owed = IfOk-from_err _ _ err }
+
+pub returns-in_err-into_left : goal.returns-in_err-into_left
+returns-in_err-into_left g c =
+    let err = c.from_residual-in_err-into_left.ensures.0 in
+    record { states = IfOk-from_err _ _ err; there = IfOk-from_err _ _ err; owed = IfOk-from_err _ _ err }
+
+pub returns-in_err-push : goal.returns-in_err-push
+returns-in_err-push g c =
+    let err = c.from_residual-in_err-push.ensures.0 in
+    record { states = IfOk-from_err _ _ err; there = IfOk-from_err _ _ err; owed = IfOk-from_err _ _ err }

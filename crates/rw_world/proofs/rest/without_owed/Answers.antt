@@ -1,9 +1,11 @@
-use Rattle.std.proofs.Common.{◌≡◌, [], ◌∷◌, length, refl, sym, ap, ◌∙◌, subst, arith}
-use Rattle.rw_vt.specs.Order.{event_cmp}
+use Rattle.std.proofs.Common.{◌≡◌, [], refl, sym, ◌∙◌, subst, arith, ap}
+use Rattle.rw_vt.specs.Order.{event_cmp, copies}
 use Rattle.rw_vt.proofs.EventOrder.{events_exact}
 use Rattle.rw_vt.proofs.Sorting.{IsExactOrder}
 use Rattle.rw_world.proofs.Resting.{IsSoFar, so_far_first, so_far_kept, so_far_taken, so_far_last, none_length}
 use Rattle.rw_world.proofs.rest.without_owed.Given as given
+use Rattle.std.proofs.lemmas.Result.{IfOk-from_err}
+use Rattle.rw_world.proofs.Undoing.{zero_test}
 use Rattle.rw_world.proofs.rest.without_owed.Goals as goal
 
 order : (g : given.Over) → IsExactOrder (event_cmp g.M.Body.Ord.cmp)
@@ -39,3 +41,15 @@ returns g c =
     let cmp = event_cmp g.M.Body.Ord.cmp in
     let none : c.loop-event.event-iterator.rest.items ≡ [] = none_length c.loop-event.event-iterator.rest.items (sym c.loop-event.event-iterator.rest.ok.0 ∙ c.in-None.ensures.steps.0) in
     record { left = so_far_last (order g) c.args.there.items c.args.owed.items c.loop-event.left.items c.loop-event.owed c.requires.there (subst (λ l. IsSoFar cmp c.args.there.items c.args.owed.items c.loop-event.left.items l c.loop-event.owed) none c.loop-event.invariant) }
+
+pub returns-then-is_empty : goal.returns-then-is_empty
+returns-then-is_empty g c =
+    let zero = zero_test c.args.owed.len (sym c.is_empty.ensures ∙ c.if-is_empty.true) in
+    let none : c.args.owed.items ≡ [] = none_length c.args.owed.items (sym c.args.owed.ok.0 ∙ zero) in
+    record { left = λ e. omega (arith, ap (copies (event_cmp g.M.Body.Ord.cmp) e) none) }
+
+pub returns-in_err-owed : goal.returns-in_err-owed
+returns-in_err-owed g c = record { left = IfOk-from_err c.from_residual.result _ c.from_residual.ensures.0 }
+
+pub returns-in_err-push : goal.returns-in_err-push
+returns-in_err-push g c = record { left = IfOk-from_err c.from_residual-in_err-push.result _ c.from_residual-in_err-push.ensures.0 }

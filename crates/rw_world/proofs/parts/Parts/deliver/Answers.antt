@@ -1,8 +1,10 @@
-use Rattle.std.proofs.Common.{◌≡◌, true, length, refl, sym, subst, arith}
+use Rattle.std.proofs.Common.{◌≡◌, true, length, refl, sym, subst, arith, ap, length-append}
 use Rattle.std.proofs.lemmas.Option.{slice_get_read}
 use Rattle.rw_vt.proofs.Laws.{laws_of}
 use Rattle.rw_world.proofs.Made.{made_deliver, made_no_delivery}
 use Rattle.rw_world.proofs.Wholes.{letter_inside}
+use Rattle.rw_world.proofs.Made.{deliver_nowhere}
+use Rattle.std.proofs.lemmas.Result.{err_from_is_err_and, IfOk-from_err}
 use Rattle.rw_world.proofs.parts.Parts.deliver.Goals as goal
 
 pub overflow_cast-place : goal.overflow_cast-place
@@ -45,8 +47,8 @@ deliver-requires-clause-here g c =
     let known = c.requires.whole.numbered letter.event.to c.swap_remove-process.result there in
     sym known.1
 
-pub put_back-requires : goal.put_back-requires
-put_back-requires g c =
+pub give_back-requires : goal.give_back-requires
+give_back-requires g c =
     let laws = laws_of g.met.M.Model g.met.M.Body.Ord.total in
     let x = c.args.self.now in
     let letter = c.index-letter.result.now in
@@ -65,7 +67,7 @@ returns-in-Done-clause-made g c =
     let known = c.requires.whole.numbered letter.event.to c.swap_remove-process.result there in
     let turn = c.in_ok-process.ensures.turn in
     made_deliver g.M.Model g.M.Body.Ord.cmp x _ c.requires.whole refl refl refl refl letter.event.to c.swap_remove-process.result c.in_ok-process.process there c.in_ok-process.ensures.same
-    (c.in_ok-put_back.ensures.back x.processes.items c.swap_remove-process.result inside.1 c.swap_remove-process.ensures.items)
+    (c.in_ok-give_back.ensures.back x.processes.items c.swap_remove-process.result inside.1 c.swap_remove-process.ensures.items)
     c.args.number letter found refl c.in_ok-process.answer turn.0 turn.2
     c.deliver.new.out.items turn.1 (omega arith) c.in-Done.is c.remove-delivered.ensures.items
 
@@ -80,6 +82,28 @@ returns-in_default-clause-made g c =
     let known = c.requires.whole.numbered letter.event.to c.swap_remove-process.result there in
     let turn = c.in_ok-process.ensures.turn in
     made_no_delivery g.M.Model g.M.Body.Ord.cmp x _ c.requires.whole refl refl refl refl letter.event.to c.swap_remove-process.result c.in_ok-process.process there c.in_ok-process.ensures.same
-    (c.in_ok-put_back.ensures.back x.processes.items c.swap_remove-process.result inside.1 c.swap_remove-process.ensures.items)
+    (c.in_ok-give_back.ensures.back x.processes.items c.swap_remove-process.result inside.1 c.swap_remove-process.ensures.items)
     c.args.number letter found refl c.in_ok-process.answer turn.0 turn.2
     c.in_default.not-Done turn.1
+
+pub returns-then-len-number-clause-made : goal.returns-then-len-number-clause-made
+returns-then-len-number-clause-made g c = deliver_nowhere g.M.Model g.M.Body.Ord.cmp c.args.self.now c.requires.whole c.args.number (omega arith)
+
+pub returns-in_err-process-clause-made : goal.returns-in_err-process-clause-made
+returns-in_err-process-clause-made g c = IfOk-from_err c.from_residual.result _ c.from_residual.ensures.0
+
+pub returns-in_err-give_back-clause-made : goal.returns-in_err-give_back-clause-made
+returns-in_err-give_back-clause-made g c = IfOk-from_err c.from_residual-in_err-give_back.result _ c.from_residual-in_err-give_back.ensures.0
+
+pub returns-in_err-give_back-clause-memory : goal.returns-in_err-give_back-clause-memory
+returns-in_err-give_back-clause-memory g c =
+    let p = err_from_is_err_and c.from_residual-in_err-give_back.result c.from_residual-in_err-give_back.ensures.1 in
+    rw (p.1, p.2) c.in_err-give_back.ensures.memory
+
+pub returns-in_err-process-clause-memory : goal.returns-in_err-process-clause-memory
+returns-in_err-process-clause-memory g c =
+    let p = err_from_is_err_and c.from_residual.result c.from_residual.ensures.1 in
+    rw (p.1, p.2) c.in_err-process.ensures.memory
+
+pub remove-delivered-requires : goal.remove-delivered-requires
+remove-delivered-requires g c = omega (arith, ap length c.in_ok-process.ensures.turn.1, length-append c.args.self.now.letters.items c.in_ok-process.ensures.turn.0)

@@ -1,8 +1,9 @@
-use Rattle.std.proofs.Common.{◌<◌, length, sym, ap, ◌∙◌, arith}
+use Rattle.std.proofs.Common.{◌<◌, length, sym, ◌∙◌, arith}
 use Rattle.rw_vt.proofs.Laws.{laws_of}
 use Rattle.rw_world.specs.declared.step.Step.TheVariants.{Undo}
 use Rattle.rw_world.proofs.Kept.{whole_after}
-use Rattle.rw_world.proofs.Undoing.{undo_one_run, undo_keeps, undo_fewer, one_run_chain, stands_at, some_left, none_left}
+use Rattle.rw_world.proofs.Undoing.{undo_one_run, undo_keeps, undo_fewer, one_run_chain, stands_at, some_left, none_left, one_run_itself}
+use Rattle.std.proofs.lemmas.Result.{err_from_is_err_and, IfOk-from_err}
 use Rattle.rw_world.proofs.parts.Parts.undo_process.Goals as goal
 
 pub undoing-smaller : goal.undoing-smaller
@@ -32,3 +33,12 @@ returns-clause-none g c =
     let x = c.undoing.self in
     let inside : c.args.p < length x.processes.items = omega (arith, c.undoing.invariant.run.count, c.requires.there) in
     none_left x c.args.p c.index.result.now inside c.index.ensures c.processed.result.now c.processed.ensures (sym c.is_empty.ensures ∙ c.undoing-test.false)
+
+pub returns-in_err-_answer : goal.returns-in_err-_answer
+returns-in_err-_answer g c =
+    let err = c.from_residual.ensures.0 in
+    let p = err_from_is_err_and c.from_residual.result c.from_residual.ensures.1 in
+    record { whole = IfOk-from_err _ _ err; run = IfOk-from_err _ _ err; others = IfOk-from_err _ _ err; none = IfOk-from_err _ _ err; memory = rw (p.1, p.2) c.in_err-_answer.ensures.memory }
+
+pub undoing-init : goal.undoing-init
+undoing-init g c = record { whole = c.requires.whole; run = one_run_itself c.args.self.now; others = λ q ne none. none }

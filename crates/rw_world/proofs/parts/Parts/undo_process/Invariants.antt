@@ -1,4 +1,3 @@
-use Rattle.rw_vt.specs.Order.{event_cmp}
 use Rattle.rw_world.specs.Calls.{IsWhole, world_of}
 use Rattle.rw_world.specs.Leaving.{AreOfOneRun, KeepsOthersUndone}
 use Rattle.rw_world.proofs.Undoing.{processed_at}

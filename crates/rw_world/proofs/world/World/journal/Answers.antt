@@ -20,3 +20,18 @@ returns-clause-in_order g c =
     let mine : committed_of (world_of x).processes c.args.p ≡ c.index.result.now.process.committed = ap (list_at (λ u. u.committed)) (slice_get-map (λ l. l.process) x.processes.items c.args.p ∙ ap (option_map (λ l. l.process)) there) in
     c.journal.ensures ∙ sym mine ∙ committed_is laws x whole c.args.p within
     ∙ ap (λ (v : Simulation g.row.M.Denot g.row.M-State.Denot g.row.M-Body.Denot). journal_below (system_of g.M.Model g.M.Body.Ord.cmp v) v.world.collected c.args.p) c.self.view_is
+
+pub returns-clause-is : goal.returns-clause-is
+returns-clause-is g c =
+    let x = c.self.inside.parts in
+    let same = ap (λ v. g.M.Model.process_count v.model) c.self.view_is in
+    let within : c.args.p < length x.processes.items = omega (arith, processes_count g.M.Model g.M.Body.Ord.cmp x c.self.invariant, same, c.requires.process) in
+    let there = slice_get_read x.processes.items (length x.processes.items) c.args.p c.index.result.now refl within c.index.ensures in
+    let mine : committed_of (world_of x).processes c.args.p ≡ c.index.result.now.process.committed = ap (list_at (λ u. u.committed)) (slice_get-map (λ l. l.process) x.processes.items c.args.p ∙ ap (option_map (λ l. l.process)) there) in
+    c.journal.ensures ∙ sym mine ∙ ap (λ (v : Simulation g.row.M.Denot g.row.M-State.Denot g.row.M-Body.Denot). committed_of v.world.processes c.args.p) c.self.view_is
+
+pub index-requires : goal.index-requires
+index-requires g c =
+    let x = c.self.inside.parts in
+    let same = ap (λ v. g.M.Model.process_count v.model) c.self.view_is in
+    omega (arith, processes_count g.M.Model g.M.Body.Ord.cmp x c.self.invariant, same, c.requires.process)
