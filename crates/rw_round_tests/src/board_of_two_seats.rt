@@ -3,16 +3,21 @@ ghost use Rattle.std.specs.Prelude.{◌≡◌};
 
 use rw_board::{Board, Seat, close, open};
 use rw_vt::END;
+use std::alloc::Global;
 use std::test::Fail;
 
-#[test]
-fn closes_at_the_least_note_of_two_seats(rt: HostRuntime) -> Result<(), Fail> {
-    let (board, mut seats) = open(rt.alloc(), 2)?;
-    assert_eq!(rt; seats.len(), 2);
+/// At what a board of two seats closes, of which one noted 9 and 12 and the other 7.
+fn closed_at(alloc: Global) -> Result<u64, Fail> {
+    let (board, mut seats) = open(alloc, 2)?;
     board.note(&mut seats[0], 9);
     board.note(&mut seats[0], 12);
     board.note(&mut seats[1], 7);
-    assert_eq!(rt; close(board, seats), 7);
+    Ok(close(board, seats))
+}
+
+#[test]
+fn closes_at_the_least_note_of_two_seats(rt: HostRuntime) -> Result<(), Fail> {
+    assert_eq!(rt; closed_at(rt.alloc())?, 7);
     Ok(())
 }
 
@@ -39,11 +44,16 @@ fn notes_and_reads_without_a_handle(rt: HostRuntime) -> Result<(), Fail> {
     Ok(())
 }
 
+/// What one seat reads, before and after the other one notes 7.
+fn read_twice(alloc: Global) -> Result<[u64; 2], Fail> {
+    let (board, mut seats) = open(alloc, 2)?;
+    let before = board.floor(&mut seats[0]);
+    board.note(&mut seats[1], 7);
+    Ok([before, board.floor(&mut seats[0])])
+}
+
 #[test]
 fn reads_what_another_seat_noted(rt: HostRuntime) -> Result<(), Fail> {
-    let (board, mut seats) = open(rt.alloc(), 2)?;
-    assert_eq!(rt; board.floor(&mut seats[0]), END);
-    board.note(&mut seats[1], 7);
-    assert_eq!(rt; board.floor(&mut seats[0]), 7);
+    assert_eq!(rt; read_twice(rt.alloc())?, [END, 7]);
     Ok(())
 }

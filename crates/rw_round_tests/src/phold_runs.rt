@@ -7,13 +7,18 @@ use std::sync::Wait;
 use std::test::Fail;
 use std::thread::Threads;
 
+/// 16 processes, half of whose balls go to a drawn one, after 8 ticks or more, up to tick 4000.
+fn setting() -> Result<Phold, Fail> {
+    Ok(Phold::new(16, 32768, 8, 24, 4000).ok_or("setting")?)
+}
+
 /// The report of 200 balls among 16 processes, half of which go to a drawn one, up to tick 4000.
 fn reported<R: Threads + Wait + Sync>(
     rt: &R,
     alloc: Global,
     how: How<'_>,
 ) -> Result<Option<Report>, Fail> {
-    let phold = Phold::new(16, 32768, 8, 24, 4000).ok_or("setting")?;
+    let phold = setting()?;
     let (starts, initial) = beginning(alloc, &phold, 200, 7)?;
     match run_in(rt, alloc, phold, starts, initial, how)? {
         Ran::Finished(states, _traffic) => Ok(Some(report_of(states.as_slice()))),
@@ -48,10 +53,30 @@ fn balls_come_to_the_same_in_order_and_in_rounds(rt: HostRuntime) -> Result<(), 
     Ok(())
 }
 
+/// How many events one worker by itself counts, and what it does.
+fn counted_alone(alloc: Global) -> Result<(u64, Traffic), Fail> {
+    let phold = setting()?;
+    let (starts, initial) = beginning(alloc, &phold, 200, 7)?;
+    let (states, traffic) = run_alone(alloc, &phold, starts, initial, plan(1, false))?;
+    Ok((report_of(states.as_slice()).events, traffic))
+}
+
+/// Whether so many rounds are too few for one worker by itself.
+fn are_too_few(alloc: Global, max_rounds: u32) -> Result<bool, Fail> {
+    let phold = setting()?;
+    let (starts, initial) = beginning(alloc, &phold, 200, 7)?;
+    let few = Plan {
+        max_rounds,
+        ..plan(1, false)
+    };
+    let source = Sorted::new(initial)?;
+    let ran = run_alone_from(alloc, &phold, starts, source, few);
+    Ok(matches!(ran, Err(Stop::RoundsUsed)))
+}
+
 // A round of that plan has room for 256 events, so 41004 of them need 161 rounds.
 #[test]
 fn one_worker_makes_as_many_rounds_as_events_need(rt: HostRuntime) -> Result<(), Fail> {
-    let phold = Phold::new(16, 32768, 8, 24, 4000).ok_or("setting")?;
     let expected = Traffic {
         rounds: 161,
         executed: 41004,
@@ -59,67 +84,71 @@ fn one_worker_makes_as_many_rounds_as_events_need(rt: HostRuntime) -> Result<(),
         ring: 0,
         kept: 0,
     };
-    let (starts, initial) = beginning(rt.alloc(), &phold, 200, 7)?;
-    let (states, traffic) = run_alone(rt.alloc(), &phold, starts, initial, plan(1, false))?;
-    assert_eq!(rt; report_of(states.as_slice()).events, 41004);
-    assert!(rt; traffic == expected);
-    let (starts, initial) = beginning(rt.alloc(), &phold, 200, 7)?;
+    assert!(rt; counted_alone(rt.alloc())? == (41004, expected));
+    assert!(rt; are_too_few(rt.alloc(), 160)?);
+    Ok(())
+}
+
+/// The checksum and the number of events of a run that is given up beyond a limit.
+fn checksum_within(alloc: Global, limit: u64) -> Result<Option<(u64, u64)>, Fail> {
+    let phold = setting()?;
+    let (starts, initial) = beginning(alloc, &phold, 200, 7)?;
+    let ran = last_states_within(alloc, &phold, starts, initial, limit)?;
+    Ok(ran.map(|(states, executed)| (report_of(states.as_slice()).checksum, executed)))
+}
+
+/// Whether a run is given up beyond a limit, where its events come from a source.
+fn is_given_up(alloc: Global, limit: u64) -> Result<bool, Fail> {
+    let phold = setting()?;
+    let (starts, initial) = beginning(alloc, &phold, 200, 7)?;
     let source = Sorted::new(initial)?;
-    let few = Plan {
-        max_rounds: 160,
-        ..plan(1, false)
-    };
-    match run_alone_from(rt.alloc(), &phold, starts, source, few) {
-        Err(Stop::RoundsUsed) => Ok(()),
-        _ => Err(Fail::from("160 rounds had room for all events")),
-    }
+    Ok(last_states_within_from(alloc, &phold, starts, source, limit)?.is_none())
 }
 
 #[test]
 fn a_run_is_given_up_where_there_are_more_events_than_its_limit(
     rt: HostRuntime,
 ) -> Result<(), Fail> {
-    let phold = Phold::new(16, 32768, 8, 24, 4000).ok_or("setting")?;
-    let (starts, initial) = beginning(rt.alloc(), &phold, 200, 7)?;
-    let ran = last_states_within(rt.alloc(), &phold, starts, initial, 41004)?;
-    let (states, executed) = ran.ok_or("41004 events are too few")?;
-    assert_eq!(rt;
-        report_of(states.as_slice()).checksum,
-        0xafec_247c_1e93_e9ba
-    );
-    assert_eq!(rt; executed, 41004);
-    let (starts, initial) = beginning(rt.alloc(), &phold, 200, 7)?;
-    let source = Sorted::new(initial)?;
-    let ran = last_states_within_from(rt.alloc(), &phold, starts, source, 41003)?;
-    assert!(rt; ran.is_none());
+    let whole = Some((0xafec_247c_1e93_e9ba, 41004));
+    assert!(rt; checksum_within(rt.alloc(), 41004)? == whole);
+    assert!(rt; is_given_up(rt.alloc(), 41003)?);
     Ok(())
 }
 
+/// What comes of a run of one ball between two processes.
+fn one_ball<R: Threads + Wait + Sync>(
+    rt: &R,
+    alloc: Global,
+    how: How<'_>,
+) -> Result<Ran<Phold>, Stop> {
+    let phold = Phold::new(2, 0, 1, 1, 10).ok_or(Stop::Exhausted)?;
+    let (starts, initial) = beginning(alloc, &phold, 1, 1).map_err(|_| Stop::Memory)?;
+    run_in(rt, alloc, phold, starts, initial, how)
+}
+
 #[test]
-fn a_plan_out_of_its_range_is_refused(rt: HostRuntime) -> Result<(), Fail> {
-    let phold = Phold::new(2, 0, 1, 1, 10).ok_or("setting")?;
-    let (starts, initial) = beginning(rt.alloc(), &phold, 1, 1)?;
-    let how = How::InRounds(plan(17, false));
-    match run_in(&rt, rt.alloc(), phold, starts, initial, how) {
-        Err(Stop::BadPlan) => Ok(()),
-        _ => Err(Fail::from("the plan was taken")),
+fn a_plan_out_of_its_range_is_refused(rt: HostRuntime) {
+    let ran = one_ball(&rt, rt.alloc(), How::InRounds(plan(17, false)));
+    assert!(rt; matches!(ran, Err(Stop::BadPlan)));
+}
+
+/// How many of these steps are answered, and the floor of the world to which they lead.
+fn stepped<R: Threads + Wait + Sync>(
+    rt: &R,
+    alloc: Global,
+    steps: &[Step],
+) -> Result<Option<(usize, u64)>, Fail> {
+    match one_ball(rt, alloc, How::BySteps(steps))? {
+        Ran::Stepped(world, answers) => Ok(Some((answers.len(), world.floor()))),
+        Ran::Finished(_states, _traffic) => Ok(None),
     }
 }
 
 #[test]
 fn steps_lead_to_a_world(rt: HostRuntime) -> Result<(), Fail> {
-    let phold = Phold::new(2, 0, 1, 1, 10).ok_or("setting")?;
-    let (starts, initial) = beginning(rt.alloc(), &phold, 1, 1)?;
     let steps = [Step::Execute(0), Step::Execute(1)];
-    let how = How::BySteps(steps.as_slice());
-    match run_in(&rt, rt.alloc(), phold, starts, initial, how)? {
-        Ran::Stepped(world, answers) => {
-            assert_eq!(rt; answers.len(), 2);
-            assert_eq!(rt; world.floor(), 1);
-            Ok(())
-        }
-        Ran::Finished(_states, _traffic) => Err(Fail::from("all was run")),
-    }
+    assert!(rt; stepped(&rt, rt.alloc(), &steps)? == Some((2, 1)));
+    Ok(())
 }
 
 #[test]

@@ -3,8 +3,9 @@ use rw_photo::{CacheState, Config, Photo, Policy, Shape};
 use rw_ripqwarp::beginning;
 use rw_rounds::{Gate, Open, Plan, Traffic, run};
 use rw_vt::{END, Outcome};
+use rw_world::Answer::{Done, Refused};
 use rw_world::Step::{Collect, Deliver, Execute, Undo};
-use rw_world::{Answer, StepFault, World};
+use rw_world::{Answer, Step, StepFault, World};
 use std::alloc::Global;
 use std::sync::Wait;
 use std::sync::atomic::{AtomicU64, Ordering};
@@ -149,17 +150,25 @@ fn traffic<G: Gate + Sync, R: Threads + Wait + Sync>(
     }
 }
 
+/// What rounds through a handshake do, whether both workers came to their turn 1, and how often one missed the other.
+fn held<R: Threads + Wait + Sync>(
+    rt: &R,
+    alloc: Global,
+    plan: Plan,
+) -> Result<(Traffic, bool, u64), Fail> {
+    let gate = Handshake::new(PATIENCE);
+    let traffic = traffic(rt, alloc, plan, &gate)?;
+    Ok((traffic, gate.saw_both(), gate.misses()))
+}
+
 #[test]
 fn a_straggling_fill_is_made_room_for(rt: HostRuntime) -> Result<(), Fail> {
-    let alloc = rt.alloc();
-    let free = traffic(&rt, alloc, plan(END), &Open)?;
+    let free = traffic(&rt, rt.alloc(), plan(END), &Open)?;
     assert!(rt; free.undone >= 1);
-    let gate = Handshake::new(PATIENCE);
-    let held = traffic(&rt, alloc, plan(END), &gate)?;
+    let (held, saw_both, misses) = held(&rt, rt.alloc(), plan(END))?;
     assert!(rt; held.undone >= 1);
     assert!(rt; held.ring >= 2);
-    assert!(rt; gate.saw_both());
-    assert_eq!(rt; gate.misses(), 0);
+    assert_eq!(rt; (saw_both, misses), (true, 0));
     Ok(())
 }
 
@@ -169,54 +178,76 @@ fn a_straggling_fill_is_made_room_for_lazily(rt: HostRuntime) -> Result<(), Fail
         lazy: true,
         ..plan(END)
     };
-    let gate = Handshake::new(PATIENCE);
-    let held = traffic(&rt, rt.alloc(), lazily, &gate)?;
+    let (held, saw_both, misses) = held(&rt, rt.alloc(), lazily)?;
     assert!(rt; held.undone >= 1);
     assert!(rt; held.ring >= 2);
-    assert!(rt; gate.saw_both());
-    assert_eq!(rt; gate.misses(), 0);
+    assert_eq!(rt; (saw_both, misses), (true, 0));
     Ok(())
+}
+
+/// Steps that take a straggler back and commit all.
+const STEPS: [Step; 10] = [
+    Execute(0),
+    Execute(0),
+    Deliver(0),
+    Execute(1),
+    Deliver(0),
+    Execute(0),
+    Undo(0),
+    Execute(0),
+    Execute(0),
+    Collect(END),
+];
+
+/// Their answers.
+const ANSWERS: [Answer; 10] = [
+    Done,
+    Done,
+    Done,
+    Done,
+    Done,
+    Refused(StepFault::Straggler),
+    Done,
+    Done,
+    Done,
+    Done,
+];
+
+/// The world to which these steps lead, and whether they are answered so and nothing is left to do.
+fn scheduled(alloc: Global, config: &Config) -> Result<(World<Photo>, bool), Fail> {
+    let (world, answers) = opened(alloc, config)?.run_steps(alloc, &STEPS)?;
+    let is_as_told = answers.as_slice() == ANSWERS.as_slice() && world.finished();
+    Ok((world, is_as_told))
+}
+
+/// How many events rounds execute of a world that is finished, where they leave what the run on one thread leaves.
+fn executed<R: Threads + Wait + Sync>(
+    rt: &R,
+    alloc: Global,
+    world: World<Photo>,
+    config: &Config,
+) -> Result<Option<u64>, Fail> {
+    let want = in_order(alloc, config)?;
+    let Ok((outcome, traffic)) = run(rt, alloc, world, plan(END), &Open) else {
+        return Err(Fail::from("run"));
+    };
+    Ok(agree(&outcome, &want).then_some(traffic.executed))
 }
 
 #[test]
 fn a_schedule_takes_a_straggler_back_and_commits_all(rt: HostRuntime) -> Result<(), Fail> {
-    let alloc = rt.alloc();
     let config = config()?;
-    let steps = [
-        Execute(0),
-        Execute(0),
-        Deliver(0),
-        Execute(1),
-        Deliver(0),
-        Execute(0),
-        Undo(0),
-        Execute(0),
-        Execute(0),
-        Collect(END),
-    ];
-    let (world, answers) = opened(alloc, &config)?.run_steps(alloc, &steps)?;
-    for (number, answer) in answers.iter().enumerate() {
-        let want = match number {
-            5 => Answer::Refused(StepFault::Straggler),
-            _ => Answer::Done,
-        };
-        assert!(rt; *answer == want);
-    }
-    assert!(rt; world.finished());
-    let Ok((outcome, traffic)) = run(&rt, alloc, world, plan(END), &Open) else {
-        return Err(Fail::from("run"));
-    };
-    assert_eq!(rt; traffic.executed, 0);
-    assert!(rt; agree(&outcome, &in_order(alloc, &config)?));
+    let (world, is_as_told) = scheduled(rt.alloc(), &config)?;
+    assert!(rt; is_as_told);
+    assert!(rt; executed(&rt, rt.alloc(), world, &config)? == Some(0));
     Ok(())
 }
 
 #[test]
 fn a_window_holds_back_what_would_be_undone(rt: HostRuntime) -> Result<(), Fail> {
-    let gate = Handshake::new(PATIENCE);
-    let held = traffic(&rt, rt.alloc(), plan(1), &gate)?;
+    let (held, _saw_both, misses) = held(&rt, rt.alloc(), plan(1))?;
     assert_eq!(rt; (held.rounds, held.undone, held.ring), (2, 0, 2));
-    assert_eq!(rt; gate.misses(), 0);
+    assert_eq!(rt; misses, 0);
     Ok(())
 }
 

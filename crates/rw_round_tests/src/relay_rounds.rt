@@ -94,16 +94,24 @@ fn lead<R: Threads + Wait + Sync>(
     outcome.journals == want.journals && outcome.states == want.states
 }
 
+/// Whether rounds lead to the outcome in order, from the beginning and from the world that this seed draws.
+fn both_lead<R: Threads + Wait + Sync>(
+    rt: &R,
+    alloc: Global,
+    seed: u64,
+    plan: Plan,
+) -> Result<(bool, bool), Fail> {
+    let want = in_order(alloc)?;
+    let from_opened = lead(rt, alloc, opened(alloc, u64::MAX)?, plan, &want);
+    let from_drawn = lead(rt, alloc, drawn(alloc, seed)?, plan, &want);
+    Ok((from_opened, from_drawn))
+}
+
 #[test]
 fn rounds_lead_to_the_outcome_in_order(rt: HostRuntime) -> Result<(), Fail> {
-    let alloc = rt.alloc();
-    let want = in_order(alloc)?;
     for (seed, of) in (0..).zip(PLANS) {
-        let plan = plan(of, 1_048_576);
-        let from_drawn = lead(&rt, alloc, drawn(alloc, seed)?, plan, &want);
-        assert!(rt; from_drawn, "plan {seed}, from a world that was drawn");
-        let from_opened = lead(&rt, alloc, opened(alloc, u64::MAX)?, plan, &want);
-        assert!(rt; from_opened, "plan {seed}");
+        let lead = both_lead(&rt, rt.alloc(), seed, plan(of, 1_048_576))?;
+        assert!(rt; lead == (true, true), "plan {seed}");
     }
     Ok(())
 }
@@ -120,22 +128,21 @@ fn one_round<R: Threads + Wait + Sync>(rt: &R, alloc: Global) -> Result<Sim<Rela
     }
 }
 
-#[test]
-fn a_round_tells_its_floor(rt: HostRuntime) -> Result<(), Fail> {
-    let sim = one_round(&rt, rt.alloc())?;
-    assert!(rt; (sim.floor(), sim.traffic().executed) == (8, 2));
-    Ok(())
+/// The floor of one round, how many events it executes, and whether the first parcel is all that it commits.
+fn told_of_one_round<R: Threads + Wait + Sync>(
+    rt: &R,
+    alloc: Global,
+) -> Result<(u64, u64, bool), Fail> {
+    let sim = one_round(rt, alloc)?;
+    let (floor, executed) = (sim.floor(), sim.traffic().executed);
+    let world = sim.into_world();
+    let has_first = world.journal(0) == [first()].as_slice() && world.journal(1).is_empty();
+    Ok((floor, executed, has_first))
 }
 
-/// Whether the first parcel is all that is committed.
-fn has_committed_first(world: &World<Relay>) -> bool {
-    world.journal(0) == [first()].as_slice() && world.journal(1).is_empty()
-}
-
 #[test]
-fn a_round_commits_what_is_before_its_floor(rt: HostRuntime) -> Result<(), Fail> {
-    let world = one_round(&rt, rt.alloc())?.into_world();
-    assert!(rt; has_committed_first(&world));
+fn a_round_tells_its_floor_and_commits_what_is_before_it(rt: HostRuntime) -> Result<(), Fail> {
+    assert_eq!(rt; told_of_one_round(&rt, rt.alloc())?, (8, 2, true));
     Ok(())
 }
 

@@ -93,23 +93,45 @@ fn message(event: Event<Parcel>) -> Letter<Parcel>
     Letter { event, anti: false }
 }
 
-#[test]
-fn a_turn_executes_what_came_and_sends_it_on(rt: HostRuntime) -> Result<(), Fail> {
-    let alloc = rt.alloc();
+/// How many of its two events a turn of worker 0 executes.
+fn executed_in_a_turn(
+    alloc: Global,
+    port: Port<Letter<Parcel>>,
+    seat: Seat,
+    board: &Board,
+) -> Result<u64, Fail>
+    requires port { (port.worker ≡ 0) × IsWide 2 port }
+    requires seat { seat.board ≡ board.now.board }
+{
     let relay = Relay::new(10, u64::MAX).ok_or("relay")?;
-    let (port, mut others_port) = two_ports(alloc)?;
-    let (board, seat, mut others_seat) = two_seats(alloc)?;
     let start = station(0, 0, 0);
     let (coming, on_its_way) = (parcel(8, 0, 1, 0, 4), message(parcel(5, 0, 0, 0, 3)));
     let worker = first_worker(alloc, &relay, start, coming, on_its_way, port, seat)?;
-    let (_worker, executed) = worker.turn(alloc, &relay, &board)?;
+    let (_worker, executed) = worker.turn(alloc, &relay, board)?;
+    Ok(executed)
+}
+
+/// That number, what then comes to worker 1, and the least time on the board.
+fn one_turn(alloc: Global) -> Result<(u64, [Option<Letter<Parcel>>; 3], u64), Fail> {
+    let (port, mut others_port) = two_ports(alloc)?;
+    let (board, seat, mut others_seat) = two_seats(alloc)?;
+    let executed = executed_in_a_turn(alloc, port, seat, &board)?;
+    let came = [
+        others_port.receive(0),
+        others_port.receive(0),
+        others_port.receive(0),
+    ];
+    Ok((executed, came, board.floor(&mut others_seat)))
+}
+
+#[test]
+fn a_turn_executes_what_came_and_sends_it_on(rt: HostRuntime) -> Result<(), Fail> {
+    let (executed, came, floor) = one_turn(rt.alloc())?;
     assert!(rt; executed == 2);
     // Both were passed on through the ring, the earlier one first, and the least of their times is on the board.
     let first_on = message(parcel(15, 1, 0, 1, 2));
     let second_on = message(parcel(18, 1, 1, 1, 3));
-    assert!(rt; others_port.receive(0) == Some(first_on));
-    assert!(rt; others_port.receive(0) == Some(second_on));
-    assert!(rt; others_port.receive(0).is_none());
-    assert!(rt; board.floor(&mut others_seat) == 15);
+    assert!(rt; came == [Some(first_on), Some(second_on), None]);
+    assert!(rt; floor == 15);
     Ok(())
 }

@@ -66,26 +66,40 @@ fn is_left(left: &Left<Letter<u64>>, letter: Letter<u64>) -> bool {
         && left.between(1, 1).is_empty()
 }
 
+// Whether a ring of one slot takes a letter, refuses the next one until the first has come, and keeps what does not come.
+fn keeps_to_one_slot(alloc: Global, x: Letter<u64>, y: Letter<u64>) -> Result<bool, Fail> {
+    let (mut first, mut second) = two_ports(alloc)?;
+    let sent = [first.send(1, x), first.send(1, y)];
+    let came = [second.receive(0), second.receive(0)];
+    let sent_later = first.send(1, y);
+    let left = settle_two(alloc, first, second)?;
+    Ok(
+        sent == [Ok(()), Err(y)]
+            && came == [Some(x), None]
+            && sent_later == Ok(())
+            && is_left(&left, y)
+            && left.into_lists().len() == 2,
+    )
+}
+
 #[test]
 fn a_ring_of_one_slot(rt: HostRuntime) -> Result<(), Fail> {
-    let (mut first, mut second) = two_ports(rt.alloc())?;
-    let (x, y) = (letter(0, 7), letter(0, 8));
-    assert!(rt; first.send(1, x) == Ok(()));
-    assert!(rt; first.send(1, y) == Err(y));
-    assert!(rt; second.receive(0) == Some(x));
-    assert!(rt; second.receive(0).is_none());
-    assert!(rt; first.send(1, y) == Ok(()));
-    let left = settle_two(rt.alloc(), first, second)?;
-    assert!(rt; is_left(&left, y));
-    assert!(rt; left.into_lists().len() == 2);
+    assert!(rt; keeps_to_one_slot(rt.alloc(), letter(0, 7), letter(0, 8))?);
     Ok(())
+}
+
+// Which worker each of two ports is for, and for how many.
+fn told_by_two(alloc: Global) -> Result<[(usize, usize); 2], Fail> {
+    let (first, second) = two_ports(alloc)?;
+    Ok([
+        (first.worker(), first.workers()),
+        (second.worker(), second.workers()),
+    ])
 }
 
 #[test]
 fn each_port_knows_its_worker(rt: HostRuntime) -> Result<(), Fail> {
-    let (first, second) = two_ports(rt.alloc())?;
-    assert!(rt; (first.worker(), first.workers()) == (0, 2));
-    assert!(rt; (second.worker(), second.workers()) == (1, 2));
+    assert!(rt; told_by_two(rt.alloc())? == [(0, 2), (1, 2)]);
     Ok(())
 }
 
@@ -121,14 +135,21 @@ fn next_number(port: &mut Port<u64, Counting>, from: usize) -> Option<u64>
     port.receive(from)
 }
 
+// Whether the port of a worker that is gone is deserted, before and after it goes, and what number it sent.
+fn sent_and_gone(alloc: Global) -> Result<([bool; 2], Option<u64>), Fail> {
+    let (mut first, mut second) = two_counting(alloc)?;
+    if first.send(1, 0).is_err() {
+        return Err(Fail::from("refused"));
+    }
+    let before = second.is_deserted();
+    drop(first);
+    let after = second.is_deserted();
+    Ok(([before, after], next_number(&mut second, 0)))
+}
+
 #[test]
 fn a_port_of_numbers_under_a_protocol(rt: HostRuntime) -> Result<(), Fail> {
-    let (mut first, mut second) = two_counting(rt.alloc())?;
-    assert!(rt; first.send(1, 0) == Ok(()));
-    assert!(rt; !second.is_deserted());
-    drop(first);
-    assert!(rt; second.is_deserted());
-    assert!(rt; next_number(&mut second, 0) == Some(0));
+    assert!(rt; sent_and_gone(rt.alloc())? == ([false, true], Some(0)));
     Ok(())
 }
 
@@ -347,15 +368,22 @@ fn agrees(logs: &[Log], left: &Left<Letter<u64>>, from: usize, to: usize) -> boo
     received.iter().chain(left.iter()).eq(sent.iter())
 }
 
+// Whether between three workers, each in a thread of its own, no letter is lost.
+fn none_is_lost<R: Threads + Sync>(rt: &R, alloc: Global) -> Result<bool, Fail> {
+    let ports = open(alloc, 3, 4)?;
+    let results = trade_all(rt, alloc, ports)?;
+    let traders = all_ok(alloc, results)?;
+    let (ports, logs) = split(alloc, traders)?;
+    let left = settle(alloc, ports)?;
+    let ways = [(0, 1), (0, 2), (1, 0), (1, 2), (2, 0), (2, 1)];
+    Ok(
+        ways.into_iter()
+            .all(|(from, to)| agrees(&logs, &left, from, to)),
+    )
+}
+
 #[test]
 fn three_threads_lose_nothing(rt: HostRuntime) -> Result<(), Fail> {
-    let ports = open(rt.alloc(), 3, 4)?;
-    let results = trade_all(&rt, rt.alloc(), ports)?;
-    let traders = all_ok(rt.alloc(), results)?;
-    let (ports, logs) = split(rt.alloc(), traders)?;
-    let left = settle(rt.alloc(), ports)?;
-    for (from, to) in [(0, 1), (0, 2), (1, 0), (1, 2), (2, 0), (2, 1)] {
-        assert!(rt; agrees(&logs, &left, from, to), "from {from} to {to}");
-    }
+    assert!(rt; none_is_lost(&rt, rt.alloc())?);
     Ok(())
 }

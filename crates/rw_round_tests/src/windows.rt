@@ -214,17 +214,29 @@ fn what_windows_leave_ends_as_the_run_in_order(rt: HostRuntime) -> Result<(), Fa
     Ok(())
 }
 
+/// How many balls windows from the beginning on execute and leave, and the report of their states.
+fn counted<R: Threads + Wait + Sync>(
+    rt: &R,
+    alloc: Global,
+    workers: u32,
+    end: u64,
+) -> Result<(u64, usize, Report), Fail>
+    requires workers { (1 ≤ workers) × (workers ≤ 16) }
+{
+    let phold = setting()?;
+    let left = first_windows(rt, alloc, &phold, workers, end)?;
+    let report = report_of(left.states.as_slice());
+    Ok((left.executed, left.events.len(), report))
+}
+
 // No ball comes at tick 4000 or later. Worked out by a second implementation, in Python.
 #[test]
 fn windows_behind_the_last_ball_leave_nothing(rt: HostRuntime) -> Result<(), Fail> {
-    let phold = setting()?;
-    let left = first_windows(&rt, rt.alloc(), &phold, 2, 4000)?;
     let expected = Report {
         events: 41004,
         checksum: 0xafec_247c_1e93_e9ba,
     };
-    assert!(rt; left.events.is_empty());
-    assert!(rt; report_of(left.states.as_slice()) == expected);
+    assert!(rt; counted(&rt, rt.alloc(), 2, 4000)? == (41004, 0, expected));
     Ok(())
 }
 
@@ -250,18 +262,47 @@ fn workers_count_what_they_execute_and_hear_of(rt: HostRuntime) -> Result<(), Fa
     Ok(())
 }
 
+/// What windows leave that go on where others ended, none of it before their end.
+fn further<R: Threads + Wait + Sync>(
+    rt: &R,
+    alloc: Global,
+    phold: &Phold,
+    left: Left<Phold>,
+    workers: u32,
+    end: u64,
+) -> Result<Left<Phold>, Fail>
+    requires ready { IsReady of_phold.ghosts phold.now left.states.items left.events.items }
+    requires workers { (1 ≤ workers) × (workers ≤ 16) }
+    ensures ready { IfOk result (λ l.
+        IsReady of_phold.ghosts phold.now l.states.items l.events.items) }
+{
+    let left = in_windows(rt, alloc, phold, left.states, left.events, workers, end)?;
+    if is_late(&left, end) {
+        Ok(left)
+    } else {
+        Err(Fail::from("a ball before the end is left"))
+    }
+}
+
+/// Whether windows in pieces, of which one has nothing to do, and then a run in order, come to what a run in order does.
+fn pieces_agree<R: Threads + Wait + Sync>(
+    rt: &R,
+    alloc: Global,
+    phold: &Phold,
+) -> Result<bool, Fail> {
+    let want = in_order(alloc, phold)?;
+    let left = first_windows(rt, alloc, phold, 2, 500)?;
+    let left = further(rt, alloc, phold, left, 3, 501)?;
+    let left = further(rt, alloc, phold, left, 4, 501)?;
+    let none_again = left.executed == 0;
+    let left = further(rt, alloc, phold, left, 1, 2500)?;
+    Ok(none_again && leads_to(alloc, phold, left, want.as_slice())?)
+}
+
 #[test]
 fn a_run_in_pieces_ends_as_the_run_in_order(rt: HostRuntime) -> Result<(), Fail> {
     let phold = setting()?;
-    let want = in_order(rt.alloc(), &phold)?;
-    let left = first_windows(&rt, rt.alloc(), &phold, 2, 500)?;
-    let left = in_windows(&rt, rt.alloc(), &phold, left.states, left.events, 3, 501)?;
-    assert!(rt; is_late(&left, 501));
-    let left = in_windows(&rt, rt.alloc(), &phold, left.states, left.events, 4, 501)?;
-    assert_eq!(rt; left.executed, 0);
-    let left = in_windows(&rt, rt.alloc(), &phold, left.states, left.events, 1, 2500)?;
-    assert!(rt; is_late(&left, 2500));
-    assert!(rt; leads_to(rt.alloc(), &phold, left, want.as_slice())?);
+    assert!(rt; pieces_agree(&rt, rt.alloc(), &phold)?);
     Ok(())
 }
 
@@ -280,34 +321,46 @@ fn narrow_windows<R: Threads + Wait + Sync>(
     Ok(left)
 }
 
+/// Whether windows of one tick, and then a run in order, come to what a run in order does.
+fn narrow_agree<R: Threads + Wait + Sync>(
+    rt: &R,
+    alloc: Global,
+    phold: &Phold,
+) -> Result<bool, Fail> {
+    let want = in_order(alloc, phold)?;
+    let left = narrow_windows(rt, alloc, phold, 400)?;
+    let late = is_late(&left, 400);
+    Ok(late && leads_to(alloc, phold, left, want.as_slice())?)
+}
+
 #[test]
 fn a_lookahead_may_be_less_than_the_model_keeps_to(rt: HostRuntime) -> Result<(), Fail> {
     let phold = setting()?;
-    let want = in_order(rt.alloc(), &phold)?;
-    let left = narrow_windows(&rt, rt.alloc(), &phold, 400)?;
-    assert!(rt; is_late(&left, 400));
-    assert!(rt; leads_to(rt.alloc(), &phold, left, want.as_slice())?);
+    assert!(rt; narrow_agree(&rt, rt.alloc(), &phold)?);
     Ok(())
 }
 
 #[test]
 fn windows_up_to_time_0_leave_what_there_was(rt: HostRuntime) -> Result<(), Fail> {
-    let phold = setting()?;
-    let left = first_windows(&rt, rt.alloc(), &phold, 3, 0)?;
-    assert_eq!(rt; left.executed, 0);
-    assert_eq!(rt; left.events.len(), 200);
-    assert_eq!(rt; report_of(left.states.as_slice()).events, 0);
+    let (executed, left, report) = counted(&rt, rt.alloc(), 3, 0)?;
+    assert_eq!(rt; (executed, left, report.events), (0, 200, 0));
     Ok(())
+}
+
+/// How many events windows without balls execute and leave, and how many states.
+fn without_balls<R: Threads + Wait + Sync>(
+    rt: &R,
+    alloc: Global,
+) -> Result<(u64, usize, usize), Fail> {
+    let phold = setting()?;
+    let (starts, none) = beginning(alloc, &phold, 0, SEED)?;
+    let left = in_windows(rt, alloc, &phold, starts, none, 3, END)?;
+    Ok((left.executed, left.events.len(), left.states.len()))
 }
 
 #[test]
 fn windows_without_events_come_to_the_end(rt: HostRuntime) -> Result<(), Fail> {
-    let phold = setting()?;
-    let (starts, none) = beginning(rt.alloc(), &phold, 0, SEED)?;
-    let left = in_windows(&rt, rt.alloc(), &phold, starts, none, 3, END)?;
-    assert_eq!(rt; left.executed, 0);
-    assert!(rt; left.events.is_empty());
-    assert_eq!(rt; left.states.len(), 16);
+    assert_eq!(rt; without_balls(&rt, rt.alloc())?, (0, 0, 16));
     Ok(())
 }
 
@@ -403,28 +456,38 @@ fn no_worker_waits_for_one_that_is_exhausted(rt: HostRuntime) -> Result<(), Fail
     Ok(())
 }
 
-#[test]
-fn what_would_be_exhausted_after_the_end_is_left(rt: HostRuntime) -> Result<(), Fail> {
+/// How many events windows execute and leave before a station would be exhausted.
+fn before_exhaustion<R: Threads + Wait + Sync>(
+    rt: &R,
+    alloc: Global,
+) -> Result<(u64, usize), Fail> {
     let relay = Relay::new(3, 1).ok_or("relay")?;
     let first = parcel(5, 0, 0, 0, 9);
     let second = parcel(8, 0, 1, 0, 12);
-    let left = relay_in_windows(&rt, rt.alloc(), &relay, first, second, 2, 8)?;
-    assert_eq!(rt; left.executed, 1);
-    assert_eq!(rt; left.events.len(), 2);
+    let left = relay_in_windows(rt, alloc, &relay, first, second, 2, 8)?;
+    Ok((left.executed, left.events.len()))
+}
+
+#[test]
+fn what_would_be_exhausted_after_the_end_is_left(rt: HostRuntime) -> Result<(), Fail> {
+    assert_eq!(rt; before_exhaustion(&rt, rt.alloc())?, (1, 2));
     Ok(())
+}
+
+/// How many events five workers execute and leave of two stations, where the states are those of the run in order.
+fn by_five<R: Threads + Wait + Sync>(rt: &R, alloc: Global) -> Result<Option<(u64, usize)>, Fail> {
+    let relay = Relay::new(3, u64::MAX).ok_or("relay")?;
+    let first = parcel(5, 0, 0, 0, 9);
+    let second = parcel(8, 0, 1, 1, 12);
+    let (starts, initial) = parcels::beginning(alloc, first, second)?;
+    let want = last_states(alloc, &relay, starts, initial)?;
+    let left = relay_in_windows(rt, alloc, &relay, first, second, 5, 100)?;
+    Ok((left.states == want).then_some((left.executed, left.events.len())))
 }
 
 // Parcels of 9 and 12 hops, so 23 events.
 #[test]
 fn there_may_be_more_workers_than_processes(rt: HostRuntime) -> Result<(), Fail> {
-    let relay = Relay::new(3, u64::MAX).ok_or("relay")?;
-    let first = parcel(5, 0, 0, 0, 9);
-    let second = parcel(8, 0, 1, 1, 12);
-    let left = relay_in_windows(&rt, rt.alloc(), &relay, first, second, 5, 100)?;
-    let (starts, initial) = parcels::beginning(rt.alloc(), first, second)?;
-    let want = last_states(rt.alloc(), &relay, starts, initial)?;
-    assert_eq!(rt; left.executed, 23);
-    assert!(rt; left.events.is_empty());
-    assert!(rt; left.states == want);
+    assert!(rt; by_five(&rt, rt.alloc())? == Some((23, 0)));
     Ok(())
 }

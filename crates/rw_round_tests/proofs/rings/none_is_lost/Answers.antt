@@ -1,6 +1,6 @@
 use Rattle.std.proofs.Common.{◌<◌, subst, sym, ◌∙◌}
 use Rattle.rw_round_tests.proofs.LaterPorts.{all_stay}
-use Rattle.rw_round_tests.proofs.rings.three_threads_lose_nothing.Goals as goal
+use Rattle.rw_round_tests.proofs.rings.none_is_lost.Goals as goal
 
 pub settle-requires : goal.settle-requires
 settle-requires g c =
