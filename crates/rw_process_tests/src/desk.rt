@@ -187,24 +187,73 @@ fn make<M: Model + Copy>(
         Call::ExecuteNext => lp.execute_next(alloc, model, out),
         Call::UndoOne => lp.undo_one(alloc, model, out),
         Call::UndoLazily => lp.undo_lazily(alloc, model),
-        Call::Deliver(letter) if is_here(model, number, &letter) => lp.deliver(letter, out),
-        Call::Arrive(letter) if is_here(model, number, &letter) => {
-            let lp = lp.arrive(alloc, model, letter, out)?;
-            Ok((lp, Answer::Done))
-        }
-        Call::ArriveLazily(letter) if is_here(model, number, &letter) => {
-            let lp = lp.arrive_lazily(alloc, model, letter, out)?;
-            Ok((lp, Answer::Done))
-        }
-        Call::Deliver(_) | Call::Arrive(_) | Call::ArriveLazily(_) => {
-            Ok((lp, Answer::Refused(StepFault::NoSuchProcess)))
-        }
-        Call::Collect(time) if time <= lp.least() => {
-            let lp = lp.collect(time)?;
-            Ok((lp, Answer::Done))
-        }
-        Call::Collect(_) => Ok((lp, Answer::Refused(StepFault::AboveFloor))),
+        Call::Deliver(letter) => deliver(model, number, lp, letter, out),
+        Call::Arrive(letter) => arrive(alloc, model, number, lp, letter, out),
+        Call::ArriveLazily(letter) => arrive_lazily(alloc, model, number, lp, letter, out),
+        Call::Collect(time) => collect(lp, time),
     }
+}
+
+fn deliver<M: Model>(
+    model: &M,
+    number: u32,
+    lp: Lp<M>,
+    letter: Letter<M::Body>,
+    out: &mut Vec<Letter<M::Body>>,
+) -> Result<(Lp<M>, Answer), Refusal>
+    requires model { model.now ≡ lp.model }
+    requires number { number ≡ lp.number }
+    ensures same { IfOk result (λ r. (r.0.model ≡ lp.model) × (r.0.number ≡ lp.number)) }
+{
+    if !is_here(model, number, &letter) {
+        return Ok((lp, Answer::Refused(StepFault::NoSuchProcess)));
+    }
+    lp.deliver(letter, out)
+}
+
+fn arrive<M: Model>(
+    alloc: Global,
+    model: &M,
+    number: u32,
+    lp: Lp<M>,
+    letter: Letter<M::Body>,
+    out: &mut Vec<Letter<M::Body>>,
+) -> Result<(Lp<M>, Answer), Refusal>
+    requires model { model.now ≡ lp.model }
+    requires number { number ≡ lp.number }
+    ensures same { IfOk result (λ r. (r.0.model ≡ lp.model) × (r.0.number ≡ lp.number)) }
+{
+    if !is_here(model, number, &letter) {
+        return Ok((lp, Answer::Refused(StepFault::NoSuchProcess)));
+    }
+    Ok((lp.arrive(alloc, model, letter, out)?, Answer::Done))
+}
+
+fn arrive_lazily<M: Model>(
+    alloc: Global,
+    model: &M,
+    number: u32,
+    lp: Lp<M>,
+    letter: Letter<M::Body>,
+    out: &mut Vec<Letter<M::Body>>,
+) -> Result<(Lp<M>, Answer), Refusal>
+    requires model { model.now ≡ lp.model }
+    requires number { number ≡ lp.number }
+    ensures same { IfOk result (λ r. (r.0.model ≡ lp.model) × (r.0.number ≡ lp.number)) }
+{
+    if !is_here(model, number, &letter) {
+        return Ok((lp, Answer::Refused(StepFault::NoSuchProcess)));
+    }
+    Ok((lp.arrive_lazily(alloc, model, letter, out)?, Answer::Done))
+}
+
+fn collect<M: Model>(lp: Lp<M>, time: u64) -> Result<(Lp<M>, Answer), Refusal>
+    ensures same { IfOk result (λ r. (r.0.model ≡ lp.model) × (r.0.number ≡ lp.number)) }
+{
+    if time > lp.least() {
+        return Ok((lp, Answer::Refused(StepFault::AboveFloor)));
+    }
+    Ok((lp.collect(time)?, Answer::Done))
 }
 
 /// Whether a letter may be handed to the process.
