@@ -6,7 +6,7 @@ use Rattle.std.proofs.lemmas.Bool.{lt-ltb, le-ltb}
 use Rattle.rw_vt.specs.declared.event.Event.{Event}
 use Rattle.rw_vt.specs.declared.model.Model.{Ghosts}
 use Rattle.rw_vt.specs.Order.{Each}
-use Rattle.rw_vt.specs.System.{System, state_after, journal_below, map_from, IsOutcome, IsReady}
+use Rattle.rw_vt.specs.System.{System, system, state_after, journal_below, map_from, IsOutcome, IsReady}
 use Rattle.rw_vt.proofs.Bags.{Each-append, filter_all, filter_none}
 use Rattle.rw_vt.proofs.Runs.{IsLawful}
 use Rattle.rw_vt.proofs.Laws.{Laws, lawful}
@@ -56,6 +56,13 @@ module _ {S B : Type 0} (y : System S B) {WellFormed : ℕ → S → Type 0} (la
     journals_are = by_starts (λ x. x.start) (λ x. x.committed) (λ q _. journal_below y (2 ^ 40) q) 0 w.processes (λ i j x there q. committed_in_order j x (at_place i j x there q)) ∙ ap (map_from 0 (λ q _. journal_below y (2 ^ 40) q)) sound.starts;
     states_are = by_starts (λ x. x.start) (λ x. x.state) (λ q s. state_after (y.rules.step q) s (journal_below y (2 ^ 40) q)) 0 w.processes (λ i j x there q. state_in_order j x (at_place i j x there q)) ∙ ap (map_from 0 (λ q s. state_after (y.rules.step q) s (journal_below y (2 ^ 40) q))) sound.starts;
   }
+
+-- a system is that of its model, its starts and its initial events
+pub same_system : {M S B U : Type 0} (model : Ghosts M S B U) (order : B → B → Ordering) (v w : Simulation M S B) → v.model ≡ w.model → v.starts ≡ w.starts → v.initial ≡ w.initial → system_of model order v ≡ system_of model order w
+same_system model order v w same starts initial =
+    ap (λ m. system model order m v.starts v.initial) same
+    ∙ ap (λ s. system model order w.model s v.initial) starts
+    ∙ ap (system model order w.model w.starts) initial
 
 module _ {M S B U : Type 0} {model : Ghosts M S B U} {order : B → B → Ordering} where
   -- the same for a world of a lawful model

@@ -4,7 +4,7 @@ use Rattle.std.specs.Prelude.{◌⊎◌, slice_get, slice_index_or, slice_set}
 use Rattle.std.specs.declared.cmp.Ordering.{Ordering}
 use Rattle.std.proofs.lemmas.Bool.{cases_eq, cases_lt}
 use Rattle.std.proofs.lemmas.List.{get_or_past, get_or-set_same, get_or-set_other, set_past}
-use Rattle.std.proofs.lemmas.Option.{slice_get_cases}
+use Rattle.std.proofs.lemmas.Option.{slice_get_cases, slice_get_read}
 use Rattle.rw_vt.specs.declared.event.Event.{Event}
 use Rattle.rw_vt.specs.declared.model.Model.{Ghosts}
 use Rattle.rw_vt.specs.Order.{event_cmp, AtMost, Each}
@@ -28,6 +28,10 @@ module _ {M S B : Type 0} (xs : List (LogicalProcess M S B)) (k : ℕ) (l : Logi
       go : (place ≡ k) ⊎ (place ≡ k → ⊥) → P u
       go (inl e) = let same : Some l ≡ Some u = sym there ∙ ap (slice_get xs) (sym e) ∙ at in let is : l ≡ u = cc in subst P is here
       go (inr n) = before place u (omega arith) at
+
+-- what is read at a place stands there, in the same list
+pub read_there : {A : Type 0} (xs ys : List A) (place : ℕ) (x : A) → xs ≡ ys → place < length ys → x ≡ slice_index_or xs place x → slice_get ys place ≡ Some x
+read_there xs ys place x same within is = ap (λ ls. slice_get ls place) (sym same) ∙ slice_get_read xs (length xs) place x refl (omega (arith, ap length same)) is
 
 -- One changes
 
@@ -62,12 +66,28 @@ module _ {M S B : Type 0} (cmp : Event B → Event B → Ordering) (xs : List (L
           subst (IsNextOf cmp l.process.pending) (sym (get_or-set_other next place k e None d))
           (tells.at k l (omega (arith, length_set next place e)) (sym (get_set-other xs place k z d) ∙ there))
 
+-- nothing is told where there is no place
+pub tells_nothing : {M S B : Type 0} (cmp : Event B → Event B → Ordering) (xs : List (LogicalProcess M S B)) (next : List (Option (Event B))) → next ≡ [] → TellsNext cmp xs next
+tells_nothing cmp xs next none = record { at = λ place l within there. absurd (omega (arith, ap length none)) }
+
 -- What is told of some
 
 module _ {M S B : Type 0} (cmp : Event B → Event B → Ordering) (xs : List (LogicalProcess M S B)) where
   -- what is told of those before k
   abbrev pub TellsBefore : List (Option (Event B)) → ℕ → Type 0
   TellsBefore next k = (place : ℕ) (l : LogicalProcess M S B) → place < k → slice_get xs place ≡ Some l → IsNextOf cmp l.process.pending (slice_index_or next place None)
+
+  -- one more is told
+  pub tells_more : (next : List (Option (Event B))) (k : ℕ) (x : LogicalProcess M S B) (e : Option (Event B)) → slice_get xs k ≡ Some x → k < length next → IsNextOf cmp x.process.pending e → TellsBefore next k → TellsBefore (slice_set next k e) (k + 1)
+  tells_more next k x e here within is before place l below there = go (cases_eq place k)
+    where
+      go : (place ≡ k) ⊎ (place ≢ k) → IsNextOf cmp l.process.pending (slice_index_or (slice_set next k e) place None)
+      go (inl eq) =
+          let same : Some x ≡ Some l = sym here ∙ ap (slice_get xs) (sym eq) ∙ there in
+          let it : x ≡ l = cc in
+          let told : slice_index_or (slice_set next k e) place None ≡ e = ap (λ i. slice_index_or (slice_set next k e) i None) eq ∙ get_or-set_same next k e None within in
+          subst (IsNextOf cmp l.process.pending) (sym told) (subst (λ u. IsNextOf cmp u.process.pending e) it is)
+      go (inr d) = subst (IsNextOf cmp l.process.pending) (sym (get_or-set_other next k place e None d)) (before place l (omega arith) there)
 
 -- The least of all
 

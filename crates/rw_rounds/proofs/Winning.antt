@@ -141,7 +141,7 @@ module _ {B : Type 0} {cmp : Event B → Event B → Ordering} (n : ℕ) (nodes 
       let long : place < length (drop n nodes) = omega (arith, length-drop n nodes, t.size) in
       get_or-map (option_map (λ (e : Entry B). e.event)) (drop n nodes) place None None long ∙ ap (option_map (λ (e : Entry B). e.event)) (get_or-drop n nodes place None)
 
-  length-leaves : length (leaves n nodes) ≡ n
+  pub length-leaves : length (leaves n nodes) ≡ n
   length-leaves = length-map (drop n nodes) (option_map (λ (e : Entry B). e.event)) ∙ (omega (arith, length-drop n nodes, t.size))
 
   leaf_within : (place : ℕ) (f : Event B) → slice_index_or (leaves n nodes) place None ≡ Some f → place < n
@@ -236,6 +236,15 @@ written n nodes place event = slice_set nodes (n + place) (placed_at place event
 module _ {B : Type 0} {cmp : Event B → Event B → Ordering} (n : ℕ) (nodes : List (Option (Entry B))) (t : IsTournament cmp n nodes) (place : ℕ) (within : place < n) (event : Option (Event B)) where
   length-written : length (written n nodes place event) ≡ 2 * n
   length-written = length-set nodes (n + place) (placed_at place event) ∙ t.size
+
+  -- all nodes but the one above what was written are played as before
+  pub written_others : (k : ℕ) → 0 < k → 2 * k + 1 < length (written n nodes place event) → k ≢ (n + place) / 2 → IsPlayed cmp (written n nodes place event) k
+  written_others k above low apart =
+      let below : k < n = omega (arith, length-written) in
+      stays cmp nodes (written n nodes place event) k (other k (omega arith)) (other (2 * k) (omega arith)) (other (2 * k + 1) (omega arith)) (t.played k above below)
+    where
+      other : (j : ℕ) → j ≢ n + place → node_at (written n nodes place event) j ≡ node_at nodes j
+      other j d = get_or-set_other nodes (n + place) j (placed_at place event) None d
 
   module _ (after : List (Option (Entry B))) (long : length after ≡ length (written n nodes place event)) (played : (k : ℕ) → 0 < k → 2 * k + 1 < length (written n nodes place event) → IsPlayed cmp after k) (same : (k : ℕ) → length (written n nodes place event) ≤ 2 * k → node_at after k ≡ node_at (written n nodes place event) k) where
     here_placed : (e : Entry B) → (placed_at place event) ≡ Some e → e.place ≡ place

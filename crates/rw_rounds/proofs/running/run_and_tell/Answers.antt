@@ -1,5 +1,10 @@
-use Rattle.std.proofs.Common.{ap, ◌∙◌, arith, Err}
+use Rattle.std.proofs.Common.{◌≡◌, map, ap, ◌∙◌, subst, arith, Err}
+use Rattle.std.proofs.lemmas.Result.{IfOk-from_err}
+use Rattle.rw_vt.specs.Limits.{end_of_time}
+use Rattle.rw_vt.specs.System.{IsOutcome}
+use Rattle.rw_world.specs.Calls.{system_of}
 use Rattle.rw_world.specs.WorldState.{floor}
+use Rattle.rw_rounds.proofs.Ending.{same_system}
 use Rattle.rw_rounds.proofs.Stopping.{memory-is-no-plan, end-is-no-plan, still-bad-plan}
 use Rattle.rw_rounds.proofs.running.run_and_tell.Goals as goal
 
@@ -59,3 +64,32 @@ returns-in_err-sim-2-clause-plan g c = (
 
 pub returns-clause-plan : goal.returns-clause-plan
 returns-clause-plan g c = ((λ is. cc), λ out. (let refused = c.in_ok-sim.ensures.plan.1 out in cc))
+
+pub by-requires : goal.by-requires
+by-requires g c = record { plan = c.plan.ensures }
+
+pub returns-in_err-sim-clause-outcome : goal.returns-in_err-sim-clause-outcome
+returns-in_err-sim-clause-outcome g c = IfOk-from_err c.from_residual.result _ c.from_residual.ensures.0
+
+pub returns-in_err-sim-2-clause-outcome : goal.returns-in_err-sim-2-clause-outcome
+returns-in_err-sim-2-clause-outcome g c = IfOk-from_err c.from_residual-in_err-sim-2.result _ c.from_residual-in_err-sim-2.ensures.0
+
+pub returns-in_err-outcome-clause-outcome : goal.returns-in_err-outcome-clause-outcome
+returns-in_err-outcome-clause-outcome g c = IfOk-from_err c.from_residual-in_err-outcome.result _ c.from_residual-in_err-outcome.ensures.0
+
+pub returns-then-reached-eq-END-clause-outcome : goal.returns-then-reached-eq-END-clause-outcome
+returns-then-reached-eq-END-clause-outcome g c =
+    let known = c.loop-round.invariant in
+    let round = c.in_ok-sim-2.ensures.round in
+    let by = c.by.ensures.is in
+    let taken = c.into_world.ensures.world in
+    let same : system_of g.M.Model g.M.Body.Ord.cmp c.into_world.result ≡ system_of g.M.Model g.M.Body.Ord.cmp c.args.world =
+    same_system g.M.Model g.M.Body.Ord.cmp c.into_world.result c.args.world
+    (ap (λ s. s.model) taken ∙ round.model_is ∙ ap (λ s. s.simulation.model) by ∙ known.model)
+    (ap (λ s. s.starts) taken ∙ round.starts_are ∙ ap (λ s. s.simulation.starts) by ∙ known.starts)
+    (ap (λ s. s.initial) taken ∙ round.initial_are ∙ ap (λ s. s.simulation.initial) by ∙ known.initial) in
+    let its = c.in_ok-outcome.outcome in
+    subst (λ y. IsOutcome y end_of_time (map (λ j. j.items) its.journals.items) its.states.items) same c.in_ok-outcome.ensures.outcome
+
+pub returns-clause-outcome : goal.returns-clause-outcome
+returns-clause-outcome g c = tt

@@ -1,4 +1,5 @@
 use Rattle.std.proofs.Common.{ap, ◌∙◌, arith, Err}
+use Rattle.std.proofs.lemmas.Result.{IfOk-from_err}
 use Rattle.rw_rounds.proofs.Stopping.{end-is-no-plan, still-bad-plan}
 use Rattle.rw_rounds.proofs.stretch.run_stretch.Goals as goal
 
@@ -38,3 +39,18 @@ returns-in_err-sim-2-clause-plan g c = (
 
 pub returns-clause-plan : goal.returns-clause-plan
 returns-clause-plan g c = ((λ is. cc), λ out. (let refused = c.in_ok-sim.ensures.plan.1 out in cc))
+
+pub by-requires : goal.by-requires
+by-requires g c = record { plan = c.plan.ensures }
+
+pub returns-in_err-sim-clause-system : goal.returns-in_err-sim-clause-system
+returns-in_err-sim-clause-system g c = IfOk-from_err c.from_residual.result _ c.from_residual.ensures.0
+
+pub returns-in_err-sim-clause-before : goal.returns-in_err-sim-clause-before
+returns-in_err-sim-clause-before g c = IfOk-from_err c.from_residual.result _ c.from_residual.ensures.0
+
+pub returns-in_err-sim-2-clause-system : goal.returns-in_err-sim-2-clause-system
+returns-in_err-sim-2-clause-system g c = IfOk-from_err c.from_residual-in_err-sim-2.result _ c.from_residual-in_err-sim-2.ensures.0
+
+pub returns-in_err-sim-2-clause-before : goal.returns-in_err-sim-2-clause-before
+returns-in_err-sim-2-clause-before g c = IfOk-from_err c.from_residual-in_err-sim-2.result _ c.from_residual-in_err-sim-2.ensures.0

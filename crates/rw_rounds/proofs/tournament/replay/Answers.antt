@@ -35,3 +35,18 @@ returns-then-not-play-clause-played g c =
 
 pub returns-clause-played : goal.returns-clause-played
 returns-clause-played g c = λ k above within. c.loop-node.invariant.others k above within (omega arith)
+
+pub loop-node-init : goal.loop-node-init
+loop-node-init g c = record { within = c.requires.changed; others = c.requires.others; same = λ k high. refl }
+
+pub play-requires : goal.play-requires
+play-requires g c = omega (arith, c.loop-node.invariant.within, c.loop-node.auto.nodes, c.requires.size, c.loop-node-test.true)
+
+pub returns-then-not-play-clause-same : goal.returns-then-not-play-clause-same
+returns-then-not-play-clause-same g c = λ k high. ap (λ ns. node_at ns k) (c.play.ensures.same c.if-not-play.true) ∙ c.loop-node.invariant.same k high
+
+pub loop-node-smaller : goal.loop-node-smaller
+loop-node-smaller g c = omega (arith, c.loop-node-test.true)
+
+pub returns-clause-same : goal.returns-clause-same
+returns-clause-same g c = c.loop-node.invariant.same

@@ -46,3 +46,9 @@ returns-clause-none g c =
     let top : node_at x.nodes.items 1 ≡ c.in_ok-get.field-0.now = ap (λ ns. node_at ns 1) (sym c.deref.ensures.value) ∙ get_or_default c.deref.result.now 1 None c.in_ok-get.field-0.now inside ∙ sym c.in_ok-get.ensures.lookup.1 in
     of_none c.as_ref.result c.in_ok-get.field-0.now ((place : ℕ) → slice_index_or c.args.self.now place None ≡ None) c.as_ref.ensures.value
     (λ none. subst (λ ls. (place : ℕ) → slice_index_or ls place None ≡ None) c.self.view_is (top_none x.places x.nodes.items c.self.invariant o (top ∙ none)))
+
+pub returns-in_err-get-clause-there : goal.returns-in_err-get-clause-there
+returns-in_err-get-clause-there g c = rw c.from_residual.ensures tt
+
+pub returns-in_err-get-clause-least : goal.returns-in_err-get-clause-least
+returns-in_err-get-clause-least g c = rw c.from_residual.ensures tt
