@@ -6,6 +6,7 @@ use rw_ripqwarp::{
 };
 use rw_trace::TraceFault;
 use std::alloc::Global;
+use std::io::Write;
 use std::sync::Wait;
 use std::test::Fail;
 use std::thread::Threads;
@@ -19,6 +20,18 @@ fn nothing_stored() -> Option<Config> {
     Config::new(1, 1, Policy::Off, shape, shape, 3, 3, 10)
 }
 
+/// What the simulator answers where nothing is stored.
+fn simulated<W: Write, R: Threads + Wait + Sync>(
+    rt: &R,
+    alloc: Global,
+    trace: &[u8],
+    mode: Mode,
+    out: &mut Out<W>,
+) -> Option<Result<Traffic, SimFault>> {
+    let config = nothing_stored()?;
+    Some(simulate(rt, alloc, trace, &config, mode, out))
+}
+
 /// How many bytes of the report such a writer holds, and how often it failed.
 fn held<R: Threads + Wait + Sync>(
     rt: &R,
@@ -27,9 +40,8 @@ fn held<R: Threads + Wait + Sync>(
     fails_in: u32,
     flush_fails: bool,
 ) -> Option<(usize, u64)> {
-    let config = nothing_stored()?;
     let mut out = Out::new(Pipe::new(alloc, most, fails_in, flush_fails));
-    let cut_off = match simulate(rt, alloc, TRACE, &config, Mode::Serial, &mut out) {
+    let cut_off = match simulated(rt, alloc, TRACE, Mode::Serial, &mut out)? {
         Ok(traffic) if traffic == Traffic::default() => false,
         Ok(_) => return None,
         Err(SimFault::Output) => true,
@@ -60,7 +72,7 @@ fn after_a_hiccup<R: Threads + Wait + Sync>(
     fails_at: u32,
 ) -> Option<(usize, u32, u64)> {
     let mut out = Out::new(Hiccup::new(alloc, fails_at));
-    let answer = simulate(rt, alloc, TRACE, &nothing_stored()?, Mode::Serial, &mut out);
+    let answer = simulated(rt, alloc, TRACE, Mode::Serial, &mut out)?;
     let failures = out.failures();
     let is_told = match answer {
         Ok(_) => failures == 0,
@@ -120,7 +132,7 @@ fn is_cut_off_at<R: Threads + Wait + Sync>(
     fails_in: u32,
 ) -> Option<bool> {
     let mut out = Out::new(Pipe::new(alloc, 1, fails_in, false));
-    let answer = simulate(rt, alloc, trace, &nothing_stored()?, mode, &mut out);
+    let answer = simulated(rt, alloc, trace, mode, &mut out)?;
     let is_whole = fails_in as usize == text.len();
     let is_told = match answer {
         Ok(_) => is_whole && out.failures() == 0,
@@ -160,7 +172,6 @@ fn without_workers<R: Threads + Wait + Sync>(
     alloc: Global,
     trace: &[u8],
 ) -> Option<(usize, SimFault)> {
-    let config = nothing_stored()?;
     let plan = Plan {
         workers: 0,
         turns: 16,
@@ -171,7 +182,7 @@ fn without_workers<R: Threads + Wait + Sync>(
         lazy: false,
     };
     let mut out = Out::new(Vec::new(alloc));
-    let fault = simulate(rt, alloc, trace, &config, Mode::Warp(plan), &mut out).err()?;
+    let fault = simulated(rt, alloc, trace, Mode::Warp(plan), &mut out)?.err()?;
     Some((out.into_inner().len(), fault))
 }
 
