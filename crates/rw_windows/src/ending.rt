@@ -89,14 +89,26 @@ impl<M: VtModel> Holdings<M> {
             received,
             ..
         } = share;
-        self.shares.push_back(VecDeque::from(states))?;
-        self.ports.push(port)?;
-        self.events.extend_from_slice(&events)?;
-        add_lists(&mut self.events, &away)?;
         self.executed = self.executed.wrapping_add(executed);
         self.received = self.received.wrapping_add(received);
+        add_events(&mut self.events, events, away)?;
+        self.ports.push(port)?;
+        self.shares.push_back(VecDeque::from(states))?;
         Ok(())
     }
+}
+
+/// Adds what still waits at a worker, and what it was to hand over.
+fn add_events<B: Copy>(
+    events: &mut Vec<Event<B>>,
+    waiting: Vec<Event<B>>,
+    away: Vec<Vec<Event<B>>>,
+) -> Result<(), NoMemory>
+    ensures more { OnOk result (events.new.items ≡ events.old.items
+        ++ waiting.items ++ flatten (map (λ l. l.items) away.items)) }
+{
+    events.extend_from_slice(&waiting)?;
+    add_lists(events, &away)
 }
 
 /// Takes the shares apart.

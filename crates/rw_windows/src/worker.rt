@@ -132,13 +132,22 @@ impl<M: VtModel> Worker<M> {
     pub(crate) fn into_share(self, alloc: Global) -> Result<Share<M>, AllocError>
         ensures is { IfOk result (λ s. IsReordered self s) }
     {
+        let mut worker = self;
+        let events = worker.pending.take_all(alloc)?;
+        Ok(worker.with_left(events))
+    }
+
+    /// The share that it leaves, with these events still to be executed.
+    fn with_left(self, events: Vec<Event<M::Body>>) -> Share<M>
+        ensures { result ≡ record self { waiting = events.items; reached = 0 } }
+    {
         let Worker {
             number,
             workers,
             end,
             lookahead,
             states,
-            mut pending,
+            pending: _,
             port,
             bells,
             away,
@@ -152,8 +161,7 @@ impl<M: VtModel> Worker<M> {
             starts,
             given,
         } = self;
-        let events = pending.take_all(alloc)?;
-        Ok(Share {
+        Share {
             number,
             workers,
             end,
@@ -170,7 +178,7 @@ impl<M: VtModel> Worker<M> {
             received,
             starts,
             given,
-        })
+        }
     }
 
     /// Whether it has executed all that is before the end, in the last window.

@@ -1,4 +1,4 @@
-use Rattle.std.proofs.Common.{◌∷◌, ◌++◌, [], map, ap, ◌∙◌, arith}
+use Rattle.std.proofs.Common.{◌+◌, ◌∷◌, ◌++◌, [], map, ap, ◌∙◌, append_assoc}
 use Rattle.std.proofs.lemmas.List.{map-append}
 use Rattle.rw_vt.specs.Order.{weigh}
 use Rattle.rw_vt.specs.System.{flatten}
@@ -7,12 +7,10 @@ use Rattle.rw_windows.proofs.ending.Holdings.add.Goals as goal
 
 pub returns-clause-events : goal.returns-clause-events
 returns-clause-events g c h =
-    let w = c.args.share in
-    let waiting = ap (weigh h) c.deref.ensures.value ∙ ap (λ v. weigh h v.waiting) c.share.view_is in
-    let away = ap (λ z. weigh h (flatten (map (λ l. l.items) z))) c.deref-2.ensures.value ∙ ap (λ v. weigh h (flatten v.away)) c.share.view_is in
-    let taken = ap (weigh h) c.in_ok-extend_from_slice.ensures.items ∙ weigh-append h c.args.self.now.events.items c.deref.result.now in
-    let more = ap (weigh h) c.in_ok-add_lists.ensures.more ∙ weigh-append h c.extend_from_slice.new.self.items (flatten (map (λ l. l.items) c.deref-2.result.now)) in
-    omega (arith, more, away, taken, waiting, weigh-append h w.waiting (flatten w.away))
+    let old = c.args.self.now.events.items in
+    ap (weigh h) (c.in_ok-add_events.ensures.more ∙ append_assoc old c.share.inside.events.items _)
+    ∙ weigh-append h old _
+    ∙ ap (λ v. weigh h old + weigh h (v.waiting ++ flatten v.away)) c.share.view_is
 
 pub returns-clause-shares : goal.returns-clause-shares
 returns-clause-shares g c =
