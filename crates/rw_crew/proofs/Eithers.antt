@@ -1,5 +1,5 @@
 -- What holds of jobs of either kind where all inputs are of one.
-use Rattle.std.proofs.Common.{◌≡◌, ℕ, zero, suc, ◌<◌, List, [], ◌∷◌, All, length, map, get_or, sym, subst, arith}
+use Rattle.std.proofs.Common.{◌≡◌, ℕ, zero, suc, ◌<◌, List, [], ◌∷◌, All, length, map, get_or, sym, subst, ap, ◌∙◌, arith}
 use Rattle.std.proofs.lemmas.List.{get_or-map}
 use Rattle.rw_crew.specs.declared.either.Either.{Either}
 use Rattle.rw_crew.specs.declared.either.Either.TheVariants.{First, Second}
@@ -32,3 +32,22 @@ pair_seen f R xs ys xs' ys' i d e came went lt long known =
     let b = subst (λ zs. R (get_or (map f xs) i (f d)) (get_or zs i (f e))) (sym went) a in
     let c = subst (λ z. R z (get_or (map f ys) i (f e))) (get_or-map f xs i d (f d) lt) b in
     subst (R (f (get_or xs i d))) (get_or-map f ys i e (f e) (omega (arith, long, lt))) c
+
+module _ {A B : Type 0} where
+  first_or : A → Either A B → A
+  first_or d (First a) = a
+  first_or d (Second b) = d
+
+  second_or : B → Either A B → B
+  second_or d (First a) = d
+  second_or d (Second b) = b
+
+  -- what is one of the first kind is one thing
+  pub same_first : (x : Either A B) (a a' : A) → x ≡ First a → x ≡ First a' → a ≡ a'
+  unfolding first_or
+  same_first x a a' e e' = ap (first_or a) (sym e ∙ e')
+
+  -- and so is what is one of the second kind
+  pub same_second : (x : Either A B) (b b' : B) → x ≡ Second b → x ≡ Second b' → b ≡ b'
+  unfolding second_or
+  same_second x b b' e e' = ap (second_or b) (sym e ∙ e')

@@ -54,6 +54,11 @@ pub one_done : {A C : Type 0} (h : C → A) (done done' : List C) (rest rest' wh
 one_done h done done' rest rest' whole x p e r same more =
     ap (λ z. map h z ++ rest') more ∙ (ap (λ z. z ++ rest') (map_push h done p) ∙ (append_assoc (map h done) (h p ∷ []) rest' ∙ (ap (λ z. map h done ++ (z ∷ rest')) same ∙ (ap (λ z. map h done ++ z) (sym r) ∙ e))))
 
+-- one more is made of a list that is walked, each through f
+pub one_made : {A C : Type 0} (f : A → C) (made made' : List C) (rest rest' whole : List A) (x : A) → made ++ map f rest ≡ map f whole → rest ≡ x ∷ rest' → made' ≡ made ++ f x ∷ [] → made' ++ map f rest' ≡ map f whole
+one_made f made made' rest rest' whole x e r more =
+    ap (λ z. z ++ map f rest') more ∙ (append_assoc made (f x ∷ []) (map f rest') ∙ (ap (λ z. made ++ map f z) (sym r) ∙ e))
+
 -- all are done
 pub all_walked : {A : Type 0} (done rest whole : List A) → done ++ rest ≡ whole → length rest ≡ 0 → done ≡ whole
 all_walked done rest whole e none = sym (append-nil done) ∙ ap (λ z. done ++ z) (sym (nil_from_length rest none)) ∙ e

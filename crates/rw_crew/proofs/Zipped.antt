@@ -1,5 +1,5 @@
 -- Lists that go together, place by place.
-use Rattle.std.proofs.Common.{◌≡◌, List, [], ◌∷◌, ◌++◌, length, sym, ap, ◌∙◌, subst, append_assoc}
+use Rattle.std.proofs.Common.{◌≡◌, List, [], ◌∷◌, ◌++◌, length, refl, sym, ap, ◌∙◌, subst, append_assoc}
 use Rattle.std.specs.List.{AllZip}
 use Rattle.rw_crew.proofs.Lists.{all_walked}
 
@@ -22,6 +22,10 @@ zip_through P Q S (a ∷ xs) (b ∷ ys) (c ∷ zs) step p q = (step a b c p.0 q.
 -- what is walked of a list goes with what is made
 abbrev pub IsWalkedWith : {A B : Type 0} → (A → B → Type 0) → List A → List A → List B → Type 0
 IsWalkedWith {A} R whole rest ys = (done : List A) × (done ++ rest ≡ whole) × AllZip R done ys
+
+-- nothing is walked yet
+pub walk_start : {A B : Type 0} (R : A → B → Type 0) (whole : List A) (ys : List B) → ys ≡ [] → IsWalkedWith R whole whole ys
+walk_start R whole ys none = ([], refl, subst (AllZip R []) (sym none) tt)
 
 -- one more is walked
 pub walk_on : {A B : Type 0} (R : A → B → Type 0) (whole rest rest' : List A) (ys ys' : List B) (x : A) (y : B) → IsWalkedWith R whole rest ys → rest ≡ x ∷ rest' → ys' ≡ ys ++ y ∷ [] → R x y → IsWalkedWith R whole rest' ys'

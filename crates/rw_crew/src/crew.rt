@@ -1,5 +1,6 @@
 ghost use Rattle.std.specs.Prelude.{◌≡◌, ◌<◌, ℕ, All, IfOk, length, slice_index_or};
 ghost use Rattle.std.specs.List.{AllZip};
+ghost use Rattle.std.specs.Vec.{vec_capacity, vec_len};
 ghost use Rattle.std.specs.Arc.{arc_value};
 ghost use Rattle.rw_crew.specs.Notes.{IsAsked, may_answer_with};
 ghost use Rattle.rw_crew.specs.declared.note.Note.TheVariants.{Done};
@@ -127,7 +128,7 @@ impl<'r, R: Wait, J: Job<T> + Drop, T: Drop> Hands<J, T> for Crew<'r, R, J, T> {
         let awaited = hand_out(alloc, self.rt, &mut self.helpers, &job, others)?;
         let result = job.run(own);
         let mut results = collect(alloc, self.rt, &self.helpers, awaited)?;
-        results.push(result)?;
+        results.push_reserved(result);
         let Some(job) = Arc::into_inner(job) else {
             return Err(Halt::NoThread);
         };
@@ -153,8 +154,8 @@ fn hand_out<J: Job<T> + Drop, T: Drop, R: Wait>(
         let Some(helper) = helpers.get_mut(awaited.len()) else {
             return Err(Halt::NoThread);
         };
-        let (task, answer) = ask(alloc, Arc::try_clone(job)?, input)?;
-        if helper.tasks.push(task).is_err() || helper.bell.send(rt, ()).is_err() {
+        let answer = hand(alloc, helper, job, input)?;
+        if helper.bell.send(rt, ()).is_err() {
             return Err(Halt::NoThread);
         }
         awaited.push_reserved(answer);
@@ -162,7 +163,24 @@ fn hand_out<J: Job<T> + Drop, T: Drop, R: Wait>(
     Ok(awaited)
 }
 
-/// The answers, in order, for which it waits.
+/// Hands the job out to one helper with an input, and gives where the answer comes. Rings no bell.
+fn hand<J: Job<T> + Drop, T: Drop>(
+    alloc: Global,
+    helper: &mut Helper<Task<J, T, Answer<J, T>>>,
+    job: &Arc<J>,
+    input: T,
+) -> Result<Awaited<J, T>, Halt>
+    requires takes { J.Takes (arc_value job.now) input }
+    ensures asked { IfOk result (λ r. IsAsked (arc_value job.now) input r.notes) }
+{
+    let (task, answer) = ask(alloc, Arc::try_clone(job)?, input)?;
+    if helper.tasks.push(task).is_err() {
+        return Err(Halt::NoThread);
+    }
+    Ok(answer)
+}
+
+/// The answers, in order, for which it waits, and room for one more.
 fn collect<J: Job<T> + Drop, T: Drop, R: Wait>(
     alloc: Global,
     rt: &R,
@@ -171,6 +189,7 @@ fn collect<J: Job<T> + Drop, T: Drop, R: Wait>(
 ) -> Result<Vec<Result<T, Refusal>>, Halt>
     ensures answers { IfOk result (λ r.
         AllZip (λ a done. may_answer_with J.Gives a.notes (Done done)) awaited.items r.items) }
+    ensures room { IfOk result (λ r. vec_len r < vec_capacity r) }
 {
     let mut results = Vec::with_capacity(alloc, awaited.len() + 1)?;
     for mut answer in awaited {

@@ -2,7 +2,7 @@ use Rattle.std.proofs.Common.{◌≡◌, All, length, sym, subst, ◌∙◌, ap,
 use Rattle.std.proofs.lemmas.List.{length-map}
 use Rattle.rw_crew.specs.declared.either.Either.TheVariants.{First}
 use Rattle.rw_crew.specs.Eithers.{either_gives, either_takes}
-use Rattle.rw_crew.proofs.Eithers.{all_seen, gives_first, pair_seen}
+use Rattle.rw_crew.proofs.Eithers.{all_seen, gives_first, pair_seen, same_first}
 use Rattle.rw_crew.proofs.either.do_first.Goals as goal
 
 pub do_each-requires : goal.do_each-requires
@@ -24,3 +24,11 @@ returns-clause-each g c i d e lt =
     let long : length done ≡ length inputs = sym (length-map done First) ∙ ap length c.in_ok-done.ensures.same ∙ c.in_ok-job.ensures.count ∙ same in
     let gave = c.in_ok-job.ensures.each i (First d) (First e) (omega (arith, same, lt)) in
     pair_seen First (either_gives g.J.Job.Gives g.K.Job.Gives (First c.args.job)) inputs done _ _ i d e c.in_ok-inputs.ensures.same c.in_ok-done.ensures.same lt long gave
+
+pub returns-clause-count : goal.returns-clause-count
+returns-clause-count g c =
+    sym (length-map c.in_ok-done.done.items First) ∙ ap length c.in_ok-done.ensures.same ∙ c.in_ok-job.ensures.count
+    ∙ ap length c.in_ok-inputs.ensures.same ∙ length-map c.args.inputs.items First
+
+pub returns-clause-job : goal.returns-clause-job
+returns-clause-job g c = same_first _ _ _ c.in-First.is c.in_ok-job.ensures.job

@@ -2,7 +2,7 @@ use Rattle.std.proofs.Common.{◌≡◌, All, length, sym, subst, ◌∙◌, ap,
 use Rattle.std.proofs.lemmas.List.{length-map}
 use Rattle.rw_crew.specs.declared.either.Either.TheVariants.{Second}
 use Rattle.rw_crew.specs.Eithers.{either_gives, either_takes}
-use Rattle.rw_crew.proofs.Eithers.{all_seen, gives_second, pair_seen}
+use Rattle.rw_crew.proofs.Eithers.{all_seen, gives_second, pair_seen, same_second}
 use Rattle.rw_crew.proofs.either.do_second.Goals as goal
 
 pub do_each-requires : goal.do_each-requires
@@ -24,3 +24,11 @@ returns-clause-each g c i d e lt =
     let long : length done ≡ length inputs = sym (length-map done Second) ∙ ap length c.in_ok-done.ensures.same ∙ c.in_ok-job.ensures.count ∙ same in
     let gave = c.in_ok-job.ensures.each i (Second d) (Second e) (omega (arith, same, lt)) in
     pair_seen Second (either_gives g.J.Job.Gives g.K.Job.Gives (Second c.args.job)) inputs done _ _ i d e c.in_ok-inputs.ensures.same c.in_ok-done.ensures.same lt long gave
+
+pub returns-clause-count : goal.returns-clause-count
+returns-clause-count g c =
+    sym (length-map c.in_ok-done.done.items Second) ∙ ap length c.in_ok-done.ensures.same ∙ c.in_ok-job.ensures.count
+    ∙ ap length c.in_ok-inputs.ensures.same ∙ length-map c.args.inputs.items Second
+
+pub returns-clause-job : goal.returns-clause-job
+returns-clause-job g c = same_second _ _ _ c.in-Second.is c.in_ok-job.ensures.job

@@ -77,3 +77,9 @@ loop-input-init g c =
 
 pub push_reserved-requires : goal.push_reserved-requires
 push_reserved-requires g c = omega (arith, c.loop-input.invariant.room, c.loop-input.invariant.count, ap length c.in-Some-input.ensures.steps.0)
+
+pub returns-in_default : goal.returns-in_default
+returns-in_default g c = record {
+  count = ap length c.new.ensures.items ∙ sym c.in_default.ensures.cases.0 ∙ c.captures.inputs.ok.0;
+  each = λ i d e lt. absurd (omega (arith, lt, c.in_default.ensures.cases.0, c.captures.inputs.ok.0));
+}
