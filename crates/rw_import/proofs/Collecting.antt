@@ -3,16 +3,18 @@ use Rattle.std.proofs.Common.{◌≡◌, ◌≢◌, ◌≤◌, ◌<◌, ◌+◌,
 use Rattle.std.specs.Prelude.{IfOk, if◌then◌else◌, nat_le}
 use Rattle.std.specs.List.{position_or_len}
 use Rattle.std.specs.Result.{result_ok}
-use Rattle.std.proofs.lemmas.Grind.{common_steps}
 use Rattle.std.proofs.lemmas.List.{append-nil, append_assoc, length_push, map-append}
 use Rattle.std.proofs.lemmas.List.Elements.{filter_map-append}
 use Rattle.std.proofs.lemmas.Simd.{map-map}
 use Rattle.rw_trace.specs.Limits.{latest_time, most_rows}
+use Rattle.rw_trace.specs.Trace.{trace_of}
+use Rattle.rw_trace.specs.Unread.{records_of}
 use Rattle.rw_trace.specs.Words.{Fields, Text}
 use Rattle.rw_trace.specs.declared.Row.{Row}
-use Rattle.rw_import.specs.Csv.{◌>>=◌, beside, columns_found, csv_said, csv_told, different, edges_named, edges_of, entry_of, field_in, has_header, is_same_text, log_records, number_among, objects_in, place_if, place_in, places_in, places_under, record_said, record_told, rows_under, said_at, time_column, with_text}
+use Rattle.rw_import.specs.Csv.{◌>>=◌, IsCsvFault, beside, columns_found, csv_rows, csv_said, csv_told, different, edges_named, edges_of, entry_of, field_in, has_header, is_same_text, log_records, number_among, objects_in, place_if, place_in, places_in, places_under, record_said, record_told, rows_under, said_at, time_column, with_text}
 use Rattle.rw_import.specs.Log.{IsRowsFault, Said, Saying, first_time, in_time, kept_in, rows_for, ticks_from, told_apart}
-use Rattle.rw_import.specs.Sheet.{AddsRow, AreCountsOf, IsKeepable, IsSheetOf, IsTimely, RefusesRow, entry_in_time, no_counts_yet, with_kept, numbered_by}
+use Rattle.rw_import.specs.Sheet.{AddsRow, AreCountsOf, IsKeepable, IsSheetOf, IsTextSheet, IsTimely, RefusesRow, entry_in_time, no_counts_yet, with_kept, numbered_by}
+use Rattle.rw_import.specs.Written.{WritesTrace}
 use Rattle.rw_import.specs.declared.entry.Entry.{Entry}
 use Rattle.rw_import.specs.declared.entry.LeftOut.{LeftOut}
 use Rattle.rw_import.specs.declared.fault.Flaw.{Flaw}
@@ -40,13 +42,15 @@ keepable-beside edges o least n (Ok entry) said e small fine =
 keepable-beside edges o least n (Err f) said e small fine = rw e tt
 
 -- and its time is within those of a trace
-timely-kept : (edges : ℕ) (o : Options) (least : ℕ) (said : Saying ℕ) → IsKeepable edges o least said → IsTimely o least said
+pub timely-kept : (edges : ℕ) (o : Options) (least : ℕ) (said : Saying ℕ) → IsKeepable edges o least said → IsTimely o least said
 timely-kept edges o least (Ok s) h = (h.4, h.5)
 timely-kept edges o least (Err f) h = tt
 
-pub timely-beside : (edges : ℕ) (o : Options) (least n : ℕ) (judged : Result Entry Flaw) (said : Saying ℕ) → said ≡ beside n judged → IfOk said (λ s. s.1 < 2 ^ 64)
-    → ((m : ℕ) → m < 2 ^ 64 → IsKeepable edges o least (beside m judged)) → IsTimely o least said
-timely-beside edges o least n judged said e small fine = timely-kept edges o least said (keepable-beside edges o least n judged said e small fine)
+-- a time that is within those of a trace beside any number is so beside its own
+pub timely-beside : (o : Options) (least n : ℕ) (judged : Result Entry Flaw) (said : Saying ℕ) → said ≡ beside n judged → IfOk said (λ s. s.1 < 2 ^ 64)
+    → ((m : ℕ) → m < 2 ^ 64 → IsTimely o least (beside m judged)) → IsTimely o least said
+timely-beside o least n (Ok entry) said e small fine = rw e (fine n (subst (λ (x : Saying ℕ). IfOk x (λ s. s.1 < 2 ^ 64)) e small))
+timely-beside o least n (Err f) said e small fine = rw e tt
 
 -- an object beside an entry is no part of what its time says
 pub in-time-beside : {O : Type 0} (ticks least column : ℕ) (object : O) (r : Result Entry Flaw) → in_time ticks least column (beside object r) ≡ beside object (entry_in_time ticks least column r)
@@ -201,6 +205,14 @@ so-far-stops p edges o least before now ahead fields row n texts old judged said
     so-far-refused p edges o least before ahead fields row n texts old judged e all is (subst (λ (x : Saying ℕ). RefusesRow o row old x e) told (refuses other))
 
 -- ---- a log
+-- with the log's columns, what its rows say is what its records say
+pub said-whole : (l : Layout) (o : Options) (bytes : Text) (p : Places) (ahead : List Fields) (edges : ℕ) → columns_found l (log_records l bytes) ≡ Ok p → rows_under l (log_records l bytes) ≡ ahead → edges ≡ edges_of l o
+    → map (record_said p edges) ahead ≡ csv_said l o bytes
+said-whole l o bytes p ahead edges is rows all =
+    ap (λ (n : ℕ). map (record_said p n) ahead) all
+    ∙ ap (λ (xs : List Fields). map (record_said p (edges_of l o)) xs) (sym rows)
+    ∙ ap (λ (r : Result Places ImportFault). said_at l o bytes r) (sym is)
+
 -- with the log's columns and least time, what becomes of its rows is what becomes of its records
 told-of : (l : Layout) (o : Options) (bytes : Text) (p : Places) (ahead : List Fields) (edges least : ℕ) (r : Result Places ImportFault) → r ≡ Ok p → rows_under l (log_records l bytes) ≡ ahead → edges ≡ edges_of l o
     → least ≡ first_time (said_at l o bytes r) → map (record_told p edges o.ticks least) ahead ≡ told_apart o.ticks (time_column r) (said_at l o bytes r)
@@ -266,3 +278,21 @@ pub rows-numbers : {O : Type 0} (o : Options) (least : ℕ) (number : O → ℕ)
 unfolding rows_for
 rows-numbers o least number place [] = refl
 rows-numbers o least number place (s ∷ ss) = ap (λ (t : List ℕ). number s.1 ∷ t) (rows-numbers o least number (place + 1) ss)
+
+-- a log has no more edges than there may be
+edges-few : (column : Option Column) (edges : ℕ) → edges ≤ 256 → edges_named column edges ≤ 256
+edges-few None edges few = few
+edges-few (Some column) edges few = omega arith
+
+-- the text of what is collected is a trace of the log's rows
+pub csv-trace : (l : Layout) (o : Options) (bytes text : Text) (sheet : Sheet) (edges : ℕ) → edges ≡ edges_of l o → 1 ≤ o.edges → o.edges ≤ 256
+    → IsTextSheet edges o (first_time (csv_said l o bytes)) (csv_told l o bytes) sheet → WritesTrace text sheet.rows.items → trace_of (edges_of l o) most_rows (records_of text) ≡ Ok (csv_rows l o bytes)
+csv-trace l o bytes text sheet edges all some few k w =
+    let small : edges ≤ 256 = subst (λ (n : ℕ). n ≤ 256) (sym all) (edges-few l.edge o.edges few) in
+    subst (λ (n : ℕ). trace_of n most_rows (records_of text) ≡ Ok (csv_rows l o bytes)) all
+    (w edges (omega (arith, small)) (k.ranges some) (omega (arith, k.count, k.few)) ∙ ap (λ (rs : List Row). Ok rs) k.rows)
+
+-- where the columns are not found this is why the log is refused
+pub columns-missing : (l : Layout) (o : Options) (bytes : Text) (e : ImportFault) → columns_found l (log_records l bytes) ≡ Err e
+    → IsCsvFault o (csv_told l o bytes) (columns_found l (log_records l bytes)) e
+columns-missing l o bytes e missing = subst (λ (r : Result Places ImportFault). IsCsvFault o (csv_told l o bytes) r e) (sym missing) refl

@@ -1,8 +1,9 @@
 -- What the lines of a trace are read as.
-use Rattle.std.proofs.Common.{◌≡◌, ◌≤◌, ◌<◌, ◌+◌, ◌^◌, ℕ, List, [], ◌∷◌, ◌++◌, length, map, Bool, true, false, Some, Ok, refl, arith, ◌∙◌, ap, append_assoc, nat_lt, nat_le}
-use Rattle.std.specs.Prelude.{◌==◌, All}
+use Rattle.std.proofs.Common.{◌≡◌, ◌≤◌, ◌<◌, ◌+◌, ◌^◌, ℕ, List, [], ◌∷◌, ◌++◌, length, map, Bool, true, false, Some, Ok, refl, arith, ◌∙◌, ap, append_assoc, nat_lt, nat_le, sym, take}
+use Rattle.std.specs.Prelude.{◌==◌, All, slice_index_or}
 use Rattle.std.specs.Fmt.{decimal}
 use Rattle.std.specs.List.{flat_map, list_any}
+use Rattle.std.proofs.lemmas.List.{flat_map_more, take_more}
 use Rattle.std.proofs.lemmas.List.Elements.{All-head, All-tail, All-weaker}
 use Rattle.std.proofs.lemmas.List.Folds.{list_any_at}
 use Rattle.std.proofs.lemmas.Grind.{common_steps}
@@ -17,7 +18,7 @@ use Rattle.rw_trace.specs.Laws.{IsRow}
 use Rattle.rw_trace.specs.Limits.{greatest_size, latest_time, most_rows}
 use Rattle.rw_trace.specs.Trace.{◌>>=◌, column_of, is_header, is_text_at, kind_at, number_of, or_fault, row_of, rows_of, trace_of, version_of, word_of}
 use Rattle.rw_trace.specs.Unread.{records_of}
-use Rattle.rw_trace.specs.Words.{Fields}
+use Rattle.rw_trace.specs.Words.{Fields, Text}
 use Rattle.rw_trace.specs.declared.Kind.{Kind}
 use Rattle.rw_trace.specs.declared.Kind.TheVariants.{Get, Purge}
 use Rattle.rw_trace.specs.declared.Row.{Row}
@@ -191,3 +192,13 @@ lines-trace rows text same edges small h few =
 -- and begin with the header
 pub lines-header : (rows : List Row) (text : List ℕ) → text ≡ trace_lines (has_purge rows) rows → BeginsWithHeader (has_purge rows) text
 lines-header rows text same = (records_left default_config st.StartRecord (Some (flat_map (row_line (has_purge rows)) rows)), rw same (records-first (has_purge rows) rows))
+
+-- the lines with that of one more row
+pub lines-more : (kinds : Bool) (rows : List Row) (i : ℕ) (d : Row) (old new : Text) → i < length rows → old ≡ trace_lines kinds (take i rows) → new ≡ old ++ row_line kinds (slice_index_or rows i d)
+    → new ≡ trace_lines kinds (take (i + 1) rows)
+lines-more kinds rows i d old new less before pushed =
+    let row = slice_index_or rows i d in
+    pushed
+    ∙ ap (λ (t : Text). t ++ row_line kinds row) before
+    ∙ flat_map_more (row_line kinds) (trace_header kinds) (take i rows) row
+    ∙ ap (trace_lines kinds) (sym (take_more rows i d less))

@@ -1,6 +1,8 @@
 -- How what has been collected of a log grows by a row.
-use Rattle.std.proofs.Common.{◌≡◌, ◌≤◌, ◌<◌, ◌+◌, ◌-◌, ◌%◌, ℕ, zero, suc, List, [], ◌∷◌, ◌++◌, length, map, Bool, true, false, Option, Some, None, Ok, Err, cond, zero-add, refl, arith, ◌∙◌, sym, ap, subst}
-use Rattle.std.specs.Prelude.{◌≢◌, count_by}
+use Rattle.std.proofs.Common.{◌≡◌, ◌≤◌, ◌<◌, ◌+◌, ◌-◌, ◌*◌, ◌%◌, ℕ, zero, suc, List, [], ◌∷◌, ◌++◌, length, map, Bool, true, false, Option, Some, None, Ok, Err, cond, zero-add, refl, arith, ◌∙◌, sym, ap, subst}
+use Rattle.std.specs.Prelude.{◌≢◌, count_by, drop, nat_eq, nat_lt}
+use Rattle.byteorder.specs.Endian.{little_number}
+use Rattle.rw_trace.specs.declared.Kind.TheVariants.{Get}
 use Rattle.std.specs.List.{range_with_len}
 use Rattle.std.specs.Result.{is_ok, result_ok}
 use Rattle.std.proofs.lemmas.List.{length_push, map-append}
@@ -24,7 +26,7 @@ use Rattle.rw_import.specs.declared.options.Dealing.{Dealing}
 use Rattle.rw_import.specs.declared.options.Dealing.TheVariants.{ByObject, ByRow}
 use Rattle.rw_import.specs.declared.options.Options.{Options}
 use Rattle.rw_import.specs.declared.sheet.Sheet.{Sheet}
-use Rattle.rw_import.specs.Log.{IsRowsFault, Said, Saying, dealt_edge, edge_for, first_time, in_time, is_cut_off, is_flawed_in, kept_in, left_out_of, mixed, row_for, rows_for}
+use Rattle.rw_import.specs.Log.{IsRowsFault, Said, Saying, billion, dealt_edge, edge_for, first_time, in_time, is_cut_off, is_flawed_in, kept_in, left_out_of, mixed, row_for, rows_for}
 use Rattle.rw_import.specs.Oracle.{judged_all, oracle_rows, oracle_said, oracle_told, piece_at, piece_said}
 use Rattle.rw_import.specs.Sheet.{AddsRow, IsEdgeIn, IsKeepable, IsSheetOf, RefusesRow, counts_with, no_counts_yet, numbered_by}
 
@@ -202,3 +204,12 @@ pub rows-objects : (o : Options) (least place : ℕ) (ss : List (Said ℕ)) → 
 unfolding rows_for
 rows-objects o least place [] = refl
 rows-objects o least place (s ∷ ss) = ap (λ (t : List ℕ). s.1 ∷ t) (rows-objects o least (place + 1) ss)
+
+-- what a record says of which each number is read
+pub piece-told : (piece : List ℕ) (time size object : ℕ) → 24 ≤ length piece → 1 ≤ size → time ≡ little_number 4 piece → size ≡ little_number 4 (drop 12 piece) → object ≡ little_number 8 (drop 4 piece)
+    → Ok (record { time = time * billion; edge = None; size = size; kind = Get }, object) ≡ piece_said piece
+unfolding piece_said
+piece-told piece time size object long some is_time is_size is_object =
+    let enough : nat_lt (length piece) 24 ≡ false = grind (arith, common_steps) in
+    let not_none : nat_eq size 0 ≡ false = grind (arith, common_steps) in
+    rw (enough, ap (λ (n : ℕ). nat_eq n 0) (sym is_size) ∙ not_none, is_time, is_size, is_object) refl

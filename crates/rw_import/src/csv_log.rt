@@ -10,7 +10,7 @@ ghost use Rattle.rw_trace.specs.Unread.{Steady, records_of, unread};
 ghost use Rattle.rw_trace.specs.Words.{Text};
 ghost use Rattle.rw_import.specs.Csv.{HaveOneNumberEach, IsCsvFault, beside, columns_found, csv_rows, csv_said, csv_told, edges_of, entry_of, has_header, is_named, is_named_if, is_same_text, log_records, objects_in, place_if, place_in, places_in, record_said, record_told, rows_under, with_text};
 ghost use Rattle.rw_import.specs.Log.{IsRowsFault, IsStrictlyKept, earlier, first_time, kept_in, left_out_of};
-ghost use Rattle.rw_import.specs.Sheet.{IsKeepable, IsTextSheet, entry_in_time, texts_in, with_kept};
+ghost use Rattle.rw_import.specs.Sheet.{AddsRow, AreCountsOf, IsKeepable, IsTextSheet, IsTimely, RefusesRow, entry_in_time, texts_in, with_kept};
 ghost use Rattle.rw_import.specs.Written.{BeginsWithHeader, has_purge};
 ghost use Rattle.rw_import.specs.declared.fault.ImportFault.TheVariants.{Memory};
 
@@ -295,6 +295,70 @@ fn judge(
     Ok(entry)
 }
 
+/// Adds the row `row` of a log, whose object has this text. If it is kept, its text is among the
+/// texts from then on.
+fn add_named(
+    alloc: Global,
+    texts: &mut IndexSet<Vec<u8>>,
+    sheet: &mut Sheet,
+    options: Options,
+    least: u128,
+    row: u64,
+    text: &[u8],
+    said: Result<Entry, Flaw>,
+) -> Result<(), ImportFault>
+    requires timely { (n : ℕ) → n < 2 ^ 64 → IsTimely options least (beside n said) }
+    requires within { AreCountsOf row sheet.old.left_out }
+    requires few { row + 1 < 2 ^ 64 }
+    ensures texts { OnOk result
+        (texts_in texts.new ≡ with_kept (texts_in texts.old) text.now said) }
+    ensures small { OnOk result
+        (IfOk (beside (position_or_len (is_same_text text.now) (texts_in texts.old)) said)
+        (λ s. s.1 < 2 ^ 64)) }
+    ensures adds { OnOk result (AddsRow options least sheet.old sheet.new
+        (beside (position_or_len (is_same_text text.now) (texts_in texts.old)) said)) }
+    ensures after { OnOk result (AreCountsOf (row + 1) sheet.new.left_out) }
+    ensures refuses { IfErr result (λ e. e ≢ Memory → RefusesRow options row sheet.old
+        (beside (position_or_len (is_same_text text.now) (texts_in texts.old)) said) e) }
+{
+    let numbered = numbered(alloc, texts, text, said)?;
+    add(sheet, options, least, row, numbered)
+}
+
+/// Of the records left, those that are kept, in order, and the counts of those that are left out.
+/// The texts of their objects come into `texts`, where none is yet.
+fn rows_and_texts<P: Progress>(
+    alloc: Global,
+    reader: &mut Reader<&[u8]>,
+    fields: &mut ByteRecord,
+    texts: &mut IndexSet<Vec<u8>>,
+    places: Places,
+    edges: u32,
+    options: Options,
+    least: u128,
+    reading: &mut Reading<'_, P>,
+) -> Result<Sheet, ImportFault>
+    requires steady { Steady reader.old }
+    requires none { texts_in texts.old ≡ [] }
+    requires edges { places.edge ≡ None → options.edges ≡ edges }
+    ensures sheet { IfOk result (λ s. IsTextSheet edges options least
+        (map (record_told places edges options.ticks least) (unread reader.old)) s) }
+    ensures fault { IfErr result (λ e. e ≢ Memory → IsRowsFault options
+        (map (record_told places edges options.ticks least) (unread reader.old)) e) }
+{
+    let mut sheet = blank_sheet(alloc);
+    for row in 0..u64::MAX {
+        reading.come_to(row, reader.position().byte());
+        if !next(reader, fields)? {
+            return Ok(sheet);
+        }
+        let judged = judge(fields, places, edges, options, least);
+        let text = field_of(fields, places.object);
+        add_named(alloc, texts, &mut sheet, options, least, row, text, judged)?;
+    }
+    Err(ImportFault::Memory)
+}
+
 /// Of the records left, those that are kept, in order, and the counts of those that are left out.
 fn rows_left<P: Progress>(
     alloc: Global,
@@ -314,17 +378,9 @@ fn rows_left<P: Progress>(
         (map (record_told places edges options.ticks least) (unread reader.old)) e) }
 {
     let mut texts = IndexSet::new(alloc);
-    let mut sheet = blank_sheet(alloc);
-    for row in 0..u64::MAX {
-        reading.come_to(row, reader.position().byte());
-        if !next(reader, fields)? {
-            return Ok(sheet);
-        }
-        let judged = judge(fields, places, edges, options, least);
-        let said = numbered(alloc, &mut texts, field_of(fields, places.object), judged)?;
-        add(&mut sheet, options, least, row, said)?;
-    }
-    Err(ImportFault::Memory)
+    rows_and_texts(
+        alloc, reader, fields, &mut texts, places, edges, options, least, reading,
+    )
 }
 
 /// The rows of a log that are kept, in order, and the counts of those that are left out.

@@ -2,7 +2,7 @@
 use Rattle.std.proofs.Common.{◌≡◌, ◌<◌, ◌+◌, ◌++◌, ◌∷◌, [], ℕ, List, ap, arith, map, subst, sym, ◌∙◌}
 use Rattle.std.specs.List.{range_with_len}
 use Rattle.std.proofs.lemmas.List.FromFn.{map-range_with_len_more}
-use Rattle.std.proofs.lemmas.Result.{err_from_is_err_and}
+use Rattle.std.proofs.lemmas.Result.{IfOk-from_err, err_from_is_err_and}
 use Rattle.rw_import.specs.Log.{Saying}
 use Rattle.rw_import.specs.Oracle.{judged_all, judged_at, piece_count}
 use Rattle.rw_import.specs.Sheet.{IsSheetOf}
@@ -45,3 +45,18 @@ returns-in_err-add-clause-fault g c =
     let whole : done ++ c.judge.result ∷ after ≡ judged_all o c.args.least c.args.bytes.now =
     ap (λ (s : Saying ℕ). done ++ s ∷ after) same ∙ sym parts in
     rw (p.1, p.2) (row-told o.edges o c.args.least at done after _ c.loop-at.sheet c.judge.result _ c.loop-at.invariant.sheet (length-places f 0 at) whole c.in_err-add.ensures.refuses)
+
+pub add-requires-clause-timely : goal.add-requires-clause-timely
+add-requires-clause-timely g c = c.judge.ensures.timely
+
+pub add-requires-clause-within : goal.add-requires-clause-within
+add-requires-clause-within g c = c.loop-at.invariant.counts
+
+pub returns-in_err-add-clause-sheet : goal.returns-in_err-add-clause-sheet
+returns-in_err-add-clause-sheet g c = IfOk-from_err c.from_residual.result _ c.from_residual.ensures.0
+
+pub returns-clause-sheet : goal.returns-clause-sheet
+returns-clause-sheet g c =
+    let o = c.args.options in
+    let all : c.loop-at.at ≡ piece_count c.args.bytes.now = omega (arith, c.loop-at-test.false, c.loop-at.auto.at-end, c.count_pieces-at-end.ensures) in
+    subst (λ (n : ℕ). IsSheetOf itself o.edges o c.args.least (map (judged_at o c.args.least c.args.bytes.now) (range_with_len 0 n)) c.loop-at.sheet) all c.loop-at.invariant.sheet

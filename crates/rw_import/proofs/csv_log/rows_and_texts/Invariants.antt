@@ -1,7 +1,7 @@
 use Rattle.rw_trace.specs.Unread.{Steady, unread}
 use Rattle.rw_import.specs.Sheet.{AreCountsOf, texts_in}
 use Rattle.rw_import.proofs.Collecting.{IsSoFar}
-use Rattle.rw_import.proofs.csv_log.rows_left.Given as goal
+use Rattle.rw_import.proofs.csv_log.rows_and_texts.Given as goal
 
 abbrev pub invariant-loop-row : goal.invariant-loop-row
 invariant-loop-row g l = record {
