@@ -1,3 +1,4 @@
+pub mod Failing
 pub mod InOrder
 pub mod Journals
 pub mod Lines

@@ -25,7 +25,7 @@ use Rattle.rw_rounds.specs.declared.stop.Stop.TheVariants as stop
 use Rattle.rw_engine.specs.declared.how.How.{How}
 use Rattle.rw_engine.specs.declared.how.How.TheVariants.{InOrder, InRounds, BySteps}
 use Rattle.rw_engine.specs.declared.how.Ran.TheVariants.{Finished, Stepped}
-use Rattle.rw_engine.specs.Runs.{AreLastStates, ComesToExhaustion, HasRun, IsByBadPlan, IsOfAnyRun, IsSteppedTo, MayStopFor}
+use Rattle.rw_engine.specs.Runs.{AreLastStates, ComesToExhaustion, HasRun, IsByBadPlan, IsOfAnyRun, IsSteppedTo, MayStopFor, no_traffic}
 use Rattle.rw_ripqwarp.specs.declared.mode.Mode.{Mode}
 use Rattle.rw_ripqwarp.specs.declared.mode.Mode.TheVariants.{Serial, Warp, Journal}
 use Rattle.rw_ripqwarp.specs.declared.sim_fault.SimFault.{SimFault}
@@ -77,6 +77,17 @@ reported c m bytes text starts initial (Warp plan) way states traffic config b b
 reported c m bytes text starts initial (Journal steps) InOrder states traffic config b by ran told = absurd by
 reported c m bytes text starts initial (Journal steps) (InRounds plan) states traffic config b by ran told = absurd by
 reported c m bytes text starts initial (Journal steps) (BySteps same) states traffic config b by ran told = absurd ran
+
+-- outside rounds no round was run
+pub still : (m : Photo) (starts : List Cache) (initial : List (Event Body)) (mode : Mode) (way : How) (states : Vec Cache Global) (traffic : Traffic)
+    → IsWayOf mode way → HasRun model.ghosts order.ghosts.cmp m starts initial way (Finished states traffic) → (IsWarp mode → ⊥) → traffic ≡ no_traffic
+still m starts initial Serial InOrder states traffic by ran never = ran.1
+still m starts initial Serial (InRounds plan) states traffic by ran never = absurd by
+still m starts initial Serial (BySteps steps) states traffic by ran never = absurd by
+still m starts initial (Warp plan) way states traffic by ran never = absurd (never tt)
+still m starts initial (Journal steps) InOrder states traffic by ran never = absurd by
+still m starts initial (Journal steps) (InRounds plan) states traffic by ran never = absurd by
+still m starts initial (Journal steps) (BySteps same) states traffic by ran never = absurd ran
 
 -- A run by steps
 

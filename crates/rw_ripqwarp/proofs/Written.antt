@@ -4,7 +4,8 @@ use Rattle.std.specs.Result.{IfOk, result_unwrap_or}
 use Rattle.std.specs.Io.KnownBytes.{Appends, Keeps, WriteAppends}
 use Rattle.std.proofs.Math.Seq.{take-add}
 
-appends-keeps : (old mid new : Option (List ℕ)) (bs : List ℕ) → Appends old mid bs → Keeps mid new → Appends old new bs
+-- what kept what it held holds what the one before it had grown by
+pub appends-keeps : (old mid new : Option (List ℕ)) (bs : List ℕ) → Appends old mid bs → Keeps mid new → Appends old new bs
 appends-keeps None mid new bs a k = tt
 appends-keeps (Some xs) None new bs a k = absurd a
 appends-keeps (Some xs) (Some ys) None bs a k = absurd k

@@ -1,4 +1,6 @@
 use Rattle.std.proofs.Common.{◌≡◌, ◌∙◌, ◌^◌, ◌++◌, List, Ok, ap, length, map, subst}
+use Rattle.std.proofs.lemmas.Result.{IfOk-from_err}
+use Rattle.std.specs.Prelude.{◌≢◌}
 use Rattle.rw_vt.specs.Limits.{end_of_time}
 use Rattle.rw_vt.specs.System.{IsOutcome}
 use Rattle.rw_trace.specs.declared.Row.{Row}
@@ -8,6 +10,10 @@ use Rattle.rw_photo.specs.Cache.{Cache}
 use Rattle.rw_photo.specs.Simulation.{simulation}
 use Rattle.rw_photo.specs.declared.config.Config.{Config}
 use Rattle.rw_ripqwarp.specs.Report.{report_text}
+use Rattle.rw_ripqwarp.specs.declared.mode.Mode.TheVariants.{Warp}
+use Rattle.rw_ripqwarp.specs.declared.sim_fault.SimFault.TheVariants as sim
+use Rattle.rw_ripqwarp.specs.Simulate.{IsRunFault}
+use Rattle.rw_ripqwarp.proofs.Failing.{handed-on, stop-unwritten}
 use Rattle.rw_ripqwarp.proofs.Stopping.{stop-is-fault-in-rounds}
 use Rattle.rw_ripqwarp.proofs.InOrder.{length-of-caches}
 use Rattle.rw_ripqwarp.proofs.rounds.rounds_text.Goals as goal
@@ -39,3 +45,34 @@ returns-clause-text g c =
       outcome = subst (λ rs. IsOutcome (simulation config rs) end_of_time last.0 states) both last.1;
       told = c.in_ok-text.ensures ∙ ap (λ (ss : List Cache). report_text config (map (λ s. s.counters) ss)) c.as_slice-3.ensures.value;
     }
+
+pub returns-in_err-rows-clause-text : goal.returns-in_err-rows-clause-text
+returns-in_err-rows-clause-text g c = IfOk-from_err c.from_residual.result _ c.from_residual.ensures.0
+
+pub returns-in_err-rows-clause-in_range : goal.returns-in_err-rows-clause-in_range
+returns-in_err-rows-clause-in_range g c = IfOk-from_err c.from_residual.result _ c.from_residual.ensures.0
+
+pub returns-in_err-states-clause-text : goal.returns-in_err-states-clause-text
+returns-in_err-states-clause-text g c = IfOk-from_err c.from_residual-in_err-states.result _ c.from_residual-in_err-states.ensures.0
+
+pub returns-in_err-states-clause-in_range : goal.returns-in_err-states-clause-in_range
+returns-in_err-states-clause-in_range g c = IfOk-from_err c.from_residual-in_err-states.result _ c.from_residual-in_err-states.ensures.0
+
+pub returns-in_err-text-clause-text : goal.returns-in_err-text-clause-text
+returns-in_err-text-clause-text g c = IfOk-from_err c.from_residual-in_err-text.result _ c.from_residual-in_err-text.ensures.0
+
+pub returns-in_err-text-clause-in_range : goal.returns-in_err-text-clause-in_range
+returns-in_err-text-clause-in_range g c = IfOk-from_err c.from_residual-in_err-text.result _ c.from_residual-in_err-text.ensures.0
+
+pub returns-in_err-states-clause-unwritten : goal.returns-in_err-states-clause-unwritten
+returns-in_err-states-clause-unwritten g c =
+    handed-on c.from_residual-in_err-states.result _ (λ e. e ≢ sim.Output) c.from_residual-in_err-states.ensures.1 (stop-unwritten c.in_err-states.field-0.0)
+
+pub returns-in_err-text-clause-fault : goal.returns-in_err-text-clause-fault
+returns-in_err-text-clause-fault g c = handed-on c.from_residual-in_err-text.result sim.Memory (IsRunFault (Warp c.args.plan) c.args.config.now c.args.bytes.now) c.from_residual-in_err-text.ensures.1 tt
+
+pub returns-in_err-text-clause-unwritten : goal.returns-in_err-text-clause-unwritten
+returns-in_err-text-clause-unwritten g c = handed-on c.from_residual-in_err-text.result sim.Memory (λ e. e ≢ sim.Output) c.from_residual-in_err-text.ensures.1 (λ same. cc)
+
+pub returns-clause-in_range : goal.returns-clause-in_range
+returns-clause-in_range g c = c.in_ok-states.ensures.in_range

@@ -1,4 +1,5 @@
 use Rattle.std.proofs.Common.{◌≡◌, ◌++◌, ℕ, List, Some, ◌∙◌, ap, subst}
+use Rattle.std.proofs.lemmas.Result.{IfErr-weaker, IfOk-from_err}
 use Rattle.std.specs.Prelude.{slice_get}
 use Rattle.rw_photo.specs.declared.config.Config.{Config}
 use Rattle.rw_photo.specs.Cache.{Cache, IsWellFormed}
@@ -7,7 +8,11 @@ use Rattle.std.specs.Result.{IfOk}
 use Rattle.rw_vt.specs.System.{System, map_from}
 use Rattle.rw_photo.specs.declared.body.Body.{Body}
 use Rattle.rw_photo.specs.Events.{event_of}
+use Rattle.rw_rounds.specs.declared.stop.Stop.TheVariants as stop
+use Rattle.rw_engine.specs.Alone.{MayStopAlone}
 use Rattle.rw_engine.specs.Runs.{AreLastStates}
+use Rattle.rw_engine.specs.Stretches.{MayStopInRounds}
+use Rattle.rw_ripqwarp.proofs.Failing.{alone-stops, handed-on}
 use Rattle.rw_ripqwarp.proofs.InOrder.{runs-rows}
 use Rattle.rw_ripqwarp.proofs.Stopping.{good-plan}
 use Rattle.rw_ripqwarp.proofs.Runs.{ready, ready-at}
@@ -74,3 +79,44 @@ returns-clause-outcome g c =
 
 pub returns-clause-in_range : goal.returns-clause-in_range
 returns-clause-in_range g c = good-plan c.run_in_rounds_from.result c.args.plan c.run_in_rounds_from.ensures.plan
+
+pub returns-in_err-rows-clause-outcome : goal.returns-in_err-rows-clause-outcome
+returns-in_err-rows-clause-outcome g c = IfOk-from_err c.from_residual.result _ c.from_residual.ensures.0
+
+pub returns-in_err-rows-clause-in_range : goal.returns-in_err-rows-clause-in_range
+returns-in_err-rows-clause-in_range g c = IfOk-from_err c.from_residual.result _ c.from_residual.ensures.0
+
+pub returns-in_err-rows-clause-stops : goal.returns-in_err-rows-clause-stops
+returns-in_err-rows-clause-stops g c = handed-on c.from_residual.result stop.Memory (MayStopInRounds c.args.plan) c.from_residual.ensures.1 tt
+
+pub returns-in_err-starts-clause-outcome : goal.returns-in_err-starts-clause-outcome
+returns-in_err-starts-clause-outcome g c = IfOk-from_err c.from_residual-in_err-starts.result _ c.from_residual-in_err-starts.ensures.0
+
+pub returns-in_err-starts-clause-in_range : goal.returns-in_err-starts-clause-in_range
+returns-in_err-starts-clause-in_range g c = IfOk-from_err c.from_residual-in_err-starts.result _ c.from_residual-in_err-starts.ensures.0
+
+pub returns-in_err-starts-clause-stops : goal.returns-in_err-starts-clause-stops
+returns-in_err-starts-clause-stops g c = handed-on c.from_residual-in_err-starts.result stop.Memory (MayStopInRounds c.args.plan) c.from_residual-in_err-starts.ensures.1 tt
+
+pub returns-in_err-starts-2-clause-outcome : goal.returns-in_err-starts-2-clause-outcome
+returns-in_err-starts-2-clause-outcome g c = IfOk-from_err c.from_residual-in_err-starts-2.result _ c.from_residual-in_err-starts-2.ensures.0
+
+pub returns-in_err-starts-2-clause-in_range : goal.returns-in_err-starts-2-clause-in_range
+returns-in_err-starts-2-clause-in_range g c = IfOk-from_err c.from_residual-in_err-starts-2.result _ c.from_residual-in_err-starts-2.ensures.0
+
+pub returns-in_err-starts-2-clause-stops : goal.returns-in_err-starts-2-clause-stops
+returns-in_err-starts-2-clause-stops g c = handed-on c.from_residual-in_err-starts-2.result stop.Memory (MayStopInRounds c.args.plan) c.from_residual-in_err-starts-2.ensures.1 tt
+
+pub returns-then-alone-clause-stops : goal.returns-then-alone-clause-stops
+returns-then-alone-clause-stops g c =
+    IfErr-weaker c.run_alone.result (MayStopAlone c.args.plan) (MayStopInRounds c.args.plan) (alone-stops c.args.plan) c.run_alone.ensures.stops
+
+pub returns-then-alone-2-clause-stops : goal.returns-then-alone-2-clause-stops
+returns-then-alone-2-clause-stops g c =
+    IfErr-weaker c.run_alone_from.result (MayStopAlone c.args.plan) (MayStopInRounds c.args.plan) (alone-stops c.args.plan) c.run_alone_from.ensures.stops
+
+pub returns-in_default-clause-stops : goal.returns-in_default-clause-stops
+returns-in_default-clause-stops g c = c.run_in_rounds.ensures.stops
+
+pub returns-clause-stops : goal.returns-clause-stops
+returns-clause-stops g c = c.run_in_rounds_from.ensures.stops

@@ -1,0 +1,54 @@
+use Rattle.std.proofs.Common.{sym, subst}
+use Rattle.std.proofs.lemmas.Result.{IfOk-from_err}
+use Rattle.std.specs.Prelude.{◌≢◌, IfErr, IfOk, OnOk}
+use Rattle.rw_ripqwarp.specs.declared.mode.Mode.{Mode}
+use Rattle.rw_ripqwarp.specs.declared.sim_fault.SimFault.TheVariants as sim
+use Rattle.rw_ripqwarp.specs.Simulate.{HasGoodPlan, IsRunFault, IsTextOf}
+use Rattle.rw_ripqwarp.proofs.Failing.{handed-on}
+use Rattle.rw_ripqwarp.proofs.simulation.text_of.Goals as goal
+
+pub returns-in_err-text-in-Serial-clause-text : goal.returns-in_err-text-in-Serial-clause-text
+returns-in_err-text-in-Serial-clause-text g c = IfOk-from_err c.from_residual.result _ c.from_residual.ensures.0
+
+pub returns-in_err-text-in-Serial-clause-still : goal.returns-in_err-text-in-Serial-clause-still
+returns-in_err-text-in-Serial-clause-still g c = IfOk-from_err c.from_residual.result _ c.from_residual.ensures.0
+
+pub returns-in_err-text-in-Serial-clause-in_range : goal.returns-in_err-text-in-Serial-clause-in_range
+returns-in_err-text-in-Serial-clause-in_range g c = IfOk-from_err c.from_residual.result _ c.from_residual.ensures.0
+
+pub returns-in_default-clause-text : goal.returns-in_default-clause-text
+returns-in_default-clause-text g c = c.engine_text.ensures.text
+
+pub returns-in_default-clause-still : goal.returns-in_default-clause-still
+returns-in_default-clause-still g c = c.engine_text.ensures.still
+
+pub returns-in_default-clause-in_range : goal.returns-in_default-clause-in_range
+returns-in_default-clause-in_range g c = c.engine_text.ensures.in_range
+
+pub returns-in_default-clause-fault : goal.returns-in_default-clause-fault
+returns-in_default-clause-fault g c = c.engine_text.ensures.fault
+
+pub returns-in_default-clause-unwritten : goal.returns-in_default-clause-unwritten
+returns-in_default-clause-unwritten g c = c.engine_text.ensures.unwritten
+
+pub returns-in_err-text-in-Serial-clause-fault : goal.returns-in_err-text-in-Serial-clause-fault
+returns-in_err-text-in-Serial-clause-fault g c =
+    handed-on c.from_residual.result c.in_err-text-in-Serial.field-0.0 (IsRunFault c.args.mode c.args.config.now c.args.bytes.now) c.from_residual.ensures.1
+    (subst (λ (mode : Mode). IsRunFault mode c.args.config.now c.args.bytes.now c.in_err-text-in-Serial.field-0.0) (sym c.in-Serial.is) c.in_err-text-in-Serial.ensures.fault)
+
+pub returns-in_err-text-in-Serial-clause-unwritten : goal.returns-in_err-text-in-Serial-clause-unwritten
+returns-in_err-text-in-Serial-clause-unwritten g c = handed-on c.from_residual.result c.in_err-text-in-Serial.field-0.0 (λ e. e ≢ sim.Output) c.from_residual.ensures.1 c.in_err-text-in-Serial.ensures.unwritten
+
+pub returns-in-Warp-clause-text : goal.returns-in-Warp-clause-text
+returns-in-Warp-clause-text g c =
+    subst (λ (mode : Mode). IfOk c.rounds_text.result (λ r. IsTextOf mode c.args.config.now c.args.bytes.now r.0.items)) (sym c.in-Warp.is) c.rounds_text.ensures.text
+
+pub returns-in-Warp-clause-in_range : goal.returns-in-Warp-clause-in_range
+returns-in-Warp-clause-in_range g c = subst (λ (mode : Mode). OnOk c.rounds_text.result (HasGoodPlan mode)) (sym c.in-Warp.is) c.rounds_text.ensures.in_range
+
+pub returns-in-Warp-clause-fault : goal.returns-in-Warp-clause-fault
+returns-in-Warp-clause-fault g c =
+    subst (λ (mode : Mode). IfErr c.rounds_text.result (IsRunFault mode c.args.config.now c.args.bytes.now)) (sym c.in-Warp.is) c.rounds_text.ensures.fault
+
+pub returns-in-Warp-clause-unwritten : goal.returns-in-Warp-clause-unwritten
+returns-in-Warp-clause-unwritten g c = c.rounds_text.ensures.unwritten
