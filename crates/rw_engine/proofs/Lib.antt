@@ -1,3 +1,4 @@
 pub mod Onward
 pub mod Rounds
 pub mod Ahead
+pub mod Stopping

@@ -1,7 +1,9 @@
-ghost use Rattle.std.specs.Prelude.{◌≡◌, ◌≢◌, ◌↔◌, ◌<◌, ℕ, All, Err, IfErr, IfOk, OnOk, length, slice_index_or};
+ghost use Rattle.std.specs.Prelude.{◌≡◌, ◌≢◌, ◌↔◌, ◌<◌, ◌≤◌, ◌++◌, ℕ};
+ghost use Rattle.std.specs.Prelude.{All, Err, IfErr, IfOk, IsPermutation, length, slice_index_or};
 ghost use Rattle.rw_vt.specs.System.{IsReady, system};
 ghost use Rattle.rw_rounds.specs.Plans.{IsInRanges};
 ghost use Rattle.rw_rounds.specs.declared.stop.Stop.TheVariants.{BadPlan};
+ghost use Rattle.rw_windows.specs.Working.{IsAhead};
 ghost use Rattle.rw_engine.specs.Runs.{AreLastStates};
 ghost use Rattle.rw_engine.specs.Stretches.{GoesOn, MayStopInRounds};
 
@@ -17,7 +19,7 @@ use rw_serial::{Pending, Sorted, Source, go_on};
 use rw_vt::{END, Event, Letter, Lookahead, Model as VtModel};
 use rw_windows::{Left, Share, Work, run_in_windows};
 use rw_world::{Rest, World};
-use std::alloc::Global;
+use std::alloc::{AllocError, Global};
 use std::sync::Wait;
 use std::thread;
 use std::thread::{Scope, Threads};
@@ -146,27 +148,50 @@ where
         (system M.Model M.Body.cmp model starts.items (S.left source)) r.0.items) }
     ensures stops { IfErr result (λ stop. stop ≢ BadPlan) }
 {
-    let mut at = Standing {
+    let course = Course::new(&plan, model.lookahead(), model.grain());
+    let at = Standing {
         model,
         states: starts,
         traffic: Traffic::default(),
     };
     let mut pending = Pending::new(alloc, source);
-    let mut course = Course::new(&plan, at.model.lookahead(), at.model.grain());
+    go_on_to_the_end(rt, scope, alloc, at, &mut pending, course, plan, progress)
+}
+
+/// Goes on with a run to its end: in order until a piece needs threads, and then by a crew.
+fn go_on_to_the_end<'s, E, M, S, P, R>(
+    rt: &'s R,
+    scope: &Scope<'s, E>,
+    alloc: Global,
+    at: Standing<M>,
+    pending: &mut Pending<M::Body, S>,
+    course: Course,
+    plan: Plan,
+    progress: &mut P,
+) -> Result<(Vec<M::State>, Traffic), Stop>
+where
+    M: Lookahead + Drop + Send + Sync + 's,
+    M::State: Send,
+    M::Body: Send,
+    M::Undo: Send,
+    S: Source<M::Body>,
+    P: Progress,
+    R: Threads + Wait + Sync,
+    requires ready { IsReady M.Model at.model at.states.items pending.old.events }
+    requires plan { IsInRanges plan }
+    ensures states { IfOk result (λ r. AreLastStates
+        (system M.Model M.Body.cmp at.model at.states.items pending.old.events) r.0.items) }
+    ensures stops { IfErr result (λ stop. stop ≢ BadPlan) }
+{
+    let mut at = at;
+    let mut course = course;
     while course.left > 0 {
         let Piece::Alone(rounds) = course.gears.next() else {
-            return run_by_crew(rt, scope, alloc, at, &mut pending, course, plan, progress);
+            return run_by_crew(rt, scope, alloc, at, pending, course, plan, progress);
         };
         let before = at.traffic;
         let rounds = rounds.min(u64::from(course.left));
-        at = go_on_alone(
-            alloc,
-            at,
-            &mut pending,
-            &plan,
-            rounds,
-            &mut course.gears.pace,
-        )?;
+        at = go_on_alone(alloc, at, pending, &plan, rounds, &mut course.gears.pace)?;
         let Some(time) = pending.least_time() else {
             return Ok((at.states, at.traffic));
         };
@@ -201,18 +226,49 @@ where
         (system M.Model M.Body.cmp at.model at.states.items pending.old.events) r.0.items) }
     ensures stops { IfErr result (λ stop. stop ≢ BadPlan) }
 {
-    let mut crew = rw_crew::alone(rt, alloc);
     // On this rests that a worker may move.
     may_move::<Port<Letter<M::Body>>>();
-    let hired = grow_for_both(&mut crew, scope, alloc, plan.workers as usize);
+    let crew = hire(rt, scope, alloc, plan.workers as usize)?;
     let mut threads = RunThreads { crew };
-    let ran = match hired {
-        Ok(()) => run_pieces(rt, &mut threads, alloc, at, pending, course, plan, progress),
-        Err(halt) => Err(halt.into()),
-    };
+    let ran = run_pieces(rt, &mut threads, alloc, at, pending, course, plan, progress);
     let RunThreads { crew } = threads;
-    dismiss(crew);
+    release(crew);
     ran
+}
+
+/// A crew of so many threads, the calling one among them, that does two kinds of jobs.
+fn hire<'s, E, R, J, K, T, U>(
+    rt: &'s R,
+    scope: &Scope<'s, E>,
+    alloc: Global,
+    count: usize,
+) -> Result<Crew<'s, R, Either<J, K>, Either<T, U>>, Halt>
+where
+    R: Threads + Wait + Sync,
+    J: Job<T> + Send + Sync + Drop + 's,
+    K: Job<U> + Send + Sync + Drop + 's,
+    T: Send + Drop + 's,
+    U: Send + Drop + 's,
+{
+    let mut crew = rw_crew::alone(rt, alloc);
+    match grow_for_both(&mut crew, scope, alloc, count) {
+        Ok(()) => Ok(crew),
+        Err(halt) => {
+            dismiss(crew);
+            Err(halt)
+        }
+    }
+}
+
+/// Ends the threads of a crew that does two kinds of jobs, once they have done what they do.
+fn release<'r, R, J, K, T, U>(crew: Crew<'r, R, Either<J, K>, Either<T, U>>)
+where
+    J: Job<T> + Drop,
+    K: Job<U> + Drop,
+    T: Drop,
+    U: Drop,
+{
+    dismiss(crew);
 }
 
 /// The threads of a run, which do the work of a worker in rounds and in windows.
@@ -408,13 +464,13 @@ where
         r.model r.states.items pending.new.events) }
     ensures stops { IfErr result (λ stop. stop ≢ BadPlan) }
 {
+    let lookahead = window_of(&at.model);
+    let events = take_ready(alloc, &at, pending, count)?;
     let Standing {
         model,
         states,
         mut traffic,
     } = at;
-    let lookahead = model.lookahead().max(1);
-    let events = pending.take_out(alloc, count)?;
     let until = pending.least_time().unwrap_or(END);
     let end = end_of_windows(&events, lookahead).min(until);
     let Left {
@@ -434,7 +490,7 @@ where
         lookahead,
         end,
     )?;
-    pending.put_back(alloc, events)?;
+    pending.put_back(events)?;
     let mut did = traffic_of(plan, executed);
     did.ring = received;
     traffic.add(&did);
@@ -443,6 +499,30 @@ where
         states,
         traffic,
     })
+}
+
+/// How long a window is, in ticks: as the model's lookahead, and one tick at least.
+fn window_of<M: Lookahead>(model: &M) -> u64
+    ensures some { 1 ≤ result }
+    ensures ahead { IsAhead M.Model model.now result }
+{
+    model.lookahead().max(1)
+}
+
+/// Takes out so many of the events that wait, and those of the last one's time with them: a run may go on with them alone.
+fn take_ready<M: VtModel, S: Source<M::Body>>(
+    alloc: Global,
+    at: &Standing<M>,
+    pending: &mut Pending<M::Body, S>,
+    count: usize,
+) -> Result<Vec<Event<M::Body>>, AllocError>
+    requires { IsReady M.Model at.now.model at.now.states.items pending.old.events }
+    ensures ready { IfOk result (λ taken.
+        IsReady M.Model at.now.model at.now.states.items taken.items) }
+    ensures parts { IfOk result (λ taken.
+        IsPermutation pending.old.events (taken.items ++ pending.new.events)) }
+{
+    pending.take_out(alloc, count)
 }
 
 /// The time up to which windows go that take in these events, in ticks: after the last of them, or after the last one before
@@ -486,12 +566,12 @@ where
         r.model r.states.items pending.new.events) }
     ensures stops { IfErr result (λ stop. stop ≢ BadPlan) }
 {
+    let events = take_ready(alloc, &at, pending, count)?;
     let Standing {
         model,
         states,
         mut traffic,
     } = at;
-    let events = pending.take_out(alloc, count)?;
     let until = pending.least_time().unwrap_or(END);
     let world = World::open(alloc, model, states, events)?;
     let Stretch {
@@ -504,7 +584,7 @@ where
         states,
         events,
     } = world.into_rest(alloc)?;
-    pending.put_back(alloc, events)?;
+    pending.put_back(events)?;
     traffic.add(&did);
     Ok(Standing {
         model,

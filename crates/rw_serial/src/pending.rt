@@ -107,7 +107,7 @@ impl<B: Ord + Copy, S: Source<B>> Pending<B, S> {
     ///
     /// It costs a sort of them and of those that were sent before, which is linear where they are in order. After a refusal of
     /// memory some events are lost.
-    pub fn put_back(&mut self, alloc: Global, events: Vec<Event<B>>) -> Result<(), AllocError>
+    pub fn put_back(&mut self, events: Vec<Event<B>>) -> Result<(), AllocError>
         ensures { OnOk result (IsPermutation (self.old.events ++ events.items) self.new.events) }
     {
         let mut sent = events;

@@ -1,10 +1,7 @@
 use Rattle.std.proofs.Common.{◌∙◌, refl}
 use Rattle.rw_vt.proofs.Laws.{laws_of}
-use Rattle.rw_engine.proofs.Onward.{goes_by_rest, late_from, same_model, same_rest, taken_ready}
+use Rattle.rw_engine.proofs.Onward.{goes_by_rest, late_from, same_model, same_rest}
 use Rattle.rw_engine.proofs.stretches.go_on_in_rounds.Goals as goal
-
-pub open-requires : goal.open-requires
-open-requires g c = record { ready = taken_ready g.M.Model g.M.Body.Ord.cmp c.take_out.new.self.events c.requires.ready c.in_ok-events.ensures.parts }
 
 pub returns-clause-onward : goal.returns-clause-onward
 returns-clause-onward g c =
@@ -14,8 +11,8 @@ returns-clause-onward g c =
     let after = c.in_ok-world-2.field-0.world in
     let left = c.in_ok-model.field-0 in
     let laws = laws_of g.met.M.Model g.met.M.Body.Ord.total in
-    goes_by_rest model order laws c.in_ok-events.events.items c.take_out.new.self.events c.requires.ready c.in_ok-events.ensures.parts
-    (late_from c.take_out.new.self.events c.least_time.result 1099511627776 c.unwrap_or-until.result c.least_time.ensures c.unwrap_or-until.ensures)
+    goes_by_rest model order laws c.in_ok-events.events.items c.take_ready.new.pending.events c.requires.ready c.in_ok-events.ensures.parts
+    (late_from c.take_ready.new.pending.events c.least_time.result 1099511627776 c.unwrap_or-until.result c.least_time.ensures c.unwrap_or-until.ensures)
     c.in_ok-world-2.ensures.before
     (same_rest model order opened after after.world.collected left.states.items left.events.items c.in_ok-world.ensures.opened refl refl refl c.in_ok-world-2.ensures.system c.in_ok-model.ensures.rest)
     (c.in_ok-model.ensures.model ∙ same_model model order opened after c.in_ok-world.ensures.opened refl c.in_ok-world-2.ensures.system)

@@ -1,26 +1,15 @@
-use Rattle.std.proofs.Common.{subst}
-use Rattle.std.proofs.lemmas.Result.{IfOk-weaker}
+use Rattle.std.proofs.Common.{IfOk, subst, sym}
 use Rattle.rw_vt.specs.Rest.{AreLastStates}
-use Rattle.rw_vt.specs.System.{system}
-use Rattle.rw_serial.specs.Later.{IsLeastTime}
-use Rattle.rw_engine.proofs.Onward.{goes_further, goes_to_end}
+use Rattle.rw_vt.specs.System.{IsReady, system}
 use Rattle.rw_engine.proofs.stretches.run_in_scope.Goals as goal
 
-pub loop-course-preserved : goal.loop-course-preserved
-loop-course-preserved g c = goes_further g.M.Model g.M.Body.Ord.cmp c.loop-course.invariant c.in_ok-at.ensures.onward
+pub go_on_to_the_end-requires-clause-ready : goal.go_on_to_the_end-requires-clause-ready
+go_on_to_the_end-requires-clause-ready g c κs within = subst (IsReady g.M.Model c.args.model c.args.starts.items) (sym c.new-pending.ensures.events) c.requires.ready
 
-pub returns-in_default-least_time-clause-states : goal.returns-in_default-least_time-clause-states
-returns-in_default-least_time-clause-states g c =
-    goes_to_end g.M.Model g.M.Body.Ord.cmp (goes_further g.M.Model g.M.Body.Ord.cmp c.loop-course.invariant c.in_ok-at.ensures.onward)
-    (subst (IsLeastTime c.go_on_alone.new.pending.events) c.in_default-least_time.is c.least_time.ensures)
+pub returns-clause-states : goal.returns-clause-states
+returns-clause-states g c =
+    let ends = system g.M.Model g.M.Body.Ord.cmp c.args.model c.args.starts.items in
+    subst (λ events. IfOk c.go_on_to_the_end.result (λ r. AreLastStates (ends events) r.0.items)) c.new-pending.ensures.events c.go_on_to_the_end.ensures.states
 
--- with threads it ends as from where it has come to
-pub returns-in_default : goal.returns-in_default
-returns-in_default g c =
-    let here = c.loop-course in
-    let ends = system g.M.Model g.M.Body.Ord.cmp in
-    record {
-      states = IfOk-weaker c.run_by_crew.result (λ r. AreLastStates (ends here.at.model here.at.states.items here.pending.events) r.0.items) (λ r. AreLastStates (ends c.args.model c.args.starts.items (g.S.Source.left c.args.source)) r.0.items)
-          (λ r last. here.invariant.ends r.0.items last) c.run_by_crew.ensures.states;
-      stops = c.run_by_crew.ensures.stops;
-    }
+pub returns-clause-stops : goal.returns-clause-stops
+returns-clause-stops g c = c.go_on_to_the_end.ensures.stops
