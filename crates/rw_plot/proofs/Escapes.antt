@@ -68,4 +68,4 @@ pub escaped-end : (xs : List ℕ) (i : ℕ) (t : List ℕ) → length t ≤ i �
 unfolding escaped
 escaped-end xs i t h = rw (drop_all i t h) (append-nil xs)
 
-pub ruleset escape_rules = (escaped-entity, escaped-byte, escaped-end)
+pub ruleset escape_rules = (escaped-entity, escaped-byte)

@@ -56,5 +56,3 @@ unfolding samples_of samples_before
 samples-many caches most n r rs xs h =
     let same : (n == most) ≡ true = grind (arith, common_steps) in
     rw same refl
-
-pub ruleset sample_rules = (samples-none, samples-more, samples-fault, samples-end, samples-many)

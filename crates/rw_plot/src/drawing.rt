@@ -67,26 +67,25 @@ fn write_head(out: &mut Vec<u8>, many: usize, measure: Measure, caches: Caches) 
     let whose = caches.name();
     write!(
         out,
-        "<svg xmlns=\"http://www.w3.org/2000/svg\" viewBox=\"0 0 960 {height}\" role=\"img\">"
-    )?;
-    write!(out, "<title>{name} by flash size, {whose}</title>\n")?;
-    out.extend_from_slice(STYLE.as_bytes())?;
-    write!(
-        out,
-        "<rect class=\"paper\" width=\"960\" height=\"{height}\"/>\n"
-    )?;
-    write!(
-        out,
-        "<text class=\"head\" x=\"96\" y=\"36\">{name} by flash size, {whose}</text>\n"
+        "<svg xmlns=\"http://www.w3.org/2000/svg\" viewBox=\"0 0 960 {height}\" role=\"img\">\
+         <title>{name} by flash size, {whose}</title>\n\
+         {STYLE}\
+         <rect class=\"paper\" width=\"960\" height=\"{height}\"/>\n\
+         <text class=\"head\" x=\"96\" y=\"36\">{name} by flash size, {whose}</text>\n"
     )
+}
+
+/// Writes where a point stands.
+fn write_place(out: &mut Vec<u8>, chart: &Chart, point: &Sample) -> io::Result<()> {
+    let (x, y) = chart.place(point);
+    write!(out, "{x},{y} ")
 }
 
 /// Writes the line through the points of one name.
 fn write_line(out: &mut Vec<u8>, chart: &Chart, points: &[Sample]) -> io::Result<()> {
     out.extend_from_slice(b"<polyline class=\"line\" points=\"")?;
     for point in points {
-        let (x, y) = chart.place(point);
-        write!(out, "{x},{y} ")?;
+        write_place(out, chart, point)?;
     }
     out.extend_from_slice(b"\"/>\n")?;
     Ok(())
@@ -95,54 +94,63 @@ fn write_line(out: &mut Vec<u8>, chart: &Chart, points: &[Sample]) -> io::Result
 /// Writes a point, with its numbers as its title.
 fn write_point(out: &mut Vec<u8>, chart: &Chart, title: &[u8], point: &Sample) -> io::Result<()> {
     let (x, y) = chart.place(point);
-    let what = chart.measure.name();
-    let value = PointValue {
-        unit: chart.measure.unit(),
-        value: chart.measure.value(point),
-    };
-    let flash = point.flash_bytes;
-    let size = Size(u128::from(flash));
     write!(
         out,
         "<circle class=\"dot\" cx=\"{x}\" cy=\"{y}\" r=\"3.5\"><title>"
     )?;
     out.extend_from_slice(title)?;
-    write!(out, ": {what} {value}; flash {size} ({flash} bytes)")?;
-    write_configuration(out, point)?;
-    out.extend_from_slice(b"</title></circle>\n")?;
-    Ok(())
+    write_numbers(out, chart.measure, point)
 }
 
-/// Writes the configuration of a point.
-fn write_configuration(out: &mut Vec<u8>, point: &Sample) -> io::Result<()> {
+/// Writes the numbers of a point, and ends it.
+fn write_numbers(out: &mut Vec<u8>, measure: Measure, point: &Sample) -> io::Result<()> {
+    let what = measure.name();
+    let value = PointValue {
+        unit: measure.unit(),
+        value: measure.value(point),
+    };
+    let flash = point.flash_bytes;
+    let size = Size(u128::from(flash));
     let sections = point.sections;
     let block = point.block;
     let edge_blocks = point.edge_blocks;
     let origin_blocks = point.origin_blocks;
-    write!(out, "; {sections} sections, blocks of {block} bytes")?;
     write!(
         out,
-        ", {edge_blocks} edge blocks, {origin_blocks} origin blocks"
+        ": {what} {value}; flash {size} ({flash} bytes); {sections} sections, blocks of {block} bytes, \
+         {edge_blocks} edge blocks, {origin_blocks} origin blocks</title></circle>\n"
     )
 }
 
 /// Writes the polyline and the points of one name.
 fn write_series(
-    alloc: Global,
     out: &mut Vec<u8>,
     chart: &Chart,
     place: usize,
-    name: &Name,
-    varying: Varying,
+    title: &[u8],
     points: &[Sample],
 ) -> io::Result<()> {
-    let title = full_name(alloc, name, varying)?;
     open_group(out, place)?;
     write_line(out, chart, points)?;
     for point in points {
-        write_point(out, chart, title.as_slice(), point)?;
+        write_point(out, chart, title, point)?;
     }
     out.extend_from_slice(b"</g>\n")?;
+    Ok(())
+}
+
+/// Writes the polylines and the points of all names.
+fn write_all_series(
+    alloc: Global,
+    out: &mut Vec<u8>,
+    all: &AllSeries,
+    chart: &Chart,
+    varying: Varying,
+) -> io::Result<()> {
+    for (place, (name, points)) in all.iter().enumerate() {
+        let title = full_name(alloc, name, varying)?;
+        write_series(out, chart, place, title.as_slice(), points.as_slice())?;
+    }
     Ok(())
 }
 
@@ -162,6 +170,24 @@ fn write_legend(
     Ok(())
 }
 
+/// Writes the picture of some polylines.
+fn write_picture(
+    alloc: Global,
+    out: &mut Vec<u8>,
+    all: &AllSeries,
+    measure: Measure,
+    caches: Caches,
+) -> io::Result<()> {
+    let chart = chart_of(all, measure);
+    let varying = Varying::among(all);
+    write_head(out, all.len(), measure, caches)?;
+    chart.write(out)?;
+    write_all_series(alloc, out, all, &chart, varying)?;
+    write_legend(alloc, out, all, varying)?;
+    out.extend_from_slice(b"</svg>\n")?;
+    Ok(())
+}
+
 /// The picture of some polylines.
 pub(crate) fn draw(
     alloc: Global,
@@ -170,22 +196,6 @@ pub(crate) fn draw(
     caches: Caches,
 ) -> io::Result<Vec<u8>> {
     let mut out = Vec::new(alloc);
-    let chart = chart_of(all, measure);
-    let varying = Varying::among(all);
-    write_head(&mut out, all.len(), measure, caches)?;
-    chart.write(&mut out)?;
-    for (place, (name, points)) in all.iter().enumerate() {
-        write_series(
-            alloc,
-            &mut out,
-            &chart,
-            place,
-            name,
-            varying,
-            points.as_slice(),
-        )?;
-    }
-    write_legend(alloc, &mut out, all, varying)?;
-    out.extend_from_slice(b"</svg>\n")?;
+    write_picture(alloc, &mut out, all, measure, caches)?;
     Ok(out)
 }

@@ -59,19 +59,25 @@ fn width_of_char(c: char) -> u32 {
 /// What shows that a text was cut.
 const CUT: &str = "\u{2026}";
 
+/// Puts a text to another, with U+FFFD for what XML 1.0 does not allow; cut where it would be wider than `room`, in tenths of
+/// a pixel.
+fn push_allowed(text: &mut String, whole: &str, room: u32) -> Result<(), AllocError> {
+    let mut wide: u32 = 0;
+    for c in whole.chars() {
+        wide = wide.saturating_add(width_of_char(c));
+        if wide > room {
+            return text.push_str(CUT);
+        }
+        text.push(if is_allowed(c) { c } else { '\u{fffd}' })?;
+    }
+    Ok(())
+}
+
 /// The text of some bytes, with U+FFFD for what is no UTF-8 and for what XML 1.0 does not allow; cut where it would be wider
 /// than `room`, in tenths of a pixel.
 pub(crate) fn readable(alloc: Global, bytes: &[u8], room: u32) -> Result<String, AllocError> {
     let whole = String::from_utf8_lossy(alloc, bytes)?;
     let mut text = String::new(alloc);
-    let mut wide: u32 = 0;
-    for c in whole.as_str().chars() {
-        wide = wide.saturating_add(width_of_char(c));
-        if wide > room {
-            text.push_str(CUT)?;
-            return Ok(text);
-        }
-        text.push(if is_allowed(c) { c } else { '\u{fffd}' })?;
-    }
+    push_allowed(&mut text, whole.as_str(), room)?;
     Ok(text)
 }

@@ -23,17 +23,25 @@ const BYTE_UNITS: [&str; 8] = ["B", "KiB", "MiB", "GiB", "TiB", "PiB", "EiB", "Z
 #[derive(Clone, Copy)]
 pub(crate) struct Size(pub(crate) u128);
 
-impl fmt::Display for Size {
-    fn fmt<W: fmt::Write>(&self, f: &mut fmt::Formatter<W>) -> fmt::Result {
+impl Size {
+    /// The count, and its unit.
+    fn parts(self) -> (u128, &'static str) {
         let mut count = self.0;
         let mut unit = "B";
-        for next in BYTE_UNITS {
+        for next in &BYTE_UNITS {
             unit = next;
             if count == 0 || count % 1024 != 0 {
                 break;
             }
             count /= 1024;
         }
+        (count, unit)
+    }
+}
+
+impl fmt::Display for Size {
+    fn fmt<W: fmt::Write>(&self, f: &mut fmt::Formatter<W>) -> fmt::Result {
+        let (count, unit) = self.parts();
         write!(f, "{count} {unit}")
     }
 }
@@ -47,14 +55,10 @@ struct Decimals {
     millionths: u128,
 }
 
-impl fmt::Display for Decimals {
-    fn fmt<W: fmt::Write>(&self, f: &mut fmt::Formatter<W>) -> fmt::Result {
-        let whole = self.whole;
-        let millionths = self.millionths;
-        if millionths == 0 {
-            return write!(f, "{whole}");
-        }
-        let mut rest = millionths;
+impl Decimals {
+    /// The decimals up to the last that is not 0 as a number, and how many they are.
+    fn rest(self) -> (u128, usize) {
+        let mut rest = self.millionths;
         let mut digits: usize = 6;
         for _ in 0..6 {
             if rest % 10 != 0 {
@@ -63,6 +67,17 @@ impl fmt::Display for Decimals {
             rest /= 10;
             digits = digits.saturating_sub(1);
         }
+        (rest, digits)
+    }
+}
+
+impl fmt::Display for Decimals {
+    fn fmt<W: fmt::Write>(&self, f: &mut fmt::Formatter<W>) -> fmt::Result {
+        let whole = self.whole;
+        if self.millionths == 0 {
+            return whole.fmt(f);
+        }
+        let (rest, digits) = self.rest();
         write!(f, "{whole}.{rest:0digits$}")
     }
 }
@@ -74,12 +89,13 @@ const COUNT_UNITS: [&str; 7] = ["", " k", " M", " G", " T", " P", " E"];
 #[derive(Clone, Copy)]
 struct Count(u128);
 
-impl fmt::Display for Count {
-    fn fmt<W: fmt::Write>(&self, f: &mut fmt::Formatter<W>) -> fmt::Result {
+impl Count {
+    /// The count in its unit, and the name of that.
+    fn parts(self) -> (Decimals, &'static str) {
         let count = self.0;
         let mut size: u128 = 1;
         let mut name = "";
-        for next in COUNT_UNITS {
+        for next in &COUNT_UNITS {
             name = next;
             if count / 1000 < size {
                 break;
@@ -87,11 +103,17 @@ impl fmt::Display for Count {
             size = size.saturating_mul(1000);
         }
         let size = size.max(1);
-        let millionths = (count % size).saturating_mul(1_000_000) / size;
         let decimals = Decimals {
             whole: count / size,
-            millionths,
+            millionths: (count % size).saturating_mul(1_000_000) / size,
         };
+        (decimals, name)
+    }
+}
+
+impl fmt::Display for Count {
+    fn fmt<W: fmt::Write>(&self, f: &mut fmt::Formatter<W>) -> fmt::Result {
+        let (decimals, name) = self.parts();
         write!(f, "{decimals}{name}")
     }
 }
@@ -109,24 +131,16 @@ impl fmt::Display for TickValue {
     fn fmt<W: fmt::Write>(&self, f: &mut fmt::Formatter<W>) -> fmt::Result {
         let value = self.value;
         if value == 0 {
-            return write!(f, "0");
+            return f.write_str("0");
         }
         match self.unit {
-            Unit::Ratio => {
-                let ratio = Decimals {
-                    whole: value / 1_000_000,
-                    millionths: value % 1_000_000,
-                };
-                write!(f, "{ratio}")
+            Unit::Ratio => Decimals {
+                whole: value / 1_000_000,
+                millionths: value % 1_000_000,
             }
-            Unit::Bytes => {
-                let size = Size(value);
-                write!(f, "{size}")
-            }
-            Unit::Count => {
-                let count = Count(value);
-                write!(f, "{count}")
-            }
+            .fmt(f),
+            Unit::Bytes => Size(value).fmt(f),
+            Unit::Count => Count(value).fmt(f),
         }
     }
 }
@@ -150,7 +164,7 @@ impl fmt::Display for PointValue {
                 write!(f, "{whole}.{millionths:06}")
             }
             Unit::Bytes => write!(f, "{value} bytes"),
-            Unit::Count => write!(f, "{value}"),
+            Unit::Count => value.fmt(f),
         }
     }
 }

@@ -4,7 +4,7 @@ use crate::escaping::{escape, readable};
 use crate::labels::{Pixels, Size};
 use crate::scale::Hundredths;
 use crate::series::{Name, Varying};
-use std::alloc::{AllocError, Global};
+use std::alloc::Global;
 use std::io::{self, Write};
 
 /// The most lines of a legend.
@@ -31,33 +31,44 @@ const POLICY_ROOM: u32 = 1_100;
 /// About how wide a line of the legend may be, in tenths of a pixel.
 const LABEL_ROOM: u32 = 2_250;
 
-/// Bytes of a text as they may stand in the picture, cut where they would be wider than `room`.
-fn shown(alloc: Global, text: &[u8], room: u32) -> Result<Vec<u8>, AllocError> {
-    let readable = readable(alloc, text, room)?;
-    escape(alloc, readable.as_bytes())
+/// A name as it may stand in the picture: its policy, and of the rest what varies. The policy is cut where it would be wider
+/// than `policy_room`, and the whole where it would be wider than `room`.
+fn shown(
+    alloc: Global,
+    name: &Name,
+    varying: Varying,
+    policy_room: u32,
+    room: u32,
+) -> io::Result<Vec<u8>> {
+    let text = label_text(alloc, name, varying, policy_room)?;
+    let readable = readable(alloc, text.as_slice(), room)?;
+    Ok(escape(alloc, readable.as_bytes())?)
 }
 
-/// The whole name of a polyline, as it may stand in the picture: its policy, and of the rest what varies.
+/// The whole name of a polyline.
 pub(crate) fn full_name(alloc: Global, name: &Name, varying: Varying) -> io::Result<Vec<u8>> {
-    let text = label_text(alloc, name, varying, u32::MAX)?;
-    Ok(shown(alloc, text.as_slice(), u32::MAX)?)
+    shown(alloc, name, varying, u32::MAX, u32::MAX)
 }
 
 /// The name of a polyline as it stands in the legend.
 fn short_name(alloc: Global, name: &Name, varying: Varying) -> io::Result<Vec<u8>> {
-    let room = if varying.sections || varying.blocks {
+    let policy_room = if varying.sections || varying.blocks {
         POLICY_ROOM
     } else {
         LABEL_ROOM
     };
-    let text = label_text(alloc, name, varying, room)?;
-    Ok(shown(alloc, text.as_slice(), LABEL_ROOM)?)
+    shown(alloc, name, varying, policy_room, LABEL_ROOM)
 }
 
 /// The text of a name, not escaped yet, its policy cut where it would be wider than `room`.
 fn label_text(alloc: Global, name: &Name, varying: Varying, room: u32) -> io::Result<Vec<u8>> {
-    let policy = readable(alloc, name.policy.as_slice(), room)?;
-    let mut text = Vec::from_slice(alloc, policy.as_bytes())?;
+    let mut text = readable(alloc, name.policy.as_slice(), room)?.into_bytes();
+    write_varying(&mut text, name, varying)?;
+    Ok(text)
+}
+
+/// Writes of the rest of a name what varies.
+fn write_varying(text: &mut Vec<u8>, name: &Name, varying: Varying) -> io::Result<()> {
     if varying.sections {
         let sections = name.sections;
         write!(text, ", {sections} sections")?;
@@ -66,7 +77,7 @@ fn label_text(alloc: Global, name: &Name, varying: Varying, room: u32) -> io::Re
         let block = Size(u128::from(name.block));
         write!(text, ", {block} blocks")?;
     }
-    Ok(text)
+    Ok(())
 }
 
 /// Writes the beginning of the group of a polyline or of its line in the legend: its colour and dashes.
@@ -95,27 +106,40 @@ pub(crate) fn write_entry(
     name: &Name,
     varying: Varying,
 ) -> io::Result<()> {
-    let height = height_of(place);
+    open_group(out, place)?;
+    write_title(alloc, out, name, varying)?;
+    write_sample(out, height_of(place))?;
+    write_label(alloc, out, name, varying)
+}
+
+/// Writes the whole name of a polyline as the title of its line in the legend.
+fn write_title(alloc: Global, out: &mut Vec<u8>, name: &Name, varying: Varying) -> io::Result<()> {
+    let title = full_name(alloc, name, varying)?;
+    out.extend_from_slice(b"<title>")?;
+    out.extend_from_slice(title.as_slice())?;
+    Ok(())
+}
+
+/// Writes how a polyline and its points look, and where its label begins.
+fn write_sample(out: &mut Vec<u8>, height: Hundredths) -> io::Result<()> {
     let y = Pixels(height);
     let base = Pixels(height.saturating_add(4_00));
     let from = Pixels(LEGEND_LEFT);
-    let middle = Pixels(LEGEND_LEFT.saturating_add(14_00));
-    let to = Pixels(LEGEND_LEFT.saturating_add(28_00));
-    let text_x = Pixels(LEGEND_LEFT.saturating_add(36_00));
-    open_group(out, place)?;
-    out.extend_from_slice(b"<title>")?;
-    out.extend_from_slice(full_name(alloc, name, varying)?.as_slice())?;
-    out.extend_from_slice(b"</title>")?;
+    let middle = Pixels(LEGEND_LEFT + 14_00);
+    let to = Pixels(LEGEND_LEFT + 28_00);
+    let text_x = Pixels(LEGEND_LEFT + 36_00);
     write!(
         out,
-        "<polyline class=\"line\" points=\"{from},{y} {to},{y}\"/>"
-    )?;
-    write!(
-        out,
-        "<circle class=\"dot\" cx=\"{middle}\" cy=\"{y}\" r=\"3.5\"/>"
-    )?;
-    write!(out, "<text x=\"{text_x}\" y=\"{base}\">")?;
-    out.extend_from_slice(short_name(alloc, name, varying)?.as_slice())?;
+        "</title><polyline class=\"line\" points=\"{from},{y} {to},{y}\"/>\
+         <circle class=\"dot\" cx=\"{middle}\" cy=\"{y}\" r=\"3.5\"/>\
+         <text x=\"{text_x}\" y=\"{base}\">"
+    )
+}
+
+/// Writes the name of a polyline as the label of its line in the legend.
+fn write_label(alloc: Global, out: &mut Vec<u8>, name: &Name, varying: Varying) -> io::Result<()> {
+    let label = short_name(alloc, name, varying)?;
+    out.extend_from_slice(label.as_slice())?;
     out.extend_from_slice(b"</text></g>\n")?;
     Ok(())
 }
@@ -123,7 +147,7 @@ pub(crate) fn write_entry(
 /// Writes how many polylines the legend leaves out.
 pub(crate) fn write_rest(out: &mut Vec<u8>, left_out: usize) -> io::Result<()> {
     let base = Pixels(height_of(MOST_ENTRIES).saturating_add(4_00));
-    let text_x = Pixels(LEGEND_LEFT.saturating_add(36_00));
+    let text_x = Pixels(LEGEND_LEFT + 36_00);
     write!(
         out,
         "<text x=\"{text_x}\" y=\"{base}\">and {left_out} more</text>\n"

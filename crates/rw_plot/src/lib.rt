@@ -62,7 +62,8 @@ pub fn plot(
     ensures fault { IfErr result (λ e.
         e ≢ fault.Memory → sweep_of caches (records_of bytes.now) ≡ Err e) }
 {
-    let lines = sweep::read(alloc, bytes, caches)?;
+    let mut lines = Vec::new(alloc);
+    sweep::read(alloc, bytes, caches, &mut lines)?;
     let all = series::by_policy(alloc, lines)?;
     // A text in memory is refused only for want of memory.
     drawing::draw(alloc, &all, measure, caches).map_err(|_| PlotFault::Memory)

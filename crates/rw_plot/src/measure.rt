@@ -25,7 +25,7 @@ pub enum Caches {
 }
 
 /// In what a value is counted.
-#[derive(Clone, Copy, PartialEq, Eq, Debug)]
+#[derive(Clone, Copy)]
 pub(crate) enum Unit {
     /// In millionths of the whole.
     Ratio,

@@ -30,15 +30,19 @@ fn add(alloc: Global, all: &mut AllSeries, line: Line) -> Result<(), AllocError>
     Ok(())
 }
 
-/// The rows by the polyline in which they stand, in each by rising flash.
-pub(crate) fn by_policy(alloc: Global, lines: Vec<Line>) -> Result<AllSeries, AllocError> {
-    let mut all = BTreeMap::new(alloc);
+/// Puts rows to the points of their polylines, in their order.
+fn add_all(alloc: Global, all: &mut AllSeries, lines: Vec<Line>) -> Result<(), AllocError> {
     for line in lines {
-        add(alloc, &mut all, line)?;
+        add(alloc, all, line)?;
     }
-    for points in all.values_mut() {
-        points.sort_by_key(|point| point.flash_bytes)?;
-    }
+    Ok(())
+}
+
+/// The rows by the polyline in which they stand, in each by rising flash.
+pub(crate) fn by_policy(alloc: Global, mut lines: Vec<Line>) -> Result<AllSeries, AllocError> {
+    lines.sort_by_key(|line| line.sample.flash_bytes)?;
+    let mut all = BTreeMap::new(alloc);
+    add_all(alloc, &mut all, lines)?;
     Ok(all)
 }
 

@@ -3,7 +3,7 @@ ghost use Rattle.csv.specs.Reading.{error_kind, stops_reader};
 ghost use Rattle.csv.specs.Records.{fields_of};
 ghost use Rattle.rw_trace.specs.Trace.{is_text_at};
 ghost use Rattle.rw_trace.specs.Unread.{Steady, records_of, unread};
-ghost use Rattle.rw_plot.specs.Sweep.{are_same_caches, caches_of_fields, count_of_column, five_counts, flash_of, is_sweep_header, most_lines, names_configuration, names_measures, names_requests, names_stores, names_writes, ratio_of, ratio_of_column, sample_of, samples_of, sweep_of};
+ghost use Rattle.rw_plot.specs.Sweep.{are_same_caches, caches_of_fields, count_of_column, five_counts, flash_of, is_sweep_header, millionths_of, most_lines, names_configuration, names_measures, names_requests, names_stores, names_writes, ratio_of, ratio_of_column, sample_of, samples_of, sweep_of};
 ghost use Rattle.rw_plot.specs.declared.plot_fault.PlotFault.TheVariants.{Memory};
 
 use crate::measure::Caches;
@@ -74,6 +74,17 @@ fn five_at(fields: &ByteRecord, row: u64, column: u8) -> Result<u64, PlotFault>
     count_at(fields, row, column + 4)
 }
 
+/// A ratio in millionths, from its digit and its six decimals. `None` exactly where it is over 1, or one of them is none.
+fn millionths(whole: Option<u64>, decimals: Option<u64>) -> Option<u64>
+    ensures { result ≡ millionths_of whole decimals }
+{
+    match (whole, decimals) {
+        (Some(0), decimals) => decimals,
+        (Some(1), Some(0)) => Some(1_000_000),
+        _ => None,
+    }
+}
+
 /// The ratio that a field writes, in millionths: a digit, a point and six decimals, at most 1. `None` exactly where it
 /// writes none.
 #[tactic(auto, unfolding(crate::specs::Sweep::ratio_of))]
@@ -83,15 +94,7 @@ fn ratio(field: &[u8]) -> Option<u64>
     if field.len() != 8 || field[1] != b'.' {
         return None;
     }
-    let whole = number(&field[..1])?;
-    let millionths = number(&field[2..])?;
-    if whole == 0 {
-        Some(millionths)
-    } else if whole == 1 && millionths == 0 {
-        Some(1_000_000)
-    } else {
-        None
-    }
+    millionths(number(&field[..1]), number(&field[2..]))
 }
 
 /// The ratio at a column of a row, in millionths, or `Number` where its field writes none.
@@ -335,53 +338,75 @@ fn add_line(
     Ok(())
 }
 
-/// The rows of these caches among the records that are left, or the first fault among all of them.
-#[tactic(auto, using(crate::proofs::Samples::sample_rules))]
+/// Puts the rows of these caches among the records that are left into `lines`, which is empty; or the first fault among all
+/// of them.
 fn lines_left(
     alloc: Global,
     reader: &mut Reader<&[u8]>,
     fields: &mut ByteRecord,
     caches: Caches,
-) -> Result<Vec<Line>, PlotFault>
-    requires { Steady reader.old }
-    ensures samples { IfOk result (λ v.
-        samples_of caches most_lines 0 (unread reader.old) ≡ Ok (map (λ l. l.sample) v.items)) }
+    lines: &mut Vec<Line>,
+) -> Result<(), PlotFault>
+    requires steady { Steady reader.old }
+    requires empty { lines.old.items ≡ [] }
+    ensures samples { OnOk result (samples_of caches most_lines 0 (unread reader.old)
+        ≡ Ok (map (λ l. l.sample) lines.new.items)) }
     ensures fault { IfErr result (λ e.
         e ≢ Memory → samples_of caches most_lines 0 (unread reader.old) ≡ Err e) }
 {
-    let mut lines = Vec::new(alloc);
     for at in 0..MAX_LINES {
         if !next(reader, fields)? {
-            return Ok(lines);
+            return Ok(());
         }
         let sample = sample_at(fields, at)?;
-        add_line(alloc, &mut lines, fields, sample, caches)?;
+        add_line(alloc, lines, fields, sample, caches)?;
     }
     if next(reader, fields)? {
         return Err(PlotFault::TooManyRows);
     }
-    Ok(lines)
+    Ok(())
 }
 
-/// The rows of a sweep that are of these caches, of which there is one at least.
+/// Puts the rows of the sweep of these records that are of these caches into `lines`, which is empty; there is one at least.
 #[tactic(auto, unfolding(crate::specs::Sweep::sweep_of))]
-pub(crate) fn read(alloc: Global, bytes: &[u8], caches: Caches) -> Result<Vec<Line>, PlotFault>
-    ensures samples { IfOk result (λ v.
-        sweep_of caches (records_of bytes.now) ≡ Ok (map (λ l. l.sample) v.items)) }
+fn lines_of_sweep(
+    alloc: Global,
+    reader: &mut Reader<&[u8]>,
+    fields: &mut ByteRecord,
+    caches: Caches,
+    lines: &mut Vec<Line>,
+) -> Result<(), PlotFault>
+    requires steady { Steady reader.old }
+    requires empty { lines.old.items ≡ [] }
+    ensures samples { OnOk result (sweep_of caches (unread reader.old)
+        ≡ Ok (map (λ l. l.sample) lines.new.items)) }
+    ensures fault { IfErr result (λ e.
+        e ≢ Memory → sweep_of caches (unread reader.old) ≡ Err e) }
+{
+    if !next(reader, fields)? || !is_header_record(fields) {
+        return Err(PlotFault::Header);
+    }
+    lines_left(alloc, reader, fields, caches, lines)?;
+    if lines.is_empty() {
+        return Err(PlotFault::Nothing);
+    }
+    Ok(())
+}
+
+/// Puts the rows of a sweep that are of these caches into `lines`, which is empty; there is one at least.
+pub(crate) fn read(
+    alloc: Global,
+    bytes: &[u8],
+    caches: Caches,
+    lines: &mut Vec<Line>,
+) -> Result<(), PlotFault>
+    requires { lines.old.items ≡ [] }
+    ensures samples { OnOk result (sweep_of caches (records_of bytes.now)
+        ≡ Ok (map (λ l. l.sample) lines.new.items)) }
     ensures fault { IfErr result (λ e.
         e ≢ Memory → sweep_of caches (records_of bytes.now) ≡ Err e) }
 {
     let mut reader = open(alloc, bytes);
     let mut fields = ByteRecord::new(alloc);
-    if !next(&mut reader, &mut fields)? {
-        return Err(PlotFault::Header);
-    }
-    if !is_header_record(&fields) {
-        return Err(PlotFault::Header);
-    }
-    let lines = lines_left(alloc, &mut reader, &mut fields, caches)?;
-    if lines.is_empty() {
-        return Err(PlotFault::Nothing);
-    }
-    Ok(lines)
+    lines_of_sweep(alloc, &mut reader, &mut fields, caches, lines)
 }
