@@ -1,5 +1,5 @@
 -- The different ones of some texts: each has a place, which stays, and no two have one.
-use Rattle.std.proofs.Common.{◌≡◌, ◌<◌, ◌+◌, ◌∙◌, ℕ, List, [], ◌∷◌, ◌++◌, Bool, true, false, All, Option, Some, None, cond, fold, length, map, zero, suc, refl, sym, ap, arith}
+use Rattle.std.proofs.Common.{◌≡◌, ◌<◌, ◌+◌, ◌∙◌, ℕ, List, [], ◌∷◌, ◌++◌, Bool, true, false, All, Some, None, cond, fold, length, map, zero, suc, refl, sym, ap, arith}
 use Rattle.std.specs.Prelude.{◌||◌, nat_lt, not, slice_index, slice_index_or}
 use Rattle.std.specs.List.{list_any, position, position_or_len}
 use Rattle.std.specs.Global.{Vec}

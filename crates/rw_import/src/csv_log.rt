@@ -274,23 +274,30 @@ fn numbered(
     }
 }
 
-/// What a record says, but its object, where its time is within those of a trace.
-fn judge(
-    fields: &ByteRecord,
+/// What the rows of a log are judged by.
+#[derive(Clone, Copy)]
+struct Terms {
+    /// Where the columns stand.
     places: Places,
+    /// How many edges the trace is for.
     edges: u32,
     options: Options,
+    /// The least time of all rows.
     least: u128,
-) -> Result<Entry, Flaw>
-    requires { places.edge ≡ None → options.edges ≡ edges }
+}
+
+/// What a record says, but its object, where its time is within those of a trace.
+fn judge(fields: &ByteRecord, terms: Terms) -> Result<Entry, Flaw>
+    requires { terms.places.edge ≡ None → terms.options.edges ≡ terms.edges }
     ensures judged { result
-        ≡ entry_in_time options.ticks least places.time
-        (entry_of places edges (fields_of fields.now)) }
-    ensures keepable { (n : ℕ) → n < 2 ^ 64 → IsKeepable edges options least (beside n result) }
+        ≡ entry_in_time terms.options.ticks terms.least terms.places.time
+        (entry_of terms.places terms.edges (fields_of fields.now)) }
+    ensures keepable { (n : ℕ) → n < 2 ^ 64
+        → IsKeepable terms.edges terms.options terms.least (beside n result) }
 {
-    let entry = read_fields(fields, places, edges)?;
-    if ticks_since(options, least, entry.time) > u128::from(MAX_TIME) {
-        return Err(Flaw::Column(places.time, Part::Time));
+    let entry = read_fields(fields, terms.places, terms.edges)?;
+    if ticks_since(terms.options, terms.least, entry.time) > u128::from(MAX_TIME) {
+        return Err(Flaw::Column(terms.places.time, Part::Time));
     }
     Ok(entry)
 }
@@ -301,13 +308,12 @@ fn add_named(
     alloc: Global,
     texts: &mut IndexSet<Vec<u8>>,
     sheet: &mut Sheet,
-    options: Options,
-    least: u128,
+    terms: Terms,
     row: u64,
     text: &[u8],
     said: Result<Entry, Flaw>,
 ) -> Result<(), ImportFault>
-    requires timely { (n : ℕ) → n < 2 ^ 64 → IsTimely options least (beside n said) }
+    requires timely { (n : ℕ) → n < 2 ^ 64 → IsTimely terms.options terms.least (beside n said) }
     requires within { AreCountsOf row sheet.old.left_out }
     requires few { row + 1 < 2 ^ 64 }
     ensures texts { OnOk result
@@ -315,36 +321,35 @@ fn add_named(
     ensures small { OnOk result
         (IfOk (beside (position_or_len (is_same_text text.now) (texts_in texts.old)) said)
         (λ s. s.1 < 2 ^ 64)) }
-    ensures adds { OnOk result (AddsRow options least sheet.old sheet.new
+    ensures adds { OnOk result (AddsRow terms.options terms.least sheet.old sheet.new
         (beside (position_or_len (is_same_text text.now) (texts_in texts.old)) said)) }
     ensures after { OnOk result (AreCountsOf (row + 1) sheet.new.left_out) }
-    ensures refuses { IfErr result (λ e. e ≢ Memory → RefusesRow options row sheet.old
+    ensures refuses { IfErr result (λ e. e ≢ Memory → RefusesRow terms.options row sheet.old
         (beside (position_or_len (is_same_text text.now) (texts_in texts.old)) said) e) }
 {
     let numbered = numbered(alloc, texts, text, said)?;
-    add(sheet, options, least, row, numbered)
+    add(sheet, terms.options, terms.least, row, numbered)
 }
 
 /// Of the records left, those that are kept, in order, and the counts of those that are left out.
 /// The texts of their objects come into `texts`, where none is yet.
-fn rows_and_texts<P: Progress>(
+fn rows_left<P: Progress>(
     alloc: Global,
     reader: &mut Reader<&[u8]>,
     fields: &mut ByteRecord,
     texts: &mut IndexSet<Vec<u8>>,
-    places: Places,
-    edges: u32,
-    options: Options,
-    least: u128,
+    terms: Terms,
     reading: &mut Reading<'_, P>,
 ) -> Result<Sheet, ImportFault>
     requires steady { Steady reader.old }
     requires none { texts_in texts.old ≡ [] }
-    requires edges { places.edge ≡ None → options.edges ≡ edges }
-    ensures sheet { IfOk result (λ s. IsTextSheet edges options least
-        (map (record_told places edges options.ticks least) (unread reader.old)) s) }
-    ensures fault { IfErr result (λ e. e ≢ Memory → IsRowsFault options
-        (map (record_told places edges options.ticks least) (unread reader.old)) e) }
+    requires edges { terms.places.edge ≡ None → terms.options.edges ≡ terms.edges }
+    ensures sheet { IfOk result (λ s. IsTextSheet terms.edges terms.options terms.least
+        (map (record_told terms.places terms.edges terms.options.ticks terms.least)
+        (unread reader.old)) s) }
+    ensures fault { IfErr result (λ e. e ≢ Memory → IsRowsFault terms.options
+        (map (record_told terms.places terms.edges terms.options.ticks terms.least)
+        (unread reader.old)) e) }
 {
     let mut sheet = blank_sheet(alloc);
     for row in 0..u64::MAX {
@@ -352,35 +357,11 @@ fn rows_and_texts<P: Progress>(
         if !next(reader, fields)? {
             return Ok(sheet);
         }
-        let judged = judge(fields, places, edges, options, least);
-        let text = field_of(fields, places.object);
-        add_named(alloc, texts, &mut sheet, options, least, row, text, judged)?;
+        let judged = judge(fields, terms);
+        let text = field_of(fields, terms.places.object);
+        add_named(alloc, texts, &mut sheet, terms, row, text, judged)?;
     }
     Err(ImportFault::Memory)
-}
-
-/// Of the records left, those that are kept, in order, and the counts of those that are left out.
-fn rows_left<P: Progress>(
-    alloc: Global,
-    reader: &mut Reader<&[u8]>,
-    fields: &mut ByteRecord,
-    places: Places,
-    edges: u32,
-    options: Options,
-    least: u128,
-    reading: &mut Reading<'_, P>,
-) -> Result<Sheet, ImportFault>
-    requires steady { Steady reader.old }
-    requires edges { places.edge ≡ None → options.edges ≡ edges }
-    ensures sheet { IfOk result (λ s. IsTextSheet edges options least
-        (map (record_told places edges options.ticks least) (unread reader.old)) s) }
-    ensures fault { IfErr result (λ e. e ≢ Memory → IsRowsFault options
-        (map (record_told places edges options.ticks least) (unread reader.old)) e) }
-{
-    let mut texts = IndexSet::new(alloc);
-    rows_and_texts(
-        alloc, reader, fields, &mut texts, places, edges, options, least, reading,
-    )
 }
 
 /// The rows of a log that are kept, in order, and the counts of those that are left out.
@@ -404,15 +385,20 @@ fn collect<P: Progress>(
     let mut reader = open(alloc, bytes, layout);
     let mut fields = ByteRecord::new(alloc);
     let places = start(&mut reader, &mut fields, layout)?;
+    let terms = Terms {
+        places,
+        edges,
+        options,
+        least,
+    };
+    let mut texts = IndexSet::new(alloc);
     let mut reading = Reading::new(progress, bytes.len());
     rows_left(
         alloc,
         &mut reader,
         &mut fields,
-        places,
-        edges,
-        options,
-        least,
+        &mut texts,
+        terms,
         &mut reading,
     )
 }

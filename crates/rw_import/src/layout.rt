@@ -28,7 +28,7 @@ pub struct Layout {
 }
 
 /// Where the columns of a log stand, from 0.
-#[derive(Clone, Copy, PartialEq, Eq, Debug)]
+#[derive(Clone, Copy)]
 pub struct Places {
     pub time: u64,
     pub object: u64,

@@ -9,7 +9,7 @@ use Rattle.rw_import.proofs.csv_log.add_named.Goals as goal
 
 pub add-requires-clause-timely : goal.add-requires-clause-timely
 add-requires-clause-timely c =
-    timely-beside c.args.options c.args.least _ c.args.said c.in_ok-numbered.numbered c.in_ok-numbered.ensures.said c.in_ok-numbered.ensures.small c.requires.timely
+    timely-beside c.args.terms.options c.args.terms.least _ c.args.said c.in_ok-numbered.numbered c.in_ok-numbered.ensures.said c.in_ok-numbered.ensures.small c.requires.timely
 
 pub returns-clause-texts : goal.returns-clause-texts
 returns-clause-texts c = on_ok_weaker c.add.result (λ _. c.in_ok-numbered.ensures.texts) c.add.ensures.after
@@ -20,11 +20,11 @@ returns-clause-small c =
 
 pub returns-clause-adds : goal.returns-clause-adds
 returns-clause-adds c =
-    on_ok_weaker c.add.result (subst (AddsRow c.args.options c.args.least c.args.sheet.now c.add.new.sheet) c.in_ok-numbered.ensures.said) c.add.ensures.adds
+    on_ok_weaker c.add.result (subst (AddsRow c.args.terms.options c.args.terms.least c.args.sheet.now c.add.new.sheet) c.in_ok-numbered.ensures.said) c.add.ensures.adds
 
 pub returns-clause-after : goal.returns-clause-after
 returns-clause-after c = c.add.ensures.after
 
 pub returns-clause-refuses : goal.returns-clause-refuses
 returns-clause-refuses c =
-    IfErr-weaker c.add.result _ _ (λ e told other. subst (λ (s : Saying ℕ). RefusesRow c.args.options c.args.row c.args.sheet.now s e) c.in_ok-numbered.ensures.said (told other)) c.add.ensures.refuses
+    IfErr-weaker c.add.result _ _ (λ e told other. subst (λ (s : Saying ℕ). RefusesRow c.args.terms.options c.args.row c.args.sheet.now s e) c.in_ok-numbered.ensures.said (told other)) c.add.ensures.refuses

@@ -1,17 +1,19 @@
 -- With the log's columns, its records are its rows.
-use Rattle.std.proofs.Common.{◌≡◌, ◌∙◌, List, Ok, ap, subst, sym}
+use Rattle.std.proofs.Common.{◌∙◌, List, ap, map, subst, sym}
 use Rattle.std.specs.Prelude.{Result}
 use Rattle.std.proofs.lemmas.Result.{MatchResult-weaker}
-use Rattle.csv.specs.Records.{fields_of}
 use Rattle.rw_trace.specs.Unread.{unread}
 use Rattle.rw_trace.specs.Words.{Fields, Text}
-use Rattle.rw_import.specs.Csv.{IsCsvFault, columns_found, csv_told, log_records, number_among, objects_in, record_told, rows_under}
+use Rattle.rw_import.specs.Csv.{IsCsvFault, columns_found, csv_told, number_among, objects_in, rows_under}
 use Rattle.rw_import.specs.Log.{IsRowsFault, Saying}
 use Rattle.rw_import.specs.Sheet.{IsSheetOf}
 use Rattle.rw_import.specs.declared.fault.ImportFault.{ImportFault}
 use Rattle.rw_import.specs.declared.layout.Places.{Places}
 use Rattle.rw_import.proofs.Collecting.{edges-asked, told-whole}
 use Rattle.rw_import.proofs.csv_log.collect.Goals as goal
+
+pub rows_left-requires-clause-none : goal.rows_left-requires-clause-none
+rows_left-requires-clause-none g c = ap (λ (vs : _). map (λ v. v.items) vs) c.new-texts.ensures.empty
 
 pub rows_left-requires-clause-edges : goal.rows_left-requires-clause-edges
 rows_left-requires-clause-edges g c none =

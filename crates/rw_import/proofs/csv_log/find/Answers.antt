@@ -1,5 +1,5 @@
 -- The first field of the name.
-use Rattle.std.proofs.Common.{◌≡◌, ◌∙◌, [], false, sym, ap, arith, below_more}
+use Rattle.std.proofs.Common.{◌∙◌, [], sym, ap, arith, below_more}
 use Rattle.csv.specs.Records.{fields_of}
 use Rattle.rw_trace.specs.Words.{Text}
 use Rattle.rw_import.specs.Csv.{is_same_text}

@@ -1,6 +1,5 @@
 -- The set's texts.
-use Rattle.std.proofs.Common.{◌∙◌, List, ap, map}
-use Rattle.std.specs.Global.{Vec}
+use Rattle.std.proofs.Common.{◌∙◌, ap, map}
 use Rattle.rw_import.proofs.Texts.{insert-items, place-items}
 use Rattle.rw_import.proofs.csv_log.number_of.Goals as goal
 
