@@ -1,7 +1,7 @@
 use rw_vt::Event;
 
 /// A message that an undone event sent and that is not cancelled yet (lazy cancellation).
-#[derive(Clone, Copy, Debug, PartialEq, Eq)]
+#[derive(Clone, Copy)]
 pub struct Held<B> {
     /// The event that was undone, which is pending again.
     pub undone: Event<B>,

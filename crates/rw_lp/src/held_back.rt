@@ -19,16 +19,9 @@ use std::marker::Model;
 /// in the order in which they came.
 ///
 /// Their undone events fall, so the pairs of one event stand side by side and are found by halves: those of the least,
-/// which is executed next, stand last. The messages are counted, so a send that is not held costs one search. It is
-/// boxed: moving it moves a pointer.
+/// which is executed next, stand last. The messages are counted, so a send that is not held costs one search.
 #[derive(Drop)]
 pub struct HeldBack<M: VtModel> {
-    kept: Box<Pairs<M>>,
-}
-
-/// What stands in that box.
-#[derive(Drop)]
-struct Pairs<M: VtModel> {
     pairs: Vec<Held<M::Body>>,
     /// Their messages.
     messages: CountedBag<M>,
@@ -37,45 +30,37 @@ struct Pairs<M: VtModel> {
 impl<M: VtModel> Model for HeldBack<M> {
     ghost Value = { List (Held M.Body) };
 
-    ghost view = { λ x. x.kept.value.pairs.items };
+    ghost view = { λ x. x.pairs.items };
 
-    ghost invariant = { λ x. AreFalling (event_cmp M.Body.cmp) x.kept.value.pairs.items
-        × AreCounted (event_cmp M.Body.cmp)
-        x.kept.value.messages (held_messages x.kept.value.pairs.items) };
+    ghost invariant = { λ x. AreFalling (event_cmp M.Body.cmp) x.pairs.items
+        × AreCounted (event_cmp M.Body.cmp) x.messages (held_messages x.pairs.items) };
 }
 
 impl<M: VtModel> HeldBack<M> {
-    /// Nothing is held.
-    pub fn new(alloc: Global) -> Result<HeldBack<M>, AllocError>
-        ensures { IfOk result (λ held. held ≡ []) }
+    /// Nothing is held. Takes no memory.
+    pub fn new(alloc: Global) -> HeldBack<M>
+        ensures { result ≡ [] }
     {
-        let kept = Pairs {
+        HeldBack {
             pairs: Vec::new(alloc),
             messages: CountedBag::new(alloc),
-        };
-        Ok(HeldBack {
-            kept: Box::new(alloc, kept)?,
-        })
+        }
     }
 
     /// Whether nothing is held. Takes no memory.
     pub fn is_empty(&self) -> bool
         ensures { IsTrue result → self.now ≡ [] }
     {
-        self.kept.pairs.is_empty()
+        self.pairs.is_empty()
     }
 
     /// Holds what an undone event had sent. No held message is of a lesser event.
-    pub fn hold(
-        self,
-        event: Event<M::Body>,
-        sends: &Sends<M::Body>,
-    ) -> Result<HeldBack<M>, AllocError>
-        requires last { All (λ h. AtMost (event_cmp M.Body.cmp) event h.undone) self }
-        ensures held { IfOk result (λ held. held ≡ self ++ held_of event sends.now) }
+    pub fn hold(&mut self, event: Event<M::Body>, sends: &Sends<M::Body>) -> Result<(), AllocError>
+        requires last { All (λ h. AtMost (event_cmp M.Body.cmp) event h.undone) self.old }
+        ensures held { OnOk result (self.new ≡ self.old ++ held_of event sends.now) }
     {
         match sends.kept() {
-            Kept::Nothing => Ok(self),
+            Kept::Nothing => Ok(()),
             Kept::One(message) => self.hold_one(event, *message),
             Kept::Many(messages) => self.hold_all(event, messages.as_slice()),
         }
@@ -83,37 +68,34 @@ impl<M: VtModel> HeldBack<M> {
 
     /// Holds one message after another.
     fn hold_all(
-        self,
+        &mut self,
         event: Event<M::Body>,
         messages: &[Event<M::Body>],
-    ) -> Result<HeldBack<M>, AllocError>
-        requires last { All (λ h. AtMost (event_cmp M.Body.cmp) event h.undone) self }
-        ensures held { IfOk result (λ held. held ≡ self ++ held_of event messages.now) }
+    ) -> Result<(), AllocError>
+        requires last { All (λ h. AtMost (event_cmp M.Body.cmp) event h.undone) self.old }
+        ensures held { OnOk result (self.new ≡ self.old ++ held_of event messages.now) }
     {
-        let mut held = self;
         for message in messages {
-            held = held.hold_one(event, *message)?;
+            self.hold_one(event, *message)?;
         }
-        Ok(held)
+        Ok(())
     }
 
-    /// Holds one message.
-    fn hold_one(
-        self,
-        event: Event<M::Body>,
-        message: Event<M::Body>,
-    ) -> Result<HeldBack<M>, AllocError>
-        requires last { All (λ h. AtMost (event_cmp M.Body.cmp) event h.undone) self }
-        ensures held { IfOk result (λ held. held ≡ self ++ held_of event (message ∷ [])) }
+    /// Holds one message, unless memory is refused.
+    fn hold_one(&mut self, event: Event<M::Body>, message: Event<M::Body>) -> Result<(), AllocError>
+        requires last { All (λ h. AtMost (event_cmp M.Body.cmp) event h.undone) self.old }
+        ensures held { OnOk result (self.new ≡ self.old ++ held_of event (message ∷ [])) }
     {
-        let mut held = self;
-        let kept = &mut *held.kept;
-        kept.messages.put(message)?;
-        kept.pairs.push(Held {
+        let count = self.pairs.len();
+        self.pairs.push(Held {
             undone: event,
             message,
         })?;
-        Ok(held)
+        if let Err(refused) = self.messages.put(message) {
+            self.pairs.truncate(count);
+            return Err(refused);
+        }
+        Ok(())
     }
 
     /// An event was executed, which may have been undone before. Appends messages of its sends to `out`, but for those that are
@@ -154,19 +136,19 @@ impl<M: VtModel> HeldBack<M> {
         ensures left { OnOk result
             (self.new ≡ held_without (event_cmp M.Body.cmp) event self.old) }
     {
-        let kept = &mut *self.kept;
-        let (from, behind) = Self::run_of(kept.pairs.as_slice(), event);
-        give_antis(out, &kept.pairs[from..behind])?;
-        forget(&mut kept.messages, &kept.pairs[from..behind]);
-        drop_between(&mut kept.pairs, from, behind);
+        let (from, behind) = Self::run_of(self.pairs.as_slice(), event);
+        let run = &self.pairs[from..behind];
+        give_antis(out, run)?;
+        forget(&mut self.messages, run);
+        drop_between(&mut self.pairs, from, behind);
         Ok(())
     }
 
-    /// Appends the messages, and lets all go.
-    pub fn move_to(self, out: &mut Vec<Event<M::Body>>) -> Result<(), AllocError>
-        ensures { OnOk result (out.new.items ≡ out.old.items ++ held_messages self) }
+    /// Appends the messages.
+    pub fn give_to(&self, out: &mut Vec<Event<M::Body>>) -> Result<(), AllocError>
+        ensures { OnOk result (out.new.items ≡ out.old.items ++ held_messages self.now) }
     {
-        give_messages(out, self.kept.pairs.as_slice())
+        give_messages(out, self.pairs.as_slice())
     }
 
     /// Lets the first pair with this message go, and answers whether there was one.
@@ -176,15 +158,14 @@ impl<M: VtModel> HeldBack<M> {
             → self.new ≡ held_without_first (event_cmp M.Body.cmp) message self.old }
         ensures kept { result ≡ false → self.new ≡ self.old }
     {
-        let kept = &mut *self.kept;
-        if !kept.messages.take(message) {
+        if !self.messages.take(message) {
             return false;
         }
-        let is_alone = kept.messages.copies(&message) == 0;
-        let Some(at) = place_of(kept.pairs.as_slice(), &message, is_alone) else {
+        let is_alone = self.messages.copies(&message) == 0;
+        let Some(at) = place_of(self.pairs.as_slice(), &message, is_alone) else {
             unreachable!();
         };
-        let _released = kept.pairs.remove(at);
+        let _released = self.pairs.remove(at);
         true
     }
 

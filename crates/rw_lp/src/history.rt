@@ -16,19 +16,12 @@ use crate::sends::Sends;
 use crate::undo_record::{UndoRecord, Undone};
 use rw_vt::{Event, Letter, Model as VtModel, Refusal};
 use std::alloc::{AllocError, Global};
-use std::marker::Model;
 use std::snapshot::Snapshot;
 
 /// What a process has done: the committed events, which stay, and then the processed ones, each with the record that
-/// takes it back, and the state that they lead to. It stands in one box, so that moving a process moves a pointer.
+/// takes it back, and the state that they lead to. Contracts see it by `seen_of`; a call that is refused breaks it.
 #[derive(Drop)]
-pub struct History<M: VtModel> {
-    past: Box<Past<M>>,
-}
-
-/// What stands in that box.
-#[derive(Drop)]
-struct Past<M: VtModel> {
+pub struct Past<M: VtModel> {
     model: Snapshot<M>,
     number: u32,
     start: Snapshot<M::State>,
@@ -42,19 +35,7 @@ struct Past<M: VtModel> {
     sends: Vec<Event<M::Body>>,
 }
 
-impl<M: VtModel> Model for History<M> {
-    ghost use Rattle.rw_vt.specs.Order.{event_cmp};
-    ghost use Rattle.rw_lp.specs.Cut.{IsKept, seen_of};
-    ghost use Rattle.rw_lp.specs.Past.{HistoryState};
-
-    ghost Value = { HistoryState M M.State M.Body };
-
-    ghost view = { λ x. seen_of x.past.value };
-
-    ghost invariant = { λ x. IsKept M.Model (event_cmp M.Body.cmp) x.past.value };
-}
-
-impl<M: VtModel> History<M> {
+impl<M: VtModel> Past<M> {
     /// Process `number` of the model, in its start state, with room for `room` events.
     pub fn new(
         alloc: Global,
@@ -62,10 +43,12 @@ impl<M: VtModel> History<M> {
         number: u32,
         start: M::State,
         room: usize,
-    ) -> Result<History<M>, AllocError>
+    ) -> Result<Box<Past<M>>, AllocError>
         requires number { number < M.process_count model.now }
         requires start { M.IsWellFormed model.now number start }
-        ensures is { IfOk result (λ h. h ≡ history_of model.now number start [] [] start) }
+        ensures kept { IfOk result (λ p. IsKept M.Model (event_cmp M.Body.cmp) p.value) }
+        ensures is { IfOk result (λ p.
+            seen_of p.value ≡ history_of model.now number start [] [] start) }
     {
         let past = Past {
             model: Snapshot::of(model),
@@ -77,150 +60,19 @@ impl<M: VtModel> History<M> {
             state: start,
             sends: Vec::new(alloc),
         };
-        let past = Box::new(alloc, past)?;
-        Ok(History { past })
+        Ok(Box::new(alloc, past)?)
     }
 
     /// Whether the event is less than the last done one: a straggler.
     pub fn is_past(&self, event: &Event<M::Body>) -> bool
         ensures { result ≡ is_less_than_last (event_cmp M.Body.cmp) event.now
-            (split_last (done_in self.now)) }
+            (split_last (done_in (seen_of self.now))) }
     {
-        ends_after(&self.past.done, event)
+        ends_after(&self.done, event)
     }
 
     /// Executes an event that is not a straggler. Its sends are given out by [`HeldBack::resend`].
     pub fn execute(
-        self,
-        alloc: Global,
-        model: &M,
-        event: Event<M::Body>,
-        held: &mut HeldBack<M>,
-        out: &mut Vec<Letter<M::Body>>,
-    ) -> Result<History<M>, Refusal>
-        requires model { model.now ≡ self.model }
-        requires valid { M.is_valid self.model event ≡ true }
-        requires here { event.to ≡ self.number }
-        requires late { is_less_than_last (event_cmp M.Body.cmp) event (split_last (done_in self))
-            ≡ false }
-        ensures after { IfOk result (λ h.
-            h ≡ record self {
-              processed = self.processed ++ event ∷ [];
-              state = (M.step self.model self.number self.state event).0;
-            }) }
-        ensures sent { OnOk result (out.new.items ≡ out.old.items ++ letters_given
-            (event_cmp M.Body.cmp) event
-            (M.step self.model self.number self.state event).1 held.old) }
-        ensures held { OnOk result (held.new ≡ held_after
-            (event_cmp M.Body.cmp) event
-            (M.step self.model self.number self.state event).1 held.old) }
-        ensures exhausted { (result ≡ Err Refusal.Exhausted)
-            ↔ (M.is_exhausted self.model self.state ≡ true) }
-        ensures fold { OnOk result (IsFolded M.Model self) }
-    {
-        let mut history = self;
-        history.past.execute(alloc, model, event, held, out)?;
-        Ok(history)
-    }
-
-    /// Takes the last processed event back. Where no event is processed, nothing changes.
-    pub fn undo(
-        self,
-        alloc: Global,
-        model: &M,
-    ) -> Result<(History<M>, Option<Undone<M::Body>>), Refusal>
-        requires model { model.now ≡ self.model }
-        ensures back { IfOk result (λ r. TookBack M.Model (event_cmp M.Body.cmp) self r.0 r.1) }
-        ensures memory { IfErr result (λ e. e ≡ Memory) }
-    {
-        let mut history = self;
-        let undone = history.past.undo(alloc, model)?;
-        Ok((history, undone))
-    }
-
-    /// Commits the processed events of time below `time`, and drops the records that would take them back. Takes no memory.
-    pub fn commit(self, time: u64) -> History<M>
-        ensures committed { result ≡ record self {
-          committed = self.committed ++ filter (λ e. nat_lt e.time time) self.processed;
-          processed = filter (λ e. nat_le time e.time) self.processed;
-        } }
-        ensures done { done_in result ≡ done_in self }
-    {
-        let mut history = self;
-        let past = &mut *history.past;
-        let count = count_before(&past.done[past.cut..], time);
-        past.records.drop_front(count);
-        past.cut += count;
-        history
-    }
-
-    /// Whether a copy of the event is processed. Searches by halves.
-    pub fn holds(&self, event: Event<M::Body>) -> bool
-        ensures { result ≡ has (event_cmp M.Body.cmp) event self.now.processed }
-    {
-        self.processed().binary_search(&event).is_ok()
-    }
-
-    /// The process is one of the model's and starts well formed; what is done is in order and for the process, and leads
-    /// to the state. This is a law of every history; the call itself does nothing.
-    pub fn soundness(&self)
-        ensures number { self.now.number < M.process_count self.now.model }
-        ensures start { M.IsWellFormed self.now.model self.now.number self.now.start }
-        ensures order { IsAscending (event_cmp M.Body.cmp) (done_in self.now) }
-        ensures committed { Each (event_cmp M.Body.cmp)
-            (IsFor M.Model self.now.model self.now.number) self.now.committed }
-        ensures processed { Each (event_cmp M.Body.cmp)
-            (IsFor M.Model self.now.model self.now.number) self.now.processed }
-        ensures fold { IsFolded M.Model self.now }
-    {
-        let _known = &self.past.state;
-    }
-
-    /// The committed events. Takes no memory.
-    pub fn committed(&self) -> &[Event<M::Body>]
-        ensures { result.now ≡ self.now.committed }
-    {
-        &self.past.done[..self.past.cut]
-    }
-
-    /// The processed events that are not committed. Takes no memory.
-    pub fn processed(&self) -> &[Event<M::Body>]
-        ensures is { result.now ≡ self.now.processed }
-        ensures order { IsAscending (event_cmp M.Body.cmp) self.now.processed }
-    {
-        &self.past.done[self.past.cut..]
-    }
-
-    /// The state after all of them. Takes no memory.
-    pub fn state(&self) -> &M::State
-        ensures is { result.now ≡ self.now.state }
-        ensures fold { IsFolded M.Model self.now }
-    {
-        &self.past.state
-    }
-
-    /// The committed events and the state. Takes no memory.
-    pub fn into_outcome(self) -> (Vec<Event<M::Body>>, M::State)
-        ensures { (result.0.items ≡ self.committed) × (result.1 ≡ self.state) }
-    {
-        let Past {
-            model: _,
-            number: _,
-            start: _,
-            mut done,
-            cut,
-            records: _,
-            state,
-            sends: _,
-        } = Box::into_inner(self.past);
-        done.truncate(cut);
-        (done, state)
-    }
-}
-
-impl<M: VtModel> Past<M> {
-    /// Executes an event that is not a straggler: see [`History::execute`].
-    fn execute(
         &mut self,
         alloc: Global,
         model: &M,
@@ -278,8 +130,8 @@ impl<M: VtModel> Past<M> {
         Ok(())
     }
 
-    /// Takes the last processed event back, if there is one: see [`History::undo`].
-    fn undo(&mut self, alloc: Global, model: &M) -> Result<Option<Undone<M::Body>>, Refusal>
+    /// Takes the last processed event back. Where no event is processed, nothing changes.
+    pub fn undo(&mut self, alloc: Global, model: &M) -> Result<Option<Undone<M::Body>>, Refusal>
         requires kept { IsKept M.Model (event_cmp M.Body.cmp) self.old }
         requires model { model.now ≡ self.old.model.value }
         ensures kept { OnOk result (IsKept M.Model (event_cmp M.Body.cmp) self.new) }
@@ -295,6 +147,71 @@ impl<M: VtModel> Past<M> {
         };
         model.reverse(alloc, self.number, &mut self.state, &event, undo)?;
         Ok(Some(Undone { event, sends }))
+    }
+
+    /// Commits the processed events of time below `time`, and drops the records that would take them back. Takes no memory.
+    pub fn commit(&mut self, time: u64)
+        requires kept { IsKept M.Model (event_cmp M.Body.cmp) self.old }
+        ensures kept { IsKept M.Model (event_cmp M.Body.cmp) self.new }
+        ensures committed { seen_of self.new ≡ record (seen_of self.old) {
+          committed = (seen_of self.old).committed
+              ++ filter (λ e. nat_lt e.time time) (seen_of self.old).processed;
+          processed = filter (λ e. nat_le time e.time) (seen_of self.old).processed;
+        } }
+        ensures done { done_in (seen_of self.new) ≡ done_in (seen_of self.old) }
+    {
+        let count = count_before(&self.done[self.cut..], time);
+        self.records.drop_front(count);
+        self.cut += count;
+    }
+
+    /// Whether a copy of the event is processed. Searches by halves.
+    pub fn holds(&self, event: Event<M::Body>) -> bool
+        requires kept { IsKept M.Model (event_cmp M.Body.cmp) self.now }
+        ensures { result ≡ has (event_cmp M.Body.cmp) event (seen_of self.now).processed }
+    {
+        self.processed().binary_search(&event).is_ok()
+    }
+
+    /// The committed events. Takes no memory.
+    pub fn committed(&self) -> &[Event<M::Body>]
+        requires kept { IsKept M.Model (event_cmp M.Body.cmp) self.now }
+        ensures { result.now ≡ (seen_of self.now).committed }
+    {
+        &self.done[..self.cut]
+    }
+
+    /// The processed events that are not committed. Takes no memory.
+    pub fn processed(&self) -> &[Event<M::Body>]
+        requires kept { IsKept M.Model (event_cmp M.Body.cmp) self.now }
+        ensures { result.now ≡ (seen_of self.now).processed }
+    {
+        &self.done[self.cut..]
+    }
+
+    /// The state after all of them. Takes no memory.
+    pub fn state(&self) -> &M::State
+        ensures { result.now ≡ self.now.state }
+    {
+        &self.state
+    }
+
+    /// The committed events and the state. Takes no memory.
+    pub fn into_outcome(self) -> (Vec<Event<M::Body>>, M::State)
+        ensures { (result.0.items ≡ (seen_of self).committed) × (result.1 ≡ self.state) }
+    {
+        let Past {
+            model: _,
+            number: _,
+            start: _,
+            mut done,
+            cut,
+            records: _,
+            state,
+            sends: _,
+        } = self;
+        done.truncate(cut);
+        (done, state)
     }
 }
 

@@ -10,6 +10,7 @@ ghost use Rattle.rw_lp.specs.HeldMessages.{held_messages};
 ghost use Rattle.rw_lp.specs.Process.{ProcessState, done, deliver, execute_next, undo_one, collect};
 ghost use Rattle.rw_lp.specs.Calls.{LogicalProcess, process_of, new_process, MeetsNext, Took, letters_taken, IsSameProcess, GivesOut, execution_by, undoing_by, lazy_undoing_by, IsDelivered, least_outstanding};
 ghost use Rattle.rw_lp.specs.Past.{IsFor};
+ghost use Rattle.rw_lp.specs.Cut.{IsKept, seen_of};
 ghost use Rattle.rw_lp.specs.PendingAgain.{IsPendingAgain, sent_by, held_by};
 ghost use Rattle.rw_lp.specs.declared.undo_record.Undone.{Undone};
 ghost use Rattle.rw_lp.specs.Own.{AreFor};
@@ -19,7 +20,7 @@ ghost use Rattle.rw_lp.specs.Arrival.{Arrived, ArrivedLazily, is_barred};
 
 use crate::answer::{Answer, StepFault};
 use crate::held_back::HeldBack;
-use crate::history::{History, ends_after};
+use crate::history::{Past, ends_after};
 use crate::undo_record::Undone;
 use rw_bag::Bag;
 use rw_vt::{Event, Letter, Model as VtModel, Refusal};
@@ -35,18 +36,19 @@ use std::marker::Model;
 /// the one that `new` took. A call that is refused with a [`Refusal`] hands nothing back, and nothing is then said of `out`.
 #[derive(Drop)]
 pub struct Lp<M: VtModel> {
-    history: History<M>,
+    history: Box<Past<M>>,
     pending: Bag<M>,
     debts: Bag<M>,
-    held: HeldBack<M>,
+    held: Box<HeldBack<M>>,
 }
 
 impl<M: VtModel> Model for Lp<M> {
     ghost Value = { LogicalProcess M M.State M.Body };
 
-    ghost view = { λ x. process_of x.history x.pending x.debts x.held };
+    ghost view = { λ x. process_of (seen_of x.history.value) x.pending x.debts x.held.value };
 
-    ghost invariant = { λ x. AreFor M.Model M.Body.cmp x.history x.pending x.debts x.held };
+    ghost invariant = { λ x. IsKept M.Model (event_cmp M.Body.cmp) x.history.value
+        × AreFor M.Model M.Body.cmp (seen_of x.history.value) x.pending x.debts x.held.value };
 }
 
 impl<M: VtModel> Lp<M> {
@@ -69,10 +71,10 @@ impl<M: VtModel> Lp<M> {
         }) }
         ensures memory { IfErr result (λ e. e ≡ Memory) }
     {
-        let history = History::new(alloc, model, number, start, initial.len())?;
+        let history = Past::new(alloc, model, number, start, initial.len())?;
         let pending = Bag::from_events(initial)?;
         let debts = Bag::new(alloc)?;
-        let held = HeldBack::new(alloc)?;
+        let held = Box::new(alloc, HeldBack::new(alloc))?;
         Ok(Lp {
             history,
             pending,
@@ -145,13 +147,13 @@ impl<M: VtModel> Lp<M> {
             return Ok((self, Answer::Refused(StepFault::Straggler)));
         }
         let Lp {
-            history,
+            mut history,
             mut pending,
             debts,
             mut held,
         } = self;
         let _taken = pending.take(event);
-        let history = history.execute(alloc, model, event, &mut held, out)?;
+        history.execute(alloc, model, event, &mut held, out)?;
         let lp = Lp {
             history,
             pending,
@@ -181,12 +183,12 @@ impl<M: VtModel> Lp<M> {
         ensures memory { IfErr result (λ e. e ≡ Memory) }
     {
         let Lp {
-            history,
+            mut history,
             mut pending,
             debts,
             held,
         } = self;
-        let (history, undone) = history.undo(alloc, model)?;
+        let undone = history.undo(alloc, model)?;
         let answer = cancel_undone(undone, &mut pending, out)?;
         let lp = Lp {
             history,
@@ -210,13 +212,13 @@ impl<M: VtModel> Lp<M> {
         ensures memory { IfErr result (λ e. e ≡ Memory) }
     {
         let Lp {
-            history,
+            mut history,
             mut pending,
             debts,
-            held,
+            mut held,
         } = self;
-        let (history, undone) = history.undo(alloc, model)?;
-        let (held, answer) = hold_undone(undone, &mut pending, held)?;
+        let undone = history.undo(alloc, model)?;
+        let answer = hold_undone(undone, &mut pending, &mut held)?;
         let lp = Lp {
             history,
             pending,
@@ -309,19 +311,9 @@ impl<M: VtModel> Lp<M> {
         ensures done { IfOk result (λ lp. done lp.process ≡ done self.process) }
         ensures memory { IfErr result (λ e. e ≡ Memory) }
     {
-        let Lp {
-            history,
-            pending,
-            debts,
-            held,
-        } = self;
-        let history = history.commit(time);
-        Ok(Lp {
-            history,
-            pending,
-            debts,
-            held,
-        })
+        let mut lp = self;
+        lp.history.commit(time);
+        Ok(lp)
     }
 
     /// A process is one of its model's and starts well formed. Where it has collected up to some time it is sound: what it
@@ -331,7 +323,6 @@ impl<M: VtModel> Lp<M> {
         ensures starts { StartsWell M.Model self.now }
         ensures sound { IsSoundOnceCollected M.Model M.Body.cmp self.now }
     {
-        self.history.soundness();
         self.pending.order();
         self.debts.order();
     }
@@ -411,12 +402,11 @@ impl<M: VtModel> Lp<M> {
         let Lp {
             history,
             mut pending,
-            debts,
+            mut debts,
             held,
         } = self;
-        pending.move_to(there)?;
-        move_owed(debts, held, owed)?;
-        let (_journal, state) = history.into_outcome();
+        move_left(&mut pending, &mut debts, &held, there, owed)?;
+        let (_journal, state) = Box::into_inner(history).into_outcome();
         Ok(state)
     }
 
@@ -431,22 +421,25 @@ impl<M: VtModel> Lp<M> {
             debts: _,
             held: _,
         } = self;
-        history.into_outcome()
+        Box::into_inner(history).into_outcome()
     }
 }
 
-/// Appends what is owed, in order, and then what is held.
-fn move_owed<M: VtModel>(
-    debts: Bag<M>,
-    held: HeldBack<M>,
+/// Appends what is pending, in order, to `there`; and to `owed` what is owed, in order, and then what is held.
+fn move_left<M: VtModel>(
+    pending: &mut Bag<M>,
+    debts: &mut Bag<M>,
+    held: &HeldBack<M>,
+    there: &mut Vec<Event<M::Body>>,
     owed: &mut Vec<Event<M::Body>>,
 ) -> Result<(), AllocError>
-    ensures { OnOk result (owed.new.items
-        ≡ owed.old.items ++ (debts ++ held_messages held)) }
+    ensures there { OnOk result (there.new.items ≡ there.old.items ++ pending.old) }
+    ensures owed { OnOk result
+        (owed.new.items ≡ owed.old.items ++ (debts.old ++ held_messages held.now)) }
 {
-    let mut debts = debts;
+    pending.move_to(there)?;
     debts.move_to(owed)?;
-    held.move_to(owed)
+    held.give_to(owed)
 }
 
 /// The event that was taken back, if there is one, is pending again, and what it had sent is cancelled: see
@@ -474,43 +467,45 @@ fn cancel_undone<M: VtModel>(
 fn hold_undone<M: VtModel>(
     undone: Option<Undone<M::Body>>,
     pending: &mut Bag<M>,
-    held: HeldBack<M>,
-) -> Result<(HeldBack<M>, Answer), AllocError>
+    held: &mut HeldBack<M>,
+) -> Result<Answer, AllocError>
     requires last { (u : Undone M.Body) → undone ≡ Some u
-        → All (λ h. AtMost (event_cmp M.Body.cmp) u.event h.undone) held }
-    ensures pending { IfOk result (λ r.
-        IsPendingAgain (event_cmp M.Body.cmp) undone pending.old r.1 pending.new) }
-    ensures held { IfOk result (λ r. r.0 ≡ held ++ held_by undone) }
+        → All (λ h. AtMost (event_cmp M.Body.cmp) u.event h.undone) held.old }
+    ensures pending { IfOk result (λ a.
+        IsPendingAgain (event_cmp M.Body.cmp) undone pending.old a pending.new) }
+    ensures held { OnOk result (held.new ≡ held.old ++ held_by undone) }
 {
     let Some(Undone { event, sends }) = undone else {
-        return Ok((held, Answer::Refused(StepFault::NothingToUndo)));
+        return Ok(Answer::Refused(StepFault::NothingToUndo));
     };
-    let held = held.hold(event, &sends)?;
+    held.hold(event, &sends)?;
     pending.put(event)?;
-    Ok((held, Answer::Done))
+    Ok(Answer::Done)
 }
 
 /// A letter comes to what is pending, owed and held beside this history: see [`Lp::deliver`].
 fn meet<M: VtModel>(
-    history: &History<M>,
+    history: &Past<M>,
     pending: &mut Bag<M>,
     debts: &mut Bag<M>,
     held: &mut HeldBack<M>,
     letter: Letter<M::Body>,
     out: &mut Vec<Letter<M::Body>>,
 ) -> Result<Answer, AllocError>
-    requires own { AreFor M.Model M.Body.cmp history.now pending.old debts.old held.old }
-    requires here { IsFor M.Model history.now.model history.now.number letter.event }
-    ensures own { OnOk result
-        (AreFor M.Model M.Body.cmp history.now pending.new debts.new held.new) }
+    requires kept { IsKept M.Model (event_cmp M.Body.cmp) history.now }
+    requires own { AreFor M.Model M.Body.cmp
+        (seen_of history.now) pending.old debts.old held.old }
+    requires here { IsFor M.Model history.now.model.value history.now.number letter.event }
+    ensures own { OnOk result (AreFor M.Model M.Body.cmp
+        (seen_of history.now) pending.new debts.new held.new) }
     ensures turn { IfOk result (λ a. GivesOut out.old.items out.new.items
         (IsDelivered (event_cmp M.Body.cmp) letter a
-        (process_of history.now pending.old debts.old held.old)
-        (process_of history.now pending.new debts.new held.new))) }
+        (process_of (seen_of history.now) pending.old debts.old held.old)
+        (process_of (seen_of history.now) pending.new debts.new held.new))) }
     ensures balance { IfOk result (λ a. GivesOut out.old.items out.new.items
         (KeepsBalance M.Model M.Body.cmp
-        (process_of history.now pending.old debts.old held.old)
-        (process_of history.now pending.new debts.new held.new)
+        (process_of (seen_of history.now) pending.old debts.old held.old)
+        (process_of (seen_of history.now) pending.new debts.new held.new)
         (letters_taken a letter))) }
 {
     let event = letter.event;

@@ -4,7 +4,6 @@ use Rattle.rw_vt.specs.Order.{event_cmp, has, copies}
 use Rattle.rw_vt.proofs.EventOrder.{events_exact}
 use Rattle.rw_vt.proofs.Sorting.{IsExactOrder}
 use Rattle.rw_vt.proofs.Bags.{one_if-itself, copies-without}
-use Rattle.rw_lp.specs.declared.held_back.Pairs.{Pairs}
 use Rattle.rw_lp.specs.HeldMessages.{held_messages, holds, held_without_first}
 use Rattle.rw_lp.specs.HeldBack.{AreFalling, AreCounted}
 use Rattle.rw_lp.proofs.HeldRuns.{held_test, falling_released, counts_released, count_released, zero_if}
@@ -15,11 +14,9 @@ returns-then-not-take-clause-there g c =
     let o : IsExactOrder (event_cmp g.M.Body.Ord.cmp) = events_exact (record { total = g.met.M.Body.Ord.total; same = g.met.M.Model.same }) in
     let cmp = event_cmp g.M.Body.Ord.cmp in
     let m = c.args.message in
-    let hs = c.deref_mut-kept.result.now.pairs.items in
-    let ms = c.deref_mut-kept.result.now.messages in
-    let known : AreFalling cmp hs × AreCounted cmp ms (held_messages hs) = subst (λ (v : Pairs g.row.M.Denot g.row.M-State.Denot g.row.M-Body.Denot g.row.M-Undo.Denot). AreFalling cmp v.pairs.items × AreCounted cmp v.messages (held_messages v.pairs.items)) (sym c.deref_mut-kept.ensures.value) c.self.invariant in
-    let seen : hs ≡ c.args.self.now = ap (λ (v : Pairs g.row.M.Denot g.row.M-State.Denot g.row.M-Body.Denot g.row.M-Undo.Denot). v.pairs.items) c.deref_mut-kept.ensures.value ∙ c.self.view_is in
-    sym (ap (holds cmp m) (sym seen) ∙ sym (held_test o m ms hs known.1) ∙ sym c.take.ensures.there ∙ c.if-not-take.true)
+    let hs = c.self.inside.pairs.items in
+    let ms = c.self.inside.messages in
+    sym (ap (holds cmp m) (sym c.self.view_is) ∙ sym (held_test o m ms hs c.self.invariant.1) ∙ sym c.take.ensures.there ∙ c.if-not-take.true)
 
 pub place_of-requires : goal.place_of-requires
 place_of-requires g c = record {
@@ -27,16 +24,14 @@ place_of-requires g c = record {
       let o : IsExactOrder (event_cmp g.M.Body.Ord.cmp) = events_exact (record { total = g.met.M.Body.Ord.total; same = g.met.M.Model.same }) in
       let cmp = event_cmp g.M.Body.Ord.cmp in
       let m = c.args.message in
-      let hs = c.deref_mut-kept.result.now.pairs.items in
-      let ms = c.deref_mut-kept.result.now.messages in
-      let known : AreFalling cmp hs × AreCounted cmp ms (held_messages hs) = subst (λ (v : Pairs g.row.M.Denot g.row.M-State.Denot g.row.M-Body.Denot g.row.M-Undo.Denot). AreFalling cmp v.pairs.items × AreCounted cmp v.messages (held_messages v.pairs.items)) (sym c.deref_mut-kept.ensures.value) c.self.invariant in
-      let seen : hs ≡ c.args.self.now = ap (λ (v : Pairs g.row.M.Denot g.row.M-State.Denot g.row.M-Body.Denot g.row.M-Undo.Denot). v.pairs.items) c.deref_mut-kept.ensures.value ∙ c.self.view_is in
+      let hs = c.self.inside.pairs.items in
+      let ms = c.self.inside.messages in
       let there : has cmp m ms ≡ true = sym c.take.ensures.there ∙ c.if-not-take.false in
       let zero : c.copies-is_alone.result ≡ 0 = zero_if c.copies-is_alone.result none in
       let left : copies cmp m c.take.new.self ≡ 0 = sym c.copies-is_alone.ensures.copies ∙ zero in
       let rest = ap (copies cmp m) c.take.ensures.rest in
       let slice = ap (λ l. copies cmp m (held_messages l)) c.as_slice.ensures.value in
-      omega (arith, known.1 m, copies-without o m m ms there, one_if-itself o m, left, rest, slice);
+      omega (arith, c.self.invariant.1 m, copies-without o m m ms there, one_if-itself o m, left, rest, slice);
 }
 
 pub unreachable-requires : goal.unreachable-requires
@@ -44,26 +39,22 @@ unreachable-requires g c =
     let o : IsExactOrder (event_cmp g.M.Body.Ord.cmp) = events_exact (record { total = g.met.M.Body.Ord.total; same = g.met.M.Model.same }) in
     let cmp = event_cmp g.M.Body.Ord.cmp in
     let m = c.args.message in
-    let hs = c.deref_mut-kept.result.now.pairs.items in
-    let ms = c.deref_mut-kept.result.now.messages in
-    let known : AreFalling cmp hs × AreCounted cmp ms (held_messages hs) = subst (λ (v : Pairs g.row.M.Denot g.row.M-State.Denot g.row.M-Body.Denot g.row.M-Undo.Denot). AreFalling cmp v.pairs.items × AreCounted cmp v.messages (held_messages v.pairs.items)) (sym c.deref_mut-kept.ensures.value) c.self.invariant in
-    let seen : hs ≡ c.args.self.now = ap (λ (v : Pairs g.row.M.Denot g.row.M-State.Denot g.row.M-Body.Denot g.row.M-Undo.Denot). v.pairs.items) c.deref_mut-kept.ensures.value ∙ c.self.view_is in
-    true≢false (sym c.if-not-take.false ∙ c.take.ensures.there ∙ held_test o m ms hs known.1 ∙ ap (holds cmp m) (sym c.as_slice.ensures.value) ∙ c.in_default.ensures)
+    let hs = c.self.inside.pairs.items in
+    let ms = c.self.inside.messages in
+    true≢false (sym c.if-not-take.false ∙ c.take.ensures.there ∙ held_test o m ms hs c.self.invariant.1 ∙ ap (holds cmp m) (sym c.as_slice.ensures.value) ∙ c.in_default.ensures)
 
 pub invariant_of-self-2 : goal.invariant_of-self-2
 invariant_of-self-2 g c =
     let o : IsExactOrder (event_cmp g.M.Body.Ord.cmp) = events_exact (record { total = g.met.M.Body.Ord.total; same = g.met.M.Model.same }) in
     let cmp = event_cmp g.M.Body.Ord.cmp in
     let m = c.args.message in
-    let hs = c.deref_mut-kept.result.now.pairs.items in
-    let ms = c.deref_mut-kept.result.now.messages in
-    let known : AreFalling cmp hs × AreCounted cmp ms (held_messages hs) = subst (λ (v : Pairs g.row.M.Denot g.row.M-State.Denot g.row.M-Body.Denot g.row.M-Undo.Denot). AreFalling cmp v.pairs.items × AreCounted cmp v.messages (held_messages v.pairs.items)) (sym c.deref_mut-kept.ensures.value) c.self.invariant in
-    let seen : hs ≡ c.args.self.now = ap (λ (v : Pairs g.row.M.Denot g.row.M-State.Denot g.row.M-Body.Denot g.row.M-Undo.Denot). v.pairs.items) c.deref_mut-kept.ensures.value ∙ c.self.view_is in
+    let hs = c.self.inside.pairs.items in
+    let ms = c.self.inside.messages in
     let there : has cmp m ms ≡ true = sym c.take.ensures.there ∙ c.if-not-take.false in
-    let held : holds cmp m hs ≡ true = sym (held_test o m ms hs known.1) ∙ there in
+    let held : holds cmp m hs ≡ true = sym (held_test o m ms hs c.self.invariant.1) ∙ there in
     let left : c.remove-released.new.self.items ≡ held_without_first cmp m hs = c.remove-released.ensures.items ∙ ap (λ l. remove l c.in-Some.at) (sym c.as_slice.ensures.value) ∙ c.in-Some.ensures.1 ∙ ap (held_without_first cmp m) c.as_slice.ensures.value in (
-      subst (AreFalling cmp) (sym left) (falling_released o m hs known.0),
-      subst (λ l. AreCounted cmp c.take.new.self (held_messages l)) (sym left) (counts_released o m ms c.take.new.self hs known.1 there c.take.ensures.rest (λ a. count_released o a m hs held)),
+      subst (AreFalling cmp) (sym left) (falling_released o m hs c.self.invariant.0),
+      subst (λ l. AreCounted cmp c.take.new.self (held_messages l)) (sym left) (counts_released o m ms c.take.new.self hs c.self.invariant.1 there c.take.ensures.rest (λ a. count_released o a m hs held)),
     )
 
 pub returns-clause-there : goal.returns-clause-there
@@ -71,16 +62,13 @@ returns-clause-there g c =
     let o : IsExactOrder (event_cmp g.M.Body.Ord.cmp) = events_exact (record { total = g.met.M.Body.Ord.total; same = g.met.M.Model.same }) in
     let cmp = event_cmp g.M.Body.Ord.cmp in
     let m = c.args.message in
-    let hs = c.deref_mut-kept.result.now.pairs.items in
-    let ms = c.deref_mut-kept.result.now.messages in
-    let known : AreFalling cmp hs × AreCounted cmp ms (held_messages hs) = subst (λ (v : Pairs g.row.M.Denot g.row.M-State.Denot g.row.M-Body.Denot g.row.M-Undo.Denot). AreFalling cmp v.pairs.items × AreCounted cmp v.messages (held_messages v.pairs.items)) (sym c.deref_mut-kept.ensures.value) c.self.invariant in
-    let seen : hs ≡ c.args.self.now = ap (λ (v : Pairs g.row.M.Denot g.row.M-State.Denot g.row.M-Body.Denot g.row.M-Undo.Denot). v.pairs.items) c.deref_mut-kept.ensures.value ∙ c.self.view_is in
-    sym (ap (holds cmp m) (sym seen) ∙ sym (held_test o m ms hs known.1) ∙ sym c.take.ensures.there ∙ c.if-not-take.false)
+    let hs = c.self.inside.pairs.items in
+    let ms = c.self.inside.messages in
+    sym (ap (holds cmp m) (sym c.self.view_is) ∙ sym (held_test o m ms hs c.self.invariant.1) ∙ sym c.take.ensures.there ∙ c.if-not-take.false)
 
 pub returns-clause-rest : goal.returns-clause-rest
 returns-clause-rest g c = λ yes.
     let cmp = event_cmp g.M.Body.Ord.cmp in
     let m = c.args.message in
-    let hs = c.deref_mut-kept.result.now.pairs.items in
-    let seen : hs ≡ c.args.self.now = ap (λ (v : Pairs g.row.M.Denot g.row.M-State.Denot g.row.M-Body.Denot g.row.M-Undo.Denot). v.pairs.items) c.deref_mut-kept.ensures.value ∙ c.self.view_is in
-    c.remove-released.ensures.items ∙ ap (λ l. remove l c.in-Some.at) (sym c.as_slice.ensures.value) ∙ c.in-Some.ensures.1 ∙ ap (held_without_first cmp m) (c.as_slice.ensures.value ∙ seen)
+    let hs = c.self.inside.pairs.items in
+    c.remove-released.ensures.items ∙ ap (λ l. remove l c.in-Some.at) (sym c.as_slice.ensures.value) ∙ c.in-Some.ensures.1 ∙ ap (held_without_first cmp m) (c.as_slice.ensures.value ∙ c.self.view_is)

@@ -14,7 +14,7 @@ pub returns-clause-is : goal.returns-clause-is
 returns-clause-is g c =
     subst (λ (w : LogicalProcess g.row.M.Denot g.row.M-State.Denot g.row.M-Body.Denot). c.min.result ≡ least_time (least_time (least_time 1099511627776 (held_messages w.process.held)) w.process.debts) w.process.pending) c.self.view_is
     (c.min.ensures ∙ ap (λ n. min n c.least_time-2.result) c.least_time.ensures ∙ ap (min (least_time 1099511627776 c.self.inside.pending)) c.least_time-2.ensures
-    ∙ sym (held_least (rules g.M.Model g.M.Body.Ord.cmp c.self.inside.history.model) (events_exact (record { total = g.met.M.Body.Ord.total; same = g.met.M.Model.same })) c.self.inside.pending 1099511627776 c.self.inside.debts c.self.inside.held c.self.invariant.held))
+    ∙ sym (held_least (rules g.M.Model g.M.Body.Ord.cmp c.self.inside.history.value.model.value) (events_exact (record { total = g.met.M.Body.Ord.total; same = g.met.M.Model.same })) c.self.inside.pending 1099511627776 c.self.inside.debts c.self.inside.held.value c.self.invariant.1.held))
 
 pub returns-clause-pending : goal.returns-clause-pending
 returns-clause-pending g c =
