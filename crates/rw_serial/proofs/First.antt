@@ -1,6 +1,7 @@
 -- The first initial event, which stands before the others.
 use Rattle.std.proofs.Common.{◌≡◌, true, List, [], ◌++◌, refl, sym, ◌∙◌, ap, Option, Some, None, All, IfSome, IfNone, IsPermutation}
 use Rattle.std.specs.declared.cmp.Ordering.{Ordering}
+use Rattle.std.specs.Cmp.{IsTotalOrder}
 use Rattle.std.specs.Option.{option_to_list}
 use Rattle.std.specs.List.{slice_get}
 use Rattle.std.proofs.lemmas.List.Elements.{All-cons}
@@ -9,7 +10,7 @@ use Rattle.rw_vt.specs.declared.event.Event.{Event}
 use Rattle.rw_vt.specs.Order.{AtMost, event_cmp}
 use Rattle.rw_vt.specs.System.{IsReady}
 use Rattle.rw_vt.specs.declared.model.Model.{Ghosts}
-use Rattle.rw_vt.proofs.Sorting.{IsExactOrder, at_most_itself}
+use Rattle.rw_serial.proofs.Queue.{at_most_self}
 use Rattle.rw_serial.specs.Pending.{StandsBefore}
 
 -- a source's next event stands before what the source then has
@@ -29,10 +30,10 @@ none_first order None others before = before
 none_first order (Some e) others before = tt
 
 -- and a least one
-pub first_least : {B : Type 0} (order : B → B → Ordering) → IsExactOrder (event_cmp order) → (first : Option (Event B)) (others : List (Event B)) → StandsBefore order first others
+pub first_least : {B : Type 0} (order : B → B → Ordering) → IsTotalOrder (event_cmp order) → (first : Option (Event B)) (others : List (Event B)) → StandsBefore order first others
     → IfSome first (λ e. All (AtMost (event_cmp order) e) (option_to_list first ++ others))
 first_least order o None others before = tt
-first_least order o (Some e) others before = All-cons (AtMost (event_cmp order) e) e others (at_most_itself o e) before
+first_least order o (Some e) others before = All-cons (AtMost (event_cmp order) e) e others (at_most_self o e) before
 
 -- what is ready stays so, in whatever order its initial events are listed
 pub ready_permuted : {M S B U : Type 0} (model : Ghosts M S B U) (m : M) (starts : List S) (xs ys : List (Event B)) → IsPermutation xs ys → IsReady model m starts xs → IsReady model m starts ys

@@ -37,6 +37,10 @@ dropped xs ys k x is below read =
     let next : suc k ≡ k + 1 = omega arith in
     subst (λ l. drop k l ≡ x ∷ drop (k + 1) l) is (drop-cons ys k x there ∙ ap (λ n. get_or ys k x ∷ drop n ys) next ∙ ap (λ w. w ∷ drop (k + 1) ys) (sym read))
 
+-- what is read is within the list
+pub within : {E : Type 0} (xs ys : List E) (k : ℕ) → ys ≡ xs → true ≡ nat_lt k (length ys) → k + 1 ≤ length xs
+within xs ys k is below = subst (λ l. k + 1 ≤ length l) is (grind (arith, nat_tests))
+
 pub dropped_all : {E : Type 0} (xs : List E) (k : ℕ) → k ≡ length xs → drop k xs ≡ []
 dropped_all [] zero all = refl
 dropped_all [] (suc k) all = absurd (omega arith)

@@ -83,29 +83,21 @@ module _ {B : Type 0} where
   joined_same {left} {taken} h = ap (λ l. taken ++ l) h.parts ∙ sym (append_assoc taken h.moved left) ∙ ap (λ l. l ++ left) (sym h.behind)
 
   -- what is taken out and what is left are what waited
-  pub taken_out : {initial sent first mid taken left at_hand others none : List (Event B)} (now later : List (Event B)) → none ≡ [] → IsPermutation (none ++ (now ++ later)) sent → HasMovedOn initial mid sent first → HasMovedOn mid left first taken
+  pub taken_out : {initial sent taken left at_hand others none : List (Event B)} (now later : List (Event B)) → none ≡ [] → IsPermutation (none ++ (now ++ later)) sent → HasMovedOn initial left sent taken
       → (at_hand ≡ []) × (others ≡ []) → IsPermutation (initial ++ (now ++ later)) (taken ++ (left ++ (at_hand ++ others)))
-  taken_out {initial} {sent} {taken} {left} {at_hand} {others} now later empty moved some more gone =
-      let all : sent ++ initial ≡ taken ++ left = joined_same some ∙ joined_same more in
+  taken_out {initial} {sent} {taken} {left} {at_hand} {others} now later empty moved some gone =
       let rest : left ++ (at_hand ++ others) ≡ left = ap (λ l. left ++ (l ++ others)) gone.0 ∙ ap (λ l. left ++ l) gone.1 ∙ append-nil left in
       subst (λ l. IsPermutation (initial ++ (now ++ later)) (taken ++ l)) (sym rest)
-      (subst (IsPermutation (initial ++ (now ++ later))) all
+      (subst (IsPermutation (initial ++ (now ++ later))) (joined_same some)
       (IsPermutation-trans (initial ++ (now ++ later)) ((now ++ later) ++ initial) (sent ++ initial)
       (IsPermutation-append_comm initial (now ++ later))
       (IsPermutation-append_left initial (now ++ later) sent (subst (λ l. IsPermutation (l ++ (now ++ later)) sent) empty moved))))
 
   -- and nothing is left where they are fewer than were asked for
-  pub taken_enough : {first mid taken left at_hand others : List (Event B)} (sent : List (Event B)) (count : ℕ) → (length first < length sent + count → mid ≡ []) → HasMovedOn mid left first taken
+  pub taken_enough : {left at_hand others : List (Event B)} (taken sent : List (Event B)) (count : ℕ) → (length taken < length sent + count → left ≡ [])
       → (at_hand ≡ []) × (others ≡ []) → length taken < count → left ++ (at_hand ++ others) ≡ []
-  taken_enough {first} {mid} {taken} {left} {at_hand} {others} sent count enough more gone fewer =
-      let long = ap length more.behind ∙ length-append first more.moved in
-      let none : mid ≡ [] = enough (omega arith) in
-      let nothing : left ≡ [] = no_rest more.moved left (sym more.parts ∙ none) in
-      ap (λ l. l ++ (at_hand ++ others)) nothing ∙ ap (λ l. l ++ others) gone.0 ∙ gone.1
-    where
-      no_rest : (xs ys : List (Event B)) → xs ++ ys ≡ [] → ys ≡ []
-      no_rest [] ys h = h
-      no_rest (x ∷ xs) ys h = cc
+  taken_enough {at_hand} {others} taken sent count enough gone fewer =
+      ap (λ l. l ++ (at_hand ++ others)) (enough (omega arith)) ∙ ap (λ l. l ++ others) gone.0 ∙ gone.1
 
 -- What is put back waits with what did
 

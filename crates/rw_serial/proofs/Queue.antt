@@ -27,7 +27,7 @@ module _ {E : Type 0} {cmp : E → E → Ordering} (o : IsTotalOrder cmp) where
   at_most_from_not_less : (x y : E) → is_lt (cmp y x) ≡ false → AtMost cmp x y
   at_most_from_not_less x y h = ap is_gt (o.antisymm x y) ∙ not_below (cmp y x) h
 
-  at_most_self : (x : E) → AtMost cmp x x
+  pub at_most_self : (x : E) → AtMost cmp x x
   at_most_self x = by_answer (cmp x x) (o.antisymm x x)
     where
       by_answer : (r : Ordering) → r ≡ ordering_reverse r → is_gt r ≡ false

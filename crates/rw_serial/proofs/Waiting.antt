@@ -10,7 +10,7 @@ use Rattle.std.specs.declared.cmp.Ordering.TheVariants.{Less}
 use Rattle.std.proofs.lemmas.Bool.Decides.{nat_tests}
 use Rattle.std.proofs.lemmas.Cmp.{upto}
 use Rattle.std.proofs.lemmas.List.Elements.{All-append, All-cons, All-head, All-nil, All-push, All-take, All-weaker}
-use Rattle.std.proofs.lemmas.List.Sorted.{All-permutation, IsPermutation-append_left, IsPermutation-append_right, IsPermutation-sym, IsPermutation-trans}
+use Rattle.std.proofs.lemmas.List.Sorted.{All-permutation, IsPermutation-append_left, IsPermutation-append_right, IsPermutation-refl, IsPermutation-sym, IsPermutation-trans}
 use Rattle.rw_vt.specs.declared.event.Event.{Event}
 use Rattle.rw_vt.specs.Order.{AtMost, event_cmp}
 use Rattle.rw_vt.proofs.EventOrder.{time_at_most}
@@ -250,6 +250,9 @@ added_to_all xs ys later sent new h =
 module _ {B : Type 0} where
   abbrev pub AreApart : List (Event B) → List (Event B) → List (Event B) → Type 0
   AreApart es start later = IsPermutation es (start ++ later) × All (λ e. e.time ≡ 0) start × All (λ e. 0 < e.time) later
+
+  pub apart_at_first : {start later : List (Event B)} → start ≡ [] → later ≡ [] → AreApart [] start later
+  apart_at_first none empty = rw (none, empty) (IsPermutation-refl [], All-nil (λ e. e.time ≡ 0), All-nil (λ e. 0 < e.time))
 
   pub put_at_start : (es all start front later back : List (Event B)) (e : Event B) → all ≡ es ++ e ∷ [] → e.time ≡ 0 → front ≡ start ++ e ∷ [] → back ≡ later → AreApart es start later → AreApart all front back
   put_at_start es all start front later back e more at is same apart = (

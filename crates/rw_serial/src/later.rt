@@ -10,7 +10,7 @@ use std::alloc::{AllocError, Global};
 use std::marker::Model;
 
 /// Where events stand that were sent, until their time comes.
-pub trait Store<B: Ord + Copy>: Drop {
+pub trait Store<B: Copy>: Drop {
     /// The events that are there, in no particular order.
     ghost events: { Self → List (Event B) };
 
@@ -42,13 +42,13 @@ pub trait Store<B: Ord + Copy>: Drop {
 
 /// Events whose times never fall. Contracts see them as a list in order.
 #[derive(Drop)]
-struct Lane<B: Ord + Copy> {
+struct Lane<B: Copy> {
     events: Fifo<Event<B>>,
     /// The time of the last event that came here.
     last: u64,
 }
 
-impl<B: Ord + Copy> Model for Lane<B> {
+impl<B: Copy> Model for Lane<B> {
     ghost use Rattle.std.specs.Prelude.{List};
     ghost use Rattle.rw_vt.specs.declared.event.Event.{Event};
     ghost use Rattle.rw_serial.specs.Later.{IsLane};
@@ -60,7 +60,7 @@ impl<B: Ord + Copy> Model for Lane<B> {
     ghost invariant = { λ l. IsLane l.events l.last };
 }
 
-impl<B: Ord + Copy> Lane<B> {
+impl<B: Copy> Lane<B> {
     /// No events.
     fn new(alloc: Global) -> Self
         ensures { result ≡ [] }
@@ -130,13 +130,13 @@ impl<B: Ord + Copy> Lane<B> {
 /// Two lanes, and a store for the events that would break their order. What is put into a lane costs no comparison with what is
 /// there.
 #[derive(Drop)]
-pub struct TwoLanes<B: Ord + Copy, R: Store<B>> {
+pub struct TwoLanes<B: Copy, R: Store<B>> {
     first: Lane<B>,
     second: Lane<B>,
     others: R,
 }
 
-impl<B: Ord + Copy, R: Store<B>> Model for TwoLanes<B, R> {
+impl<B: Copy, R: Store<B>> Model for TwoLanes<B, R> {
     ghost use Rattle.std.specs.Prelude.{◌++◌, List};
     ghost use Rattle.rw_vt.specs.declared.event.Event.{Event};
 
@@ -145,7 +145,7 @@ impl<B: Ord + Copy, R: Store<B>> Model for TwoLanes<B, R> {
     ghost view = { λ l. l.first ++ (l.second ++ R.events l.others) };
 }
 
-impl<B: Ord + Copy, R: Store<B>> TwoLanes<B, R> {
+impl<B: Copy, R: Store<B>> TwoLanes<B, R> {
     /// Two empty lanes before an empty store.
     fn new(alloc: Global, others: R) -> Self
         ensures { result ≡ R.events others }
@@ -158,7 +158,7 @@ impl<B: Ord + Copy, R: Store<B>> TwoLanes<B, R> {
     }
 }
 
-impl<B: Ord + Copy, R: Store<B>> Store<B> for TwoLanes<B, R> {
+impl<B: Copy, R: Store<B>> Store<B> for TwoLanes<B, R> {
     ghost events = { λ l. l };
 
     fn least_time(&self) -> Option<u64> {

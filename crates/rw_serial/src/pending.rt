@@ -85,8 +85,7 @@ impl<B: Ord + Copy, S: Source<B>> Pending<B, S> {
         let mut taken = Vec::with_capacity(alloc, count.saturating_add(count / 8))?;
         move_sent(&mut self.now, &mut self.later, &mut taken)?;
         self.time = 0;
-        let last = move_first(&mut self.initial, count, &mut taken)?;
-        move_at(&mut self.initial, last, &mut taken)?;
+        move_first(&mut self.initial, count, &mut taken)?;
         Ok(taken)
     }
 
@@ -434,43 +433,27 @@ fn put_apart<B: Ord + Copy>(
     Ok(())
 }
 
-/// Moves as many initial events as `count` says to the end of `taken`, or all where there are fewer, and answers the time of
-/// the last one, or else 0. Where memory is refused, some events are lost.
+/// Moves as many initial events as `count` says to the end of `taken`, with all others of the last one's time, or of time 0
+/// where that is none; or all where there are fewer. Where memory is refused, some events are lost.
 fn move_first<B: Ord + Copy, S: Source<B>>(
     initial: &mut Initial<B, S>,
     count: usize,
     taken: &mut Vec<Event<B>>,
-) -> Result<u64, AllocError>
+) -> Result<(), AllocError>
     ensures moved { OnOk result
         (HasMovedOn initial.old initial.new taken.old.items taken.new.items) }
     ensures enough { OnOk result
         (length taken.new.items < length taken.old.items + count → initial.new ≡ []) }
 {
+    let mut missing = count;
     let mut last = 0;
-    for _ in 0..count {
+    while missing > 0 || is_time(time_of(initial.first()), last) {
         let Some(event) = initial.pop() else {
-            return Ok(last);
+            return Ok(());
         };
         taken.push(event)?;
         last = event.time;
-    }
-    Ok(last)
-}
-
-/// Moves the first initial events to the end of `taken`, while they are of this time. Where memory is refused, some events are
-/// lost.
-fn move_at<B: Ord + Copy, S: Source<B>>(
-    initial: &mut Initial<B, S>,
-    time: u64,
-    taken: &mut Vec<Event<B>>,
-) -> Result<(), AllocError>
-    ensures moved { OnOk result
-        (HasMovedOn initial.old initial.new taken.old.items taken.new.items) }
-{
-    while is_time(time_of(initial.first()), time) {
-        if let Some(event) = initial.pop() {
-            taken.push(event)?;
-        }
+        missing = missing.saturating_sub(1);
     }
     Ok(())
 }

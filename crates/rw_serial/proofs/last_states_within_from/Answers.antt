@@ -23,3 +23,16 @@ pub returns-in_err-execute_all-clause-exhausted : goal.returns-in_err-execute_al
 returns-in_err-execute_all-clause-exhausted g c =
     let p = err_from_is_err_and c.from_residual.result c.from_residual.ensures.1 in
     rw (p.1, p.2) (λ e. c.in_err-execute_all.ensures.exhausted e)
+
+pub execute_all-requires-clause-ready : goal.execute_all-requires-clause-ready
+execute_all-requires-clause-ready g c = c.requires.ready
+
+pub returns-then-branch-clause-used_up : goal.returns-then-branch-clause-used_up
+returns-then-branch-clause-used_up g c = tt
+
+pub returns-else-branch-clause-outcome : goal.returns-else-branch-clause-outcome
+returns-else-branch-clause-outcome g c = tt
+
+pub returns-else-branch-clause-used_up : goal.returns-else-branch-clause-used_up
+returns-else-branch-clause-used_up g c =
+    c.in_ok-execute_all.ensures.used_up c.if-branch.false c.args.limit (counts_nothing _ (length c.args.starts.items) c.up_to-count.ensures.0 c.up_to-count.ensures.1)

@@ -1,7 +1,9 @@
-use Rattle.std.proofs.Common.{rules, ◌≡◌, ◌++◌, ◌∙◌, [], IfNone, ap, subst, sym}
+use Rattle.std.proofs.Common.{rules, ◌≡◌, ◌++◌, ◌∙◌, [], All, IfNone, IfSome, ap, subst, sym}
 use Rattle.std.specs.Option.{option_to_list}
+use Rattle.rw_vt.specs.Order.{AtMost, event_cmp}
+use Rattle.rw_vt.proofs.EventOrder.{events_total}
 use Rattle.rw_serial.specs.Pending.{StandsBefore}
-use Rattle.rw_serial.proofs.First.{none_first, stands_before}
+use Rattle.rw_serial.proofs.First.{first_least, none_first, stands_before}
 use Rattle.rw_serial.proofs.initial.Initial.pop.Goals as goal
 
 pub invariant_of-self : goal.invariant_of-self
@@ -21,3 +23,9 @@ pub returns-clause-none : goal.returns-clause-none
 returns-clause-none g c =
     subst (λ f. IfNone f (c.args.self.now ≡ [])) (sym c.replace.ensures.value)
     (subst (λ l. IfNone c.self.inside.first (l ≡ [])) c.self.view_is (none_first g.B.Ord.cmp c.self.inside.first (g.S.Source.left c.self.inside.others) c.self.invariant))
+
+pub returns-clause-least : goal.returns-clause-least
+returns-clause-least g c =
+    subst (λ f. IfSome f (λ e. All (AtMost (event_cmp g.B.Ord.cmp) e) c.args.self.now)) (sym c.replace.ensures.value)
+    (subst (λ l. IfSome c.self.inside.first (λ e. All (AtMost (event_cmp g.B.Ord.cmp) e) l)) c.self.view_is
+    (first_least g.B.Ord.cmp (events_total g.met.B.Ord.total) c.self.inside.first (g.S.Source.left c.self.inside.others) c.self.invariant))

@@ -4,11 +4,11 @@ use Rattle.rw_serial.proofs.pending.Pending.take_out.Goals as goal
 
 pub returns-clause-parts : goal.returns-clause-parts
 returns-clause-parts g c =
-    subst (λ w. IsPermutation w.events (c.move_at.new.taken.items ++ (c.move_at.new.initial ++ (c.move_sent.new.now ++ c.move_sent.new.later)))) c.self.view_is
-    (taken_out c.self.inside.now c.self.inside.later c.in_ok-taken.ensures.items c.in_ok-move_sent.ensures.moved c.in_ok-last.ensures.moved c.in_ok-move_at.ensures.moved c.in_ok-move_sent.ensures.none)
+    subst (λ w. IsPermutation w.events (c.move_first.new.taken.items ++ (c.move_first.new.initial ++ (c.move_sent.new.now ++ c.move_sent.new.later)))) c.self.view_is
+    (taken_out c.self.inside.now c.self.inside.later c.in_ok-taken.ensures.items c.in_ok-move_sent.ensures.moved c.in_ok-move_first.ensures.moved c.in_ok-move_sent.ensures.none)
 
 pub returns-clause-enough : goal.returns-clause-enough
-returns-clause-enough g c = taken_enough c.move_sent.new.taken.items c.args.count c.in_ok-last.ensures.enough c.in_ok-move_at.ensures.moved c.in_ok-move_sent.ensures.none
+returns-clause-enough g c = taken_enough c.move_first.new.taken.items c.move_sent.new.taken.items c.args.count c.in_ok-move_first.ensures.enough c.in_ok-move_sent.ensures.none
 
 pub invariant_of-self : goal.invariant_of-self
 invariant_of-self g c = c.move_sent.ensures.around c.self.inside.time c.self.inside.initial c.self.invariant
