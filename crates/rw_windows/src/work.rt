@@ -1,10 +1,10 @@
 ghost use Rattle.std.specs.Prelude.{◌≡◌, ◌≤◌, All, OnOk};
-ghost use Rattle.rw_windows.specs.Working.{IsAtWork, SameWorker};
+ghost use Rattle.rw_windows.specs.Working.{CanBegin, HasWorked, IsAtWork, SameWorker};
 
 use crate::share::Share;
 use crate::worker::Worker;
 use rw_crew::Job;
-use rw_vt::{Model as VtModel, Refusal};
+use rw_vt::{Event, Model as VtModel, Refusal};
 use std::alloc::Global;
 use std::sync::Wait;
 
@@ -38,6 +38,20 @@ impl<'r, M: VtModel, R: Wait> Work<'r, M, R> {
         Ok(true)
     }
 
+    /// Lets the worker work, and puts into `left` what is then still to be executed.
+    ///
+    /// After a refusal nothing is said of `worker` and `left`.
+    fn work(&self, worker: &mut Worker<M>, left: &mut Vec<Event<M::Body>>) -> Result<(), Refusal>
+        requires begins { CanBegin M.Model M.Body.cmp self.now.model worker.old }
+        ensures worked { OnOk result (HasWorked M.Model M.Body.cmp self.now.model worker.old
+            (record worker.new { waiting = left.new.items; reached = 0 })) }
+    {
+        worker.go_further(&self.model);
+        self.go_to_the_end(worker)?;
+        *left = worker.take_left(self.alloc)?;
+        Ok(())
+    }
+
     /// Executes window by window, until the worker has come to the end or another worker is gone.
     fn go_to_the_end(&self, worker: &mut Worker<M>) -> Result<(), Refusal>
         requires at_work { IsAtWork M.Model M.Body.cmp self.now.model worker.old }
@@ -69,8 +83,15 @@ impl<'r, M: VtModel, R: Wait> Job<Share<M>> for Work<'r, M, R> {
 
     fn run(&self, share: Share<M>) -> Result<Share<M>, Refusal> {
         let mut worker = Worker::of(self.alloc, share)?;
-        worker.go_further(&self.model);
-        self.go_to_the_end(&mut worker)?;
-        Ok(worker.into_share(self.alloc)?)
+        let mut left = Vec::new(self.alloc);
+        let worked = self.work(&mut worker, &mut left);
+        let share = worker.with_left(left);
+        match worked {
+            Ok(()) => Ok(share),
+            Err(refusal) => {
+                drop(share);
+                Err(refusal)
+            }
+        }
     }
 }

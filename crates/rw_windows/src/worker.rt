@@ -128,17 +128,16 @@ impl<M: VtModel> Worker<M> {
         })
     }
 
-    /// The share that it leaves.
-    pub(crate) fn into_share(self, alloc: Global) -> Result<Share<M>, AllocError>
-        ensures is { IfOk result (λ s. IsReordered self s) }
+    /// Takes what is still to be executed.
+    pub(crate) fn take_left(&mut self, alloc: Global) -> Result<Vec<Event<M::Body>>, AllocError>
+        ensures left { IfOk result (λ left.
+            IsReordered self.old (record self.new { waiting = left.items; reached = 0 })) }
     {
-        let mut worker = self;
-        let events = worker.pending.take_all(alloc)?;
-        Ok(worker.with_left(events))
+        self.pending.take_all(alloc)
     }
 
     /// The share that it leaves, with these events still to be executed.
-    fn with_left(self, events: Vec<Event<M::Body>>) -> Share<M>
+    pub(crate) fn with_left(self, events: Vec<Event<M::Body>>) -> Share<M>
         ensures { result ≡ record self { waiting = events.items; reached = 0 } }
     {
         let Worker {
@@ -147,7 +146,7 @@ impl<M: VtModel> Worker<M> {
             end,
             lookahead,
             states,
-            pending: _,
+            pending,
             port,
             bells,
             away,
@@ -161,6 +160,7 @@ impl<M: VtModel> Worker<M> {
             starts,
             given,
         } = self;
+        drop(pending);
         Share {
             number,
             workers,
