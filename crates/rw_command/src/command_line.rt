@@ -134,7 +134,7 @@ fn mode(alloc: Global, name: &str, options: &ArgMatches<'_>) -> Result<Mode, Fau
         "warp" => Ok(Mode::Warp(plan(options).ok_or(Fault::Plan)?)),
         "journal" => {
             let words = options.get_str("schedule").ok_or(Fault::Plan)?;
-            Ok(Mode::Journal(schedule(alloc, words).map_err(Fault::Schedule)?))
+            Ok(Mode::Journal(schedule(alloc, words)?))
         }
         _ => Err(Fault::Plan),
     }
@@ -154,7 +154,8 @@ fn run<S: Source, P: Progress, W: Write, R: Threads + Wait + Sync>(
         return Err(Fault::Plan);
     };
     let bytes = read(alloc, options, "trace", source)?;
-    simulate_and_tell(rt, alloc, bytes.as_slice(), &config, mode, progress, out).map_err(Fault::Run)
+    let traffic = simulate_and_tell(rt, alloc, bytes.as_slice(), &config, mode, progress, out)?;
+    Ok(traffic)
 }
 
 /// All bytes of the file that an argument names.
@@ -165,7 +166,7 @@ pub(crate) fn read<S: Source>(
     source: &mut S,
 ) -> Result<Vec<u8>, Fault> {
     let path = options.get_str(argument).ok_or(Fault::Plan)?;
-    source.bytes(alloc, path).map_err(Fault::Source)
+    Ok(source.bytes(alloc, path)?)
 }
 
 /// Writes a text whole.

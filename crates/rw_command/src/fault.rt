@@ -18,16 +18,16 @@ pub enum Fault {
     Plan,
     /// The schedule has a word that says no step.
     #[error("{0}")]
-    Schedule(ScheduleFault),
+    Schedule(#[from] ScheduleFault),
     /// A request for memory was refused.
     #[error("memory")]
     Memory,
     /// The trace cannot be read.
     #[error("{0}")]
-    Source(SourceFault),
+    Source(#[from] SourceFault),
     /// The run has no report.
     #[error("{0}")]
-    Run(SimFault),
+    Run(#[from] SimFault),
     /// An option is no list of its values.
     #[error("error: --{0}: no list of its values; see ripqwarp sweep --help")]
     List(&'static str),
@@ -42,13 +42,13 @@ pub enum Fault {
     Combinations(u64),
     /// The log was refused.
     #[error("{0}")]
-    Import(ImportFault),
+    Import(#[from] ImportFault),
     /// The sweep was refused.
     #[error("{0}")]
-    Plot(PlotFault),
+    Plot(#[from] PlotFault),
     /// The parts of a sweep were refused.
     #[error("{0}")]
-    Join(JoinFault),
+    Join(#[from] JoinFault),
 }
 
 impl Fault {

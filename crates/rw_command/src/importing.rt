@@ -5,7 +5,7 @@ use crate::lines::write_line;
 use crate::source::Source;
 use clap::ArgMatches;
 use rw_import::{Column, Dealing, Imported, Layout, LeftOut, Options, import_csv, import_oracle};
-use rw_progress::{Line, Measure};
+use rw_progress::{Line, Measure, Progress};
 use rw_ripqwarp::Out;
 use std::alloc::Global;
 use std::io::Write;
@@ -21,20 +21,31 @@ pub(crate) fn import<S: Source, W: Write, E: Write, C: Clock>(
     err: &mut E,
     terminal: bool,
 ) -> Result<(), Fault> {
-    let reading = reading(options).ok_or(Fault::Plan)?;
-    let layout = layout(alloc, options)?;
-    let log = read(alloc, options, "log", source)?;
     let shown = terminal && !options.get_flag("quiet");
     let mut line = Line::new(err, clock, "import", Measure::Bytes, shown);
-    let imported = match options.get_str("from") {
-        Some("oracle-general") => import_oracle(alloc, log.as_slice(), &reading, &mut line),
-        _ => import_csv(alloc, log.as_slice(), &layout, &reading, &mut line),
-    };
+    let imported = imported(alloc, options, source, &mut line);
     drop(line);
-    let imported = imported.map_err(Fault::Import)?;
+    let imported = imported?;
     write(imported.text.as_slice(), out)?;
     tell(&imported, err);
     Ok(())
+}
+
+/// The trace that the log makes which the options name.
+fn imported<S: Source, P: Progress>(
+    alloc: Global,
+    options: &ArgMatches<'_>,
+    source: &mut S,
+    progress: &mut P,
+) -> Result<Imported, Fault> {
+    let reading = reading(options).ok_or(Fault::Plan)?;
+    let layout = layout(alloc, options)?;
+    let log = read(alloc, options, "log", source)?;
+    let imported = match options.get_str("from") {
+        Some("oracle-general") => import_oracle(alloc, log.as_slice(), &reading, progress),
+        _ => import_csv(alloc, log.as_slice(), &layout, &reading, progress),
+    };
+    Ok(imported?)
 }
 
 /// How rows become a trace's; None where an option is missing or out of its range, which the command line rules out.

@@ -16,11 +16,8 @@ pub(crate) fn join<S: Source, W: Write>(
 ) -> Result<(), Fault> {
     let parts = parts(alloc, options, source)?;
     let count: Option<u32> = options.get_one("of");
-    let table = rw_join::join(alloc, parts.as_slice(), count.map(u64::from));
-    match table {
-        Ok(table) => write(table.as_slice(), out),
-        Err(fault) => Err(Fault::Join(fault)),
-    }
+    let table = rw_join::join(alloc, parts.as_slice(), count.map(u64::from))?;
+    write(table.as_slice(), out)
 }
 
 /// The bytes of all files that the options name, in their order.
@@ -32,7 +29,7 @@ fn parts<S: Source>(
     let mut parts = Vec::new(alloc);
     let paths = options.get_strs("parts").ok_or(Fault::Plan)?;
     for path in paths {
-        let bytes = source.bytes(alloc, path).map_err(Fault::Source)?;
+        let bytes = source.bytes(alloc, path)?;
         if parts.push(bytes).is_err() {
             return Err(Fault::Memory);
         }

@@ -13,21 +13,21 @@ pub(crate) fn program<'a>(alloc: Global) -> Result<Command<'a>, AllocError> {
         .about("Simulates edge and origin photo caches from a trace")
         .subcommand_required(true)
         .arg_required_else_help(true);
-    let program = with_command(program, serial(alloc))?;
-    let program = with_command(program, warp(alloc))?;
-    let program = with_command(program, journal(alloc))?;
-    let program = with_command(program, import(alloc))?;
-    let program = with_command(program, sweep(alloc))?;
-    let program = with_command(program, join(alloc))?;
+    let program = with_command(Ok(program), serial(alloc));
+    let program = with_command(program, warp(alloc));
+    let program = with_command(program, journal(alloc));
+    let program = with_command(program, import(alloc));
+    let program = with_command(program, sweep(alloc));
+    let program = with_command(program, join(alloc));
     with_command(program, plot(alloc))
 }
 
-/// The program with one command more, if that could be made.
+/// The program with one command more, if both could be made.
 fn with_command<'a>(
-    program: Command<'a>,
+    program: Result<Command<'a>, AllocError>,
     command: Result<Command<'a>, AllocError>,
 ) -> Result<Command<'a>, AllocError> {
-    program.subcommand(command?)
+    program?.subcommand(command?)
 }
 
 /// The command that runs a trace on one thread.

@@ -18,7 +18,7 @@ pub(crate) fn plot<S: Source, W: Write>(
     let measure = measure(options).ok_or(Fault::Plan)?;
     let caches = caches(options).ok_or(Fault::Plan)?;
     let sweep = read(alloc, options, "sweep", source)?;
-    let picture = rw_plot::plot(alloc, sweep.as_slice(), measure, caches).map_err(Fault::Plot)?;
+    let picture = rw_plot::plot(alloc, sweep.as_slice(), measure, caches)?;
     write(picture.as_slice(), out)
 }
 

@@ -5,7 +5,7 @@ use crate::lists::{ListFault, numbers, policies};
 use crate::source::Source;
 use clap::ArgMatches;
 use rw_photo::Shape;
-use rw_progress::{Line, Measure};
+use rw_progress::{Line, Measure, Progress};
 use rw_ripqwarp::Out;
 use rw_sweep::{Axes, Grid, GridFault, MAX_CONFIGURATIONS, MAX_WORKERS, Part, list, sweep_part};
 use std::alloc::Global;
@@ -29,16 +29,30 @@ pub(crate) fn sweep<S: Source, W: Write, E: Write, R: Threads + Clock + Sync>(
     if options.get_flag("list") {
         return write_list(alloc, &grid, part.unwrap_or(Part::whole()), out);
     }
-    let workers = workers(rt, options);
-    let trace = read(alloc, options, "trace", source)?;
     let shown = terminal && !options.get_flag("quiet");
     let mut line = Line::new(err, rt, "sweep", Measure::Pieces, shown);
+    run(rt, alloc, options, &grid, part, source, &mut line, out)
+}
+
+/// Runs the trace through the grid, or through a part of it.
+fn run<S: Source, P: Progress, W: Write, R: Threads + Sync>(
+    rt: &R,
+    alloc: Global,
+    options: &ArgMatches<'_>,
+    grid: &Grid,
+    part: Option<Part>,
+    source: &mut S,
+    progress: &mut P,
+    out: &mut Out<W>,
+) -> Result<(), Fault> {
+    let workers = workers(rt, options);
+    let trace = read(alloc, options, "trace", source)?;
     let bytes = trace.as_slice();
     let swept = match part {
-        Some(part) => sweep_part(rt, alloc, bytes, &grid, part, workers, &mut line, out),
-        None => rw_sweep::sweep(rt, alloc, bytes, &grid, workers, &mut line, out),
+        Some(part) => sweep_part(rt, alloc, bytes, grid, part, workers, progress, out),
+        None => rw_sweep::sweep(rt, alloc, bytes, grid, workers, progress, out),
     };
-    swept.map_err(Fault::Run)
+    Ok(swept?)
 }
 
 /// Writes the configurations of a part as a list.
@@ -72,14 +86,14 @@ fn axes(alloc: Global, options: &ArgMatches<'_>) -> Result<Axes, Fault> {
     Ok(Axes {
         edges: options.get_one("edges").ok_or(Fault::Plan)?,
         origins: options.get_one("origins").ok_or(Fault::Plan)?,
+        up: options.get_one("up").ok_or(Fault::Plan)?,
+        down: options.get_one("down").ok_or(Fault::Plan)?,
+        back: options.get_one("back").ok_or(Fault::Plan)?,
         policies: listed("policy", policies(alloc, list))?,
         sections: numbers_of(alloc, options, "sections", Shape::MAX_SECTIONS)?,
         blocks: numbers_of(alloc, options, "block", Shape::MAX_BLOCK)?,
         edge_blocks: numbers_of(alloc, options, "edge-blocks", Shape::MAX_BLOCKS)?,
         origin_blocks: numbers_of(alloc, options, "origin-blocks", Shape::MAX_BLOCKS)?,
-        up: options.get_one("up").ok_or(Fault::Plan)?,
-        down: options.get_one("down").ok_or(Fault::Plan)?,
-        back: options.get_one("back").ok_or(Fault::Plan)?,
     })
 }
 
