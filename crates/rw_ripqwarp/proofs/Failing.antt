@@ -1,7 +1,6 @@
--- What a call that failed hands on, and which faults a run has of it.
-use Rattle.std.proofs.Common.{◌≡◌, ℕ, List, Result, Ok, Err, sym, subst}
+-- Which faults a run has of a call that failed.
+use Rattle.std.proofs.Common.{◌≡◌, ℕ, List, sym, subst}
 use Rattle.std.specs.Prelude.{◌≢◌}
-use Rattle.std.specs.Result.{IfErr, IsErrAnd}
 use Rattle.rw_vt.specs.declared.refusal.Refusal.{Refusal}
 use Rattle.rw_vt.specs.declared.refusal.Refusal.TheVariants as refusal
 use Rattle.rw_photo.specs.declared.config.Config.{Config}
@@ -10,16 +9,13 @@ use Rattle.rw_rounds.specs.declared.stop.Stop.{Stop}
 use Rattle.rw_rounds.specs.declared.stop.Stop.TheVariants as stop
 use Rattle.rw_engine.specs.Alone.{MayStopAlone}
 use Rattle.rw_engine.specs.Stretches.{MayStopInRounds}
+use Rattle.rw_replay.specs.declared.sim_fault.SimFault.{SimFault}
+use Rattle.rw_replay.specs.declared.sim_fault.SimFault.TheVariants as sim
+use Rattle.rw_replay.specs.Faults.{sim_refusal_of}
+use Rattle.rw_replay.specs.Beginning.{IsBeginningFault}
 use Rattle.rw_ripqwarp.specs.declared.mode.Mode.{Mode}
-use Rattle.rw_ripqwarp.specs.declared.sim_fault.SimFault.{SimFault}
-use Rattle.rw_ripqwarp.specs.declared.sim_fault.SimFault.TheVariants as sim
-use Rattle.rw_ripqwarp.specs.Faults.{sim_refusal_of, sim_stop_of}
-use Rattle.rw_ripqwarp.specs.Simulate.{IsBeginningFault, IsRunFault}
-
--- what holds of an error holds where that one was handed on
-pub handed-on : {T E : Type 0} (r : Result T E) (e : E) (P : E → Type 0) → IsErrAnd r (λ y. y ≡ e) → P e → IfErr r P
-handed-on (Ok t) e P is p = tt
-handed-on (Err y) e P is p = subst P (sym is) p
+use Rattle.rw_ripqwarp.specs.Faults.{sim_stop_of}
+use Rattle.rw_ripqwarp.specs.Simulate.{IsRunFault}
 
 -- why a run cannot begin is a fault of the run, in every mode
 pub beginning-fault : (mode : Mode) (c : Config) (bytes : List ℕ) (f : SimFault) → IsBeginningFault c bytes f → IsRunFault mode c bytes f
@@ -45,12 +41,15 @@ pub refusal-unwritten : (e : Refusal) → sim_refusal_of e ≢ sim.Output
 refusal-unwritten refusal.Memory = λ same. cc
 refusal-unwritten refusal.Exhausted = λ same. cc
 
-pub stop-unwritten : (s : Stop) → sim_stop_of s ≢ sim.Output
-stop-unwritten stop.Memory = λ same. cc
-stop-unwritten stop.Exhausted = λ same. cc
-stop-unwritten stop.RoundsUsed = λ same. cc
-stop-unwritten stop.BadPlan = λ same. cc
-stop-unwritten stop.NoThread = λ same. cc
+unwritten : (s : Stop) → sim_stop_of s ≢ sim.Output
+unwritten stop.Memory = λ same. cc
+unwritten stop.Exhausted = λ same. cc
+unwritten stop.RoundsUsed = λ same. cc
+unwritten stop.BadPlan = λ same. cc
+unwritten stop.NoThread = λ same. cc
+
+pub stop-unwritten : (s : Stop) (f : SimFault) → f ≡ sim_stop_of s → f ≢ sim.Output
+stop-unwritten s f is = subst (λ g. g ≢ sim.Output) (sym is) (unwritten s)
 
 -- what one worker stops for, rounds may stop for
 pub alone-stops : (plan : Plan) (s : Stop) → MayStopAlone plan s → MayStopInRounds plan s

@@ -1,9 +1,6 @@
 pub mod Failing
 pub mod InOrder
 pub mod Journals
-pub mod Lines
-pub mod Runs
 pub mod Stopping
 pub mod Ways
 pub mod Words
-pub mod Written

@@ -1,9 +1,8 @@
 -- What the engine's run comes to in each mode.
-use Rattle.std.proofs.Common.{◌≡◌, ℕ, ◌+◌, List, Vec, Result, Ok, Err, refl, sym, ◌∙◌, ap, subst, length, map}
+use Rattle.std.proofs.Common.{◌≡◌, ℕ, ◌+◌, List, Vec, refl, sym, ◌∙◌, ap, subst, length, map}
 use Rattle.std.proofs.lemmas.List.FromFn.{length-map-range_with_len}
 use Rattle.std.specs.Prelude.{◌↔◌}
 use Rattle.std.specs.declared.alloc.Global.{Global}
-use Rattle.std.specs.Result.{IfErr, IsErrAnd}
 use Rattle.rw_vt.specs.declared.event.Event.{Event}
 use Rattle.rw_vt.specs.System.{IsOutcome, Meets, System, system}
 use Rattle.rw_photo.specs.declared.body.Body.{Body}
@@ -26,14 +25,15 @@ use Rattle.rw_engine.specs.declared.how.How.{How}
 use Rattle.rw_engine.specs.declared.how.How.TheVariants.{InOrder, InRounds, BySteps}
 use Rattle.rw_engine.specs.declared.how.Ran.TheVariants.{Finished, Stepped}
 use Rattle.rw_engine.specs.Runs.{AreLastStates, ComesToExhaustion, HasRun, IsByBadPlan, IsOfAnyRun, IsSteppedTo, MayStopFor, no_traffic}
+use Rattle.rw_replay.specs.declared.sim_fault.SimFault.{SimFault}
+use Rattle.rw_replay.specs.Report.{report_text}
+use Rattle.rw_replay.specs.Beginning.{IsBeginningOf}
+use Rattle.rw_replay.proofs.Runs.{length-states, simulates}
 use Rattle.rw_ripqwarp.specs.declared.mode.Mode.{Mode}
 use Rattle.rw_ripqwarp.specs.declared.mode.Mode.TheVariants.{Serial, Warp, Journal}
-use Rattle.rw_ripqwarp.specs.declared.sim_fault.SimFault.{SimFault}
 use Rattle.rw_ripqwarp.specs.Faults.{sim_stop_of}
 use Rattle.rw_ripqwarp.specs.Journal.{journal_text}
-use Rattle.rw_ripqwarp.specs.Report.{report_text}
-use Rattle.rw_ripqwarp.specs.Simulate.{HasBadPlan, HasGoodPlan, IsBeginningOf, IsExhausting, IsJournalOf, IsReportOf, IsRunFault, IsTextOf, IsWarp, IsWayOf}
-use Rattle.rw_ripqwarp.proofs.Runs.{length-states, simulates}
+use Rattle.rw_ripqwarp.specs.Simulate.{HasBadPlan, HasGoodPlan, IsExhausting, IsJournalOf, IsReportOf, IsRunFault, IsTextOf, IsWarp, IsWayOf}
 
 -- the caches at work
 abbrev pub caches : Photo → List Cache → List (Event Body) → System Cache Body
@@ -178,9 +178,8 @@ stops c m bytes starts initial mode way stop.BadPlan config b by may plan comes 
 stops c m bytes starts initial mode way stop.NoThread config b by may plan comes =
     (warps mode way stop.NoThread by may (λ none. none), record { rows = b.rows; accepted = b.accepted }, good mode way by (λ bad. let same = plan.1 bad in cc))
 
-pub stop-is-fault : {T : Type 0} (r : Result T SimFault) (c : Config) (m : Photo) (bytes : List ℕ) (starts : List Cache) (initial : List (Event Body)) (mode : Mode) (way : How) (s : Stop)
+pub stop-is-fault : (c : Config) (m : Photo) (bytes : List ℕ) (starts : List Cache) (initial : List (Event Body)) (mode : Mode) (way : How) (s : Stop) (f : SimFault)
     → m.config ≡ c → IsBeginningOf c bytes starts initial → IsWayOf mode way → MayStopFor way s → (s ≡ stop.BadPlan) ↔ IsByBadPlan way
-    → (s ≡ stop.Exhausted → ComesToExhaustion (caches m starts initial) is_exhausted way) → IsErrAnd r (λ f. f ≡ sim_stop_of s) → IfErr r (IsRunFault mode c bytes)
-stop-is-fault (Ok t) c m bytes starts initial mode way s config b by may plan comes is = tt
-stop-is-fault (Err f) c m bytes starts initial mode way s config b by may plan comes is =
+    → (s ≡ stop.Exhausted → ComesToExhaustion (caches m starts initial) is_exhausted way) → f ≡ sim_stop_of s → IsRunFault mode c bytes f
+stop-is-fault c m bytes starts initial mode way s f config b by may plan comes is =
     subst (IsRunFault mode c bytes) (sym is) (stops c m bytes starts initial mode way s config b by may plan comes)

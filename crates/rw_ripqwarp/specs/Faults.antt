@@ -1,21 +1,8 @@
--- What a run answers where one of its steps is refused.
-use Rattle.rw_vt.specs.declared.refusal.Refusal.{Refusal}
-use Rattle.rw_vt.specs.declared.refusal.Refusal.TheVariants as refusal
-use Rattle.rw_trace.specs.declared.TraceFault.{TraceFault}
-use Rattle.rw_trace.specs.declared.TraceFault.TheVariants as fault
+-- What a run answers where its rounds stop.
 use Rattle.rw_rounds.specs.declared.stop.Stop.{Stop}
 use Rattle.rw_rounds.specs.declared.stop.Stop.TheVariants as stop
-use Rattle.rw_ripqwarp.specs.declared.sim_fault.SimFault.{SimFault}
-use Rattle.rw_ripqwarp.specs.declared.sim_fault.SimFault.TheVariants as sim
-
--- a trace's fault, but for want of memory
-abbrev pub sim_fault_of : TraceFault → SimFault
-sim_fault_of fault.Memory = sim.Memory
-sim_fault_of f = sim.Trace f
-
-abbrev pub sim_refusal_of : Refusal → SimFault
-sim_refusal_of refusal.Memory = sim.Memory
-sim_refusal_of refusal.Exhausted = sim.Exhausted
+use Rattle.rw_replay.specs.declared.sim_fault.SimFault.{SimFault}
+use Rattle.rw_replay.specs.declared.sim_fault.SimFault.TheVariants as sim
 
 -- why rounds stopped
 abbrev pub sim_stop_of : Stop → SimFault

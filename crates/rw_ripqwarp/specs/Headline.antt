@@ -18,7 +18,7 @@ use Rattle.rw_world.specs.declared.step.Step.{Step}
 use Rattle.rw_world.specs.WorldState.{opening_world}
 use Rattle.rw_world.specs.Steps.{run}
 use Rattle.rw_world.specs.Sound.{IsInOrder}
-use Rattle.rw_ripqwarp.specs.Sink.{AppendsBeginning}
+use Rattle.rw_replay.specs.Sink.{AppendsBeginning}
 use Rattle.rw_ripqwarp.specs.Simulate.{IsTextOf}
 use Rattle.rw_ripqwarp.specs.declared.mode.Mode.{Mode}
 use Rattle.rw_ripqwarp.specs.declared.mode.Mode.TheVariants.{Serial, Warp}

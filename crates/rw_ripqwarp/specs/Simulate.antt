@@ -1,13 +1,12 @@
 -- From the bytes of a trace to the bytes of its report, or of its journal.
 use Rattle.std.specs.Prelude.{◌≡◌, ℕ, List, map, Ok, Err}
 use Rattle.rw_vt.specs.declared.event.Event.{Event}
-use Rattle.rw_vt.specs.System.{IsOutcome, IsReady, Meets}
+use Rattle.rw_vt.specs.System.{IsOutcome, Meets}
 use Rattle.rw_trace.specs.declared.Row.{Row}
 use Rattle.rw_trace.specs.Trace.{trace_of}
 use Rattle.rw_trace.specs.Unread.{records_of}
 use Rattle.rw_photo.specs.declared.body.Body.{Body}
 use Rattle.rw_photo.specs.declared.config.Config.{Config}
-use Rattle.rw_photo.specs.contracts.photo.PhotoVtModel.TheImpl as model
 use Rattle.rw_photo.specs.Cache.{Cache, is_exhausted}
 use Rattle.rw_photo.specs.Simulation.{simulation}
 use Rattle.rw_world.specs.declared.step.Step.{Step}
@@ -17,10 +16,10 @@ use Rattle.rw_world.specs.Calls.{MeetsAt}
 use Rattle.rw_rounds.specs.Plans.{IsInRanges}
 use Rattle.rw_engine.specs.declared.how.How.{How}
 use Rattle.rw_engine.specs.declared.how.How.TheVariants.{InOrder, InRounds, BySteps}
-use Rattle.rw_ripqwarp.specs.Report.{report_text}
+use Rattle.rw_replay.specs.Report.{report_text}
+use Rattle.rw_replay.specs.declared.sim_fault.SimFault.{SimFault}
+use Rattle.rw_replay.specs.declared.sim_fault.SimFault.TheVariants as sim
 use Rattle.rw_ripqwarp.specs.Journal.{journal_text}
-use Rattle.rw_ripqwarp.specs.declared.sim_fault.SimFault.{SimFault}
-use Rattle.rw_ripqwarp.specs.declared.sim_fault.SimFault.TheVariants as sim
 use Rattle.rw_ripqwarp.specs.declared.mode.Mode.{Mode}
 use Rattle.rw_ripqwarp.specs.declared.mode.Mode.TheVariants.{Serial, Warp, Journal}
 use Rattle.rw_vt.specs.Limits.{end_of_time}
@@ -101,12 +100,6 @@ HasBadPlan _ = ⊥
 abbrev pub HasGoodPlan : Mode → Type 0
 HasGoodPlan mode = HasBadPlan mode → ⊥
 
--- why a run of the trace in these bytes cannot begin
-abbrev pub IsBeginningFault : Config → List ℕ → SimFault → Type 0
-IsBeginningFault c bytes (sim.Trace f) = trace_of c.edges most_rows (records_of bytes) ≡ Err f
-IsBeginningFault c bytes sim.Memory = Unit {0}
-IsBeginningFault c bytes _ = ⊥
-
 -- why a run of the trace in these bytes has no report or journal, or could not write it. The trace is tested before the
 -- plan, and want of memory may come anywhere
 abbrev pub IsRunFault : Mode → Config → List ℕ → SimFault → Type 0
@@ -117,13 +110,3 @@ IsRunFault mode c bytes sim.Rounds = IsWarp mode × IsAccepted c bytes × HasGoo
 IsRunFault mode c bytes sim.NoThread = IsWarp mode × IsAccepted c bytes × HasGoodPlan mode
 IsRunFault mode c bytes sim.Output = HasGoodPlan mode
 IsRunFault mode c bytes sim.Memory = Unit {0}
-
--- a run of the trace in these bytes begins with these caches and events: the trace is accepted, the caches and the
--- requests are those of its simulation, and a model of the configuration may run them
-pub record IsBeginningOf (c : Config) (bytes : List ℕ) (starts : List Cache)
-    (initial : List (Event Body)) : Type 0 where
-  pub rows : List Row
-  pub accepted : trace_of c.edges most_rows (records_of bytes) ≡ Ok rows
-  pub starts_are : starts ≡ (simulation c rows).starts
-  pub initial_are : initial ≡ (simulation c rows).initial
-  pub ready : IsReady model.ghosts (record { config = c }) starts initial

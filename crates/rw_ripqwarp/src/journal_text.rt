@@ -3,8 +3,8 @@ ghost use Rattle.rw_vt.specs.System.{flatten, map_from};
 ghost use Rattle.rw_ripqwarp.specs.Journal.{answer_line, body_words, event_line, event_lines, fault_words, finished_line, journal_text};
 ghost use Rattle.rw_world.specs.WorldState.{floor, is_finished};
 
-use crate::report_text::write_count;
 use rw_photo::{Body, Photo};
+use rw_replay::write_count;
 use rw_vt::{Event, NoMemory};
 use rw_world::{Answer, StepFault, World};
 use std::alloc::Global;

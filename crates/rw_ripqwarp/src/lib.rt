@@ -10,24 +10,17 @@
 mod headline;
 mod journal_text;
 mod mode;
-mod output;
-mod report_text;
 mod rounds;
 mod schedule_text;
-mod sim_fault;
 mod simulation;
-mod telling;
 
 pub use headline::{any_schedule, every_reverse, one_report};
 pub use mode::Mode;
-pub use output::Out;
-pub use report_text::report;
+pub use rounds::why_it_stopped;
 pub use rw_engine::{Answer, Plan, Step, Traffic, World};
 pub use rw_photo::{Body, CacheState, Config, Levels, Photo, Policy, Shape};
+pub use rw_replay::{Out, SimFault, beginning, beginning_of_rows, last_states_of_rows, report};
 pub use rw_trace::TraceFault;
 pub use rw_vt::{Event, NoMemory, Outcome, Refusal};
 pub use schedule_text::{ScheduleFault, schedule};
-pub use sim_fault::SimFault;
-pub use simulation::{
-    beginning, beginning_of_rows, last_states_of_rows, simulate, simulate_and_tell,
-};
+pub use simulation::{simulate, simulate_and_tell};

@@ -4,18 +4,18 @@ ghost use Rattle.rw_trace.specs.Laws.{IsRow};
 ghost use Rattle.rw_trace.specs.Limits.{most_rows};
 ghost use Rattle.rw_engine.specs.Runs.{AreLastStates};
 ghost use Rattle.rw_engine.specs.Stretches.{MayStopInRounds};
+ghost use Rattle.rw_ripqwarp.specs.Faults.{sim_stop_of};
 ghost use Rattle.rw_ripqwarp.specs.Simulate.{HasGoodPlan, IsReportOf, IsRunFault};
 
 use crate::mode::Mode;
-use crate::report_text::report_of_states;
-use crate::sim_fault::SimFault;
-use crate::simulation::{beginning_of_rows, starts};
-use crate::telling::{Telling, begin_events, begin_rows};
 use rw_engine::{
     Plan, Stop, Traffic, run_alone, run_alone_from, run_in_rounds, run_in_rounds_from,
 };
 use rw_photo::{CacheState, Config, OrderedRequests, Photo, Policy};
 use rw_progress::Progress;
+use rw_replay::{
+    SimFault, Telling, begin_events, begin_rows, beginning_of_rows, report_of_states, starts,
+};
 use rw_trace::{Row, read_in_parts};
 use std::alloc::{AllocError, Global};
 use std::sync::Wait;
@@ -38,7 +38,7 @@ pub(crate) fn rounds_text<P: Progress, R: Threads + Wait + Sync>(
 {
     let readers = readers_of(config, &plan);
     let (rows, others) = read_in_parts(rt, alloc, bytes, config.edges(), readers)?;
-    let (states, traffic) = run_rows_in_rounds(
+    match run_rows_in_rounds(
         rt,
         alloc,
         rows.as_slice(),
@@ -46,9 +46,26 @@ pub(crate) fn rounds_text<P: Progress, R: Threads + Wait + Sync>(
         config,
         plan,
         progress,
-    )?;
-    let text = report_of_states(alloc, config, states.as_slice())?;
-    Ok((text, traffic))
+    ) {
+        Ok((states, traffic)) => {
+            let text = report_of_states(alloc, config, states.as_slice())?;
+            Ok((text, traffic))
+        }
+        Err(stop) => Err(why_it_stopped(stop)),
+    }
+}
+
+/// Why a run whose rounds stopped for this has no text. Takes no memory.
+pub fn why_it_stopped(stop: Stop) -> SimFault
+    ensures { result ≡ sim_stop_of stop }
+{
+    match stop {
+        Stop::Memory => SimFault::Memory,
+        Stop::Exhausted => SimFault::Exhausted,
+        Stop::RoundsUsed => SimFault::Rounds,
+        Stop::BadPlan => SimFault::Plan,
+        Stop::NoThread => SimFault::NoThread,
+    }
 }
 
 /// Whether one worker goes on alone, however many the plan has: caches that admit nothing only look up what a request names,

@@ -5,7 +5,7 @@ use crate::gate::Hold;
 use crate::outstanding::{has_anti, has_debt, has_straggler};
 use anyhow::{Context, Result};
 use rw_photo::{CacheState, Config, Photo, Policy, Shape};
-use rw_ripqwarp::{SimFault, beginning, report};
+use rw_ripqwarp::{SimFault, beginning, report, why_it_stopped};
 use rw_rounds::{Gate, Open, Plan, Traffic};
 use rw_vt::{END, Model, Outcome};
 use rw_world::{Parts, Step, World, draw, draw_mixed};
@@ -246,10 +246,14 @@ impl Example {
         counts: &mut Counts,
     ) -> Result<(), SimFault> {
         let world = drawn(alloc, self.trace, &self.config, steps)?;
-        let (outcome, traffic) = rw_rounds::run(rt, alloc, world, plan, gate)?;
-        let text = report(alloc, &self.config, &outcome)?;
-        counts.count_run(text == self.report && self.leaves(&outcome), &traffic);
-        Ok(())
+        match rw_rounds::run(rt, alloc, world, plan, gate) {
+            Ok((outcome, traffic)) => {
+                let text = report(alloc, &self.config, &outcome)?;
+                counts.count_run(text == self.report && self.leaves(&outcome), &traffic);
+                Ok(())
+            }
+            Err(stop) => Err(why_it_stopped(stop)),
+        }
     }
 
     /// Whether an outcome has the journals and the counters of the run on one thread.

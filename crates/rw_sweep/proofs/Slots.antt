@@ -3,8 +3,8 @@ use Rattle.std.proofs.Common.{◌≡◌, ℕ, ◌+◌, ◌++◌, ◌<◌, ◌⊎
 use Rattle.std.specs.Prelude.{IfSome, OnOk, replicate}
 use Rattle.std.specs.List.{Any}
 use Rattle.std.specs.Result.{IfErr}
-use Rattle.rw_ripqwarp.specs.declared.sim_fault.SimFault.{SimFault}
-use Rattle.rw_ripqwarp.specs.declared.sim_fault.SimFault.TheVariants as sim
+use Rattle.rw_replay.specs.declared.sim_fault.SimFault.{SimFault}
+use Rattle.rw_replay.specs.declared.sim_fault.SimFault.TheVariants as sim
 use Rattle.std.proofs.lemmas.List.{get_or-set_same, get_or-set_other, length-set, length-replicate, get_or-replicate}
 use Rattle.std.proofs.lemmas.Bool.{cases_eq}
 use Rattle.std.specs.Global.{Vec}

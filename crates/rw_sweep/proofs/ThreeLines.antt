@@ -5,7 +5,7 @@ use Rattle.std.proofs.lemmas.List.{take-map}
 use Rattle.rw_photo.specs.declared.config.Config.{Config}
 use Rattle.rw_photo.specs.declared.counters.Counters.{Counters}
 use Rattle.rw_photo.specs.Cache.{Cache}
-use Rattle.rw_ripqwarp.specs.Report.{totals}
+use Rattle.rw_replay.specs.Report.{totals}
 use Rattle.rw_sweep.specs.declared.choice.Choice.{Choice}
 use Rattle.rw_sweep.specs.declared.caches.Caches.TheVariants.{Edges, Origins, All}
 use Rattle.rw_sweep.specs.Table.{line_with, sweep_lines}

@@ -4,7 +4,7 @@ use Rattle.std.specs.Prelude.{sum_by}
 use Rattle.std.proofs.lemmas.List.Sums.{sum_by-cons}
 use Rattle.rw_photo.specs.declared.counters.Counters.{Counters}
 use Rattle.rw_photo.specs.Counts.{sum_of, counters_by}
-use Rattle.rw_ripqwarp.specs.Report.{total_of, totals}
+use Rattle.rw_replay.specs.Report.{total_of, totals}
 
 module _ {A : Type 0} (f : A → Counters) where
   sum-more : (count : Counters → ℕ) (n : ℕ) (xs : List A) (d : A) → n < length xs

@@ -15,7 +15,7 @@ use Rattle.rw_sweep.specs.declared.caches.Caches.TheVariants as whose
 use Rattle.rw_sweep.specs.declared.choice.Choice.{Choice}
 use Rattle.rw_sweep.specs.Joining.{IsLine, newline}
 use Rattle.rw_sweep.specs.Sweep.{AreLinesOf}
-use Rattle.rw_ripqwarp.specs.Report.{totals}
+use Rattle.rw_replay.specs.Report.{totals}
 use Rattle.rw_sweep.specs.Table.{backend_requests, caches_name, choice_columns, columns_of, counts_columns, counts_of, flash_bytes, line_with, policy_name, ratio_text, six_digits, sweep_line, sweep_lines, those_of}
 
 -- the bytes of digits, letters, commas and points

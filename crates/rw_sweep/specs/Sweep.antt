@@ -13,9 +13,9 @@ use Rattle.rw_photo.specs.declared.body.Body.{Body}
 use Rattle.rw_photo.specs.declared.config.Config.{Config}
 use Rattle.rw_photo.specs.Cache.{Cache, is_exhausted}
 use Rattle.rw_photo.specs.Simulation.{simulation}
-use Rattle.rw_ripqwarp.specs.Sink.{AppendsBeginning}
-use Rattle.rw_ripqwarp.specs.declared.sim_fault.SimFault.{SimFault}
-use Rattle.rw_ripqwarp.specs.declared.sim_fault.SimFault.TheVariants as sim
+use Rattle.rw_replay.specs.Sink.{AppendsBeginning}
+use Rattle.rw_replay.specs.declared.sim_fault.SimFault.{SimFault}
+use Rattle.rw_replay.specs.declared.sim_fault.SimFault.TheVariants as sim
 use Rattle.rw_sweep.specs.declared.choice.Choice.{Choice}
 use Rattle.rw_sweep.specs.declared.axes.Axes.{Axes}
 use Rattle.rw_sweep.specs.Grids.{IsConfigOf, combinations}

@@ -6,7 +6,7 @@ use Rattle.rw_photo.specs.declared.config.Config.{Config}
 use Rattle.rw_photo.specs.declared.counters.Counters.{Counters}
 use Rattle.rw_ripq.specs.declared.Policy.{Policy}
 use Rattle.rw_ripq.specs.declared.Policy.TheVariants.{Off, Lru, Slru}
-use Rattle.rw_ripqwarp.specs.Report.{totals}
+use Rattle.rw_replay.specs.Report.{totals}
 use Rattle.rw_sweep.specs.declared.choice.Choice.{Choice}
 use Rattle.rw_sweep.specs.declared.caches.Caches.{Caches}
 use Rattle.rw_sweep.specs.declared.caches.Caches.TheVariants.{Edges, Origins, All}

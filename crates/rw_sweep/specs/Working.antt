@@ -15,9 +15,9 @@ use Rattle.rw_trace.specs.Trace.{trace_of}
 use Rattle.rw_trace.specs.Unread.{records_of}
 use Rattle.rw_photo.specs.Cache.{is_exhausted}
 use Rattle.rw_photo.specs.Simulation.{simulation}
-use Rattle.rw_ripqwarp.specs.Sink.{AppendsBeginning}
-use Rattle.rw_ripqwarp.specs.declared.sim_fault.SimFault.{SimFault}
-use Rattle.rw_ripqwarp.specs.declared.sim_fault.SimFault.TheVariants as sim
+use Rattle.rw_replay.specs.Sink.{AppendsBeginning}
+use Rattle.rw_replay.specs.declared.sim_fault.SimFault.{SimFault}
+use Rattle.rw_replay.specs.declared.sim_fault.SimFault.TheVariants as sim
 use Rattle.rw_sweep.specs.declared.axes.Axes.{Axes}
 use Rattle.rw_sweep.specs.declared.point.Point.{Point}
 use Rattle.rw_sweep.specs.declared.entry.Entry.{Entry}

@@ -3,7 +3,7 @@ ghost use Rattle.rw_sweep.specs.Working.{CanRun, IsResultOf};
 
 use crate::point::Point;
 use crate::table::lines;
-use rw_ripqwarp::last_states_of_rows;
+use rw_replay::last_states_of_rows;
 use rw_trace::Row;
 use rw_vt::Refusal;
 use std::alloc::Global;

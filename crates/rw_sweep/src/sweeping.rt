@@ -12,7 +12,7 @@ use crate::point::Point;
 use crate::table::{header_text, part_header};
 use crate::waves::write_all;
 use rw_progress::Progress;
-use rw_ripqwarp::{Out, SimFault};
+use rw_replay::{Out, SimFault};
 use rw_trace::read;
 use std::alloc::Global;
 use std::io::Write;

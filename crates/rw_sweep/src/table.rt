@@ -1,5 +1,5 @@
 ghost use Rattle.std.specs.Prelude.{◌≡◌, ◌+◌, ◌*◌, ◌/◌, ◌%◌, ◌<◌, ◌^◌, ◌++◌, ◌∷◌, [], codes, decimal, length, map, IfOk, OnOk};
-ghost use Rattle.rw_ripqwarp.specs.Report.{totals};
+ghost use Rattle.rw_replay.specs.Report.{totals};
 ghost use Rattle.rw_sweep.specs.Lists.{list_header, listed_line};
 ghost use Rattle.rw_sweep.specs.Parts.{part_header};
 ghost use Rattle.rw_sweep.specs.Working.{before_line, text_of_lines};

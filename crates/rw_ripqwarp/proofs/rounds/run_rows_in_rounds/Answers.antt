@@ -12,10 +12,10 @@ use Rattle.rw_rounds.specs.declared.stop.Stop.TheVariants as stop
 use Rattle.rw_engine.specs.Alone.{MayStopAlone}
 use Rattle.rw_engine.specs.Runs.{AreLastStates}
 use Rattle.rw_engine.specs.Stretches.{MayStopInRounds}
-use Rattle.rw_ripqwarp.proofs.Failing.{alone-stops, handed-on}
-use Rattle.rw_ripqwarp.proofs.InOrder.{runs-rows}
+use Rattle.rw_replay.proofs.Failing.{handed-on}
+use Rattle.rw_replay.proofs.Runs.{ready, ready-at, runs-rows}
+use Rattle.rw_ripqwarp.proofs.Failing.{alone-stops}
 use Rattle.rw_ripqwarp.proofs.Stopping.{good-plan}
-use Rattle.rw_ripqwarp.proofs.Runs.{ready, ready-at}
 use Rattle.rw_ripqwarp.proofs.rounds.run_rows_in_rounds.Goals as goal
 
 pub run_in_rounds-requires-clause-ready : goal.run_in_rounds-requires-clause-ready

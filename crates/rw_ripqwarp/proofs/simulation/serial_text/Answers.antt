@@ -9,12 +9,14 @@ use Rattle.rw_trace.specs.Unread.{records_of}
 use Rattle.rw_photo.specs.Cache.{Cache, is_exhausted}
 use Rattle.rw_photo.specs.Simulation.{simulation}
 use Rattle.rw_photo.specs.declared.config.Config.{Config}
+use Rattle.rw_replay.specs.declared.sim_fault.SimFault.TheVariants as sim
+use Rattle.rw_replay.specs.Report.{report_text}
+use Rattle.rw_replay.proofs.Failing.{handed-on}
+use Rattle.rw_replay.proofs.Runs.{length-of-caches}
 use Rattle.rw_ripqwarp.specs.declared.mode.Mode.TheVariants.{Serial}
-use Rattle.rw_ripqwarp.specs.declared.sim_fault.SimFault.TheVariants as sim
-use Rattle.rw_ripqwarp.specs.Report.{report_text}
 use Rattle.rw_ripqwarp.specs.Simulate.{IsRunFault}
-use Rattle.rw_ripqwarp.proofs.Failing.{handed-on, refusal-unwritten}
-use Rattle.rw_ripqwarp.proofs.InOrder.{length-of-caches, refusal-is-fault}
+use Rattle.rw_ripqwarp.proofs.Failing.{refusal-unwritten}
+use Rattle.rw_ripqwarp.proofs.InOrder.{refusal-is-fault}
 use Rattle.rw_ripqwarp.proofs.simulation.serial_text.Goals as goal
 
 pub report_of_states-requires : goal.report_of_states-requires

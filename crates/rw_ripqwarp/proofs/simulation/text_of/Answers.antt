@@ -1,10 +1,10 @@
 use Rattle.std.proofs.Common.{sym, subst}
 use Rattle.std.proofs.lemmas.Result.{IfOk-from_err}
 use Rattle.std.specs.Prelude.{◌≢◌, IfErr, IfOk, OnOk}
+use Rattle.rw_replay.specs.declared.sim_fault.SimFault.TheVariants as sim
+use Rattle.rw_replay.proofs.Failing.{handed-on}
 use Rattle.rw_ripqwarp.specs.declared.mode.Mode.{Mode}
-use Rattle.rw_ripqwarp.specs.declared.sim_fault.SimFault.TheVariants as sim
 use Rattle.rw_ripqwarp.specs.Simulate.{HasGoodPlan, IsRunFault, IsTextOf}
-use Rattle.rw_ripqwarp.proofs.Failing.{handed-on}
 use Rattle.rw_ripqwarp.proofs.simulation.text_of.Goals as goal
 
 pub returns-in_err-text-in-Serial-clause-text : goal.returns-in_err-text-in-Serial-clause-text

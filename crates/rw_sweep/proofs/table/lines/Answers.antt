@@ -1,6 +1,6 @@
 use Rattle.std.proofs.Common.{List, ap, ◌∙◌, map, take, drop}
 use Rattle.rw_photo.specs.Cache.{Cache}
-use Rattle.rw_ripqwarp.specs.Report.{totals}
+use Rattle.rw_replay.specs.Report.{totals}
 use Rattle.rw_sweep.specs.Working.{before_line}
 use Rattle.rw_sweep.proofs.ThreeLines.{three-lines}
 use Rattle.rw_sweep.proofs.table.lines.Goals as goal

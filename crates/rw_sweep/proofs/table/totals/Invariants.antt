@@ -1,5 +1,5 @@
 use Rattle.std.proofs.Common.{◌≡◌, map, take}
-use Rattle.rw_ripqwarp.specs.Report.{totals}
+use Rattle.rw_replay.specs.Report.{totals}
 use Rattle.rw_sweep.proofs.table.totals.Given as goal
 
 abbrev pub invariant-loop-state : goal.invariant-loop-state

@@ -1,8 +1,8 @@
 use Rattle.std.proofs.Common.{◌^◌, ◌∙◌, map}
-use Rattle.rw_ripqwarp.proofs.Runs.{length-states}
+use Rattle.rw_replay.proofs.Runs.{length-states}
 use Rattle.rw_schedules.proofs.schedules.Example.run_through.Goals as goal
 
 pub report-requires : goal.report-requires
 report-requires g c =
-    length-states _ (2 ^ 40) (map (λ j. j.items) c.in_ok-outcome.outcome.journals.items) c.in_ok-outcome.outcome.states.items c.in_ok-outcome.ensures.outcome
+    length-states _ (2 ^ 40) (map (λ j. j.items) c.in-Ok.outcome.journals.items) c.in-Ok.outcome.states.items c.in-Ok.ensures.outcome
     ∙ c.in_ok-world.ensures.starts

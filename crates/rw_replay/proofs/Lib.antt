@@ -1,0 +1,4 @@
+pub mod Failing
+pub mod Lines
+pub mod Runs
+pub mod Written

@@ -1,0 +1,4 @@
+pub mod Report
+pub mod Sink
+pub mod Faults
+pub mod Beginning
