@@ -2,15 +2,14 @@ use crate::fault::Fault;
 use crate::importing::import;
 use crate::joining::join;
 use crate::lines::write_line;
-use crate::options::program;
 use crate::plotting::plot;
 use crate::source::Source;
 use crate::sweeping::sweep;
-use crate::values::{config, plan};
 use clap::ArgMatches;
 use clap::error::ErrorKind;
+use rw_options::{config, program};
 use rw_progress::{Line, Measure, Progress};
-use rw_ripqwarp::{Mode, Out, SimFault, Traffic, schedule, simulate_and_tell};
+use rw_ripqwarp::{Mode, Out, Plan, SimFault, Traffic, schedule, simulate_and_tell};
 use std::alloc::Global;
 use std::io::Write;
 use std::sync::Wait;
@@ -138,6 +137,19 @@ fn mode(alloc: Global, name: &str, options: &ArgMatches<'_>) -> Result<Mode, Fau
         }
         _ => Err(Fault::Plan),
     }
+}
+
+/// The plan that a command's options say; None where one is missing, which the command line rules out.
+fn plan(options: &ArgMatches<'_>) -> Option<Plan> {
+    Some(Plan {
+        workers: options.get_one("workers")?,
+        turns: options.get_one("turns")?,
+        batch: options.get_one("batch")?,
+        window: options.get_one("window")?,
+        ring: options.get_one("ring")?,
+        max_rounds: options.get_one("rounds")?,
+        lazy: options.get_flag("lazy"),
+    })
 }
 
 /// Runs the trace that a command names, through the caches that its options say.

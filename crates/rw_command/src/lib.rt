@@ -3,18 +3,14 @@
 //!
 //! Worked examples: `rw_program_tests/src/commands.rt`, and the cases of `rw_cases`.
 
-mod arguments;
 mod command_line;
 mod fault;
 mod importing;
 mod joining;
 mod lines;
-mod lists;
-mod options;
 mod plotting;
 mod source;
 mod sweeping;
-mod values;
 
 pub use command_line::{command, command_at};
 pub use fault::Fault;

@@ -1,9 +1,9 @@
 // One trace through many configurations.
 use crate::command_line::{read, write};
 use crate::fault::Fault;
-use crate::lists::{ListFault, numbers, policies};
 use crate::source::Source;
 use clap::ArgMatches;
+use rw_options::{ListFault, numbers, policies};
 use rw_photo::Shape;
 use rw_progress::{Line, Measure, Progress};
 use rw_ripqwarp::Out;

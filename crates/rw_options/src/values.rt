@@ -1,11 +1,10 @@
 // What a command's options say.
 use clap::ArgMatches;
 use rw_photo::{Config, Levels, Policy, Shape};
-use rw_ripqwarp::Plan;
 
-/// The caches that a command's options say; None where one is missing or out of its range, which the command line rules
-/// out.
-pub(crate) fn config(options: &ArgMatches<'_>) -> Option<Config> {
+/// The caches that the options of `serial`, `warp` or `journal` say. `None` where one is missing
+/// or out of its range, which the command line rules out.
+pub fn config(options: &ArgMatches<'_>) -> Option<Config> {
     let sections = options.get_one("sections")?;
     let block = options.get_one("block")?;
     let edge_shape = Shape::new(sections, block, options.get_one("edge-blocks")?)?;
@@ -32,17 +31,4 @@ pub(crate) fn policy(name: &str) -> Option<Policy> {
             Some(Policy::Slru(Levels::new(segments)?))
         }
     }
-}
-
-/// The plan that a command's options say; None where one is missing, which the command line rules out.
-pub(crate) fn plan(options: &ArgMatches<'_>) -> Option<Plan> {
-    Some(Plan {
-        workers: options.get_one("workers")?,
-        turns: options.get_one("turns")?,
-        batch: options.get_one("batch")?,
-        window: options.get_one("window")?,
-        ring: options.get_one("ring")?,
-        max_rounds: options.get_one("rounds")?,
-        lazy: options.get_flag("lazy"),
-    })
 }

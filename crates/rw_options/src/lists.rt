@@ -1,20 +1,21 @@
 // Lists of values, as the options of a sweep say them.
-use crate::options::POLICIES;
+use crate::caches::POLICIES;
 use crate::values::policy;
 use rw_photo::Policy;
 use std::alloc::Global;
 
 /// Why a text is no list.
-#[derive(Drop)]
-pub(crate) enum ListFault {
+#[derive(Clone, Copy, Debug, PartialEq, Eq)]
+pub enum ListFault {
     /// An item is none of the option's values.
     Item,
     /// A request for memory was refused.
     Memory,
 }
 
-/// The policies that a list names, commas between.
-pub(crate) fn policies(alloc: Global, list: &str) -> Result<Vec<Policy>, ListFault> {
+/// The policies that a list names, commas between: `off`, `lru`, and `slru2` to `slru8`.
+/// [`ListFault::Item`] where an item is none of these.
+pub fn policies(alloc: Global, list: &str) -> Result<Vec<Policy>, ListFault> {
     let mut policies = Vec::new(alloc);
     for name in list.split(',') {
         if !POLICIES.contains(&name) {
@@ -26,9 +27,10 @@ pub(crate) fn policies(alloc: Global, list: &str) -> Result<Vec<Policy>, ListFau
     Ok(policies)
 }
 
-/// The numbers that a list says, commas between, each from 1 to `most`. An item is a number, or `A..BxF`: A, A * F,
-/// A * F * F and so on, as far as they are not above B.
-pub(crate) fn numbers(alloc: Global, list: &str, most: u64) -> Result<Vec<u64>, ListFault> {
+/// The numbers that a list says, commas between, each from 1 to `most`. An item is a number, or
+/// `A..BxF`: A, A * F, A * F * F and so on, as far as they are not above B, where A is not and F
+/// is not 1. [`ListFault::Item`] where an item is neither.
+pub fn numbers(alloc: Global, list: &str, most: u64) -> Result<Vec<u64>, ListFault> {
     let mut numbers = Vec::new(alloc);
     for item in list.split(',') {
         match item.split_once("..") {
