@@ -1,8 +1,8 @@
 -- How many rounds of one worker execute so many events.
 use Rattle.std.proofs.Common.{ℕ, zero, suc, ◌+◌, ◌-◌, ◌*◌, ◌/◌, ◌<◌, ◌≤◌, arith}
 use Rattle.std.proofs.Math.Nat.{div-lt_iff_lt-mul, lt-div-mul-add, mul-le-mul, mul-pos}
-use Rattle.rw_rounds.specs.declared.plan.Plan.{Plan}
-use Rattle.rw_rounds.specs.Plans.{IsInRanges}
+use Rattle.rw_worker.specs.declared.plan.Plan.{Plan}
+use Rattle.rw_worker.specs.Plans.{IsInRanges}
 use Rattle.rw_engine.specs.Alone.{AreRoundsOf, most_events}
 
 -- a round has room for an event, and for no more than the plan's bounds let it

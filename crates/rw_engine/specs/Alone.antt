@@ -1,10 +1,10 @@
 -- What rounds of one worker come to.
 use Rattle.std.specs.Prelude.{◌≡◌, ◌≤◌, ◌*◌, ℕ}
-use Rattle.rw_rounds.specs.declared.plan.Plan.{Plan}
-use Rattle.rw_rounds.specs.declared.sim.Traffic.{Traffic}
+use Rattle.rw_worker.specs.declared.plan.Plan.{Plan}
+use Rattle.rw_worker.specs.declared.traffic.Traffic.{Traffic}
 use Rattle.rw_rounds.specs.declared.stop.Stop.{Stop}
 use Rattle.rw_rounds.specs.declared.stop.Stop.TheVariants as stop
-use Rattle.rw_rounds.specs.Plans.{IsInRanges}
+use Rattle.rw_worker.specs.Plans.{IsInRanges}
 
 -- how many events the rounds of a plan have room for, where each has one worker
 abbrev pub most_events : Plan → ℕ

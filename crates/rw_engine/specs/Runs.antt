@@ -6,10 +6,10 @@ use Rattle.rw_vt.specs.declared.event.Event.{Event}
 use Rattle.rw_vt.specs.declared.model.Model.{Ghosts}
 use Rattle.rw_vt.specs.System.{Meets, System, system}
 pub use Rattle.rw_vt.specs.Rest.{AreLastStates}
-use Rattle.rw_rounds.specs.Plans.{IsInRanges}
+use Rattle.rw_worker.specs.Plans.{IsInRanges}
 use Rattle.rw_rounds.specs.declared.stop.Stop.{Stop}
 use Rattle.rw_rounds.specs.declared.stop.Stop.TheVariants as stop
-use Rattle.rw_rounds.specs.declared.sim.Traffic.{Traffic}
+use Rattle.rw_worker.specs.declared.traffic.Traffic.{Traffic}
 use Rattle.rw_lp.specs.declared.answer.Answer.{Answer}
 use Rattle.rw_world.specs.declared.step.Step.{Step}
 use Rattle.rw_world.specs.WorldState.{opening_world}

@@ -5,8 +5,8 @@ use Rattle.rw_vt.specs.declared.event.Event.{Event}
 use Rattle.rw_vt.specs.declared.model.Model.{Ghosts}
 use Rattle.rw_vt.specs.Rest.{EndsAs}
 use Rattle.rw_vt.specs.System.{IsReady, system}
-use Rattle.rw_rounds.specs.Plans.{IsInRanges}
-use Rattle.rw_rounds.specs.declared.plan.Plan.{Plan}
+use Rattle.rw_worker.specs.Plans.{IsInRanges}
+use Rattle.rw_worker.specs.declared.plan.Plan.{Plan}
 use Rattle.rw_rounds.specs.declared.stop.Stop.{Stop}
 use Rattle.rw_rounds.specs.declared.stop.Stop.TheVariants as stop
 

@@ -1,7 +1,7 @@
 ghost use Rattle.std.specs.Prelude.{◌≡◌, ◌↔◌, Err, IfErr, IfOk};
 ghost use Rattle.rw_vt.specs.Limits.{end_of_time};
 ghost use Rattle.rw_vt.specs.System.{IsReady, Meets, system};
-ghost use Rattle.rw_rounds.specs.Plans.{IsInRanges};
+ghost use Rattle.rw_worker.specs.Plans.{IsInRanges};
 ghost use Rattle.rw_world.specs.Calls.{MeetsAt};
 ghost use Rattle.rw_world.specs.WorldState.{opening_world};
 ghost use Rattle.rw_engine.specs.Runs.{IsByBadPlan, ComesToExhaustion, IsOfAnyRun, MayStopFor, HasRun};

@@ -1,7 +1,7 @@
 ghost use Rattle.std.specs.Prelude.{◌≡◌, ◌≢◌, ◌↔◌, ◌<◌, ◌≤◌, ◌++◌, ℕ};
 ghost use Rattle.std.specs.Prelude.{All, Err, IfErr, IfOk, IsPermutation, length, slice_index_or};
 ghost use Rattle.rw_vt.specs.System.{IsReady, system};
-ghost use Rattle.rw_rounds.specs.Plans.{IsInRanges};
+ghost use Rattle.rw_worker.specs.Plans.{IsInRanges};
 ghost use Rattle.rw_rounds.specs.declared.stop.Stop.TheVariants.{BadPlan};
 ghost use Rattle.rw_windows.specs.Working.{IsAhead};
 ghost use Rattle.rw_engine.specs.Runs.{AreLastStates};

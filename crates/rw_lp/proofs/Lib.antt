@@ -8,6 +8,7 @@ pub mod Bridges
 mod Chains
 mod Orders
 mod Lasts
+mod LeastTimes
 mod Arriving
 mod Balance
 mod Own

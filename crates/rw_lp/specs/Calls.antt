@@ -113,3 +113,8 @@ IsTaken (Stays fault) = ⊥
 abbrev pub least_outstanding : {S B : Type 0} → Time → ProcessState S B → Time
 least_outstanding m x =
     least_time (least_time (least_time m (held_messages x.held)) x.debts) x.pending
+
+-- the least of m and the times of all that is outstanding at these processes
+abbrev pub least_of_processes : {S B : Type 0} → Time → List (ProcessState S B) → Time
+least_of_processes m [] = m
+least_of_processes m (x ∷ xs) = least_outstanding (least_of_processes m xs) x

@@ -14,6 +14,7 @@ mod answer;
 mod held;
 mod held_back;
 mod history;
+mod least;
 mod letters;
 mod lp;
 mod places;
@@ -23,6 +24,7 @@ mod undo_record;
 
 pub use answer::{Answer, StepFault};
 pub use held::Held;
+pub use least::least_of_processes;
 pub use lp::Lp;
 pub use places::put_back;
 pub use rw_vt::{Event, Letter, Model, Refusal};

@@ -2,8 +2,8 @@
 use Rattle.std.proofs.Common.{◌≡◌, ℕ, List, Result, Ok, Err, sym, subst}
 use Rattle.std.specs.Prelude.{◌↔◌, OnOk}
 use Rattle.rw_photo.specs.declared.config.Config.{Config}
-use Rattle.rw_rounds.specs.Plans.{IsInRanges}
-use Rattle.rw_rounds.specs.declared.plan.Plan.{Plan}
+use Rattle.rw_worker.specs.Plans.{IsInRanges}
+use Rattle.rw_worker.specs.declared.plan.Plan.{Plan}
 use Rattle.rw_rounds.specs.declared.stop.Stop.{Stop}
 use Rattle.rw_rounds.specs.declared.stop.Stop.TheVariants as stop
 use Rattle.rw_engine.specs.Stretches.{MayStopInRounds}

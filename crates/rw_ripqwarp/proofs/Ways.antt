@@ -17,8 +17,8 @@ use Rattle.rw_world.specs.WorldState.{opening_world}
 use Rattle.rw_world.specs.Steps.{answers, run}
 use Rattle.rw_world.specs.Calls.{MeetsAt, Simulation}
 use Rattle.rw_vt.specs.Limits.{end_of_time}
-use Rattle.rw_rounds.specs.Plans.{IsInRanges}
-use Rattle.rw_rounds.specs.declared.sim.Traffic.{Traffic}
+use Rattle.rw_worker.specs.Plans.{IsInRanges}
+use Rattle.rw_worker.specs.declared.traffic.Traffic.{Traffic}
 use Rattle.rw_rounds.specs.declared.stop.Stop.{Stop}
 use Rattle.rw_rounds.specs.declared.stop.Stop.TheVariants as stop
 use Rattle.rw_engine.specs.declared.how.How.{How}

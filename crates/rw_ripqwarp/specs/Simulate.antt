@@ -13,7 +13,7 @@ use Rattle.rw_world.specs.declared.step.Step.{Step}
 use Rattle.rw_world.specs.WorldState.{opening_world}
 use Rattle.rw_world.specs.Steps.{answers, run}
 use Rattle.rw_world.specs.Calls.{MeetsAt}
-use Rattle.rw_rounds.specs.Plans.{IsInRanges}
+use Rattle.rw_worker.specs.Plans.{IsInRanges}
 use Rattle.rw_engine.specs.declared.how.How.{How}
 use Rattle.rw_engine.specs.declared.how.How.TheVariants.{InOrder, InRounds, BySteps}
 use Rattle.rw_replay.specs.Report.{report_text}

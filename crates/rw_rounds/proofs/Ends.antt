@@ -1,21 +1,15 @@
 -- How a worker's turns follow one another, and how it closes.
-use Rattle.std.proofs.Common.{ℕ, zero, suc, List, refl, ap, subst, sym}
+use Rattle.std.proofs.Common.{ℕ, zero, suc, refl, subst, sym}
 use Rattle.std.specs.declared.cmp.Ordering.{Ordering}
-use Rattle.rw_vt.specs.declared.event.Letter.{Letter}
 use Rattle.rw_vt.specs.declared.model.Model.{Ghosts}
 use Rattle.rw_vt.specs.System.{Rules}
-use Rattle.rw_rounds.specs.Turns.{WorkerState, IsFit, TookTurn, TookTurns}
-use Rattle.rw_rounds.specs.Rounds.{Closes}
+use Rattle.rw_worker.specs.Turns.{WorkerState, IsFit, TookTurn, TookTurns, Closes}
 
 module _ {M S B : Type 0} (y : Rules S B) where
   -- one turn more, at the end
   pub turns_more : (turns : ℕ) (a c b : WorkerState M S B) (n : ℕ) → TookTurns y turns a c → TookTurn y c b n → TookTurns y (suc turns) a b
   turns_more zero a c b n same last = (b, n, subst (λ w. TookTurn y w b n) same last, refl)
   turns_more (suc turns) a c b n first last = (first.0, first.1, first.2, turns_more turns first.0 c b n first.3 last)
-
--- the letters that are still to arrive do not matter
-pub closes_with_inbox : {M S B : Type 0} (a b : WorkerState M S B) (inbox : List (Letter B)) → Closes a b → Closes (record a { inbox = inbox }) (record b { inbox = inbox })
-closes_with_inbox {M} {S} {B} a b inbox k = ap {A = WorkerState M S B} (λ w. record w { inbox = inbox }) k
 
 module _ {M S B U : Type 0} (model : Ghosts M S B U) (order : B → B → Ordering) (m : M) where
   -- a worker that closes stays fit

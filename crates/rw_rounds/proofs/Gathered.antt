@@ -22,18 +22,18 @@ use Rattle.rw_crew.specs.Sums.{sum_below}
 use Rattle.rw_crew.proofs.Lists.{get_there, get_past}
 use Rattle.rw_crew.proofs.Dealing.{AreDealt}
 use Rattle.rw_crew.proofs.Sums.{total_add}
-use Rattle.rw_rounds.specs.declared.plan.Plan.{Plan}
+use Rattle.rw_worker.specs.declared.plan.Plan.{Plan}
 use Rattle.rw_rounds.specs.declared.round.Rest.{Rest}
 use Rattle.rw_rounds.specs.declared.round.RoundWork.{RoundWork}
-use Rattle.rw_rounds.specs.Plans.{IsInRanges}
-use Rattle.rw_rounds.specs.Bags.{weigh}
-use Rattle.rw_rounds.specs.Deeds.{Deed, Arrival, Undoing, Execution, Owned, Stepped, Did, Goes, way_of}
-use Rattle.rw_rounds.specs.Turns.{WorkerState, process_at, processes_of, TookTurns}
-use Rattle.rw_rounds.specs.Rounds.{role, Begins, Closes, TookRound, Round, noted_below}
-use Rattle.rw_rounds.specs.Seated.{IsSeated}
+use Rattle.rw_worker.specs.Plans.{IsInRanges}
+use Rattle.rw_worker.specs.Bags.{weigh}
+use Rattle.rw_worker.specs.Deeds.{Deed, Arrival, Undoing, Execution, Owned, Stepped, Did, Goes, way_of}
+use Rattle.rw_worker.specs.Turns.{WorkerState, process_at, processes_of, TookTurns, Closes}
+use Rattle.rw_rounds.specs.Rounds.{role, Begins, TookRound, Round, noted_below}
+use Rattle.rw_worker.specs.Seated.{IsSeated}
 use Rattle.rw_rounds.specs.Setting.{AreSetUp, IsBegun}
 use Rattle.rw_rounds.specs.Gathering.{AreDone, IsEnded}
-use Rattle.rw_rounds.proofs.Sums.{weigh-append}
+use Rattle.rw_worker.proofs.Cited.{weigh-append}
 use Rattle.rw_rounds.proofs.Beginning.{as_many, begins_fit}
 
 pub some_of : {X : Type 0} (xs : List X) → 0 < length xs → X

@@ -1,20 +1,5 @@
-pub mod ByPlace
-pub mod Sums
-pub mod Governing
-pub mod Keeping
 pub mod Later
-pub mod Falling
-pub mod Going
-pub mod Adding
-pub mod Dealt
-pub mod Fits
-pub mod Stepping
-pub mod Moving
-pub mod Winning
-pub mod Looking
 pub mod Least
-pub mod Passing
-pub mod Taking
 pub mod Ends
 pub mod Walking
 pub mod Totals
@@ -25,6 +10,5 @@ pub mod Outstanding
 pub mod Onward
 pub mod Rounding
 pub mod Gathered
-pub mod Sending
 pub mod Ending
 pub mod Stopping

@@ -30,18 +30,15 @@ use Rattle.rw_exchange.specs.Ports.{sent_to, received_from}
 use Rattle.rw_crew.specs.Sums.{sum_below}
 use Rattle.rw_crew.proofs.Dealing.{number_place}
 use Rattle.rw_crew.proofs.Sums.{total_zero, total_none}
-use Rattle.rw_rounds.specs.declared.plan.Plan.{Plan}
-use Rattle.rw_rounds.specs.Plans.{IsInRanges}
-use Rattle.rw_rounds.specs.Bags.{weigh, Every}
-use Rattle.rw_rounds.specs.Deeds.{Deed, Arrival, Undoing, Execution, Owned, Stepped, Did, Goes, arrivals, way_of}
-use Rattle.rw_rounds.specs.Turns.{Role, WorkerState, is_own, is_accepted, process_at, weigh_all, if_own, if_other, if_passes, TookTurn, TookTurns}
-use Rattle.rw_rounds.specs.Rounds.{role, Round, closing_times, noted_below}
-use Rattle.rw_rounds.proofs.ByPlace.{at_place}
-use Rattle.rw_rounds.proofs.Governing.{StartsIn, governs}
-use Rattle.rw_rounds.proofs.Going.{Well, did_gone, well_after, arrivals_more}
+use Rattle.rw_worker.specs.declared.plan.Plan.{Plan}
+use Rattle.rw_worker.specs.Plans.{IsInRanges}
+use Rattle.rw_worker.specs.Bags.{weigh, Every}
+use Rattle.rw_worker.specs.Deeds.{Deed, Arrival, Undoing, Execution, Owned, Stepped, Did, Goes, arrivals, way_of}
+use Rattle.rw_worker.specs.Turns.{Role, WorkerState, is_own, is_accepted, process_at, weigh_all, if_own, if_other, if_passes, TookTurn, TookTurns, closing_times}
+use Rattle.rw_rounds.specs.Rounds.{role, Round, noted_below}
+use Rattle.rw_worker.proofs.Cited.{StartsIn, Well, arrivals_more, at_place, did_gone, every_append, every_back, every_front, every_zero, governs, weigh-append, weigh_zero, well_after}
 use Rattle.rw_rounds.proofs.Later.{IsLate, executed_late, undone_late, arrived_late}
 use Rattle.rw_rounds.proofs.Least.{least_from, noted_all}
-use Rattle.rw_rounds.proofs.Sums.{weigh-append, weigh_zero, every_zero, every_append, every_front, every_back}
 use Rattle.rw_rounds.proofs.Totals.{total_more, weigh_split, every_filter}
 use Rattle.rw_rounds.proofs.Working.{early, early_none, none_early}
 use Rattle.rw_rounds.proofs.Beginning.{begun_there, begun_well}

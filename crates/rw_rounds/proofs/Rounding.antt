@@ -14,19 +14,20 @@ use Rattle.rw_lp.specs.declared.answer.Answer.TheVariants.{Done}
 use Rattle.rw_lp.specs.HeldMessages.{held_messages}
 use Rattle.rw_lp.specs.Process as process
 use Rattle.rw_lp.specs.Process.{ProcessState}
+use Rattle.rw_lp.specs.Calls.{least_of_processes}
 use Rattle.rw_bag.specs.Bags.{least_time}
 use Rattle.rw_world.specs.declared.parts.Parts.{Parts}
 use Rattle.rw_world.specs.declared.step.Step.TheVariants.{Collect}
-use Rattle.rw_world.specs.WorldState.{WorldState, least_of_processes, least_of_letters, floor}
+use Rattle.rw_world.specs.WorldState.{WorldState, least_of_letters, floor}
 use Rattle.rw_world.specs.Steps.{apply}
 use Rattle.rw_world.specs.Sound.{Sound, StepKept}
 use Rattle.rw_world.specs.Laws.{ExchangesKeepSound, FloorIsGreatest, SoundIsInOrder, StepsKeepSound}
 use Rattle.rw_world.specs.Calls.{Simulation, system_of, simulation_of, with_world, world_of, AreNumbered, IsWhole}
-use Rattle.rw_rounds.specs.declared.plan.Plan.{Plan}
-use Rattle.rw_rounds.specs.Plans.{IsInRanges}
-use Rattle.rw_rounds.specs.Turns.{IsInPlace}
+use Rattle.rw_worker.specs.declared.plan.Plan.{Plan}
+use Rattle.rw_worker.specs.Plans.{IsInRanges}
+use Rattle.rw_worker.specs.Turns.{IsInPlace}
 use Rattle.rw_rounds.specs.Rounds.{role, Round, SimState, Rounded, RoundedUntil}
-use Rattle.rw_rounds.proofs.Stepping.{number_of}
+use Rattle.rw_worker.proofs.Cited.{number_of}
 use Rattle.rw_rounds.proofs.Joining.{owned, closed, workers_exchanged}
 use Rattle.rw_rounds.proofs.Outstanding.{floor_end, quiet_after}
 use Rattle.rw_rounds.proofs.Onward.{setting_of, floor_rises}

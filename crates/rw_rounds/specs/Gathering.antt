@@ -11,7 +11,7 @@ use Rattle.rw_world.specs.declared.parts.Parts.{Parts}
 use Rattle.rw_crew.specs.Shares.{of_shares}
 use Rattle.rw_rounds.specs.declared.round.Rest.{Rest}
 use Rattle.rw_rounds.specs.declared.round.RoundWork.{RoundWork}
-use Rattle.rw_rounds.specs.Turns.{WorkerState}
+use Rattle.rw_worker.specs.Turns.{WorkerState}
 use Rattle.rw_rounds.specs.Rounds.{AreOnTheirWay}
 
 -- n processes of the workers in the order of their numbers, the letters on their way, and as the

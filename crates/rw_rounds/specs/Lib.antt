@@ -1,13 +1,5 @@
-pub mod Plans
-pub mod Bags
-pub mod Deeds
-pub mod Turns
 pub mod Rounds
 pub mod Stops
-pub mod Seated
 pub mod Setting
 pub mod Gathering
-pub mod Tournament
-pub mod Processes
-pub mod Working
 pub mod Stretches

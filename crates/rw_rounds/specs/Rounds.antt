@@ -1,26 +1,23 @@
 -- A round: each worker takes its turns and closes, and then all are joined.
-use Rattle.std.specs.Prelude.{◌≡◌, ℕ, zero, suc, ◌+◌, ◌*◌, ◌/◌, ◌%◌, ◌<◌, ◌≤◌, max, min, List, [], ◌∷◌, ◌++◌, length, map, filter, slice_get, Some}
+use Rattle.std.specs.Prelude.{◌≡◌, ℕ, zero, suc, ◌+◌, ◌*◌, ◌/◌, ◌%◌, ◌<◌, ◌≤◌, max, min, List, [], ◌++◌, length, map, filter, slice_get, Some}
 use Rattle.std.specs.declared.cmp.Ordering.{Ordering}
-use Rattle.rw_vt.specs.Limits.{end_of_time}
 use Rattle.rw_vt.specs.Words.{Count, Position, Process, Time, Worker}
-use Rattle.rw_vt.specs.declared.event.Event.{Event}
 use Rattle.rw_vt.specs.declared.event.Letter.{Letter}
 use Rattle.rw_vt.specs.declared.model.Model.{Ghosts}
-use Rattle.rw_vt.specs.Order.{Each}
 use Rattle.rw_vt.specs.System.{flatten, rules}
 use Rattle.rw_lp.specs.Process.{ProcessState}
 use Rattle.rw_lp.specs.Calls.{LogicalProcess}
 use Rattle.rw_world.specs.declared.parts.Parts.{Parts}
 use Rattle.rw_world.specs.Calls.{Simulation, system_of}
 use Rattle.rw_world.specs.Sound.{Sound}
-use Rattle.rw_world.specs.WorldState.{floor, least_of_processes}
+use Rattle.rw_world.specs.WorldState.{floor}
 use Rattle.rw_board.specs.Least.{least}
 use Rattle.rw_board.specs.Seats.{SeatState}
 use Rattle.rw_exchange.specs.Ports.{IsNew, IsWide, sent_to, received_from, sent_between, received_between}
 use Rattle.rw_crew.specs.Sums.{sum_below}
-use Rattle.rw_rounds.specs.declared.plan.Plan.{Plan}
-use Rattle.rw_rounds.specs.Bags.{weigh}
-use Rattle.rw_rounds.specs.Turns.{Role, WorkerState, is_own, IsFit, TookTurns}
+use Rattle.rw_worker.specs.declared.plan.Plan.{Plan}
+use Rattle.rw_worker.specs.Bags.{weigh}
+use Rattle.rw_worker.specs.Turns.{Role, WorkerState, is_own, IsFit, TookTurns, Closes}
 
 -- what worker i is, where g is the greatest time collected
 abbrev pub role : Plan → Time → Worker → Role
@@ -40,23 +37,6 @@ pub record Begins {M S B : Type 0} (processes : List (LogicalProcess M S B))
   pub wide : IsWide r.plan.workers a.port
   pub new : IsNew a.port
   pub none_noted : a.seat.noted ≡ []
-
--- of the events that each process has of some kind, none is before the time t
-abbrev pub NoneBefore : {M S B : Type 0} → (Event B → Event B → Ordering)
-    → (ProcessState S B → List (Event B)) → Time → List (LogicalProcess M S B) → Type 0
-NoneBefore {M} {S} {B} cmp events_of t xs = (place : Position) (l : LogicalProcess M S B)
-    → slice_get xs place ≡ Some l → Each cmp (λ e. t ≤ e.time) (events_of l.process)
-
--- the times that a worker notes after its last turn: the least of all that is pending, owed or held
--- at its processes, and that of each letter that it keeps
-abbrev pub closing_times : {M S B : Type 0} → WorkerState M S B → List Time
-closing_times a =
-    least_of_processes end_of_time (map (λ l. l.process) a.processes)
-    ∷ map (λ l. l.event.time) a.kept
-
--- after its last turn a worker notes just these
-abbrev pub Closes : {M S B : Type 0} → WorkerState M S B → WorkerState M S B → Type 0
-Closes a b = b ≡ record a { seat = record a.seat { noted = a.seat.noted ++ closing_times a } }
 
 -- so many turns, and the closing, of a worker of the model m
 pub record TookRound {M S B U : Type 0} (model : Ghosts M S B U) (order : B → B → Ordering)

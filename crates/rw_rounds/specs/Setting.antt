@@ -6,10 +6,10 @@ use Rattle.rw_lp.specs.Calls.{LogicalProcess}
 use Rattle.rw_world.specs.declared.parts.Parts.{Parts}
 use Rattle.rw_exchange.specs.Ports.{IsNew, IsOpening, StayAnOpening}
 use Rattle.rw_board.specs.Seats.{BoardState, new_seat}
-use Rattle.rw_rounds.specs.declared.plan.Plan.{Plan}
+use Rattle.rw_worker.specs.declared.plan.Plan.{Plan}
 use Rattle.rw_rounds.specs.declared.round.Rest.{Rest}
 use Rattle.rw_rounds.specs.declared.round.RoundWork.{RoundWork}
-use Rattle.rw_rounds.specs.Turns.{WorkerState}
+use Rattle.rw_worker.specs.Turns.{WorkerState}
 use Rattle.rw_rounds.specs.Rounds.{role}
 
 -- the workers of the plan share these processes and letters, and have new ports and new seats of

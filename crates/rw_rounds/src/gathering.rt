@@ -5,17 +5,15 @@ ghost use Rattle.rw_vt.specs.System.{flatten};
 ghost use Rattle.rw_exchange.specs.Ports.{entry, IsOpening, received_between, sent_between};
 ghost use Rattle.rw_crew.specs.Shares.{of_shares};
 ghost use Rattle.rw_crew.specs.Sums.{sum_below};
-ghost use Rattle.rw_rounds.specs.Bags.{weigh};
+ghost use Rattle.rw_worker.specs.Bags.{weigh};
 ghost use Rattle.rw_rounds.specs.Gathering.{IsGathered};
 ghost use Rattle.rw_rounds.specs.Rounds.{weigh_left};
 
-use crate::desk::Desk;
-use crate::sim::Traffic;
-use crate::worker::Worker;
 use rw_board::{Board, Seat};
 use rw_exchange::{Left, Port};
 use rw_lp::Lp;
 use rw_vt::{Letter, Model as VtModel, NoMemory};
+use rw_worker::{Belongings, Traffic, Worker};
 use std::alloc::Global;
 use std::collections::VecDeque;
 
@@ -140,21 +138,18 @@ fn take_apart<M: VtModel>(
 {
     let mut holdings = Holdings::with_capacity(alloc, workers.len())?;
     for worker in workers {
-        traffic.add(&worker.traffic());
-        let Desk {
-            number: _,
-            plan: _,
-            collected: _,
+        let Belongings {
             processes,
             kept,
             aside,
             port,
             seat,
-            traffic: _,
-        } = worker.into_desk();
+            traffic: done,
+        } = worker.into_belongings();
+        traffic.add(&done);
         holdings
             .shares
-            .push_back_reserved(VecDeque::from(processes.into_list()));
+            .push_back_reserved(VecDeque::from(processes));
         holdings.kept.push_reserved(kept);
         holdings.aside.push_reserved(aside);
         holdings.ports.push_reserved(port);

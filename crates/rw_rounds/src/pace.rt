@@ -1,7 +1,6 @@
-ghost use Rattle.rw_rounds.specs.Plans.{IsInRanges};
+ghost use Rattle.rw_worker.specs.Plans.{IsInRanges};
 
-use crate::plan::Plan;
-use crate::sim::Traffic;
+use rw_worker::{Plan, Traffic};
 
 /// As many events a worker, executed for good, make a round worth its threads, if nothing else is said.
 const GRAIN: u64 = 64;

@@ -1,21 +1,20 @@
 ghost use Rattle.std.specs.Prelude.{◌≡◌, IfOk, IfErr};
 ghost use Rattle.rw_world.specs.Calls.{IsWhole};
 ghost use Rattle.rw_rounds.specs.Gathering.{AreDone, IsEnded};
-ghost use Rattle.rw_rounds.specs.Plans.{IsInRanges};
+ghost use Rattle.rw_worker.specs.Plans.{IsInRanges};
 ghost use Rattle.rw_rounds.specs.Rounds.{Round, Rounded, RoundedUntil};
 ghost use Rattle.rw_rounds.specs.Setting.{IsBegun};
 ghost use Rattle.rw_rounds.specs.Stops.{EndsRound};
 
 use crate::gathering::gather;
-use crate::plan::Plan;
 use crate::setting_up::set_up;
-use crate::sim::{Sim, Traffic};
+use crate::sim::Sim;
 use crate::stop::Stop;
-use crate::worker::Worker;
 use rw_board::Board;
 use rw_crew::{Hands, Job, may_move, run_each};
 use rw_exchange::Port;
 use rw_vt::{Event, Letter, Model as VtModel, NoMemory, Refusal};
+use rw_worker::{Plan, Traffic, Worker};
 use rw_world::{Parts, Step, World, every_exchange, every_floor, every_sound_world, every_step};
 use std::alloc::Global;
 use std::snapshot::Snapshot;
@@ -266,7 +265,7 @@ pub struct RoundWork<M: VtModel> {
 
 impl<M: VtModel> Job<Worker<M>> for RoundWork<M> {
     ghost use Rattle.rw_rounds.specs.Rounds.{TookRound};
-    ghost use Rattle.rw_rounds.specs.Seated.{IsSeated};
+    ghost use Rattle.rw_worker.specs.Seated.{IsSeated};
 
     ghost Takes = { λ r w. IsSeated M.Model M.Body.cmp r.model r.board w };
 
@@ -296,7 +295,7 @@ pub(crate) struct WorkerRound<'a, M: VtModel, G> {
 
 impl<'a, M: VtModel, G: Gate> Job<Worker<M>> for WorkerRound<'a, M, G> {
     ghost use Rattle.rw_rounds.specs.Rounds.{TookRound};
-    ghost use Rattle.rw_rounds.specs.Seated.{IsSeated};
+    ghost use Rattle.rw_worker.specs.Seated.{IsSeated};
 
     ghost Takes = { λ r w. IsSeated M.Model M.Body.cmp r.model.now r.board.now w };
 

@@ -1,17 +1,16 @@
 ghost use Rattle.std.specs.Prelude.{◌≡◌, ◌≢◌, ◌+◌, ◌*◌, ◌%◌, ◌<◌, ◌≤◌, ◌==◌, ◌∷◌, ℕ, [], IfOk, All, filter, length, map, slice_get, slice_index_or};
 ghost use Rattle.rw_exchange.specs.Ports.{IsNew, IsOpening, StayAnOpening};
 ghost use Rattle.rw_board.specs.Seats.{new_seat};
-ghost use Rattle.rw_rounds.specs.Plans.{IsInRanges};
+ghost use Rattle.rw_worker.specs.Plans.{IsInRanges};
 ghost use Rattle.rw_rounds.specs.Rounds.{role};
 ghost use Rattle.rw_rounds.specs.Setting.{AreSetUp};
 
-use crate::plan::Plan;
-use crate::worker::Worker;
 use rw_board::{Board, Seat};
 use rw_crew::first_of;
 use rw_exchange::Port;
 use rw_lp::Lp;
 use rw_vt::{Letter, Model as VtModel, NoMemory, empty_lists};
+use rw_worker::{Plan, Worker};
 use std::alloc::Global;
 use std::collections::VecDeque;
 

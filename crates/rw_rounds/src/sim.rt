@@ -1,10 +1,10 @@
 ghost use Rattle.std.specs.Prelude.{◌≡◌, ◌↔◌, IfOk, IfErr};
-ghost use Rattle.rw_rounds.specs.Plans.{IsInRanges};
+ghost use Rattle.rw_worker.specs.Plans.{IsInRanges};
 ghost use Rattle.rw_rounds.specs.declared.stop.Stop.TheVariants.{BadPlan};
 
-use crate::plan::Plan;
 use crate::stop::Stop;
 use rw_vt::Model as VtModel;
+use rw_worker::{Plan, Traffic};
 use rw_world::World;
 use std::marker::Model;
 
@@ -18,7 +18,7 @@ pub struct Sim<M: VtModel> {
 }
 
 impl<M: VtModel> Model for Sim<M> {
-    ghost use Rattle.rw_rounds.specs.Plans.{IsInRanges};
+    ghost use Rattle.rw_worker.specs.Plans.{IsInRanges};
     ghost use Rattle.rw_rounds.specs.Rounds.{SimState};
 
     ghost Value = { SimState M M.State M.Body };
@@ -94,31 +94,5 @@ impl<M: VtModel + Drop> Sim<M> {
             traffic: _,
         } = self;
         world
-    }
-}
-
-/// What rounds did, in counts modulo 2^64. No theorem speaks of it.
-#[derive(Clone, Copy, Debug, Default, PartialEq, Eq)]
-pub struct Traffic {
-    /// Rounds.
-    pub rounds: u64,
-    /// Events executed, also those that were undone later.
-    pub executed: u64,
-    /// Events undone.
-    pub undone: u64,
-    /// Letters received through rings.
-    pub ring: u64,
-    /// Letters kept or set aside at ends of rounds.
-    pub kept: u64,
-}
-
-impl Traffic {
-    /// Adds the counts of `more`.
-    pub fn add(&mut self, more: &Traffic) {
-        self.rounds = self.rounds.wrapping_add(more.rounds);
-        self.executed = self.executed.wrapping_add(more.executed);
-        self.undone = self.undone.wrapping_add(more.undone);
-        self.ring = self.ring.wrapping_add(more.ring);
-        self.kept = self.kept.wrapping_add(more.kept);
     }
 }

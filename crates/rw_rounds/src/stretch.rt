@@ -1,16 +1,15 @@
 ghost use Rattle.std.specs.Prelude.{◌≡◌, ◌≤◌, ◌↔◌, IfOk};
-ghost use Rattle.rw_rounds.specs.Plans.{IsInRanges};
+ghost use Rattle.rw_worker.specs.Plans.{IsInRanges};
 ghost use Rattle.rw_rounds.specs.Stretches.{IsSameSystem};
 
 use crate::pace::Pace;
-use crate::plan::Plan;
 use crate::round::{RoundWork, run_round_until};
-use crate::sim::{Sim, Traffic};
+use crate::sim::Sim;
 use crate::stop::Stop;
-use crate::worker::Worker;
 use rw_crew::Hands;
 use rw_progress::Progress;
 use rw_vt::Model as VtModel;
+use rw_worker::{Plan, Traffic, Worker};
 use rw_world::World;
 use std::alloc::Global;
 

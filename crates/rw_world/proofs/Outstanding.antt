@@ -17,7 +17,8 @@ use Rattle.rw_lp.specs.HeldMessages.{held_messages}
 use Rattle.rw_lp.specs.Process.{ProcessState}
 use Rattle.rw_lp.specs.Sound.{SoundAt}
 use Rattle.rw_lp.proofs.Cited.{held_from}
-use Rattle.rw_world.specs.WorldState.{WorldState, least_of_processes, least_of_letters, floor, is_empty, are_idle, is_finished}
+use Rattle.rw_lp.specs.Calls.{least_of_processes}
+use Rattle.rw_world.specs.WorldState.{WorldState, least_of_letters, floor, is_empty, are_idle, is_finished}
 use Rattle.rw_bag.specs.Bags.{least_time}
 use Rattle.rw_world.specs.Sound.{held_in, Sound, IsQuiet, list_at, pending_of, debts_of}
 

@@ -12,11 +12,12 @@ use Rattle.rw_vt.proofs.Letters.{count-letter}
 use Rattle.rw_vt.proofs.Runs.{IsLawful}
 use Rattle.rw_lp.specs.HeldMessages.{held_messages}
 use Rattle.rw_lp.specs.Process.{ProcessState}
+use Rattle.rw_lp.specs.Calls.{least_of_processes}
 use Rattle.rw_bag.specs.Bags.{least_time}
-use Rattle.rw_world.specs.WorldState.{WorldState, least_of_processes, least_of_letters, floor}
+use Rattle.rw_world.specs.WorldState.{WorldState, least_of_letters, floor}
 use Rattle.rw_world.specs.Sound.{IsQuiet, pending_of, debts_of, held_in}
 use Rattle.rw_world.proofs.Outstanding.{quiet_to_floor}
-use Rattle.rw_world.proofs.Floors.{processes_below}
+use Rattle.rw_lp.proofs.Cited.{processes_below}
 
 letters_below : {B : Type 0} (m : ℕ) (ls : List (Letter B)) → least_of_letters m ls ≤ m
 letters_below m [] = omega arith

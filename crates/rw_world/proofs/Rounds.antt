@@ -15,10 +15,10 @@ use Rattle.rw_vt.proofs.Letters.{messages-append, antis-append}
 use Rattle.rw_vt.proofs.Runs.{IsLawful}
 use Rattle.rw_lp.specs.HeldMessages.{held_messages}
 use Rattle.rw_lp.specs.Process.{ProcessState, done}
-use Rattle.rw_lp.specs.Sound.{SoundAt, Kept}
+use Rattle.rw_lp.specs.Sound.{SoundAt, Kept, KeptAt}
 use Rattle.rw_world.specs.WorldState.{WorldState}
 use Rattle.rw_world.specs.Sound.{held_in, Sound, Balanced, list_at, done_of, pending_of, debts_of}
-use Rattle.rw_world.specs.Rounds.{all_letters, KeptAt, Exchanged}
+use Rattle.rw_world.specs.Rounds.{all_letters, Exchanged}
 use Rattle.rw_world.proofs.Lookups.{some_at}
 use Rattle.rw_world.proofs.Sums.{sum_only, sum_some}
 

@@ -5,7 +5,7 @@ use Rattle.rw_vt.specs.Limits.{end_of_time}
 use Rattle.rw_vt.specs.declared.event.Letter.{Letter}
 use Rattle.rw_vt.specs.System.{System, map_from}
 use Rattle.rw_lp.specs.Process.{ProcessState}
-use Rattle.rw_lp.specs.Calls.{new_process, least_outstanding}
+use Rattle.rw_lp.specs.Calls.{new_process, least_of_processes}
 
 -- the processes, the letters on their way, and the greatest time collected
 pub record WorldState (S B : Type 0) : Type 0 where
@@ -25,11 +25,6 @@ opening_world y =
     record { processes = map_from 0 (opening_process y) y.starts; letters = []; collected = 0 }
 
 -- What is outstanding
-
--- the least of m and the times of all that is outstanding at these processes
-abbrev pub least_of_processes : {S B : Type 0} → Time → List (ProcessState S B) → Time
-least_of_processes m [] = m
-least_of_processes m (x ∷ xs) = least_outstanding (least_of_processes m xs) x
 
 -- the least of m and the times of these letters
 abbrev pub least_of_letters : {B : Type 0} → Time → List (Letter B) → Time

@@ -1,21 +1,7 @@
-ghost use Rattle.std.specs.Prelude.{◌≡◌, ◌^◌, map};
-ghost use Rattle.rw_vt.specs.Limits.{end_of_time};
-ghost use Rattle.rw_world.specs.WorldState.{least_of_letters, least_of_processes};
+ghost use Rattle.std.specs.Prelude.{◌≡◌};
+ghost use Rattle.rw_world.specs.WorldState.{least_of_letters};
 
-use rw_lp::Lp;
-use rw_vt::{END, Letter, Model as VtModel};
-
-/// The least time of the pending events, debts and held messages of `processes`, in ticks, or the end of time. Takes no
-/// memory.
-pub fn least_of_processes<M: VtModel>(processes: &[Lp<M>]) -> u64
-    ensures { result ≡ least_of_processes end_of_time (map (λ l. l.process) processes.now) }
-{
-    let mut least = END;
-    for process in processes {
-        least = least.min(process.least());
-    }
-    least
-}
+use rw_vt::Letter;
 
 /// The least of `start` and the times of `letters`, in ticks.
 pub fn least_of_letters<B>(start: u64, letters: &[Letter<B>]) -> u64

@@ -19,7 +19,6 @@ mod step;
 mod world;
 
 pub use drawing::{draw, draw_mixed};
-pub use least::least_of_processes;
 pub use parts::Parts;
 pub use rest::Rest;
 pub use rw_lp::{Answer, Lp, StepFault};

@@ -7,9 +7,9 @@ ghost use Rattle.rw_world.specs.WorldState.{floor};
 ghost use Rattle.rw_world.specs.Calls.{after_collecting, world_of, IsWhole, ExecutesAt, Made};
 ghost use Rattle.rw_world.specs.Leaving.{AreOfOneRun, HasNothingProcessed, KeepsOthersUndone};
 
-use crate::least::{least_of_letters, least_of_processes};
+use crate::least::least_of_letters;
 use crate::step::Step;
-use rw_lp::{Answer, Lp, StepFault, put_back};
+use rw_lp::{Answer, Lp, StepFault, least_of_processes, put_back};
 use rw_vt::{Event, Letter, Model as VtModel, Refusal};
 use std::alloc::Global;
 use std::snapshot::Snapshot;

@@ -1,6 +1,6 @@
 use denote.Param.{param}
 use denote.Param.Send.{param_send}
-use Rattle.rw_rounds.proofs.Sending.{worker_may_move}
+use Rattle.rw_worker.proofs.Cited.{worker_may_move}
 use Rattle.rw_windows.proofs.Moving.{share_may_move}
 use Rattle.rw_engine.proofs.stretches.run_by_crew.Goals as goal
 

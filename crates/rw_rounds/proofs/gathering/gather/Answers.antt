@@ -4,7 +4,7 @@ use Rattle.rw_vt.specs.System.{flatten}
 use Rattle.rw_board.specs.Least.{least}
 use Rattle.rw_board.specs.Seats.{all_notes}
 use Rattle.rw_exchange.specs.Ports.{IsOpening, sent_between, received_between}
-use Rattle.rw_rounds.specs.Bags.{weigh}
+use Rattle.rw_worker.specs.Bags.{weigh}
 use Rattle.rw_rounds.specs.Rounds.{weigh_left}
 use Rattle.rw_rounds.proofs.Gathered.{same_shares}
 use Rattle.rw_rounds.proofs.gathering.gather.Goals as goal

@@ -1,7 +1,7 @@
 use denote.Param.Send.{param_send}
 use Rattle.rw_vt.proofs.Laws.{Laws}
 use Rattle.rw_rounds.proofs.Gathered.{AllTook, begun_seated, all_done, round_made}
-use Rattle.rw_rounds.proofs.Sending.{worker_may_move}
+use Rattle.rw_worker.proofs.Cited.{worker_may_move}
 use Rattle.rw_rounds.proofs.round.go_round.Given as given
 use Rattle.rw_rounds.proofs.round.go_round.Goals as goal
 use Rattle.rw_rounds.proofs.round.go_round.Goals.{In_ok-workers}

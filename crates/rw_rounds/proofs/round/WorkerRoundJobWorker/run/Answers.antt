@@ -1,6 +1,6 @@
 use Rattle.std.proofs.Common.{◌≡◌, suc, ◌+◌, refl, ◌∙◌, subst, arith}
 use Rattle.rw_vt.specs.System.{rules}
-use Rattle.rw_rounds.specs.Turns.{TookTurns}
+use Rattle.rw_worker.specs.Turns.{TookTurns}
 use Rattle.rw_rounds.proofs.Ends.{turns_more, fit_closed}
 use Rattle.rw_rounds.proofs.round.WorkerRoundJobWorker.run.Goals as goal
 

@@ -1,6 +1,6 @@
 use Rattle.rw_vt.specs.System.{rules}
-use Rattle.rw_rounds.specs.Turns.{TookTurns}
-use Rattle.rw_rounds.specs.Seated.{IsSeated}
+use Rattle.rw_worker.specs.Turns.{TookTurns}
+use Rattle.rw_worker.specs.Seated.{IsSeated}
 use Rattle.rw_rounds.proofs.round.WorkerRoundJobWorker.run.Given as goal
 
 abbrev pub invariant-loop-turn : goal.invariant-loop-turn

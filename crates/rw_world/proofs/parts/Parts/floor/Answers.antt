@@ -1,6 +1,7 @@
 use Rattle.std.proofs.Common.{ap, ◌∙◌, map}
 use Rattle.rw_vt.specs.Limits.{end_of_time}
-use Rattle.rw_world.specs.WorldState.{least_of_processes, least_of_letters}
+use Rattle.rw_lp.specs.Calls.{least_of_processes}
+use Rattle.rw_world.specs.WorldState.{least_of_letters}
 use Rattle.rw_world.proofs.parts.Parts.floor.Goals as goal
 
 pub returns : goal.returns

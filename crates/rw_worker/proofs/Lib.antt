@@ -1,0 +1,18 @@
+mod ByPlace
+mod Sums
+mod Governing
+mod Keeping
+mod Falling
+mod Going
+mod Adding
+mod Dealt
+mod Fits
+mod Stepping
+mod Moving
+mod Winning
+mod Looking
+mod Passing
+mod Taking
+mod Closing
+mod Sending
+pub mod Cited

@@ -1,0 +1,8 @@
+pub mod Plans
+pub mod Bags
+pub mod Deeds
+pub mod Turns
+pub mod Seated
+pub mod Tournament
+pub mod Processes
+pub mod Working

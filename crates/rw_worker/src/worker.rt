@@ -1,0 +1,227 @@
+ghost use Rattle.std.specs.Prelude.{◌≡◌, ℕ, [], IfOk, slice_get, Some};
+ghost use Rattle.rw_vt.specs.System.{rules};
+ghost use Rattle.rw_lp.specs.Calls.{LogicalProcess};
+ghost use Rattle.rw_lp.specs.Sound.{IsSoundOnceCollected, StartsWell};
+ghost use Rattle.rw_worker.specs.Turns.{Closes, IsFit, TookTurn};
+
+use crate::desk::{Bench, Desk};
+use crate::plan::Plan;
+use crate::processes::Processes;
+use crate::traffic::Traffic;
+use rw_board::{Board, Seat};
+use rw_exchange::Port;
+use rw_lp::Lp;
+use rw_vt::{Letter, Model as VtModel, Refusal};
+use std::alloc::Global;
+use std::marker::Model;
+
+/// One worker of a round: it owns every process whose number is its own modulo the number of workers, a port and a
+/// seat.
+///
+/// Contracts see what it holds: its number and its plan, its processes in order, the letters that are still to
+/// arrive, those that a ring had no room for, those that failed its test, its port and its seat. A worker may move to
+/// a thread of its own.
+#[derive(Drop)]
+pub struct Worker<M: VtModel> {
+    desk: Desk<M>,
+    /// Before the first turn the letters that are on their way to the worker's processes; afterwards an empty list,
+    /// whose memory each turn uses.
+    at_hand: Vec<Letter<M::Body>>,
+}
+
+/// What a worker leaves at the end of a round: see [`Worker::into_belongings`].
+#[derive(Drop)]
+pub struct Belongings<M: VtModel> {
+    /// The worker's processes in the order of their numbers.
+    pub processes: Vec<Lp<M>>,
+    /// The letters to other workers that a ring had no room for.
+    pub kept: Vec<Letter<M::Body>>,
+    /// The received letters that failed the worker's test.
+    pub aside: Vec<Letter<M::Body>>,
+    /// The worker's ends of its rings.
+    pub port: Port<Letter<M::Body>>,
+    /// Its seat at the board.
+    pub seat: Seat,
+    /// What the worker did: executions, undoings, letters received through rings, and letters
+    /// that it keeps or set aside.
+    pub traffic: Traffic,
+}
+
+impl<M: VtModel> Model for Worker<M> {
+    ghost use Rattle.rw_worker.specs.Turns.{WorkerState};
+
+    ghost Value = { WorkerState M M.State M.Body };
+
+    ghost view = { λ w. record {
+      role = record {
+        number = w.desk.number;
+        plan = w.desk.plan;
+        collected = w.desk.collected;
+      };
+      processes = w.desk.processes.items;
+      inbox = w.at_hand.items;
+      kept = w.desk.kept.items;
+      aside = w.desk.aside.items;
+      port = w.desk.port;
+      seat = w.desk.seat;
+    } };
+}
+
+impl<M: VtModel> Worker<M> {
+    /// Worker `number` of a round, with its processes in order, the letters that are on their way to them, its port
+    /// and its seat. `collected` is the greatest time collected, in ticks. Nothing is asked here: what has to hold of
+    /// them is said where the worker takes a [`turn`](Self::turn). Takes no memory.
+    pub fn new(
+        alloc: Global,
+        number: u32,
+        plan: &Plan,
+        processes: Vec<Lp<M>>,
+        inbox: Vec<Letter<M::Body>>,
+        port: Port<Letter<M::Body>>,
+        seat: Seat,
+        collected: u64,
+    ) -> Worker<M>
+        ensures is { result ≡ record {
+          role = record { number = number; plan = plan.now; collected = collected };
+          processes = processes.items;
+          inbox = inbox.items;
+          kept = [];
+          aside = [];
+          port = port;
+          seat = seat;
+        } }
+    {
+        let desk = Desk {
+            number,
+            plan: *plan,
+            collected,
+            processes: Processes::of(alloc, processes),
+            kept: Vec::new(alloc),
+            aside: Vec::new(alloc),
+            port,
+            seat,
+            traffic: Traffic::default(),
+        };
+        Worker {
+            desk,
+            at_hand: inbox,
+        }
+    }
+
+    /// Takes one turn, and gives how many events were executed, at most the plan's `batch`.
+    ///
+    /// The letters that are still to arrive do; kept letters are offered to their rings again; at most as many
+    /// letters from each other worker as a ring has room for are taken up; and then events are executed, always the
+    /// least pending one, while its time is below what the seat reads on the board plus the plan's `window`. Whatever
+    /// a process gives out is dealt with right after: a letter to an own process arrives at once, another one is
+    /// pushed into a ring, or kept where the ring has no room. The time of each letter that is pushed is noted on the
+    /// board. It takes no lock and never waits.
+    ///
+    /// What is asked is of the worker alone, and holds again after:
+    ///
+    /// - its number is below the plan's `workers`, and the plan's `window` is at most the end of time;
+    /// - its processes are all those of the model whose number is its own modulo `workers`, in order; each runs `model`
+    ///   and has collected up to `collected`, so that its committed events are before that time, and what is processed,
+    ///   pending or owed is not;
+    /// - the letters that are to arrive are of valid events to these processes, and not before that time; those that it
+    ///   keeps, of which a new worker has none, are to other processes;
+    /// - the port has its number and joins as many workers as the plan has, and the seat belongs to the board.
+    ///
+    /// So whoever has the processes can have the worker: that each starts well formed is promised by the process itself
+    /// ([`Lp::soundness`]), and nothing is asked of the processes of others.
+    ///
+    /// # Errors
+    ///
+    /// `Exhausted` where a process was to execute an event in a state that can take no further one, and `Memory` where
+    /// memory was refused. The worker is then gone.
+    pub fn turn(self, alloc: Global, model: &M, board: &Board) -> Result<(Worker<M>, u64), Refusal>
+        requires fit { IsFit M.Model M.Body.cmp model.now self }
+        requires board { self.seat.board ≡ board.now.board }
+        ensures turn { IfOk result (λ r.
+            TookTurn (rules M.Model M.Body.cmp model.now) self r.0 r.1) }
+        ensures fit { IfOk result (λ r. IsFit M.Model M.Body.cmp model.now r.0) }
+    {
+        let Worker {
+            mut desk,
+            mut at_hand,
+        } = self;
+        let bench = Bench {
+            alloc,
+            model,
+            board,
+        };
+        // What every process promises.
+        soundness(desk.processes.as_slice());
+        let executed = desk.turn(&bench, &mut at_hand)?;
+        Ok((Worker { desk, at_hand }, executed))
+    }
+
+    /// Notes the least time of the worker's processes and the time of each kept letter, after its last turn. Takes no
+    /// memory.
+    pub fn close(self, board: &Board) -> Worker<M>
+        requires board { self.seat.board ≡ board.now.board }
+        ensures closes { Closes self result }
+    {
+        let Worker { mut desk, at_hand } = self;
+        desk.close(board);
+        Worker { desk, at_hand }
+    }
+
+    /// What the worker leaves, when it is taken apart at the end of a round. Takes no memory.
+    pub fn into_belongings(self) -> Belongings<M>
+        ensures processes { result.processes.items ≡ self.processes }
+        ensures kept { result.kept.items ≡ self.kept }
+        ensures aside { result.aside.items ≡ self.aside }
+        ensures port { result.port ≡ self.port }
+        ensures seat { result.seat ≡ self.seat }
+    {
+        let traffic = self.traffic();
+        let Worker { desk, at_hand: _ } = self;
+        let Desk {
+            number: _,
+            plan: _,
+            collected: _,
+            processes,
+            kept,
+            aside,
+            port,
+            seat,
+            traffic: _,
+        } = desk;
+        Belongings {
+            processes: processes.into_list(),
+            kept,
+            aside,
+            port,
+            seat,
+            traffic,
+        }
+    }
+
+    /// The worker's number, from 0. Takes no memory.
+    pub fn number(&self) -> u32
+        ensures number { result ≡ self.now.role.number }
+    {
+        self.desk.number
+    }
+
+    /// What the worker did so far: executions, undoings, letters received through rings, and letters that it keeps or
+    /// set aside. Takes no memory.
+    fn traffic(&self) -> Traffic {
+        let mut traffic = self.desk.traffic;
+        traffic.kept = (self.desk.kept.len() as u64).wrapping_add(self.desk.aside.len() as u64);
+        traffic
+    }
+}
+
+/// Each process starts well, and is sound wherever it has collected, as [`Lp::soundness`] says. Does nothing.
+fn soundness<M: VtModel>(processes: &[Lp<M>])
+    ensures starts { (place : ℕ) (l : LogicalProcess M M.State M.Body)
+        → slice_get processes.now place ≡ Some l → StartsWell M.Model l }
+    ensures sound { (place : ℕ) (l : LogicalProcess M M.State M.Body)
+        → slice_get processes.now place ≡ Some l → IsSoundOnceCollected M.Model M.Body.cmp l }
+{
+    for process in processes {
+        process.soundness();
+    }
+}
