@@ -1,15 +1,9 @@
-use crate::fault::Fault;
-use crate::importing::import;
-use crate::joining::join;
-use crate::lines::write_line;
-use crate::plotting::plot;
-use crate::source::Source;
-use crate::sweeping::sweep;
 use clap::ArgMatches;
 use clap::error::ErrorKind;
 use rw_options::{config, program};
 use rw_progress::{Line, Measure, Progress};
-use rw_ripqwarp::{Mode, Out, Plan, SimFault, Traffic, schedule, simulate_and_tell};
+use rw_ripqwarp::{Mode, Out, Plan, Traffic, schedule, simulate_and_tell};
+use rw_studies::{Fault, Source, import, join, plot, read, sweep, write, write_line};
 use std::alloc::Global;
 use std::io::Write;
 use std::sync::Wait;
@@ -168,26 +162,6 @@ fn run<S: Source, P: Progress, W: Write, R: Threads + Wait + Sync>(
     let bytes = read(alloc, options, "trace", source)?;
     let traffic = simulate_and_tell(rt, alloc, bytes.as_slice(), &config, mode, progress, out)?;
     Ok(traffic)
-}
-
-/// All bytes of the file that an argument names.
-pub(crate) fn read<S: Source>(
-    alloc: Global,
-    options: &ArgMatches<'_>,
-    argument: &str,
-    source: &mut S,
-) -> Result<Vec<u8>, Fault> {
-    let path = options.get_str(argument).ok_or(Fault::Plan)?;
-    Ok(source.bytes(alloc, path)?)
-}
-
-/// Writes a text whole.
-pub(crate) fn write<W: Write>(text: &[u8], out: &mut Out<W>) -> Result<(), Fault> {
-    if out.write_text(text) {
-        Ok(())
-    } else {
-        Err(Fault::Run(SimFault::Output))
-    }
 }
 
 /// Deals with what `clap` answers in place of a command: help, which is printed, or a fault.

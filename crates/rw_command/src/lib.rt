@@ -4,15 +4,7 @@
 //! Worked examples: `rw_program_tests/src/commands.rt`, and the cases of `rw_cases`.
 
 mod command_line;
-mod fault;
-mod importing;
-mod joining;
-mod lines;
-mod plotting;
-mod source;
-mod sweeping;
 
 pub use command_line::{command, command_at};
-pub use fault::Fault;
 pub use rw_ripqwarp::{Out, ScheduleFault, SimFault};
-pub use source::{Source, SourceFault};
+pub use rw_studies::{Fault, Source, SourceFault};

@@ -32,7 +32,7 @@ use Rattle.rw_replay.proofs.Runs.{length-states, simulates}
 use Rattle.rw_ripqwarp.specs.declared.mode.Mode.{Mode}
 use Rattle.rw_ripqwarp.specs.declared.mode.Mode.TheVariants.{Serial, Warp, Journal}
 use Rattle.rw_ripqwarp.specs.Faults.{sim_stop_of}
-use Rattle.rw_ripqwarp.specs.Journal.{journal_text}
+use Rattle.rw_journal.specs.Journal.{journal_text}
 use Rattle.rw_ripqwarp.specs.Simulate.{HasBadPlan, HasGoodPlan, IsExhausting, IsJournalOf, IsReportOf, IsRunFault, IsTextOf, IsWarp, IsWayOf}
 
 -- the caches at work

@@ -19,7 +19,7 @@ use Rattle.rw_engine.specs.declared.how.How.TheVariants.{InOrder, InRounds, BySt
 use Rattle.rw_replay.specs.Report.{report_text}
 use Rattle.rw_replay.specs.declared.sim_fault.SimFault.{SimFault}
 use Rattle.rw_replay.specs.declared.sim_fault.SimFault.TheVariants as sim
-use Rattle.rw_ripqwarp.specs.Journal.{journal_text}
+use Rattle.rw_journal.specs.Journal.{journal_text}
 use Rattle.rw_ripqwarp.specs.declared.mode.Mode.{Mode}
 use Rattle.rw_ripqwarp.specs.declared.mode.Mode.TheVariants.{Serial, Warp, Journal}
 use Rattle.rw_vt.specs.Limits.{end_of_time}

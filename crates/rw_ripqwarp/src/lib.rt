@@ -8,19 +8,17 @@
 //! Worked examples: `rw_program_tests/src/reports.rt`, and the cases of `rw_cases`.
 
 mod headline;
-mod journal_text;
 mod mode;
 mod rounds;
-mod schedule_text;
 mod simulation;
 
 pub use headline::{any_schedule, every_reverse, one_report};
 pub use mode::Mode;
 pub use rounds::why_it_stopped;
 pub use rw_engine::{Answer, Plan, Step, Traffic, World};
+pub use rw_journal::{ScheduleFault, schedule};
 pub use rw_photo::{Body, CacheState, Config, Levels, Photo, Policy, Shape};
 pub use rw_replay::{Out, SimFault, beginning, beginning_of_rows, last_states_of_rows, report};
 pub use rw_trace::TraceFault;
 pub use rw_vt::{Event, NoMemory, Outcome, Refusal};
-pub use schedule_text::{ScheduleFault, schedule};
 pub use simulation::{simulate, simulate_and_tell};

@@ -5,10 +5,10 @@ ghost use Rattle.rw_replay.specs.Sink.{AppendsBeginning};
 ghost use Rattle.rw_ripqwarp.specs.Simulate.{IsReportOf, IsTextOf, IsWarp, HasGoodPlan, IsRunFault};
 ghost use Rattle.rw_ripqwarp.specs.Headline.{HasWritten, HasWrittenBeginning};
 
-use crate::journal_text::journal;
 use crate::mode::Mode;
 use crate::rounds::{rounds_text, why_it_stopped};
 use rw_engine::{Ran, Traffic, run_in_and_tell};
+use rw_journal::journal;
 use rw_photo::{Config, Photo};
 use rw_progress::{Progress, Silent};
 use rw_replay::{Out, SimFault, begin_events, beginning, last_states_and_tell, report_of_states};

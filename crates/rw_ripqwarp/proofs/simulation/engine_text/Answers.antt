@@ -10,7 +10,7 @@ use Rattle.rw_replay.specs.declared.sim_fault.SimFault.TheVariants as sim
 use Rattle.rw_replay.proofs.Failing.{handed-on}
 use Rattle.rw_replay.proofs.Runs.{ready-at}
 use Rattle.rw_ripqwarp.specs.declared.mode.Mode.{Mode}
-use Rattle.rw_ripqwarp.specs.Journal.{journal_text}
+use Rattle.rw_journal.specs.Journal.{journal_text}
 use Rattle.rw_ripqwarp.specs.Simulate.{IsRunFault, IsTextOf}
 use Rattle.rw_ripqwarp.proofs.Failing.{beginning-fault, beginning-unwritten, stop-unwritten}
 use Rattle.rw_ripqwarp.proofs.Ways.{good, journaled, last-states, length-last, reported, stepped, still, stop-is-fault}

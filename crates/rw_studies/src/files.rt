@@ -1,0 +1,35 @@
+// What commands read and write.
+use crate::fault::Fault;
+use crate::source::Source;
+use clap::ArgMatches;
+use rw_replay::{Out, SimFault};
+use std::alloc::Global;
+use std::io::Write;
+
+/// All bytes of the file that an argument names.
+///
+/// # Errors
+///
+/// What the source answers, and [`Fault::Plan`] where the argument is missing, which the command line rules out.
+pub fn read<S: Source>(
+    alloc: Global,
+    options: &ArgMatches<'_>,
+    argument: &str,
+    source: &mut S,
+) -> Result<Vec<u8>, Fault> {
+    let path = options.get_str(argument).ok_or(Fault::Plan)?;
+    Ok(source.bytes(alloc, path)?)
+}
+
+/// Writes a text whole.
+///
+/// # Errors
+///
+/// [`SimFault::Output`] where the writer fails; what went out is then a beginning of the text.
+pub fn write<W: Write>(text: &[u8], out: &mut Out<W>) -> Result<(), Fault> {
+    if out.write_text(text) {
+        Ok(())
+    } else {
+        Err(Fault::Run(SimFault::Output))
+    }
+}

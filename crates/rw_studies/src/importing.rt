@@ -1,0 +1,126 @@
+// From a log to a trace.
+use crate::fault::Fault;
+use crate::files::{read, write};
+use crate::lines::write_line;
+use crate::source::Source;
+use clap::ArgMatches;
+use rw_import::{Column, Dealing, Imported, Layout, LeftOut, Options, import_csv, import_oracle};
+use rw_progress::{Line, Measure, Progress};
+use rw_replay::Out;
+use std::alloc::Global;
+use std::io::Write;
+use std::time::Clock;
+
+/// Reads the log that the options name, writes its trace, and tells what was left out of it. Where `err` may be a terminal, one line
+/// shows how far it has come, unless the options ask for quiet.
+///
+/// # Errors
+///
+/// What the source answers, an [`ImportFault`](rw_import::ImportFault), a delimiter that is none, `Output` and `Memory`; and
+/// [`Fault::Plan`] where an option is missing or out of its range, which the command line rules out.
+pub fn import<S: Source, W: Write, E: Write, C: Clock>(
+    clock: &C,
+    alloc: Global,
+    options: &ArgMatches<'_>,
+    source: &mut S,
+    out: &mut Out<W>,
+    err: &mut E,
+    terminal: bool,
+) -> Result<(), Fault> {
+    let shown = terminal && !options.get_flag("quiet");
+    let mut line = Line::new(err, clock, "import", Measure::Bytes, shown);
+    let imported = imported(alloc, options, source, &mut line);
+    drop(line);
+    let imported = imported?;
+    write(imported.text.as_slice(), out)?;
+    tell(&imported, err);
+    Ok(())
+}
+
+/// The trace that the log makes which the options name.
+fn imported<S: Source, P: Progress>(
+    alloc: Global,
+    options: &ArgMatches<'_>,
+    source: &mut S,
+    progress: &mut P,
+) -> Result<Imported, Fault> {
+    let reading = reading(options).ok_or(Fault::Plan)?;
+    let layout = layout(alloc, options)?;
+    let log = read(alloc, options, "log", source)?;
+    let imported = match options.get_str("from") {
+        Some("oracle-general") => import_oracle(alloc, log.as_slice(), &reading, progress),
+        _ => import_csv(alloc, log.as_slice(), &layout, &reading, progress),
+    };
+    Ok(imported?)
+}
+
+/// How rows become a trace's; None where an option is missing or out of its range, which the command line rules out.
+fn reading(options: &ArgMatches<'_>) -> Option<Options> {
+    let dealing = match options.get_str("edge-by")? {
+        "object" => Dealing::ByObject,
+        _ => Dealing::ByRow,
+    };
+    Options::new(
+        options.get_one("ticks")?,
+        options.get_one("edges")?,
+        dealing,
+        options.get_flag("strict"),
+    )
+}
+
+/// How the columns of a log of fields are found.
+fn layout(alloc: Global, options: &ArgMatches<'_>) -> Result<Layout, Fault> {
+    Ok(Layout {
+        delimiter: delimiter(options).ok_or(Fault::Delimiter)?,
+        time: needed_column(alloc, options, "time")?,
+        object: needed_column(alloc, options, "object")?,
+        size: needed_column(alloc, options, "size")?,
+        edge: column(alloc, options, "edge")?,
+        kind: column(alloc, options, "kind")?,
+    })
+}
+
+/// What stands between two fields, if it is one ASCII character or the word for a tab.
+fn delimiter(options: &ArgMatches<'_>) -> Option<u8> {
+    match options.get_str("delimiter")?.as_bytes() {
+        b"tab" => Some(b'\t'),
+        [byte] if byte.is_ascii() => Some(*byte),
+        _ => None,
+    }
+}
+
+/// A column that has a default.
+fn needed_column(alloc: Global, options: &ArgMatches<'_>, name: &str) -> Result<Column, Fault> {
+    column(alloc, options, name)?.ok_or(Fault::Plan)
+}
+
+/// The column that an option names, by its number where that is one.
+fn column(alloc: Global, options: &ArgMatches<'_>, name: &str) -> Result<Option<Column>, Fault> {
+    let Some(text) = options.get_str(name) else {
+        return Ok(None);
+    };
+    let column = match rw_trace::number(text.as_bytes()) {
+        Some(number) => Column::At(number),
+        None => Column::Named(Vec::from_slice(alloc, text.as_bytes())?),
+    };
+    Ok(Some(column))
+}
+
+/// Tells how many rows of a log the trace has, and how many were left out, by the reason; a writer that fails is let be.
+fn tell<E: Write>(imported: &Imported, err: &mut E) {
+    let LeftOut {
+        length,
+        time,
+        edge,
+        object,
+        size,
+        kind,
+    } = imported.left_out;
+    let kept = imported.kept;
+    write_line(
+        err,
+        format_args!(
+            "import kept {kept} left out: length {length} time {time} edge {edge} object {object} size {size} kind {kind}"
+        ),
+    );
+}

@@ -1,0 +1,42 @@
+// Parts of a sweep, put together.
+use crate::fault::Fault;
+use crate::files::write;
+use crate::source::Source;
+use clap::ArgMatches;
+use rw_replay::Out;
+use std::alloc::Global;
+use std::io::Write;
+
+/// Reads the parts that the options name, and writes the table that they make.
+///
+/// # Errors
+///
+/// What the source answers, a [`JoinFault`](rw_join::JoinFault), `Output` and `Memory`.
+pub fn join<S: Source, W: Write>(
+    alloc: Global,
+    options: &ArgMatches<'_>,
+    source: &mut S,
+    out: &mut Out<W>,
+) -> Result<(), Fault> {
+    let parts = parts(alloc, options, source)?;
+    let count: Option<u32> = options.get_one("of");
+    let table = rw_join::join(alloc, parts.as_slice(), count.map(u64::from))?;
+    write(table.as_slice(), out)
+}
+
+/// The bytes of all files that the options name, in their order.
+fn parts<S: Source>(
+    alloc: Global,
+    options: &ArgMatches<'_>,
+    source: &mut S,
+) -> Result<Vec<Vec<u8>>, Fault> {
+    let mut parts = Vec::new(alloc);
+    let paths = options.get_strs("parts").ok_or(Fault::Plan)?;
+    for path in paths {
+        let bytes = source.bytes(alloc, path)?;
+        if parts.push(bytes).is_err() {
+            return Err(Fault::Memory);
+        }
+    }
+    Ok(parts)
+}
