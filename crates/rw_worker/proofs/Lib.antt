@@ -9,7 +9,6 @@ mod Dealt
 mod Fits
 mod Stepping
 mod Moving
-mod Winning
 mod Looking
 mod Passing
 mod Taking

@@ -28,7 +28,7 @@ use Rattle.rw_bag.specs.contracts.counted.CountedBag.TheInside as CountedInside
 use Rattle.rw_lp.specs.contracts.lp.Lp as Lp
 use Rattle.rw_worker.specs.contracts.plan.Plan as Plan
 use Rattle.rw_worker.specs.contracts.traffic.Traffic as Traffic
-use Rattle.rw_worker.specs.contracts.tournament.Tournament as Tournament
+use Rattle.rw_tournament.specs.contracts.tournament.Tournament as Tournament
 use Rattle.rw_worker.specs.contracts.processes.Processes as Processes
 use Rattle.rw_worker.specs.contracts.desk.Desk as Desk
 use Rattle.rw_worker.specs.contracts.worker.Worker as Worker

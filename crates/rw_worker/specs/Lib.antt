@@ -3,6 +3,5 @@ pub mod Bags
 pub mod Deeds
 pub mod Turns
 pub mod Seated
-pub mod Tournament
 pub mod Processes
 pub mod Working

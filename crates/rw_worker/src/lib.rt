@@ -16,7 +16,6 @@
 mod desk;
 mod plan;
 mod processes;
-mod tournament;
 mod traffic;
 mod worker;
 

@@ -10,8 +10,8 @@ ghost use Rattle.rw_worker.specs.Deeds.{way_of};
 ghost use Rattle.rw_worker.specs.Processes.{ChangesOne, TellsNext};
 ghost use Rattle.rw_worker.specs.Working.{Advances, HeldBack, IsNext};
 
-use crate::tournament::Tournament;
 use rw_lp::{Answer, Lp, put_back};
+use rw_tournament::Tournament;
 use rw_vt::{Event, Letter, Model as VtModel, Refusal};
 use std::alloc::{AllocError, Global};
 use std::marker::Model;

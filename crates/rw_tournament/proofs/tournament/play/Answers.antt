@@ -1,7 +1,7 @@
 use Rattle.std.proofs.Common.{rules, ◌<◌, length, refl, sym, ap, ◌∙◌, arith}
 use Rattle.std.specs.Prelude.{slice_set}
 use Rattle.std.proofs.lemmas.List.{set-get_or}
-use Rattle.rw_worker.proofs.tournament.play.Goals as goal
+use Rattle.rw_tournament.proofs.tournament.play.Goals as goal
 
 pub winner_below-won-requires : goal.winner_below-won-requires
 winner_below-won-requires g c = c.requires

@@ -2,9 +2,9 @@ use Rattle.std.proofs.Common.{◌≡◌, ◌<◌, ◌≤◌, ◌+◌, ◌*◌, �
 use Rattle.std.specs.Prelude.{slice_set}
 use Rattle.std.proofs.lemmas.List.{length-set, set_past, take-append-le, take_all}
 use Rattle.rw_vt.specs.Order.{event_cmp}
-use Rattle.rw_worker.specs.Tournament.{node_at, IsPlayed, IsTournament, leaves}
-use Rattle.rw_worker.proofs.Winning.{length-leaves, written, written_others, changed, changed_leaves}
-use Rattle.rw_worker.proofs.tournament.Tournament.set.Goals as goal
+use Rattle.rw_tournament.specs.Tournament.{node_at, IsPlayed, IsTournament, leaves}
+use Rattle.rw_tournament.proofs.Winning.{length-leaves, written, written_others, changed, changed_leaves}
+use Rattle.rw_tournament.proofs.tournament.Tournament.set.Goals as goal
 
 -- what is written through a slice of a whole list is the whole list
 whole : {A : Type 0} (n : ℕ) (new old : List A) → length new ≡ length old → length old ≡ n → take n (new ++ drop (length new) old) ≡ new

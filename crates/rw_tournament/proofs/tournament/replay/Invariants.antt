@@ -1,8 +1,8 @@
 use Rattle.std.proofs.Common.{◌≡◌, ℕ, ◌+◌, ◌*◌, ◌<◌, ◌≤◌, ◌≢◌, length}
 use Rattle.std.specs.Prelude.{◌/◌}
 use Rattle.rw_vt.specs.Order.{event_cmp}
-use Rattle.rw_worker.specs.Tournament.{node_at, IsPlayed}
-use Rattle.rw_worker.proofs.tournament.replay.Given as goal
+use Rattle.rw_tournament.specs.Tournament.{node_at, IsPlayed}
+use Rattle.rw_tournament.proofs.tournament.replay.Given as goal
 
 abbrev pub invariant-loop-node : goal.invariant-loop-node
 invariant-loop-node g l = record {

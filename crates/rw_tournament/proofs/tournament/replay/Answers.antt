@@ -2,9 +2,9 @@ use Rattle.std.proofs.Common.{◌≡◌, ◌≢◌, ◌+◌, ◌*◌, ◌<◌, �
 use Rattle.std.specs.Prelude.{◌/◌}
 use Rattle.std.proofs.lemmas.List.{get_or-set_same, get_or-set_other}
 use Rattle.rw_vt.specs.Order.{event_cmp}
-use Rattle.rw_worker.specs.Tournament.{node_at, winner, IsPlayed}
-use Rattle.rw_worker.proofs.Winning.{play_above, play_same}
-use Rattle.rw_worker.proofs.tournament.replay.Goals as goal
+use Rattle.rw_tournament.specs.Tournament.{node_at, winner, IsPlayed}
+use Rattle.rw_tournament.proofs.Winning.{play_above, play_same}
+use Rattle.rw_tournament.proofs.tournament.replay.Goals as goal
 
 pub loop-node-preserved : goal.loop-node-preserved
 loop-node-preserved g c =

@@ -7,10 +7,10 @@ use Rattle.std.proofs.lemmas.List.{get_or_default}
 use Rattle.rw_vt.specs.declared.event.Event.{Event}
 use Rattle.rw_vt.specs.Order.{event_cmp, AtMost}
 use Rattle.rw_vt.proofs.EventOrder.{events_exact}
-use Rattle.rw_worker.specs.declared.tournament.Entry.{Entry}
-use Rattle.rw_worker.specs.Tournament.{node_at}
-use Rattle.rw_worker.proofs.Winning.{top_there, top_least, top_none}
-use Rattle.rw_worker.proofs.tournament.Tournament.least.Goals as goal
+use Rattle.rw_tournament.specs.declared.tournament.Entry.{Entry}
+use Rattle.rw_tournament.specs.Tournament.{node_at}
+use Rattle.rw_tournament.proofs.Winning.{top_there, top_least, top_none}
+use Rattle.rw_tournament.proofs.tournament.Tournament.least.Goals as goal
 
 -- what follows of the entry that a reference stands for
 of_copy : {B : Type 0} (r : Option (Bor (Entry B))) (a : Option (Entry B)) (P : Entry B → Type 0) → option_copied r ≡ a → ((e : Entry B) → a ≡ Some e → P e) → IfSome r (λ e. P e.now)

@@ -1,12 +1,12 @@
--- A tournament, a tree with the least of the events below it at each node: only contracts of private
--- functions cite what stands here.
+-- A tournament, a tree with the least of the events below it at each node. The contracts of public
+-- calls see its leaves alone.
 use Rattle.std.specs.Prelude.{◌≡◌, ◌+◌, ◌*◌, ◌<◌, Bool, true, false, if◌then◌else◌, List, length, map, drop, slice_index_or, Option, Some, None}
 use Rattle.std.specs.Option.{option_map}
 use Rattle.std.specs.declared.cmp.Ordering.{Ordering}
 use Rattle.std.specs.Ordering.{is_gt}
 use Rattle.rw_vt.specs.Words.{Count, Position}
 use Rattle.rw_vt.specs.declared.event.Event.{Event}
-use Rattle.rw_worker.specs.declared.tournament.Entry.{Entry}
+use Rattle.rw_tournament.specs.declared.tournament.Entry.{Entry}
 
 -- what stands at node k; nothing stands past the last one
 abbrev pub node_at : {B : Type 0} → List (Option (Entry B)) → Position → Option (Entry B)

@@ -1,8 +1,8 @@
 use Rattle.std.proofs.Common.{◌≡◌, ◌*◌, ◌+◌, [], ◌∷◌, ◌++◌, ap, ◌∙◌, None, replicate, arith}
 use Rattle.std.proofs.lemmas.List.{replicate_more}
 use Rattle.rw_vt.specs.Order.{event_cmp}
-use Rattle.rw_worker.proofs.Winning.{none_placed, none_left}
-use Rattle.rw_worker.proofs.tournament.Tournament.new.Goals as goal
+use Rattle.rw_tournament.proofs.Winning.{none_placed, none_left}
+use Rattle.rw_tournament.proofs.tournament.Tournament.new.Goals as goal
 
 pub loop-place-init : goal.loop-place-init
 loop-place-init g c = c.in_ok-nodes.ensures.items

@@ -10,8 +10,8 @@ use Rattle.std.proofs.lemmas.Option.{same_Some}
 use Rattle.rw_vt.specs.declared.event.Event.{Event}
 use Rattle.rw_vt.specs.Order.{AtMost}
 use Rattle.rw_vt.proofs.Sorting.{IsExactOrder, at_most_itself, at_most_chain, at_most_other}
-use Rattle.rw_worker.specs.declared.tournament.Entry.{Entry}
-use Rattle.rw_worker.specs.Tournament.{node_at, is_second_less, winner, IsPlayed, IsTournament, leaves}
+use Rattle.rw_tournament.specs.declared.tournament.Entry.{Entry}
+use Rattle.rw_tournament.specs.Tournament.{node_at, is_second_less, winner, IsPlayed, IsTournament, leaves}
 
 -- Playing again
 

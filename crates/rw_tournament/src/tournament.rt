@@ -4,7 +4,7 @@ ghost use Rattle.std.specs.Option.{option_map};
 ghost use Rattle.std.specs.Ordering.{is_gt};
 ghost use Rattle.rw_vt.specs.Order.{event_cmp, AtMost};
 ghost use Rattle.rw_vt.specs.declared.event.Event.{Event};
-ghost use Rattle.rw_worker.specs.Tournament.{node_at, is_second_less, winner, IsPlayed};
+ghost use Rattle.rw_tournament.specs.Tournament.{node_at, is_second_less, winner, IsPlayed};
 
 use rw_vt::{Event, Model as VtModel};
 use std::alloc::{AllocError, Global};
@@ -12,9 +12,11 @@ use std::marker::Model;
 
 /// An event at a place.
 #[derive(Clone, Copy)]
-pub(crate) struct Entry<B> {
-    pub(crate) place: usize,
-    pub(crate) event: Event<B>,
+pub struct Entry<B> {
+    /// Which place it is, from 0.
+    pub place: usize,
+    /// What stands there.
+    pub event: Event<B>,
 }
 
 /// At each of some places an event, or none, and the least of them at hand. Contracts see it as what is at each place.
@@ -22,7 +24,7 @@ pub(crate) struct Entry<B> {
 /// It is a tree: each node has the lesser of the two below it, so a change is played again on the way to the top alone, and
 /// only as far as it matters.
 #[derive(Drop)]
-pub(crate) struct Tournament<M: VtModel> {
+pub struct Tournament<M: VtModel> {
     places: usize,
     /// Node 1 is the top, below node k stand the nodes 2 k and 2 k + 1, and the last ones are the places.
     nodes: Vec<Option<Entry<M::Body>>>,
@@ -35,7 +37,7 @@ impl<M: VtModel> Model for Tournament<M> {
 
     ghost Value = { List (Option (Event M.Body)) };
 
-    ghost use Rattle.rw_worker.specs.Tournament.{leaves, IsTournament};
+    ghost use Rattle.rw_tournament.specs.Tournament.{leaves, IsTournament};
 
     ghost view = { λ t. leaves t.places t.nodes.items };
 
@@ -44,7 +46,7 @@ impl<M: VtModel> Model for Tournament<M> {
 
 impl<M: VtModel> Tournament<M> {
     /// No event at so many places.
-    pub(crate) fn new(alloc: Global, places: usize) -> Result<Tournament<M>, AllocError>
+    pub fn new(alloc: Global, places: usize) -> Result<Tournament<M>, AllocError>
         ensures { IfOk result (λ t. t ≡ replicate places None) }
     {
         let mut nodes = Vec::with_capacity(alloc, places.saturating_mul(2))?;
@@ -56,7 +58,7 @@ impl<M: VtModel> Tournament<M> {
     }
 
     /// No place.
-    pub(crate) fn none(alloc: Global) -> Tournament<M>
+    pub fn none(alloc: Global) -> Tournament<M>
         ensures { result ≡ [] }
     {
         Tournament {
@@ -66,14 +68,14 @@ impl<M: VtModel> Tournament<M> {
     }
 
     /// How many places there are.
-    pub(crate) fn len(&self) -> usize
+    pub fn len(&self) -> usize
         ensures { result ≡ length self.now }
     {
         self.places
     }
 
     /// The least event, with its place. Takes no memory.
-    pub(crate) fn least(&self) -> Option<&Entry<M::Body>>
+    pub fn least(&self) -> Option<&Entry<M::Body>>
         ensures none { IfNone result ((place : ℕ) → slice_index_or self.now place None ≡ None) }
         ensures there { IfSome result (λ e.
             slice_index_or self.now e.now.place None ≡ Some e.now.event) }
@@ -85,7 +87,7 @@ impl<M: VtModel> Tournament<M> {
     }
 
     /// Puts this event, or none, at the place, if there is such a place. Takes no memory.
-    pub(crate) fn set(&mut self, place: usize, event: Option<Event<M::Body>>)
+    pub fn set(&mut self, place: usize, event: Option<Event<M::Body>>)
         ensures { self.new ≡ slice_set self.old place event }
     {
         if self.places <= place {
