@@ -1,6 +1,7 @@
 -- Bags kept in descending order: how an edit of such a list looks from its other end, in ascending order.
 use Rattle.std.proofs.Common.{◌≡◌, ℕ, zero, suc, ◌+◌, ◌-◌, ◌<◌, ◌≤◌, Bool, true, false, cond, List, [], ◌∷◌, ◌++◌, length, get_or, reverse, take, drop, refl, sym, ap, ◌∙◌, subst, arith, append_assoc, inl, inr, true≢false}
-use Rattle.std.specs.Prelude.{not, ◌||◌, ◌⊎◌}
+use Rattle.std.specs.Prelude.{not, ◌||◌, ◌⊎◌, Option, Some}
+use Rattle.std.specs.Option.{option_to_list}
 use Rattle.std.specs.List as lists
 use Rattle.std.specs.List.{position_or_len}
 use Rattle.std.specs.List.Sorted.{IsPartitionedBy, IsPartitionPoint}
@@ -20,6 +21,14 @@ use Rattle.rw_bag.proofs.Orderings.{le_not_gt, not_gt_le, not_le_not_eq, not_lt_
 use Rattle.rw_bag.proofs.Edits.{remove_is, remove_absent, has_is, place_none, place_within}
 
 module _ {E : Type 0} where
+  -- what is read last and then taken off stands first from the other end
+  pub last_taken : (x : E) (xs zs ys : List E) (r : Option E) (n : ℕ) → zs ≡ xs → length zs ≡ n → 0 < length zs → x ≡ get_or zs (length zs - 1) x
+      → (0 < n → r ≡ Some (get_or xs (n - 1) x)) → xs ≡ ys ++ option_to_list r → reverse xs ≡ x ∷ reverse ys
+  last_taken x xs zs ys r n same len some read value rest =
+      let is : get_or xs (n - 1) x ≡ x = sym (subst (λ l. x ≡ get_or l (n - 1) x) same (subst (λ k. x ≡ get_or zs (k - 1) x) len read)) in
+      let last : xs ≡ ys ++ x ∷ [] = rest ∙ ap (λ q. ys ++ option_to_list q) (value (subst (λ k. 0 < k) len some) ∙ ap Some is) in
+      ap reverse last ∙ reverse-append ys (x ∷ [])
+
   -- an edit of a list from its other end
   remove-reverse : (xs : List E) (i p : ℕ) (d : E) → i + 1 + p ≡ length xs → lists.remove (reverse xs) p ≡ reverse (lists.remove xs i)
   remove-reverse xs i p d h =
