@@ -16,8 +16,8 @@ use std::env;
 use std::sync::Wait;
 use std::thread::Threads;
 
-/// How many worlds of each trace are drawn where nothing is said.
-const WORLDS: u64 = 256;
+/// How many schedules are drawn for each trace where nothing is said: few, so that it ends in seconds on a slow machine too.
+const WORLDS: u64 = 64;
 
 fn main(rt: HostRuntime) -> Result<()> {
     let alloc = rt.alloc();
