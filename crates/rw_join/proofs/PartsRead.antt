@@ -1,5 +1,5 @@
 -- Lines that are read one after another, and parts.
-use Rattle.std.proofs.Common.{◌≡◌, ℕ, zero, suc, ◌+◌, ◌<◌, List, [], ◌∷◌, ◌++◌, length, map, get_or, Option, None, Some, Bor, Result, Ok, Err, take, refl, sym, ap, subst, ◌∙◌, arith, All, append_assoc, append-nil, length-append}
+use Rattle.std.proofs.Common.{◌≡◌, ℕ, suc, ◌+◌, ◌<◌, List, [], ◌∷◌, ◌++◌, length, map, get_or, Option, None, Some, Bor, Result, Ok, Err, take, refl, sym, ap, subst, ◌∙◌, arith, All, append_assoc, append-nil, length-append}
 use Rattle.std.specs.Prelude.{IfOk, IfSome, MatchOption, OnOk, decimal}
 use Rattle.std.specs.Global.{Vec}
 use Rattle.std.specs.List.{AllZip, concat, flat_map, range_with_len}
@@ -7,12 +7,12 @@ use Rattle.std.proofs.lemmas.Grind.{flat_map-append}
 use Rattle.std.proofs.lemmas.List.Elements.{All-append, All-cons, All-nil}
 use Rattle.std.proofs.lemmas.List.{map-append, take_more}
 use Rattle.rw_vt.specs.Words.{Count, Position}
-use Rattle.rw_sweep.specs.Joining.{PlacedLine, in_order_of_place, lines_of_all, lines_of_place, part_with}
+use Rattle.rw_sweep.specs.Joining.{PlacedLine, lines_of_all, lines_of_place}
 use Rattle.rw_sweep.specs.Parts.{part_header, placed_line}
 use Rattle.rw_sweep.specs.Table.{header_line}
 use Rattle.rw_join.specs.declared.join_fault.JoinFault.{JoinFault}
 use Rattle.rw_join.specs.declared.slots.Slot.{Slot}
-use Rattle.rw_join.specs.Join.{HasJoined, IsJoinOf}
+use Rattle.rw_join.specs.Join.{HasJoined}
 use Rattle.rw_join.specs.Lines.{IsPartWith, IsPartLine}
 use Rattle.rw_join.specs.Slots.{AreSlotsOf, HasReadPart, HasReadTo, HaveGained, HaveRead}
 use Rattle.rw_join.proofs.Gaining.{concat-more, gained-nothing, gained-then}

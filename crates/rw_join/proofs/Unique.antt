@@ -1,21 +1,20 @@
 -- A part says its lines in one way only, so what the parts of a sweep make is the sweep.
-use Rattle.std.proofs.Common.{◌≡◌, ℕ, zero, suc, ◌+◌, ◌^◌, ◌<◌, ◌≤◌, ◌⊎◌, inl, inr, List, [], ◌∷◌, ◌++◌, length, codes, refl, sym, ap, subst, ◌∙◌, arith, All, append_assoc, length-append}
+use Rattle.std.proofs.Common.{◌≡◌, ℕ, suc, ◌^◌, ◌<◌, inl, inr, List, [], ◌∷◌, ◌++◌, length, codes, refl, sym, ap, subst, ◌∙◌, arith, All, append_assoc, length-append}
 use Rattle.std.specs.Prelude.{decimal}
 use Rattle.std.specs.List.{AllZip, flat_map}
 use Rattle.std.proofs.lemmas.Bool.{cases_order}
 use Rattle.std.proofs.lemmas.Fmt.{decimal_injective}
 use Rattle.std.proofs.lemmas.List.{append_cancel_left}
 use Rattle.std.proofs.lemmas.List.Elements.{All-cons, All-head, All-nil, All-tail, All-weaker}
-use Rattle.rw_vt.specs.Words.{Count, Position}
-use Rattle.rw_sweep.specs.declared.axes.Axes.{Axes}
+use Rattle.rw_vt.specs.Words.{Position}
 use Rattle.rw_sweep.specs.Grids.{combinations}
-use Rattle.rw_sweep.specs.Joining.{HasEachOnce, IsLine, MakeTheSweep, PlacedLine, in_order_of_place, lines_of_all, lines_of_place, newline, part_with}
+use Rattle.rw_sweep.specs.Joining.{MakeTheSweep, PlacedLine, in_order_of_place, lines_of_all, lines_of_place, newline, part_with}
 use Rattle.rw_sweep.specs.Limits.{most_configurations}
-use Rattle.rw_sweep.specs.Parts.{IsPartSweepOf, part_header, placed_line}
+use Rattle.rw_sweep.specs.Parts.{part_header, placed_line}
 use Rattle.rw_sweep.specs.Sweep.{IsSweepOf}
 use Rattle.rw_sweep.proofs.Joining.{parts-make-the-sweep}
 use Rattle.rw_sweep.proofs.WholeLines.{digits-decimal}
-use Rattle.rw_join.specs.Join.{IsJoinOf, JoinOfPartsIsTheSweep}
+use Rattle.rw_join.specs.Join.{JoinOfPartsIsTheSweep}
 use Rattle.rw_join.specs.Lines.{IsPartWith, IsPartLine}
 use Rattle.rw_join.proofs.Gaining.{none-above}
 

@@ -1,5 +1,5 @@
 -- What has been read of each place.
-use Rattle.std.specs.Prelude.{◌≡◌, ◌<◌, ℕ, List, [], ◌∷◌, ◌++◌, All, length, slice_index_or}
+use Rattle.std.specs.Prelude.{◌≡◌, ◌<◌, ℕ, List, ◌++◌, All, length, slice_index_or}
 use Rattle.std.specs.List.{AllZip, concat, flat_map}
 use Rattle.rw_vt.specs.Words.{Position}
 use Rattle.rw_sweep.specs.Joining.{PlacedLine, lines_of_all, lines_of_place}

@@ -1,5 +1,5 @@
 -- The parts of a sweep make the sweep.
-use Rattle.std.proofs.Common.{◌≡◌, ℕ, zero, suc, ◌+◌, ◌%◌, ◌<◌, ◌≤◌, ◌==◌, Bool, true, false, cond, List, [], ◌∷◌, ◌++◌, length, map, get_or, Result, Ok, refl, sym, ap, subst, ◌∙◌, arith, All, append_assoc, append-nil, eq-eqb}
+use Rattle.std.proofs.Common.{◌≡◌, ℕ, zero, suc, ◌+◌, ◌%◌, ◌<◌, ◌≤◌, ◌==◌, Bool, true, false, cond, List, [], ◌∷◌, ◌++◌, length, map, get_or, Ok, refl, sym, ap, subst, ◌∙◌, arith, All, append-nil, eq-eqb}
 use Rattle.std.specs.List.{AllZip, concat, enumerate_from, filter, flat_map, range_with_len}
 use Rattle.std.proofs.lemmas.Bool.{eqb-false, eqb-true, ne_eqb}
 use Rattle.std.proofs.lemmas.Grind.{flat_map-append}
@@ -15,7 +15,7 @@ use Rattle.rw_sweep.specs.declared.axes.Axes.{Axes}
 use Rattle.rw_sweep.specs.declared.choice.Choice.{Choice}
 use Rattle.rw_sweep.specs.Grids.{combinations}
 use Rattle.rw_sweep.proofs.WholeLines.{whole-lines}
-use Rattle.rw_sweep.specs.Joining.{HasEachOnce, IsLine, MakeTheSweep, PartsMakeTheSweep, PlacedLine, in_order_of_place, lines_of_all, lines_of_place, part_with}
+use Rattle.rw_sweep.specs.Joining.{IsLine, PartsMakeTheSweep, PlacedLine, lines_of_all, lines_of_place, part_with}
 use Rattle.rw_sweep.specs.Parts.{AreLinesOfPlaced, IsPartSweepOf, LinesAt, dealt, is_in_part, part_header, placed_line}
 use Rattle.rw_sweep.specs.Sweep.{AreLinesOfChoice}
 use Rattle.rw_sweep.specs.Table.{header_line}

@@ -1,5 +1,5 @@
 -- Slots that are filled entry by entry, and faults of configurations.
-use Rattle.std.proofs.Common.{◌≡◌, ℕ, ◌+◌, ◌++◌, ◌<◌, ◌⊎◌, inl, inr, List, [], ◌∷◌, length, get_or, set, map, Option, Some, None, Result, Ok, Err, refl, sym, ap, subst, ◌∙◌, arith, All, append_assoc, append-nil}
+use Rattle.std.proofs.Common.{◌≡◌, ℕ, ◌<◌, ◌⊎◌, inl, inr, List, length, get_or, set, Option, Some, None, Result, Ok, Err, sym, ap, subst, ◌∙◌, arith, All}
 use Rattle.std.specs.Prelude.{IfSome, OnOk, replicate}
 use Rattle.std.specs.List.{Any}
 use Rattle.std.specs.Result.{IfErr}

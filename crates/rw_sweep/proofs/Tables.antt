@@ -1,5 +1,5 @@
 -- The lines of configurations make the table of a grid, or of a part of it.
-use Rattle.std.proofs.Common.{◌≡◌, ℕ, ◌<◌, Bool, true, false, List, [], ◌∷◌, ◌++◌, length, map, take, drop, get_or, Option, Some, None, Result, Ok, Err, refl, sym, ap, subst, ◌∙◌, All, append_assoc}
+use Rattle.std.proofs.Common.{◌≡◌, ℕ, ◌<◌, Bool, true, List, [], ◌∷◌, ◌++◌, length, map, take, drop, get_or, Option, None, Result, Ok, Err, refl, sym, ap, subst, ◌∙◌, All}
 use Rattle.std.specs.Result.{IfErr}
 use Rattle.std.specs.List.{AllZip, Any, Contains, concat, flat_map}
 use Rattle.std.proofs.Math.Seq.{take-append_seam}

@@ -1,8 +1,8 @@
 -- Each line of a sweep is one line: no byte of it but the last ends it.
-use Rattle.std.proofs.Common.{◌≡◌, ℕ, zero, suc, ◌+◌, ◌*◌, ◌/◌, ◌%◌, ◌<◌, ◌≤◌, ◌==◌, Bool, true, false, cond, List, [], ◌∷◌, ◌++◌, map, refl, sym, subst, arith, All, codes}
+use Rattle.std.proofs.Common.{◌≡◌, ℕ, zero, suc, ◌+◌, ◌*◌, ◌/◌, ◌%◌, ◌<◌, ◌==◌, Bool, true, false, cond, List, [], ◌∷◌, ◌++◌, map, refl, sym, subst, arith, All, codes}
 use Rattle.std.specs.Prelude.{decimal, nat_lt, if◌then◌else◌}
 use Rattle.std.specs.Fmt.{digit_glyph, digits, digits_onto}
-use Rattle.std.specs.List.{flat_map, list_all}
+use Rattle.std.specs.List.{list_all}
 use Rattle.std.proofs.lemmas.Bool.{and_parts, ltb-true}
 use Rattle.std.proofs.lemmas.List.Elements.{All-append, All-cons, All-map, All-nil, All-weaker}
 use Rattle.rw_photo.specs.declared.config.Config.{Config}
@@ -16,7 +16,7 @@ use Rattle.rw_sweep.specs.declared.choice.Choice.{Choice}
 use Rattle.rw_sweep.specs.Joining.{IsLine, newline}
 use Rattle.rw_sweep.specs.Sweep.{AreLinesOf}
 use Rattle.rw_replay.specs.Report.{totals}
-use Rattle.rw_sweep.specs.Table.{backend_requests, caches_name, choice_columns, columns_of, counts_columns, counts_of, flash_bytes, line_with, policy_name, ratio_text, six_digits, sweep_line, sweep_lines, those_of}
+use Rattle.rw_sweep.specs.Table.{backend_requests, caches_name, choice_columns, columns_of, counts_columns, counts_of, flash_bytes, line_with, policy_name, ratio_text, six_digits, sweep_line, those_of}
 
 -- the bytes of digits, letters, commas and points
 abbrev Plain : List ℕ → Type 0

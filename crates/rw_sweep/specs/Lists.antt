@@ -1,5 +1,5 @@
 -- The list of a sweep's configurations, each beside its place.
-use Rattle.std.specs.Prelude.{ℕ, List, ◌++◌, codes, decimal}
+use Rattle.std.specs.Prelude.{ℕ, List, ◌++◌, codes}
 use Rattle.std.specs.List.{flat_map}
 use Rattle.rw_vt.specs.Words.{Count, Position}
 use Rattle.rw_sweep.specs.declared.axes.Axes.{Axes}

@@ -1,18 +1,15 @@
 -- Parts of a run: one event more at a process, more that comes, and parts put together to a run midway.
-use Rattle.std.proofs.Common.{◌≡◌, ◌≢◌, ℕ, zero, suc, ◌+◌, ◌<◌, ◌≤◌, Bool, true, false, cond, ◌==◌, List, [], ◌∷◌, ◌++◌, refl, sym, ◌∙◌, ap, subst, arith, Some, inl, inr, ◌⊎◌, zero-add, append-nil}
+use Rattle.std.proofs.Common.{◌≡◌, ◌≢◌, ℕ, ◌+◌, ◌<◌, ◌≤◌, Bool, true, false, cond, ◌==◌, List, [], ◌∷◌, ◌++◌, refl, sym, ◌∙◌, ap, subst, arith, Some, inl, inr, ◌⊎◌, zero-add, append-nil}
 use Rattle.std.proofs.lemmas.Bool.Decides.{nat_tests}
-use Rattle.std.proofs.lemmas.List.Elements.{All-weaker}
-use Rattle.std.specs.declared.cmp.Ordering.{Ordering}
-use Rattle.std.specs.List.{slice_get, All}
+use Rattle.std.specs.List.{slice_get}
 use Rattle.rw_vt.specs.declared.event.Event.{Event}
-use Rattle.rw_vt.specs.Valid.{IsInRange, IsSentBy}
+use Rattle.rw_vt.specs.Valid.{IsSentBy}
 use Rattle.rw_vt.specs.Order.{AtMost, copies, Has, IsAscending}
 use Rattle.rw_vt.specs.System.{System, state_after, sends_of, map_from, flatten, all_sent}
 use Rattle.rw_vt.specs.Partway.{IsPartway, with_next}
-use Rattle.rw_vt.proofs.Sorting.{IsExactOrder, IsAscending-append, copies-append, absent, Has-append, Has-cons, Has-head, each_of_all, at_most_chain}
-use Rattle.rw_vt.proofs.Runs.{AreLawful, IsLawful, Fits_at, earlier_at_most, outs-append, after-append, well_formed_after, copies_joined_but_one}
+use Rattle.rw_vt.proofs.Sorting.{IsAscending-append, copies-append, absent, Has-append, Has-cons, Has-head, each_of_all, at_most_chain}
+use Rattle.rw_vt.proofs.Runs.{AreLawful, IsLawful, Fits_at, earlier_at_most, outs-append, well_formed_after, copies_joined_but_one}
 use Rattle.rw_vt.proofs.Complete.{IsMidway}
-use Rattle.rw_vt.proofs.Slices.{IsStory}
 use Rattle.rw_vt.proofs.Rest.{copies_in_parts, none_joined}
 
 same_or_other : (p q : ℕ) → (p ≡ q) ⊎ (p ≢ q)

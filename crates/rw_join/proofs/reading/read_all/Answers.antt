@@ -3,7 +3,7 @@ use Rattle.std.specs.Global.{Vec}
 use Rattle.std.proofs.lemmas.List.{map-append, take_more}
 use Rattle.rw_join.specs.declared.slots.Slot.{Slot}
 use Rattle.rw_join.specs.Slots.{HasReadPart, HaveRead}
-use Rattle.rw_join.proofs.PartsRead.{none-read, one-read}
+use Rattle.rw_join.proofs.PartsRead.{one-read}
 use Rattle.rw_join.proofs.reading.read_all.Goals as goal
 
 pub loop-file-preserved : goal.loop-file-preserved

@@ -1,6 +1,5 @@
-use Rattle.std.proofs.Common.{◌≡◌, ◌++◌, List, ℕ, length, rules, sym}
+use Rattle.std.proofs.Common.{List, ℕ, length, sym}
 use Rattle.std.proofs.lemmas.Bool.{eqb-true}
-use Rattle.rw_sweep.specs.Parts.{placed_line}
 use Rattle.rw_join.proofs.PartsRead.{all-read, read-more, read-none, shorter}
 use Rattle.rw_join.proofs.reading.read_lines.Goals as goal
 

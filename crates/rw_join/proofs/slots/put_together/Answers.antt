@@ -1,4 +1,4 @@
-use Rattle.std.proofs.Common.{◌≡◌, ◌++◌, ◌∙◌, ℕ, List, subst, All, ap}
+use Rattle.std.proofs.Common.{◌≡◌, ◌++◌, ◌∙◌, ℕ, List, subst, ap}
 use Rattle.std.proofs.lemmas.List.Elements.{All-more}
 use Rattle.rw_join.specs.declared.slots.Slot.{Slot}
 use Rattle.rw_join.proofs.PartsRead.{told-more}

@@ -1,4 +1,4 @@
-use Rattle.std.proofs.Common.{◌≡◌, ◌++◌, ◌∷◌, [], ℕ, List, true, false, append_assoc, sym, ap, ◌∙◌, take, take_all}
+use Rattle.std.proofs.Common.{◌≡◌, ◌++◌, ℕ, List, true, false, append_assoc, sym, ap, ◌∙◌, take, take_all}
 use Rattle.std.specs.List.{flat_map}
 use Rattle.rw_vt.specs.Words.{Position}
 use Rattle.rw_sweep.specs.declared.choice.Choice.{Choice}

@@ -1,6 +1,4 @@
-use Rattle.std.proofs.Common.{◌≡◌, ◌∙◌, List, ℕ, true, false}
-use Rattle.rw_sweep.specs.Parts.{part_header}
-use Rattle.rw_sweep.specs.Points.{points_of_part}
+use Rattle.std.proofs.Common.{◌∙◌, true, false}
 use Rattle.rw_sweep.proofs.Slots.{lines-so, table-so}
 use Rattle.rw_sweep.proofs.Tables.{fault-of-part, first-of-part, part-of, part-of-grid}
 use Rattle.rw_sweep.proofs.sweeping.sweep_part.Goals as goal

@@ -1,4 +1,4 @@
-use Rattle.std.proofs.Common.{◌≡◌, ◌+◌, ◌∙◌, [], ℕ, List, true, false, rules, subst, sym, take}
+use Rattle.std.proofs.Common.{◌≡◌, ◌+◌, ◌∙◌, [], List, true, false, rules, subst, sym, take}
 use Rattle.std.specs.List.{Any}
 use Rattle.rw_trace.specs.declared.Row.{Row}
 use Rattle.rw_sweep.specs.declared.point.Point.{Point}

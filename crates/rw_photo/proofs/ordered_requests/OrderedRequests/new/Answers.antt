@@ -1,4 +1,4 @@
-use Rattle.std.proofs.Common.{◌+◌, ◌≤◌, ◌^◌, ◌++◌, [], All, append-nil, length, rules, subst, sym, true, ◌≡◌}
+use Rattle.std.proofs.Common.{◌+◌, ◌≤◌, ◌^◌, [], All, append-nil, length, rules, subst, sym, true, ◌≡◌}
 use Rattle.rw_vt.specs.System.{map_from}
 use Rattle.rw_photo.specs.Events.{event_of, is_valid}
 use Rattle.rw_photo.proofs.OrderedRows.{in_order_whole}

@@ -1,4 +1,4 @@
-use Rattle.std.proofs.Common.{◌+◌, ◌<◌, ◌≤◌, ◌^◌, ◌++◌, [], append-nil, arith, length, length-append, subst, sym}
+use Rattle.std.proofs.Common.{◌+◌, ◌≤◌, ◌^◌, ◌++◌, [], append-nil, arith, length, length-append, subst, sym}
 use Rattle.rw_photo.specs.Rows.{AreInOrderFrom}
 use Rattle.rw_photo.proofs.ValidRows.{valid-rows}
 use Rattle.rw_photo.proofs.ordered_requests.OrderedRequests.of_parts.Goals as goal
