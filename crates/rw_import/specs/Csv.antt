@@ -25,7 +25,7 @@ use Rattle.rw_import.specs.declared.layout.Column.{Column}
 use Rattle.rw_import.specs.declared.layout.Column.TheVariants.{At, Named}
 use Rattle.rw_import.specs.declared.layout.Places.{Places}
 use Rattle.rw_import.specs.declared.options.Options.{Options}
-use Rattle.rw_import.specs.Log.{IsRowsFault, Said, Saying, billion, first_time, in_time, kept_in, rows_for, told_apart}
+use Rattle.rw_import.specs.Log.{IsRowsFault, Saying, billion, first_time, in_time, kept_in, rows_for, told_apart}
 
 infixl 10 ◌>>=◌
 abbrev pub ◌>>=◌ : {A B E : Type 0} → Result A E → (A → Result B E) → Result B E

@@ -1,4 +1,4 @@
-use Rattle.std.proofs.Common.{◌++◌, length, ap, sym, ◌∙◌, arith, subst, get_or}
+use Rattle.std.proofs.Common.{length, ap, sym, ◌∙◌, arith, subst, get_or}
 use Rattle.std.proofs.lemmas.List.Elements.{All-rest, All-same}
 use Rattle.std.specs.List.{AllZip}
 use Rattle.std.specs.Arc.{arc_value}
