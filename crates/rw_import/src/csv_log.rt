@@ -2,7 +2,6 @@
 
 ghost use Rattle.std.specs.Prelude.{◌≡◌, ◌≢◌, ◌+◌, ◌<◌, ◌^◌, ◌==◌, ℕ, [], ◌∷◌, true, Ok, Err, None, IfOk, IfErr, MatchBool, OnOk, map, length};
 ghost use Rattle.std.specs.List.{position, position_or_len};
-ghost use Rattle.csv.specs.Reading.{error_kind, stops_reader};
 ghost use Rattle.csv.specs.Records.{fields_of};
 ghost use Rattle.rw_trace.specs.Limits.{most_rows};
 ghost use Rattle.rw_trace.specs.Trace.{trace_of};
@@ -22,10 +21,10 @@ use crate::options::{MAX_EDGES, Options};
 use crate::oracle::finish;
 use crate::reading::{Reading, begin};
 use crate::sheet::{Sheet, add, blank_sheet, ticks_since};
-use csv::{ByteRecord, Error, ErrorKind, Reader, ReaderBuilder};
+use csv::{ByteRecord, Reader, ReaderBuilder};
 use indexmap::IndexSet;
 use rw_progress::Progress;
-use rw_trace::MAX_TIME;
+use rw_trace::{MAX_TIME, next_record};
 use std::alloc::Global;
 
 /// Whether a column is given by its name.
@@ -127,32 +126,6 @@ fn open<'a>(alloc: Global, bytes: &'a [u8], layout: &Layout) -> Reader<&'a [u8]>
         .from_reader(alloc, bytes)
 }
 
-/// The fault of a read that memory, or the reader underneath, refused.
-fn refusal(error: Error) -> ImportFault
-    requires { stops_reader (error_kind error) ≡ true }
-    ensures { result ≡ Memory }
-{
-    match error.into_kind() {
-        ErrorKind::Io(_) | ErrorKind::OutOfMemory => ImportFault::Memory,
-        _ => unreachable!(),
-    }
-}
-
-/// The next record into `fields`, and whether there was one. `Memory` where memory was refused.
-fn next(reader: &mut Reader<&[u8]>, fields: &mut ByteRecord) -> Result<bool, ImportFault>
-    requires { Steady reader.old }
-    ensures steady { IfOk result (λ found. found ≡ true → Steady reader.new) }
-    ensures gives { IfOk result (λ found. MatchBool found
-        (unread reader.old ≡ fields_of fields.new ∷ unread reader.new)
-        (unread reader.old ≡ [])) }
-    ensures refused { IfErr result (λ e. e ≡ Memory) }
-{
-    match reader.read_byte_record(fields) {
-        Ok(found) => Ok(found),
-        Err(error) => Err(refusal(error)),
-    }
-}
-
 /// Where the columns stand, behind the header if there is one.
 #[tactic(auto, unfolding(crate::specs::Csv::columns_found, crate::specs::Csv::rows_under))]
 fn start(
@@ -169,7 +142,7 @@ fn start(
         e ≢ Memory → columns_found layout.now (unread reader.old) ≡ Err e) }
 {
     if has_header(layout) {
-        if !next(reader, fields)? {
+        if !next_record(reader, fields)? {
             return Err(ImportFault::Header);
         }
     }
@@ -203,7 +176,7 @@ fn least_left<P: Progress>(
     let mut least = None;
     for row in 0..u64::MAX {
         reading.come_to(row, reader.position().byte());
-        if !next(reader, fields)? {
+        if !next_record(reader, fields)? {
             return Ok(least.unwrap_or(0));
         }
         least = lesser(least, read_fields(fields, places, edges));
@@ -354,7 +327,7 @@ fn rows_left<P: Progress>(
     let mut sheet = blank_sheet(alloc);
     for row in 0..u64::MAX {
         reading.come_to(row, reader.position().byte());
-        if !next(reader, fields)? {
+        if !next_record(reader, fields)? {
             return Ok(sheet);
         }
         let judged = judge(fields, terms);

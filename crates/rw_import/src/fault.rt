@@ -1,5 +1,9 @@
 //! What can be wrong with a log.
 
+ghost use Rattle.std.specs.Prelude.{◌≡◌};
+ghost use Rattle.rw_import.specs.declared.fault.ImportFault.TheVariants as fault;
+
+use std::alloc::AllocError;
 use std::fmt;
 
 /// A part of a row: a column of the log.
@@ -54,4 +58,12 @@ pub enum ImportFault {
     /// A request for memory was refused.
     #[error("memory")]
     Memory,
+}
+
+impl From<AllocError> for ImportFault {
+    ghost from_gives = { λ _ e. e ≡ fault.Memory };
+
+    fn from(_refusal: AllocError) -> ImportFault {
+        ImportFault::Memory
+    }
 }

@@ -1,5 +1,4 @@
 ghost use Rattle.std.specs.Prelude.{◌≡◌, ◌≢◌, ◌≤◌, ◌∷◌, [], true, Ok, Err, IfOk, IfErr, OnOk, MatchBool, map, ◌++◌, if◌then◌else◌};
-ghost use Rattle.csv.specs.Reading.{error_kind, stops_reader};
 ghost use Rattle.csv.specs.Records.{fields_of};
 ghost use Rattle.rw_trace.specs.Trace.{is_text_at};
 ghost use Rattle.rw_trace.specs.Unread.{Steady, records_of, unread};
@@ -8,8 +7,8 @@ ghost use Rattle.rw_plot.specs.declared.plot_fault.PlotFault.TheVariants.{Memory
 
 use crate::measure::Caches;
 use crate::plot_fault::PlotFault;
-use csv::{ByteRecord, Error, ErrorKind, Reader, ReaderBuilder};
-use rw_trace::number;
+use csv::{ByteRecord, Reader};
+use rw_trace::{next_record, number, open_records};
 use std::alloc::Global;
 
 /// The most rows of a sweep behind its header: 2^20.
@@ -252,44 +251,6 @@ fn is_header_record(fields: &ByteRecord) -> bool
         && has_measure_names(fields)
 }
 
-/// The fault of a read that memory, or the reader underneath, refused.
-fn refusal(error: Error) -> PlotFault
-    requires { stops_reader (error_kind error) ≡ true }
-    ensures { result ≡ Memory }
-{
-    match error.into_kind() {
-        ErrorKind::Io(_) | ErrorKind::OutOfMemory => PlotFault::Memory,
-        _ => unreachable!(),
-    }
-}
-
-/// The next record into `fields`, and whether there was one. `Memory` where memory was refused.
-fn next(reader: &mut Reader<&[u8]>, fields: &mut ByteRecord) -> Result<bool, PlotFault>
-    requires { Steady reader.old }
-    ensures steady { IfOk result (λ found. found ≡ true → Steady reader.new) }
-    ensures gives { IfOk result (λ found. MatchBool found
-        (unread reader.old ≡ fields_of fields.new ∷ unread reader.new)
-        (unread reader.old ≡ [])) }
-    ensures refused { IfErr result (λ e. e ≡ Memory) }
-{
-    match reader.read_byte_record(fields) {
-        Ok(found) => Ok(found),
-        Err(error) => Err(refusal(error)),
-    }
-}
-
-/// A reader of the records of `bytes`.
-#[tactic(auto, unfolding(rw_trace::specs::Unread::unread))]
-fn open(alloc: Global, bytes: &[u8]) -> Reader<&[u8]>
-    ensures steady { Steady result }
-    ensures all { unread result ≡ records_of bytes.now }
-{
-    ReaderBuilder::new()
-        .has_headers(false)
-        .flexible(true)
-        .from_reader(alloc, bytes)
-}
-
 /// Whether two are the same caches.
 fn is_same(a: Caches, b: Caches) -> bool
     ensures { result ≡ are_same_caches a b }
@@ -355,13 +316,13 @@ fn lines_left(
         e ≢ Memory → samples_of caches most_lines 0 (unread reader.old) ≡ Err e) }
 {
     for at in 0..MAX_LINES {
-        if !next(reader, fields)? {
+        if !next_record(reader, fields)? {
             return Ok(());
         }
         let sample = sample_at(fields, at)?;
         add_line(alloc, lines, fields, sample, caches)?;
     }
-    if next(reader, fields)? {
+    if next_record(reader, fields)? {
         return Err(PlotFault::TooManyRows);
     }
     Ok(())
@@ -383,7 +344,7 @@ fn lines_of_sweep(
     ensures fault { IfErr result (λ e.
         e ≢ Memory → sweep_of caches (unread reader.old) ≡ Err e) }
 {
-    if !next(reader, fields)? || !is_header_record(fields) {
+    if !next_record(reader, fields)? || !is_header_record(fields) {
         return Err(PlotFault::Header);
     }
     lines_left(alloc, reader, fields, caches, lines)?;
@@ -406,7 +367,7 @@ pub(crate) fn read(
     ensures fault { IfErr result (λ e.
         e ≢ Memory → sweep_of caches (records_of bytes.now) ≡ Err e) }
 {
-    let mut reader = open(alloc, bytes);
+    let mut reader = open_records(alloc, bytes);
     let mut fields = ByteRecord::new(alloc);
     lines_of_sweep(alloc, &mut reader, &mut fields, caches, lines)
 }

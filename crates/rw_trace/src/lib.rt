@@ -9,9 +9,9 @@
 //! Worked examples: `rw_cache_tests/src/traces.rt`.
 
 mod parts;
+mod reading;
 
 ghost use Rattle.std.specs.Prelude.{All, ◌≡◌, ◌≢◌, ◌≤◌, ◌∷◌, [], Ok, Err, Some, IfOk, IfNone, IfSome, length, IfErr, MatchBool, MatchResult, true};
-ghost use Rattle.csv.specs.Reading.{error_kind, stops_reader};
 ghost use Rattle.csv.specs.Records.{fields_of};
 ghost use Rattle.rw_trace.specs.Laws.{IsFaultOf, IsFirstFault, IsNoTrace, IsNumber, IsRow, IsTrace, IsWrong, Lacks, LacksKind, WriteRows, Writes, WritesKind, WritesRow};
 ghost use Rattle.rw_trace.specs.Limits.{greatest_size, latest_time, most_digits, most_rows};
@@ -20,9 +20,10 @@ ghost use Rattle.rw_trace.specs.Unread.{LacksHeader, Steady, records_of, unread}
 ghost use Rattle.rw_trace.specs.declared.TraceFault.TheVariants.{Header, Memory, Number};
 ghost use Rattle.rw_trace.specs.declared.Version.TheVariants.{First, Second};
 
-use csv::{ByteRecord, Error, ErrorKind, Reader, ReaderBuilder};
+use csv::{ByteRecord, Reader};
 pub use parts::read_in_parts;
-use std::alloc::Global;
+pub use reading::{next_record, open_records};
+use std::alloc::{AllocError, Global};
 
 /// What a row of a trace says of its object.
 #[derive(Clone, Copy, PartialEq, Eq, Debug)]
@@ -87,6 +88,14 @@ pub enum TraceFault {
     /// The row's kind is neither `get` nor `purge`.
     #[error("trace: row {0}: kind")]
     Kind(u64),
+}
+
+impl From<AllocError> for TraceFault {
+    ghost from_gives = { λ _ e. e ≡ Memory };
+
+    fn from(_refusal: AllocError) -> TraceFault {
+        TraceFault::Memory
+    }
 }
 
 /// The greatest time of a row, in ticks: 2^39.
@@ -252,44 +261,6 @@ fn version_of_header(fields: &ByteRecord) -> Option<Version>
     }
 }
 
-/// The fault of a read that memory, or the reader underneath, refused.
-fn refusal(error: Error) -> TraceFault
-    requires { stops_reader (error_kind error) ≡ true }
-    ensures { result ≡ Memory }
-{
-    match error.into_kind() {
-        ErrorKind::Io(_) | ErrorKind::OutOfMemory => TraceFault::Memory,
-        _ => unreachable!(),
-    }
-}
-
-/// The next record into `fields`, and whether there was one. `Memory` where memory was refused.
-fn next(reader: &mut Reader<&[u8]>, fields: &mut ByteRecord) -> Result<bool, TraceFault>
-    requires { Steady reader.old }
-    ensures steady { IfOk result (λ found. found ≡ true → Steady reader.new) }
-    ensures gives { IfOk result (λ found. MatchBool found
-        (unread reader.old ≡ fields_of fields.new ∷ unread reader.new)
-        (unread reader.old ≡ [])) }
-    ensures refused { IfErr result (λ e. e ≡ Memory) }
-{
-    match reader.read_byte_record(fields) {
-        Ok(found) => Ok(found),
-        Err(error) => Err(refusal(error)),
-    }
-}
-
-/// A reader of the records of `bytes`.
-#[tactic(auto, unfolding(crate::specs::Unread::unread))]
-fn open(alloc: Global, bytes: &[u8]) -> Reader<&[u8]>
-    ensures steady { Steady result }
-    ensures all { unread result ≡ records_of bytes.now }
-{
-    ReaderBuilder::new()
-        .has_headers(false)
-        .flexible(true)
-        .from_reader(alloc, bytes)
-}
-
 /// The version whose header the next record is. `fields` is that record then.
 fn next_version(reader: &mut Reader<&[u8]>, fields: &mut ByteRecord) -> Result<Version, TraceFault>
     requires { Steady reader.old }
@@ -300,7 +271,7 @@ fn next_version(reader: &mut Reader<&[u8]>, fields: &mut ByteRecord) -> Result<V
     ensures lacks { IfErr result (λ e.
         e ≢ Memory → (e ≡ Header) × LacksHeader (unread reader.old)) }
 {
-    if !next(reader, fields)? {
+    if !next_record(reader, fields)? {
         return Err(TraceFault::Header);
     }
     version_of_header(fields).ok_or(TraceFault::Header)
@@ -323,7 +294,7 @@ fn rows_left(
 {
     let mut rows = Vec::new(alloc);
     for at in 0..most {
-        if !next(reader, fields)? {
+        if !next_record(reader, fields)? {
             return Ok(rows);
         }
         let one = row_at(fields, version, edges, at)?;
@@ -331,7 +302,7 @@ fn rows_left(
             return Err(TraceFault::Memory);
         }
     }
-    if next(reader, fields)? {
+    if next_record(reader, fields)? {
         return Err(TraceFault::TooManyRows);
     }
     Ok(rows)
@@ -375,7 +346,7 @@ pub fn read_up_to(
     ensures refused { IfErr result (λ e. e ≢ Memory → IsNoTrace edges most (records_of bytes.now)) }
     ensures first { IfErr result (λ e. e ≢ Memory → IsFaultOf edges most (records_of bytes.now) e) }
 {
-    let mut reader = open(alloc, bytes);
+    let mut reader = open_records(alloc, bytes);
     let mut fields = ByteRecord::new(alloc);
     trace_left(alloc, &mut reader, &mut fields, edges, most)
 }

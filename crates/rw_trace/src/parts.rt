@@ -6,7 +6,7 @@ ghost use Rattle.rw_trace.specs.Trace.{trace_of};
 ghost use Rattle.rw_trace.specs.Unread.{IsHeaded, records_of};
 ghost use Rattle.rw_trace.specs.declared.TraceFault.TheVariants.{Memory};
 
-use crate::{MAX_ROWS, Row, TraceFault, Version, next_version, open, read, rows_left};
+use crate::{MAX_ROWS, Row, TraceFault, Version, next_version, open_records, read, rows_left};
 use csv::ByteRecord;
 use memchr::{memchr, memrchr};
 use std::alloc::Global;
@@ -219,7 +219,7 @@ fn read_under(alloc: Global, headed: &[u8], bytes: &[u8], edges: u32) -> Option<
 {
     let mut fields = ByteRecord::new(alloc);
     let version = version_of_text(alloc, headed, &mut fields)?;
-    let mut reader = open(alloc, bytes);
+    let mut reader = open_records(alloc, bytes);
     rows_left(alloc, &mut reader, &mut fields, version, edges, MAX_ROWS).ok()
 }
 
@@ -227,6 +227,6 @@ fn read_under(alloc: Global, headed: &[u8], bytes: &[u8], edges: u32) -> Option<
 fn version_of_text(alloc: Global, bytes: &[u8], fields: &mut ByteRecord) -> Option<Version>
     ensures { IfSome result (λ version. IsHeaded version (records_of bytes.now)) }
 {
-    let mut reader = open(alloc, bytes);
+    let mut reader = open_records(alloc, bytes);
     next_version(&mut reader, fields).ok()
 }

@@ -17,23 +17,23 @@ loop-row-init g c = record { steady = c.requires; meaning = refl }
 pub loop-row-preserved : goal.loop-row-preserved
 loop-row-preserved g c =
     let said = record_said c.args.places c.args.edges in
-    let fields = fields_of c.next.new.fields in
+    let fields = fields_of c.next_record.new.fields in
     let text = field_in fields c.args.places.object in
-    let gives = rw c.if-not-branch.false at c.in_ok-next.ensures.gives in
+    let gives = rw c.if-not-branch.false at c.in_ok-next_record.ensures.gives in
     let least = c.lesser-least.ensures text ∙ ap (λ (r : Result Entry Flaw). earlier c.loop-row.least (beside text r)) c.read_fields.ensures.said in
     record {
-      steady = c.in_ok-next.ensures.steady c.if-not-branch.false;
+      steady = c.in_ok-next_record.ensures.steady c.if-not-branch.false;
       meaning = c.loop-row.invariant.meaning
           ∙ ap (λ (rs : List Fields). fold earlier c.loop-row.least (map said rs)) gives
-          ∙ ap (λ (m : Option ℕ). fold earlier m (map said (unread c.next.new.reader))) (sym least);
+          ∙ ap (λ (m : Option ℕ). fold earlier m (map said (unread c.next_record.new.reader))) (sym least);
     }
 
-pub returns-in_err-next-clause-least : goal.returns-in_err-next-clause-least
-returns-in_err-next-clause-least g c = IfOk-from_err c.from_residual.result _ c.from_residual.ensures.0
+pub returns-in_err-next_record-clause-least : goal.returns-in_err-next_record-clause-least
+returns-in_err-next_record-clause-least g c = IfOk-from_err c.from_residual.result _ c.from_residual.ensures.0
 
 pub returns-then-not-branch-clause-least : goal.returns-then-not-branch-clause-least
 returns-then-not-branch-clause-least g c =
     let said = record_said c.args.places c.args.edges in
-    let none = rw c.if-not-branch.true at c.in_ok-next.ensures.gives in
+    let none = rw c.if-not-branch.true at c.in_ok-next_record.ensures.gives in
     let all = c.loop-row.invariant.meaning ∙ ap (λ (rs : List Fields). fold earlier c.loop-row.least (map said rs)) none in
     c.unwrap_or.ensures ∙ ap (λ (m : Option ℕ). unwrap_or m 0) (sym all)

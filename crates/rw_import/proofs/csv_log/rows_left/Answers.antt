@@ -26,22 +26,22 @@ add_named-requires-clause-timely g c n small =
 pub returns-in_err-add_named-clause-fault : goal.returns-in_err-add_named-clause-fault
 returns-in_err-add_named-clause-fault g c =
     let p = err_from_is_err_and c.from_residual-in_err-add_named.result c.from_residual-in_err-add_named.ensures.1 in
-    let gives = rw c.if-not-branch.false at c.in_ok-next.ensures.gives in
+    let gives = rw c.if-not-branch.false at c.in_ok-next_record.ensures.gives in
     let n = position_or_len (is_same_text c.field_of-text.result.now) (texts_in c.loop-row.texts) in
     rw (p.1, p.2)
-    (so-far-stops c.args.terms.places c.args.terms.edges c.args.terms.options c.args.terms.least _ _ _ (fields_of c.next.new.fields) c.loop-row.row n (texts_in c.loop-row.texts) c.loop-row.sheet c.judge-judged.result
+    (so-far-stops c.args.terms.places c.args.terms.edges c.args.terms.options c.args.terms.least _ _ _ (fields_of c.next_record.new.fields) c.loop-row.row n (texts_in c.loop-row.texts) c.loop-row.sheet c.judge-judged.result
     (beside n c.judge-judged.result) _ c.loop-row.invariant.so_far gives c.judge-judged.ensures.judged refl c.in_err-add_named.ensures.refuses)
 
 pub loop-row-preserved : goal.loop-row-preserved
 loop-row-preserved g c =
-    let gives = rw c.if-not-branch.false at c.in_ok-next.ensures.gives in
+    let gives = rw c.if-not-branch.false at c.in_ok-next_record.ensures.gives in
     let n = position_or_len (is_same_text c.field_of-text.result.now) (texts_in c.loop-row.texts) in
     let judged = c.judge-judged.result in
     let added = c.in_ok-add_named.ensures in
     let fine = keepable-beside c.args.terms.edges c.args.terms.options c.args.terms.least n judged (beside n judged) refl added.small c.judge-judged.ensures.keepable in
     record {
-      steady = c.in_ok-next.ensures.steady c.if-not-branch.false;
+      steady = c.in_ok-next_record.ensures.steady c.if-not-branch.false;
       counts = added.after;
-      so_far = so-far-next c.args.terms.places c.args.terms.edges c.args.terms.options c.args.terms.least _ _ _ (fields_of c.next.new.fields) c.loop-row.row (texts_in c.loop-row.texts) _ c.loop-row.sheet c.add_named.new.sheet
+      so_far = so-far-next c.args.terms.places c.args.terms.edges c.args.terms.options c.args.terms.least _ _ _ (fields_of c.next_record.new.fields) c.loop-row.row (texts_in c.loop-row.texts) _ c.loop-row.sheet c.add_named.new.sheet
           c.field_of-text.result.now judged (beside n judged) c.loop-row.invariant.so_far gives c.judge-judged.ensures.judged c.field_of-text.ensures refl fine added.adds added.texts;
     }

@@ -24,42 +24,42 @@ loop-at-init c = record {
 
 pub returns-then-not-branch-clause-samples : goal.returns-then-not-branch-clause-samples
 returns-then-not-branch-clause-samples c =
-    let gives = rw c.if-not-branch.true at c.in_ok-next.ensures.gives in
+    let gives = rw c.if-not-branch.true at c.in_ok-next_record.ensures.gives in
     let before = map (λ l. l.sample) c.loop-at.lines.items in
     met c.args.caches c.loop-at.at before _ _ _ c.loop-at.invariant.meaning gives ∙ samples-end c.args.caches most_lines c.loop-at.at before
 
 pub returns-in_err-sample-clause-fault : goal.returns-in_err-sample-clause-fault
 returns-in_err-sample-clause-fault c =
     let p = err_from_is_err_and c.from_residual-in_err-sample.result c.from_residual-in_err-sample.ensures.1 in
-    let gives = rw c.if-not-branch.false at c.in_ok-next.ensures.gives in
+    let gives = rw c.if-not-branch.false at c.in_ok-next_record.ensures.gives in
     let before = map (λ l. l.sample) c.loop-at.lines.items in
     let at : c.loop-at.at < most_lines = c.loop-at-test.true in
-    let fault = samples-fault c.args.caches most_lines c.loop-at.at (fields_of c.next.new.fields) (unread c.next.new.reader) _ before at (sym c.in_err-sample.ensures) in
+    let fault = samples-fault c.args.caches most_lines c.loop-at.at (fields_of c.next_record.new.fields) (unread c.next_record.new.reader) _ before at (sym c.in_err-sample.ensures) in
     rw (p.1, p.2) (λ _. met c.args.caches c.loop-at.at before _ _ _ c.loop-at.invariant.meaning gives ∙ fault)
 
 pub loop-at-preserved : goal.loop-at-preserved
 loop-at-preserved c =
-    let gives = rw c.if-not-branch.false at c.in_ok-next.ensures.gives in
+    let gives = rw c.if-not-branch.false at c.in_ok-next_record.ensures.gives in
     let before = map (λ l. l.sample) c.loop-at.lines.items in
     let at : c.loop-at.at < most_lines = c.loop-at-test.true in
-    let rest = samples_of c.args.caches most_lines (c.loop-at.at + 1) (unread c.next.new.reader) in
-    let more = samples-more c.args.caches most_lines c.loop-at.at (fields_of c.next.new.fields) (unread c.next.new.reader) c.in_ok-sample.sample before at (sym c.in_ok-sample.ensures) in
+    let rest = samples_of c.args.caches most_lines (c.loop-at.at + 1) (unread c.next_record.new.reader) in
+    let more = samples-more c.args.caches most_lines c.loop-at.at (fields_of c.next_record.new.fields) (unread c.next_record.new.reader) c.in_ok-sample.sample before at (sym c.in_ok-sample.ensures) in
     record {
-      steady = c.in_ok-next.ensures.steady c.if-not-branch.false;
+      steady = c.in_ok-next_record.ensures.steady c.if-not-branch.false;
       meaning = met c.args.caches c.loop-at.at before _ _ _ c.loop-at.invariant.meaning gives ∙ more
           ∙ ap (λ (xs : List Sample). samples_before xs rest) (sym c.in_ok-add_line.ensures.samples);
     }
 
 pub returns-then-branch-clause-fault : goal.returns-then-branch-clause-fault
 returns-then-branch-clause-fault c =
-    let gives = rw c.if-branch.true at c.in_ok-next-2.ensures.gives in
+    let gives = rw c.if-branch.true at c.in_ok-next_record-2.ensures.gives in
     let before = map (λ l. l.sample) c.loop-at.lines.items in
     let all : c.loop-at.at ≡ most_lines = omega (arith, c.loop-at-test.false, c.loop-at.auto.at-end) in
     λ _. met c.args.caches c.loop-at.at before _ _ _ c.loop-at.invariant.meaning gives
-    ∙ samples-many c.args.caches most_lines c.loop-at.at (fields_of c.next-2.new.fields) (unread c.next-2.new.reader) before all
+    ∙ samples-many c.args.caches most_lines c.loop-at.at (fields_of c.next_record-2.new.fields) (unread c.next_record-2.new.reader) before all
 
 pub returns-clause-samples : goal.returns-clause-samples
 returns-clause-samples c =
-    let gives = rw c.if-branch.false at c.in_ok-next-2.ensures.gives in
+    let gives = rw c.if-branch.false at c.in_ok-next_record-2.ensures.gives in
     let before = map (λ l. l.sample) c.loop-at.lines.items in
     met c.args.caches c.loop-at.at before _ _ _ c.loop-at.invariant.meaning gives ∙ samples-end c.args.caches most_lines c.loop-at.at before

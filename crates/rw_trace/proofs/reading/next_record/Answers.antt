@@ -2,7 +2,7 @@
 use Rattle.csv.specs.Reading.{error_kind}
 use Rattle.csv.specs.Records.{fields_of}
 use Rattle.rw_trace.proofs.Records.{gives, stops}
-use Rattle.rw_plot.proofs.sweep.next.Goals as goal
+use Rattle.rw_trace.proofs.reading.next_record.Goals as goal
 
 pub returns-in-Ok-clause-gives : goal.returns-in-Ok-clause-gives
 returns-in-Ok-clause-gives c =
