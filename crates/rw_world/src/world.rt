@@ -195,18 +195,10 @@ impl<M: VtModel + Drop> World<M> {
         let mut there = Vec::new(alloc);
         let mut owed = Vec::new(alloc);
         sort_letters(parts.letters.as_slice(), &mut there, &mut owed)?;
-        let Parts {
-            model,
-            processes,
-            letters: _,
-            collected: _,
-            starts: _,
-            initial: _,
-        } = parts;
-        let states = take_apart(alloc, processes, &mut there, &mut owed)?;
+        let states = take_apart(alloc, parts.processes, &mut there, &mut owed)?;
         let events = without_owed::<M>(alloc, there, owed)?;
         Ok(Rest {
-            model,
+            model: parts.model,
             states,
             events,
         })
@@ -218,8 +210,7 @@ impl<M: VtModel + Drop> World<M> {
         ensures is { simulation_of result ≡ self }
         ensures whole { IsWhole M.Model M.Body.cmp result }
     {
-        let World { parts } = self;
-        parts
+        self.parts
     }
 
     /// The world of `parts`, which make up a sound world of the model, the starts and the initial events that they name,
