@@ -24,6 +24,7 @@ use Rattle.rw_windows.specs.contracts.batch.Batch.TheInside as BatchInside
 use Rattle.rw_windows.specs.contracts.batch.InTime as InTime
 use Rattle.rw_windows.specs.contracts.bells.Bells as Bells
 use Rattle.crossbeam_channel.proofs.channel.Receiver.TheSendSync.{the_send as receiver_may_move}
+use Rattle.rw_windows.specs.contracts.seat.Seat as Seat
 use Rattle.rw_windows.specs.contracts.share.Share as Share
 use Rattle.rw_windows.specs.contracts.share.Share.TheInside as ShareInside
 
@@ -70,12 +71,18 @@ module _ (M S B U : RattleType) (g : Ghosts M.Denot S.Denot B.Denot U.Denot) (o 
   lists_may_move : IsSend B → IsSend (Vec.the_row (Vec.the_row (Event.the_row B) Global.the_row global.ghosts) Global.the_row global.ghosts)
   lists_may_move b = let events = events_may_move B b in search (sendable, crosses) depth 40
 
-  pub share_may_move : IsSend S → IsSend B → IsSend U → IsSend (Share.the_row M S B U g o w e p c)
-  share_may_move s b u =
-      let T = ShareInside.the_type M S B U g o w e p c in
+  seat_may_move : IsSend S → IsSend B → IsSend U → IsSend (Seat.the_field M S B U g o w e p c).row
+  seat_may_move s b u =
+      let T = Seat.the_type M S B U g o w e p c in
       let n = number_may_move in
       let t = time_may_move in
       let starts = shot_may_move (Vec.the_row S Global.the_row global.ghosts) in
       let given = shot_may_move (Vec.the_row (Event.the_row B) Global.the_row global.ghosts) in
-      let all : AllSend (shape T).fields = (n, (n, (t, (t, (states_may_move s, (events_may_move B b, (ends_may_move b, (bells_may_move, (lists_may_move b, (t, (t, (t, (t, (t, (starts, (given, tt)))))))))))))))) in
+      let all : AllSend (shape T).fields = (n, (n, (t, (t, (states_may_move s, (ends_may_move b, (bells_may_move, (lists_may_move b, (t, (t, (t, (t, (t, (starts, (given, tt))))))))))))))) in
+      struct_send (shape T) all
+
+  pub share_may_move : IsSend S → IsSend B → IsSend U → IsSend (Share.the_row M S B U g o w e p c)
+  share_may_move s b u =
+      let T = ShareInside.the_type M S B U g o w e p c in
+      let all : AllSend (shape T).fields = (seat_may_move s b u, (events_may_move B b, tt)) in
       view_send _ _ _ _ _ (recorded_send (Struct (shape T)) T.D T.to T.to_one (struct_send (shape T) all))

@@ -7,6 +7,7 @@ ghost use Rattle.rw_windows.specs.Working.{IsAhead};
 
 use crate::batch::{Batch, InTime};
 use crate::bells::{Bells, hang};
+use crate::seat::Seat;
 use crate::share::Share;
 use rw_crew::{deal_out, first_of};
 use rw_exchange::{Greeting, Port};
@@ -298,13 +299,12 @@ fn new_share<M: VtModel>(
 {
     let given = Snapshot::of(&inbox);
     let away = empty_lists(alloc, terms.workers as usize)?;
-    Ok(Share {
+    let seat = Seat {
         number,
         workers: terms.workers,
         end: terms.end,
         lookahead: terms.lookahead,
         states,
-        events: inbox,
         port,
         bells,
         away,
@@ -315,6 +315,10 @@ fn new_share<M: VtModel>(
         received: 0,
         starts,
         given,
+    };
+    Ok(Share {
+        seat,
+        events: inbox,
     })
 }
 

@@ -25,11 +25,12 @@ impl<M: VtModel> Worker<M> {
         ensures handed_over { IfOk result (λ there. there ≡ true → HandedOver self.new) }
     {
         let least = self.pending.least_time().unwrap_or(u64::MAX);
-        self.said = self
+        let seat = &mut self.seat;
+        seat.said = seat
             .said
-            .max(least.min(self.heard).saturating_add(self.lookahead));
-        for to in 0..self.workers {
-            if to == self.number {
+            .max(least.min(seat.heard).saturating_add(seat.lookahead));
+        for to in 0..self.seat.workers {
+            if to == self.seat.number {
                 continue;
             }
             if !self.tell(rt, alloc, model, to)? {
@@ -51,18 +52,24 @@ impl<M: VtModel> Worker<M> {
         ensures told { IfOk result (λ there. there ≡ true
             → self.new.away ≡ slice_set self.old.away to []) }
     {
-        let events = take_list(alloc, &mut self.away[to as usize])?;
+        let events = take_list(alloc, &mut self.seat.away[to as usize])?;
         let batch = Batch {
             events,
-            reach: self.said,
+            reach: self.seat.said,
             model: Snapshot::of(model),
-            workers: Snapshot::of(&self.workers),
+            workers: Snapshot::of(&self.seat.workers),
             to: Snapshot::of(&to),
         };
-        match send_waiting(rt, &mut self.port, &self.bells, to as usize, batch) {
+        match send_waiting(
+            rt,
+            &mut self.seat.port,
+            &self.seat.bells,
+            to as usize,
+            batch,
+        ) {
             Ok(()) => Ok(true),
             Err(back) => {
-                self.away[to as usize] = back.events;
+                self.seat.away[to as usize] = back.events;
                 Ok(false)
             }
         }
@@ -78,8 +85,8 @@ impl<M: VtModel> Worker<M> {
         ensures handed_over { OnOk result (HandedOver self.new) }
     {
         let mut heard = u64::MAX;
-        for from in 0..self.workers {
-            if from == self.number {
+        for from in 0..self.seat.workers {
+            if from == self.seat.number {
                 continue;
             }
             let Some(reach) = self.take_up(rt, model, from)? else {
@@ -87,7 +94,7 @@ impl<M: VtModel> Worker<M> {
             };
             heard = heard.min(reach);
         }
-        self.heard = self.heard.max(heard);
+        self.seat.heard = self.seat.heard.max(heard);
         Ok(true)
     }
 
@@ -106,11 +113,12 @@ impl<M: VtModel> Worker<M> {
         ensures reach { IfOk result (λ heard. IfSome heard (λ reach.
             reach ≤ last_reach (received_from self.new.port from))) }
     {
-        let Some(batch) = receive_waiting(rt, &mut self.port, &self.bells, from as usize) else {
+        let Some(batch) = receive_waiting(rt, &mut self.seat.port, &self.seat.bells, from as usize)
+        else {
             return Ok(None);
         };
         self.pending.extend(&batch.events)?;
-        self.received = self.received.wrapping_add(batch.events.len() as u64);
+        self.seat.received = self.seat.received.wrapping_add(batch.events.len() as u64);
         Ok(Some(batch.reach))
     }
 }

@@ -30,6 +30,7 @@ mod bells;
 mod ending;
 mod exchanging;
 mod running;
+mod seat;
 mod share;
 mod waiting;
 mod work;

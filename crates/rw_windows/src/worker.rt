@@ -1,15 +1,12 @@
 ghost use Rattle.std.specs.Prelude.{◌≡◌, ◌≤◌, ◌<◌, ◌≢◌, [], ◌∷◌, All, IfOk, OnOk, false, length, true};
 ghost use Rattle.rw_windows.specs.Working.{HandedOver, IsAtWork, IsDealt, IsReordered, SameWorker};
 
-use crate::batch::{Batch, InTime};
-use crate::bells::Bells;
+use crate::seat::Seat;
 use crate::share::Share;
-use rw_exchange::Port;
 use rw_serial::{Pending, Sorted};
 use rw_vt::{Event, Model as VtModel, Refusal};
 use std::alloc::{AllocError, Global};
 use std::marker::Model;
-use std::snapshot::Snapshot;
 
 /// How many batches of each other worker are left to be heard later, where the lookahead has as many parts and one: so workers
 /// need not be equally fast in each of them. More parts would be more batches, and gain little.
@@ -20,42 +17,13 @@ const UNHEARD: u32 = 2;
 /// A contract sees what it is and what it holds, as of its share (`ShareState`).
 #[derive(Drop)]
 pub(crate) struct Worker<M: VtModel> {
-    /// Which worker it is, counted from 0.
-    pub(crate) number: u32,
-    /// How many workers there are.
-    pub(crate) workers: u32,
-    /// Up to which time all execute, in ticks.
-    pub(crate) end: u64,
-    /// How far ahead of an event all is that it sends, in ticks.
-    pub(crate) lookahead: u64,
-    /// The states of its processes, in order.
-    pub(crate) states: Vec<M::State>,
-    /// What is still to be executed at them.
+    pub(crate) seat: Seat<M>,
+    /// What is still to be executed at its processes.
     pub(crate) pending: Pending<M::Body, Sorted<M::Body>>,
-    /// Its ends of the rings to and from the others.
-    pub(crate) port: Port<Batch<M>, InTime>,
-    /// The bells beside its rings.
-    pub(crate) bells: Bells,
-    /// What is to be handed over to each worker.
-    pub(crate) away: Vec<Vec<Event<M::Body>>>,
-    /// Up to which time it executes, in ticks.
-    pub(crate) until: u64,
-    /// Before which time it hears of nothing more, in ticks.
-    pub(crate) heard: u64,
-    /// Before which time it sends nothing more, in ticks.
-    pub(crate) said: u64,
     /// How many batches of each other worker it has left to be heard later.
     pub(crate) unheard: u32,
     /// In how many batches it has said that it has nothing to do before the end, nor hears of anything.
     pub(crate) idle: u32,
-    /// How many events it executed.
-    pub(crate) executed: u64,
-    /// How many events it heard of.
-    pub(crate) received: u64,
-    /// Where all processes start. For contracts alone.
-    pub(crate) starts: Snapshot<Vec<M::State>>,
-    /// The events that it was dealt. For contracts alone.
-    pub(crate) given: Snapshot<Vec<Event<M::Body>>>,
 }
 
 impl<M: VtModel> Model for Worker<M> {
@@ -65,20 +33,20 @@ impl<M: VtModel> Model for Worker<M> {
     ghost Value = { ShareState M M.State M.Body };
 
     ghost view = { λ w. record {
-      number = w.number;
-      workers = w.workers;
-      end = w.end;
-      lookahead = w.lookahead;
-      starts = w.starts.value.items;
-      given = w.given.value.items;
-      states = w.states.items;
+      number = w.seat.number;
+      workers = w.seat.workers;
+      end = w.seat.end;
+      lookahead = w.seat.lookahead;
+      starts = w.seat.starts.value.items;
+      given = w.seat.given.value.items;
+      states = w.seat.states.items;
       waiting = w.pending.events;
       reached = w.pending.time;
-      port = w.port;
-      away = map (λ list. list.items) w.away.items;
-      until = w.until;
-      heard = w.heard;
-      said = w.said;
+      port = w.seat.port;
+      away = map (λ list. list.items) w.seat.away.items;
+      until = w.seat.until;
+      heard = w.seat.heard;
+      said = w.seat.said;
     } };
 }
 
@@ -87,44 +55,13 @@ impl<M: VtModel> Worker<M> {
     pub(crate) fn of(alloc: Global, share: Share<M>) -> Result<Worker<M>, AllocError>
         ensures is { IfOk result (λ w. IsReordered share w) }
     {
-        let Share {
-            number,
-            workers,
-            end,
-            lookahead,
-            states,
-            events,
-            port,
-            bells,
-            away,
-            until,
-            heard,
-            said,
-            executed,
-            received,
-            starts,
-            given,
-        } = share;
+        let Share { seat, events } = share;
         let pending = Pending::new(alloc, Sorted::new(events)?);
         Ok(Worker {
-            number,
-            workers,
-            end,
-            lookahead,
-            states,
+            seat,
             pending,
-            port,
-            bells,
-            away,
-            until,
-            heard,
-            said,
             unheard: 0,
             idle: 0,
-            executed,
-            received,
-            starts,
-            given,
         })
     }
 
@@ -140,65 +77,30 @@ impl<M: VtModel> Worker<M> {
     pub(crate) fn with_left(self, events: Vec<Event<M::Body>>) -> Share<M>
         ensures { result ≡ record self { waiting = events.items; reached = 0 } }
     {
-        let Worker {
-            number,
-            workers,
-            end,
-            lookahead,
-            states,
-            pending,
-            port,
-            bells,
-            away,
-            until,
-            heard,
-            said,
-            unheard: _,
-            idle: _,
-            executed,
-            received,
-            starts,
-            given,
-        } = self;
+        let Worker { seat, pending, .. } = self;
         drop(pending);
-        Share {
-            number,
-            workers,
-            end,
-            lookahead,
-            states,
-            events,
-            port,
-            bells,
-            away,
-            until,
-            heard,
-            said,
-            executed,
-            received,
-            starts,
-            given,
-        }
+        Share { seat, events }
     }
 
     /// Whether it has executed all that is before the end, in the last window.
     pub(crate) fn is_done(&self) -> bool
         ensures done { result ≡ true → self.now.end ≤ self.now.until }
     {
-        self.until >= self.end
+        self.seat.until >= self.seat.end
     }
 
     /// Whether all workers have nothing to do before the end any more, as they said, it too, in the batches that are heard by
     /// now. Each finds so after as many batches, so none waits for one that does not come.
     pub(crate) fn all_are_idle(&self) -> bool {
-        self.heard >= self.end.saturating_add(self.lookahead) && self.idle > self.lag()
+        self.seat.heard >= self.seat.end.saturating_add(self.seat.lookahead)
+            && self.idle > self.lag()
     }
 
     /// Counts the batch that it has just said, where it is idle by that.
     pub(crate) fn note_idle(&mut self)
         ensures same { self.new ≡ self.old }
     {
-        if self.said >= self.end.saturating_add(self.lookahead) {
+        if self.seat.said >= self.seat.end.saturating_add(self.seat.lookahead) {
             self.idle = self.idle.saturating_add(1);
         }
     }
@@ -224,17 +126,18 @@ impl<M: VtModel> Worker<M> {
     {
         let parts = u64::from(self.lag()) + 1;
         let first = self.pending.least_time().unwrap_or(u64::MAX);
-        let next = self
+        let seat = &mut self.seat;
+        let next = seat
             .until
             .max(first)
-            .saturating_add(self.lookahead.div_ceil(parts));
-        let bound = self.heard.min(self.said).min(self.end).min(next);
-        self.until = self.until.max(bound);
+            .saturating_add(seat.lookahead.div_ceil(parts));
+        let bound = seat.heard.min(seat.said).min(seat.end).min(next);
+        seat.until = seat.until.max(bound);
     }
 
     /// How many batches of each other worker it stays behind: less than the lookahead has ticks.
     fn lag(&self) -> u32 {
-        let most = self.lookahead.saturating_sub(1);
+        let most = self.seat.lookahead.saturating_sub(1);
         if most < u64::from(UNHEARD) {
             most as u32
         } else {
@@ -257,14 +160,14 @@ impl<M: VtModel> Worker<M> {
             → All (λ a. self.new.until ≤ a.time) self.new.waiting) }
     {
         let mut next = None;
-        self.pending.pop_before(self.until, &mut next)?;
+        self.pending.pop_before(self.seat.until, &mut next)?;
         let Some(event) = &next else {
             return Ok(false);
         };
         sent.clear();
-        let place = (event.to / self.workers) as usize;
-        model.advance(alloc, event.to, &mut self.states[place], event, sent)?;
-        self.executed = self.executed.wrapping_add(1);
+        let place = (event.to / self.seat.workers) as usize;
+        model.advance(alloc, event.to, &mut self.seat.states[place], event, sent)?;
+        self.seat.executed = self.seat.executed.wrapping_add(1);
         self.deal(sent)?;
         Ok(true)
     }
@@ -289,12 +192,12 @@ impl<M: VtModel> Worker<M> {
         requires later { self.old.reached < event.time }
         ensures dealt { OnOk result (IsDealt self.old self.new (event ∷ [])) }
     {
-        let to = event.to % self.workers;
-        if to == self.number {
+        let to = event.to % self.seat.workers;
+        if to == self.seat.number {
             self.pending.put(event)?;
             return Ok(());
         }
-        self.away[to as usize].push(event)?;
+        self.seat.away[to as usize].push(event)?;
         Ok(())
     }
 }

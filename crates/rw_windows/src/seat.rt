@@ -1,0 +1,41 @@
+use crate::batch::{Batch, InTime};
+use crate::bells::Bells;
+use rw_exchange::Port;
+use rw_vt::{Event, Model as VtModel};
+use std::snapshot::Snapshot;
+
+/// What a worker has of a run, at work or not, beside the events that are still to be executed: the processes whose number is
+/// its own modulo the number of workers, and its port.
+#[derive(Drop)]
+pub(crate) struct Seat<M: VtModel> {
+    /// Which worker it is, counted from 0.
+    pub(crate) number: u32,
+    /// How many workers there are.
+    pub(crate) workers: u32,
+    /// Up to which time all execute, in ticks.
+    pub(crate) end: u64,
+    /// How far ahead of an event all is that it sends, in ticks.
+    pub(crate) lookahead: u64,
+    /// The states of its processes, in order.
+    pub(crate) states: Vec<M::State>,
+    /// Its ends of the rings to and from the others.
+    pub(crate) port: Port<Batch<M>, InTime>,
+    /// The bells beside its rings.
+    pub(crate) bells: Bells,
+    /// What is to be handed over to each worker.
+    pub(crate) away: Vec<Vec<Event<M::Body>>>,
+    /// Up to which time it executes, in ticks.
+    pub(crate) until: u64,
+    /// Before which time it hears of nothing more, in ticks.
+    pub(crate) heard: u64,
+    /// Before which time it sends nothing more, in ticks.
+    pub(crate) said: u64,
+    /// How many events it executed.
+    pub(crate) executed: u64,
+    /// How many events it heard of.
+    pub(crate) received: u64,
+    /// Where all processes start. For contracts alone.
+    pub(crate) starts: Snapshot<Vec<M::State>>,
+    /// The events that it was dealt. For contracts alone.
+    pub(crate) given: Snapshot<Vec<Event<M::Body>>>,
+}
