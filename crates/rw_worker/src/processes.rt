@@ -77,13 +77,8 @@ impl<M: VtModel> Processes<M> {
         ensures none { IfOk result (λ next. IfNone next ((m : M)
             → HeldBack (rules M.Model M.Body.cmp m) bound self.old.items)) }
     {
-        if self.next.len() == self.items.len() {
-            return Ok(least_before(&self.items, &self.next, bound));
-        }
-        let next = next_at_each(alloc, &self.items)?;
-        let place = least_before(&self.items, &next, bound);
-        self.next = next;
-        Ok(place)
+        look_at_each(alloc, &self.items, &mut self.next)?;
+        Ok(least_before(&self.items, &self.next, bound))
     }
 
     /// The letter arrives at the process at `place`; what has to be undone is undone lazily, or not. What is given out is
@@ -158,16 +153,25 @@ impl<M: VtModel> Processes<M> {
     }
 }
 
-/// What is next at each of the processes.
-fn next_at_each<M: VtModel>(alloc: Global, processes: &[Lp<M>]) -> Result<Tournament<M>, AllocError>
-    ensures all { IfOk result (λ next. length next ≡ length processes.now) }
-    ensures tells { IfOk result (λ next. TellsNext (event_cmp M.Body.cmp) processes.now next) }
+/// Sees to it that what is next at each of the processes is at hand.
+fn look_at_each<M: VtModel>(
+    alloc: Global,
+    processes: &[Lp<M>],
+    next: &mut Tournament<M>,
+) -> Result<(), AllocError>
+    requires tells { TellsNext (event_cmp M.Body.cmp) processes.now next.old }
+    ensures all { OnOk result (length next.new ≡ length processes.now) }
+    ensures tells { TellsNext (event_cmp M.Body.cmp) processes.now next.new }
 {
-    let mut next = Tournament::new(alloc, processes.len())?;
-    for (place, process) in processes.iter().enumerate() {
-        next.set(place, next_of(process));
+    if next.len() == processes.len() {
+        return Ok(());
     }
-    Ok(next)
+    let mut anew = Tournament::new(alloc, processes.len())?;
+    for (place, process) in processes.iter().enumerate() {
+        anew.set(place, next_of(process));
+    }
+    *next = anew;
+    Ok(())
 }
 
 /// What is next at the process.

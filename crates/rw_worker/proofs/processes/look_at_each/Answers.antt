@@ -1,20 +1,13 @@
 use Rattle.std.proofs.Common.{◌+◌, refl, sym, ap, ◌∙◌, subst, arith, length, None}
 use Rattle.std.proofs.lemmas.List.{length-replicate, length-set}
 use Rattle.std.proofs.lemmas.Option.{slice_get_read}
-use Rattle.std.proofs.lemmas.Result.{IfOk-from_err}
 use Rattle.rw_vt.specs.Order.{event_cmp}
 use Rattle.rw_worker.proofs.Looking.{TellsBefore, tells_more}
-use Rattle.rw_worker.proofs.processes.next_at_each.Goals as goal
-
-pub returns-in_err-next-clause-all : goal.returns-in_err-next-clause-all
-returns-in_err-next-clause-all g c = IfOk-from_err c.from_residual.result _ c.from_residual.ensures.0
-
-pub returns-in_err-next-clause-tells : goal.returns-in_err-next-clause-tells
-returns-in_err-next-clause-tells g c = IfOk-from_err c.from_residual.result _ c.from_residual.ensures.0
+use Rattle.rw_worker.proofs.processes.look_at_each.Goals as goal
 
 pub loop-place-init : goal.loop-place-init
 loop-place-init g c = record {
-  all = ap length c.in_ok-next.ensures ∙ length-replicate (length c.args.processes.now) None;
+  all = ap length c.in_ok-anew.ensures ∙ length-replicate (length c.args.processes.now) None;
   tells = λ place l below there. absurd (omega arith);
 }
 
@@ -25,9 +18,9 @@ loop-place-preserved g c =
     let known = c.loop-place.invariant in
     let x = c.index-processes-place.result in
     record {
-      all = ap length c.set.ensures ∙ length-set c.loop-place.next k c.next_of.result ∙ known.all;
+      all = ap length c.set.ensures ∙ length-set c.loop-place.anew k c.next_of.result ∙ known.all;
       tells = subst (λ next. TellsBefore (event_cmp g.M.Body.Ord.cmp) xs next (k + 1)) (sym c.set.ensures)
-          (tells_more (event_cmp g.M.Body.Ord.cmp) xs c.loop-place.next k x c.next_of.result (slice_get_read xs (length xs) k x refl c.loop-place-test.true c.index-processes-place.is) (omega (arith, known.all, c.loop-place-test.true)) c.next_of.ensures known.tells);
+          (tells_more (event_cmp g.M.Body.Ord.cmp) xs c.loop-place.anew k x c.next_of.result (slice_get_read xs (length xs) k x refl c.loop-place-test.true c.index-processes-place.is) (omega (arith, known.all, c.loop-place-test.true)) c.next_of.ensures known.tells);
     }
 
 pub returns-clause-all : goal.returns-clause-all
