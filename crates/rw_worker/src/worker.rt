@@ -141,19 +141,16 @@ impl<M: VtModel> Worker<M> {
             TookTurn (rules M.Model M.Body.cmp model.now) self r.0 r.1) }
         ensures fit { IfOk result (λ r. IsFit M.Model M.Body.cmp model.now r.0) }
     {
-        let Worker {
-            mut desk,
-            mut at_hand,
-        } = self;
+        let mut worker = self;
         let bench = Bench {
             alloc,
             model,
             board,
         };
         // What every process promises.
-        soundness(desk.processes.as_slice());
-        let executed = desk.turn(&bench, &mut at_hand)?;
-        Ok((Worker { desk, at_hand }, executed))
+        soundness(worker.desk.processes.as_slice());
+        let executed = worker.desk.turn(&bench, &mut worker.at_hand)?;
+        Ok((worker, executed))
     }
 
     /// Notes the least time of the worker's processes and the time of each kept letter, after its last turn. Takes no
@@ -162,9 +159,9 @@ impl<M: VtModel> Worker<M> {
         requires board { self.seat.board ≡ board.now.board }
         ensures closes { Closes self result }
     {
-        let Worker { mut desk, at_hand } = self;
-        desk.close(board);
-        Worker { desk, at_hand }
+        let mut worker = self;
+        worker.desk.close(board);
+        worker
     }
 
     /// What the worker leaves, when it is taken apart at the end of a round. Takes no memory.
