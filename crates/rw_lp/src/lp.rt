@@ -103,19 +103,15 @@ impl<M: VtModel> Lp<M> {
             (KeepsBalance M.Model M.Body.cmp self r.0 (letters_taken r.1 letter))) }
         ensures memory { IfErr result (λ e. e ≡ Memory) }
     {
-        let Lp {
-            history,
-            mut pending,
-            mut debts,
-            mut held,
-        } = self;
-        let answer = meet(&history, &mut pending, &mut debts, &mut held, letter, out)?;
-        let lp = Lp {
-            history,
-            pending,
-            debts,
-            held,
-        };
+        let mut lp = self;
+        let answer = meet(
+            &lp.history,
+            &mut lp.pending,
+            &mut lp.debts,
+            &mut lp.held,
+            letter,
+            out,
+        )?;
         Ok((lp, answer))
     }
 
@@ -139,27 +135,16 @@ impl<M: VtModel> Lp<M> {
         ensures exhausted { result ≡ Err Refusal.Exhausted
             → MeetsNext (event_cmp M.Body.cmp) self.process (M.is_exhausted self.model) }
     {
-        let next = self.pending.first().copied();
+        let mut lp = self;
+        let next = lp.pending.first().copied();
         let Some(event) = next else {
-            return Ok((self, Answer::Refused(StepFault::NothingPending)));
+            return Ok((lp, Answer::Refused(StepFault::NothingPending)));
         };
-        if self.history.is_past(&event) {
-            return Ok((self, Answer::Refused(StepFault::Straggler)));
+        if lp.history.is_past(&event) {
+            return Ok((lp, Answer::Refused(StepFault::Straggler)));
         }
-        let Lp {
-            mut history,
-            mut pending,
-            debts,
-            mut held,
-        } = self;
-        let _taken = pending.take(event);
-        history.execute(alloc, model, event, &mut held, out)?;
-        let lp = Lp {
-            history,
-            pending,
-            debts,
-            held,
-        };
+        let _taken = lp.pending.take(event);
+        lp.history.execute(alloc, model, event, &mut lp.held, out)?;
         Ok((lp, Answer::Done))
     }
 
@@ -182,20 +167,9 @@ impl<M: VtModel> Lp<M> {
             (KeepsBalance M.Model M.Body.cmp self r.0 [])) }
         ensures memory { IfErr result (λ e. e ≡ Memory) }
     {
-        let Lp {
-            mut history,
-            mut pending,
-            debts,
-            held,
-        } = self;
-        let undone = history.undo(alloc, model)?;
-        let answer = cancel_undone(undone, &mut pending, out)?;
-        let lp = Lp {
-            history,
-            pending,
-            debts,
-            held,
-        };
+        let mut lp = self;
+        let undone = lp.history.undo(alloc, model)?;
+        let answer = cancel_undone(undone, &mut lp.pending, out)?;
         Ok((lp, answer))
     }
 
@@ -211,20 +185,9 @@ impl<M: VtModel> Lp<M> {
         ensures balance { IfOk result (λ r. KeepsBalance M.Model M.Body.cmp self r.0 [] []) }
         ensures memory { IfErr result (λ e. e ≡ Memory) }
     {
-        let Lp {
-            mut history,
-            mut pending,
-            debts,
-            mut held,
-        } = self;
-        let undone = history.undo(alloc, model)?;
-        let answer = hold_undone(undone, &mut pending, &mut held)?;
-        let lp = Lp {
-            history,
-            pending,
-            debts,
-            held,
-        };
+        let mut lp = self;
+        let undone = lp.history.undo(alloc, model)?;
+        let answer = hold_undone(undone, &mut lp.pending, &mut lp.held)?;
         Ok((lp, answer))
     }
 
@@ -399,14 +362,9 @@ impl<M: VtModel> Lp<M> {
         ensures owed { OnOk result (owed.new.items
             ≡ owed.old.items ++ (self.process.debts ++ held_messages self.process.held)) }
     {
-        let Lp {
-            history,
-            mut pending,
-            mut debts,
-            held,
-        } = self;
-        move_left(&mut pending, &mut debts, &held, there, owed)?;
-        let (_journal, state) = Box::into_inner(history).into_outcome();
+        let mut lp = self;
+        move_left(&mut lp.pending, &mut lp.debts, &lp.held, there, owed)?;
+        let (_journal, state) = Box::into_inner(lp.history).into_outcome();
         Ok(state)
     }
 
@@ -415,13 +373,7 @@ impl<M: VtModel> Lp<M> {
         ensures journal { result.0.items ≡ self.process.committed }
         ensures state { result.1 ≡ self.process.state }
     {
-        let Lp {
-            history,
-            pending: _,
-            debts: _,
-            held: _,
-        } = self;
-        Box::into_inner(history).into_outcome()
+        Box::into_inner(self.history).into_outcome()
     }
 }
 

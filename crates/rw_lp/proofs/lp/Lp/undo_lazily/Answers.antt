@@ -17,45 +17,45 @@ use Rattle.rw_lp.proofs.Undoing.{no_held_less, held_own, held_turn, held_balance
 use Rattle.rw_lp.proofs.lp.Lp.undo_lazily.Goals as goal
 
 pub undo-requires-clause-kept : goal.undo-requires-clause-kept
-undo-requires-clause-kept g c = subst (IsKept g.M.Model (event_cmp g.M.Body.Ord.cmp)) (sym c.deref_mut.ensures.value) c.self.invariant.0
+undo-requires-clause-kept g c = subst (IsKept g.M.Model (event_cmp g.M.Body.Ord.cmp)) (sym c.deref_mut.ensures.value) c.lp.invariant.0
 
 pub undo-requires-clause-model : goal.undo-requires-clause-model
-undo-requires-clause-model g c = c.requires.model ∙ sym (ap (λ (v : Past g.row.M.Denot g.row.M-State.Denot g.row.M-Body.Denot g.row.M-Undo.Denot). v.model.value) c.deref_mut.ensures.value ∙ ap (λ (w : LogicalProcess g.row.M.Denot g.row.M-State.Denot g.row.M-Body.Denot). w.model) c.self.view_is)
+undo-requires-clause-model g c = c.requires.model ∙ sym (ap (λ (v : Past g.row.M.Denot g.row.M-State.Denot g.row.M-Body.Denot g.row.M-Undo.Denot). v.model.value) c.deref_mut.ensures.value ∙ ap (λ (w : LogicalProcess g.row.M.Denot g.row.M-State.Denot g.row.M-Body.Denot). w.model) c.lp.view_is)
 
 pub hold_undone-requires : goal.hold_undone-requires
 hold_undone-requires g c = record {
   last =
       let o : IsExactOrder (event_cmp g.M.Body.Ord.cmp) = events_exact (record { total = g.met.M.Body.Ord.total; same = g.met.M.Model.same }) in
       let p = c.deref_mut.result.now in
-      let own : AreFor g.M.Model g.M.Body.Ord.cmp (seen_of p) c.self.inside.pending c.self.inside.debts c.self.inside.held.value = subst (λ (v : Past g.row.M.Denot g.row.M-State.Denot g.row.M-Body.Denot g.row.M-Undo.Denot). AreFor g.M.Model g.M.Body.Ord.cmp (seen_of v) c.self.inside.pending c.self.inside.debts c.self.inside.held.value) (sym c.deref_mut.ensures.value) c.self.invariant.1 in
+      let own : AreFor g.M.Model g.M.Body.Ord.cmp (seen_of p) c.lp.inside.pending c.lp.inside.debts c.lp.inside.held.value = subst (λ (v : Past g.row.M.Denot g.row.M-State.Denot g.row.M-Body.Denot g.row.M-Undo.Denot). AreFor g.M.Model g.M.Body.Ord.cmp (seen_of v) c.lp.inside.pending c.lp.inside.debts c.lp.inside.held.value) (sym c.deref_mut.ensures.value) c.lp.invariant.1 in
       subst (λ l. (u : Undone g.row.M-Body.Denot) → c.in_ok-undone.undone ≡ Some u → All (λ (h : Held g.row.M-Body.Denot). AtMost (event_cmp g.M.Body.Ord.cmp) u.event h.undone) l) (sym c.deref_mut-2.ensures.value)
-      (no_held_less g.M.Model g.M.Body.Ord.cmp o (seen_of p) (seen_of c.undo.new.self) c.self.inside.pending c.self.inside.debts c.self.inside.pending c.self.inside.held.value own c.in_ok-undone.undone c.in_ok-undone.ensures.back);
+      (no_held_less g.M.Model g.M.Body.Ord.cmp o (seen_of p) (seen_of c.undo.new.self) c.lp.inside.pending c.lp.inside.debts c.lp.inside.pending c.lp.inside.held.value own c.in_ok-undone.undone c.in_ok-undone.ensures.back);
 }
 
 pub invariant_of-lp : goal.invariant_of-lp
 invariant_of-lp g c =
     let o : IsExactOrder (event_cmp g.M.Body.Ord.cmp) = events_exact (record { total = g.met.M.Body.Ord.total; same = g.met.M.Model.same }) in
     let p = c.deref_mut.result.now in
-    let own : AreFor g.M.Model g.M.Body.Ord.cmp (seen_of p) c.self.inside.pending c.self.inside.debts c.self.inside.held.value = subst (λ (v : Past g.row.M.Denot g.row.M-State.Denot g.row.M-Body.Denot g.row.M-Undo.Denot). AreFor g.M.Model g.M.Body.Ord.cmp (seen_of v) c.self.inside.pending c.self.inside.debts c.self.inside.held.value) (sym c.deref_mut.ensures.value) c.self.invariant.1 in
-    let more : c.hold_undone.new.held ≡ c.self.inside.held.value ++ held_by c.in_ok-undone.undone = c.in_ok-answer.ensures.held ∙ ap (λ l. l ++ held_by c.in_ok-undone.undone) c.deref_mut-2.ensures.value in
-    (c.in_ok-undone.ensures.kept, held_own g.M.Model g.M.Body.Ord.cmp o (seen_of p) (seen_of c.undo.new.self) c.self.inside.pending c.self.inside.debts c.hold_undone.new.pending c.self.inside.held.value own c.in_ok-undone.undone c.in_ok-answer.answer c.hold_undone.new.held c.in_ok-undone.ensures.back c.in_ok-answer.ensures.pending more)
+    let own : AreFor g.M.Model g.M.Body.Ord.cmp (seen_of p) c.lp.inside.pending c.lp.inside.debts c.lp.inside.held.value = subst (λ (v : Past g.row.M.Denot g.row.M-State.Denot g.row.M-Body.Denot g.row.M-Undo.Denot). AreFor g.M.Model g.M.Body.Ord.cmp (seen_of v) c.lp.inside.pending c.lp.inside.debts c.lp.inside.held.value) (sym c.deref_mut.ensures.value) c.lp.invariant.1 in
+    let more : c.hold_undone.new.held ≡ c.lp.inside.held.value ++ held_by c.in_ok-undone.undone = c.in_ok-answer.ensures.held ∙ ap (λ l. l ++ held_by c.in_ok-undone.undone) c.deref_mut-2.ensures.value in
+    (c.in_ok-undone.ensures.kept, held_own g.M.Model g.M.Body.Ord.cmp o (seen_of p) (seen_of c.undo.new.self) c.lp.inside.pending c.lp.inside.debts c.hold_undone.new.pending c.lp.inside.held.value own c.in_ok-undone.undone c.in_ok-answer.answer c.hold_undone.new.held c.in_ok-undone.ensures.back c.in_ok-answer.ensures.pending more)
 
 pub returns-clause-turn : goal.returns-clause-turn
 returns-clause-turn g c =
     let o : IsExactOrder (event_cmp g.M.Body.Ord.cmp) = events_exact (record { total = g.met.M.Body.Ord.total; same = g.met.M.Model.same }) in
     let p = c.deref_mut.result.now in
-    let seen : process_of (seen_of p) c.self.inside.pending c.self.inside.debts c.self.inside.held.value ≡ c.args.self = ap (λ (v : Past g.row.M.Denot g.row.M-State.Denot g.row.M-Body.Denot g.row.M-Undo.Denot). process_of (seen_of v) c.self.inside.pending c.self.inside.debts c.self.inside.held.value) c.deref_mut.ensures.value ∙ c.self.view_is in
-    let more : c.hold_undone.new.held ≡ c.self.inside.held.value ++ held_by c.in_ok-undone.undone = c.in_ok-answer.ensures.held ∙ ap (λ l. l ++ held_by c.in_ok-undone.undone) c.deref_mut-2.ensures.value in
-    let now : ProcessState g.row.M-State.Denot g.row.M-Body.Denot = (process_of (seen_of c.undo.new.self) c.hold_undone.new.pending c.self.inside.debts c.hold_undone.new.held).process in
+    let seen : process_of (seen_of p) c.lp.inside.pending c.lp.inside.debts c.lp.inside.held.value ≡ c.args.self = ap (λ (v : Past g.row.M.Denot g.row.M-State.Denot g.row.M-Body.Denot g.row.M-Undo.Denot). process_of (seen_of v) c.lp.inside.pending c.lp.inside.debts c.lp.inside.held.value) c.deref_mut.ensures.value ∙ c.lp.view_is in
+    let more : c.hold_undone.new.held ≡ c.lp.inside.held.value ++ held_by c.in_ok-undone.undone = c.in_ok-answer.ensures.held ∙ ap (λ l. l ++ held_by c.in_ok-undone.undone) c.deref_mut-2.ensures.value in
+    let now : ProcessState g.row.M-State.Denot g.row.M-Body.Denot = (process_of (seen_of c.undo.new.self) c.hold_undone.new.pending c.lp.inside.debts c.hold_undone.new.held).process in
     subst (λ (w : LogicalProcess g.row.M.Denot g.row.M-State.Denot g.row.M-Body.Denot). Took w.process now c.in_ok-answer.answer [] (undo_lazily (rules g.M.Model g.M.Body.Ord.cmp w.model) w.number w.process)) seen
-    (held_turn g.M.Model g.M.Body.Ord.cmp o (seen_of p) (seen_of c.undo.new.self) c.self.inside.pending c.self.inside.debts c.hold_undone.new.pending c.self.inside.held.value c.hold_undone.new.held c.in_ok-undone.undone c.in_ok-answer.answer c.in_ok-undone.ensures.back c.in_ok-answer.ensures.pending more)
+    (held_turn g.M.Model g.M.Body.Ord.cmp o (seen_of p) (seen_of c.undo.new.self) c.lp.inside.pending c.lp.inside.debts c.hold_undone.new.pending c.lp.inside.held.value c.hold_undone.new.held c.in_ok-undone.undone c.in_ok-answer.answer c.in_ok-undone.ensures.back c.in_ok-answer.ensures.pending more)
 
 pub returns-clause-balance : goal.returns-clause-balance
 returns-clause-balance g c =
     let o : IsExactOrder (event_cmp g.M.Body.Ord.cmp) = events_exact (record { total = g.met.M.Body.Ord.total; same = g.met.M.Model.same }) in
     let p = c.deref_mut.result.now in
-    let seen : process_of (seen_of p) c.self.inside.pending c.self.inside.debts c.self.inside.held.value ≡ c.args.self = ap (λ (v : Past g.row.M.Denot g.row.M-State.Denot g.row.M-Body.Denot g.row.M-Undo.Denot). process_of (seen_of v) c.self.inside.pending c.self.inside.debts c.self.inside.held.value) c.deref_mut.ensures.value ∙ c.self.view_is in
-    let more : c.hold_undone.new.held ≡ c.self.inside.held.value ++ held_by c.in_ok-undone.undone = c.in_ok-answer.ensures.held ∙ ap (λ l. l ++ held_by c.in_ok-undone.undone) c.deref_mut-2.ensures.value in
-    let now : ProcessState g.row.M-State.Denot g.row.M-Body.Denot = (process_of (seen_of c.undo.new.self) c.hold_undone.new.pending c.self.inside.debts c.hold_undone.new.held).process in
+    let seen : process_of (seen_of p) c.lp.inside.pending c.lp.inside.debts c.lp.inside.held.value ≡ c.args.self = ap (λ (v : Past g.row.M.Denot g.row.M-State.Denot g.row.M-Body.Denot g.row.M-Undo.Denot). process_of (seen_of v) c.lp.inside.pending c.lp.inside.debts c.lp.inside.held.value) c.deref_mut.ensures.value ∙ c.lp.view_is in
+    let more : c.hold_undone.new.held ≡ c.lp.inside.held.value ++ held_by c.in_ok-undone.undone = c.in_ok-answer.ensures.held ∙ ap (λ l. l ++ held_by c.in_ok-undone.undone) c.deref_mut-2.ensures.value in
+    let now : ProcessState g.row.M-State.Denot g.row.M-Body.Denot = (process_of (seen_of c.undo.new.self) c.hold_undone.new.pending c.lp.inside.debts c.hold_undone.new.held).process in
     subst (λ (w : LogicalProcess g.row.M.Denot g.row.M-State.Denot g.row.M-Body.Denot). Balance (rules g.M.Model g.M.Body.Ord.cmp w.model) w.number w.process now [] []) seen
-    (held_balance g.M.Model g.M.Body.Ord.cmp o (seen_of p) (seen_of c.undo.new.self) c.self.inside.pending c.self.inside.debts c.hold_undone.new.pending c.self.inside.held.value c.hold_undone.new.held c.in_ok-undone.undone c.in_ok-answer.answer c.in_ok-undone.ensures.back c.in_ok-answer.ensures.pending more)
+    (held_balance g.M.Model g.M.Body.Ord.cmp o (seen_of p) (seen_of c.undo.new.self) c.lp.inside.pending c.lp.inside.debts c.hold_undone.new.pending c.lp.inside.held.value c.hold_undone.new.held c.in_ok-undone.undone c.in_ok-answer.answer c.in_ok-undone.ensures.back c.in_ok-answer.ensures.pending more)
