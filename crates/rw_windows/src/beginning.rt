@@ -246,7 +246,7 @@ fn make_shares<M: VtModel>(
     Ok(shares)
 }
 
-/// The share of worker `number`, with what is next in the supply.
+/// The share of worker `number`, which has done nothing yet, with what is next in the supply.
 fn next_share<M: VtModel>(
     alloc: Global,
     terms: Terms,
@@ -271,49 +271,24 @@ fn next_share<M: VtModel>(
         ≡ w.starts ∷ map (λ x. x.value.items) supply.new.starts.items) }
     ensures new { IfOk result (HasNotBegun terms) }
 {
-    let states = first_of(&mut supply.shares);
-    let inbox = first_of(&mut supply.inboxes);
-    let port = first_of(&mut supply.ports);
-    let bells = first_of(&mut supply.bells);
-    let starts = first_of(&mut supply.starts);
-    new_share(alloc, terms, number, states, inbox, port, bells, starts)
-}
-
-/// The share of a worker that has done nothing yet.
-fn new_share<M: VtModel>(
-    alloc: Global,
-    terms: Terms,
-    number: u32,
-    states: Vec<M::State>,
-    inbox: Vec<Event<M::Body>>,
-    port: Port<Batch<M>, InTime>,
-    bells: Bells,
-    starts: Snapshot<Vec<M::State>>,
-) -> Result<Share<M>, NoMemory>
-    ensures number { IfOk result (λ w. w.number ≡ number) }
-    ensures states { IfOk result (λ w. w.states ≡ states.items) }
-    ensures given { IfOk result (λ w. w.given ≡ inbox.items) }
-    ensures port { IfOk result (λ w. w.port ≡ port) }
-    ensures starts { IfOk result (λ w. w.starts ≡ starts.value.items) }
-    ensures new { IfOk result (HasNotBegun terms) }
-{
-    let given = Snapshot::of(&inbox);
     let away = empty_lists(alloc, terms.workers as usize)?;
+    let inbox = first_of(&mut supply.inboxes);
+    let given = Snapshot::of(&inbox);
     let seat = Seat {
         number,
         workers: terms.workers,
         end: terms.end,
         lookahead: terms.lookahead,
-        states,
-        port,
-        bells,
+        states: first_of(&mut supply.shares),
+        port: first_of(&mut supply.ports),
+        bells: first_of(&mut supply.bells),
         away,
         until: 0,
         heard: terms.reach,
         said: terms.reach,
         executed: 0,
         received: 0,
-        starts,
+        starts: first_of(&mut supply.starts),
         given,
     };
     Ok(Share {

@@ -65,7 +65,7 @@ impl<'r, M: VtModel, R: Wait> Work<'r, M, R> {
             if worker.execute_next(self.alloc, &self.model, &mut sent)? {
                 continue;
             }
-            if !are_there || (worker.is_done() && worker.all_are_idle()) {
+            if !are_there || worker.is_at_the_end() {
                 return Ok(());
             }
             are_there = self.go_on(worker)?;

@@ -82,17 +82,13 @@ impl<M: VtModel> Worker<M> {
         Share { seat, events }
     }
 
-    /// Whether it has executed all that is before the end, in the last window.
-    pub(crate) fn is_done(&self) -> bool
-        ensures done { result ≡ true → self.now.end ≤ self.now.until }
-    {
-        self.seat.until >= self.seat.end
-    }
-
-    /// Whether all workers have nothing to do before the end any more, as they said, it too, in the batches that are heard by
-    /// now. Each finds so after as many batches, so none waits for one that does not come.
-    pub(crate) fn all_are_idle(&self) -> bool {
-        self.seat.heard >= self.seat.end.saturating_add(self.seat.lookahead)
+    /// Whether it has executed all that is before the end, in the last window, and all workers have nothing to do before the
+    /// end any more, as they said, it too, in the batches that are heard by now. Each finds so after as many batches, so none
+    /// waits for one that does not come.
+    pub(crate) fn is_at_the_end(&self) -> bool {
+        let seat = &self.seat;
+        seat.until >= seat.end
+            && seat.heard >= seat.end.saturating_add(seat.lookahead)
             && self.idle > self.lag()
     }
 
