@@ -12,7 +12,7 @@ const MOST: usize = 65_536;
 const LONG: u64 = 256;
 
 /// A piece of a run.
-#[derive(Clone, Copy, Debug, PartialEq, Eq)]
+#[derive(Clone, Copy)]
 pub(crate) enum Piece {
     /// Rounds of all workers, which run ahead and take back, with so many initial events.
     Rounds(usize),
@@ -29,7 +29,7 @@ pub(crate) enum Piece {
 /// event waits that could be executed. Where windows are too thin the workers run ahead, in rounds, and where those find too
 /// little as well, the pace has one worker go on alone; so it does from the start where a round has no room for the grain of a
 /// worker. No theorem rests on this.
-#[derive(Clone, Copy, Debug)]
+#[derive(Clone, Copy)]
 pub(crate) struct Gears {
     /// How much of its plan a round gets.
     pub(crate) pace: Pace,
@@ -92,7 +92,7 @@ impl Gears {
 }
 
 /// How far a run has come, and how it is to go on.
-#[derive(Clone, Copy, Debug)]
+#[derive(Clone, Copy)]
 pub(crate) struct Course {
     pub(crate) gears: Gears,
     /// How many rounds are left of the plan's.
