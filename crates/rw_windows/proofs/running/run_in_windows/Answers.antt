@@ -1,4 +1,4 @@
-use Rattle.std.proofs.Common.{◌≡◌, ◌≤◌, All, ap, arith, length, subst, sym}
+use Rattle.std.proofs.Common.{◌≡◌, ◌≤◌, All, ap, ◌∙◌, arith, length, subst, sym}
 use Rattle.rw_windows.specs.Running.{HaveEnded, IsLeftOfRun}
 use Rattle.rw_windows.proofs.Ended.{ended}
 use Rattle.rw_windows.proofs.running.run_in_windows.Given as given
@@ -29,3 +29,12 @@ returns-clause-left g c =
     let left = c.in_ok-left.left in
     subst (λ m. IsLeftOfRun g.M.Model g.M.Body.Ord.cmp m c.args.end c.args.states.items c.args.events.items left.states.items left.events.items) (same_model g at)
     (c.in_ok-left.ensures.left c.args.end c.args.states.items c.args.events.items as_many (came g at))
+
+pub do_each-requires : goal.do_each-requires
+do_each-requires g c = record { takes = c.in_ok-shares.ensures.begun.can_begin }
+
+pub gather-requires-clause-some : goal.gather-requires-clause-some
+gather-requires-clause-some g c = omega (arith, c.in_ok-work.ensures.count, c.in_ok-shares.ensures.begun.many, c.requires.workers)
+
+pub returns-clause-model : goal.returns-clause-model
+returns-clause-model g c = c.in_ok-left.ensures.model ∙ same_model g (goal.at.returns-clause-model g c).Else-not-all_done

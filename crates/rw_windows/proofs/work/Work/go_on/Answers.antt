@@ -3,6 +3,7 @@ use Rattle.std.proofs.Common.{◌≡◌, ◌∙◌, true, sym, subst, rules}
 use Rattle.rw_windows.specs.Working.{IsAtWork, HandedOver, SameWorker}
 use Rattle.rw_windows.proofs.Workers.{same_then}
 use Rattle.rw_windows.proofs.work.Work.go_on.Goals as goal
+use Rattle.rw_windows.proofs.work.Work.go_on.Goals.{else-not-leaves_unheard-via-then-not-leaves_unheard+in_ok-hear+else-not-branch-2 as heard, else-not-leaves_unheard-via-else-not-leaves_unheard as left}
 
 pub say-requires : goal.say-requires
 say-requires g c = record { at_work = c.requires.at_work }
@@ -31,3 +32,35 @@ pub returns-then-not-branch-2-clause-same : goal.returns-then-not-branch-2-claus
 returns-then-not-branch-2-clause-same g c =
     let same = c.leaves_unheard.ensures.same ∙ c.note_idle.ensures.same in
     same_then _ _ _ (subst (SameWorker c.args.worker.now) (sym same) c.in_ok-say.ensures.same) c.in_ok-hear.ensures.same
+
+-- whether it heard or not
+
+pub go_further-requires-clause-at_work : goal.go_further-requires-clause-at_work
+go_further-requires-clause-at_work g c =
+    let P = IsAtWork g.M.Model g.M.Body.Ord.cmp c.args.self.now.model in
+    let same = c.leaves_unheard.ensures.same ∙ c.note_idle.ensures.same in
+    elim c.else-not-leaves_unheard.branch [
+      | heard w ↦ subst P (sym w.worker-is) w.in_ok-hear.ensures.at_work
+      | left w ↦ subst P (sym (w.worker-is ∙ same)) c.in_ok-say.ensures.at_work
+    ]
+
+pub go_further-requires-clause-handed_over : goal.go_further-requires-clause-handed_over
+go_further-requires-clause-handed_over g c =
+    let same = c.leaves_unheard.ensures.same ∙ c.note_idle.ensures.same in
+    elim c.else-not-leaves_unheard.branch [
+      | heard w ↦ subst HandedOver (sym w.worker-is) w.in_ok-hear.ensures.handed_over
+      | left w ↦ subst HandedOver (sym (w.worker-is ∙ same)) (c.in_ok-say.ensures.handed_over c.if-not-branch.false)
+    ]
+
+pub returns-clause-at_work : goal.returns-clause-at_work
+returns-clause-at_work g c = c.go_further.ensures.at_work
+
+pub returns-clause-same : goal.returns-clause-same
+returns-clause-same g c =
+    let P = SameWorker c.args.worker.now in
+    let same = c.leaves_unheard.ensures.same ∙ c.note_idle.ensures.same in
+    let said = subst P (sym same) c.in_ok-say.ensures.same in
+    same_then _ _ _ (elim c.else-not-leaves_unheard.branch [
+      | heard w ↦ subst P (sym w.worker-is) (same_then _ _ _ said w.in_ok-hear.ensures.same)
+      | left w ↦ subst P (sym w.worker-is) said
+    ]) c.go_further.ensures.same
