@@ -1,6 +1,6 @@
 use Rattle.std.proofs.Common.{◌≡◌, ◌<◌, [], length, map, get_or, sym, ap, ◌∙◌, arith}
-use Rattle.std.specs.Prelude.{◌%◌}
-use Rattle.std.proofs.lemmas.List.{length-set, length-map, length-replicate, get_or-replicate}
+use Rattle.std.specs.Prelude.{◌%◌, ◌==◌, filter}
+use Rattle.std.proofs.lemmas.List.{take_all, length-set, length-map, length-replicate, get_or-replicate}
 use Rattle.rw_crew.proofs.Lists.{pushed_at}
 use Rattle.rw_windows.proofs.Lists.{sorted_more}
 use Rattle.rw_windows.proofs.beginning.deal_events.Goals as goal
@@ -36,3 +36,14 @@ index_mut-requires g c = omega (arith, c.loop-event.invariant.long, c.requires.w
 
 pub returns-clause-count : goal.returns-clause-count
 returns-clause-count g c = c.loop-event.invariant.long
+
+pub nonzero_div-events : goal.nonzero_div-events
+nonzero_div-events g c = omega (arith, c.requires.workers)
+
+pub nonzero_rem-event : goal.nonzero_rem-event
+nonzero_rem-event g c = omega (arith, c.requires.workers)
+
+pub returns-clause-each : goal.returns-clause-each
+returns-clause-each g c = λ i below.
+    c.loop-event.invariant.sorted_out i below
+    ∙ ap (filter (λ e. e.to % c.args.workers == i)) (take_all c.loop-event.event-index c.args.events.now (omega (arith, c.loop-event-test.false)))

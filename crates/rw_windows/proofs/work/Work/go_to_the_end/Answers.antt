@@ -27,3 +27,6 @@ loop-preserved g c =
       at_work = c.in_ok-are_there.ensures.at_work;
       same = same_then c.args.worker.now ran c.go_on.new.worker (same_then c.args.worker.now c.loop.worker ran c.loop.invariant.same c.in_ok-execute_next.ensures.same) c.in_ok-are_there.ensures.same;
     }
+
+pub go_on-requires : goal.go_on-requires
+go_on-requires g c = record { at_work = c.in_ok-execute_next.ensures.at_work }
