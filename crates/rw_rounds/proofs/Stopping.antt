@@ -1,13 +1,17 @@
 -- Why a run stops.
-use Rattle.std.proofs.Common.{◌≡◌, Result, Ok, Err}
+use Rattle.std.proofs.Common.{◌≡◌, Result, Ok, Err, IfErr}
 use Rattle.std.specs.Result.{IsErrAnd}
 use Rattle.rw_rounds.specs.declared.stop.Stop.{Stop}
 use Rattle.rw_rounds.specs.declared.stop.Stop.TheVariants.{BadPlan, Memory}
 
--- want of memory is no bad plan
-pub memory-is-no-plan : {T : Type 0} (r : Result T Stop) → IsErrAnd r (λ s. s ≡ Memory) → r ≡ Err BadPlan → ⊥
-memory-is-no-plan (Ok t) is same = is
-memory-is-no-plan (Err s) is same = cc
+-- an answer is no bad plan
+pub ok-is-no-plan : {T : Type 0} (t : T) → Ok t ≡ Err BadPlan → ⊥
+ok-is-no-plan t same = cc
+
+-- nor is a stop for want of memory
+pub memory-alone-is-no-plan : {T : Type 0} (r : Result T Stop) → IfErr r (λ s. s ≡ Memory) → r ≡ Err BadPlan → ⊥
+memory-alone-is-no-plan (Ok t) is same = cc
+memory-alone-is-no-plan (Err s) is same = cc
 
 -- nor is what ends a round, as it is handed on
 pub end-is-no-plan : {T : Type 0} (r : Result T Stop) (e : Stop) → IsErrAnd r (λ s. s ≡ e) → (e ≡ BadPlan → ⊥) → r ≡ Err BadPlan → ⊥

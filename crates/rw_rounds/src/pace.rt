@@ -1,6 +1,7 @@
 ghost use Rattle.rw_worker.specs.Plans.{IsInRanges};
 
-use rw_worker::{Plan, Traffic};
+use crate::sim::Mark;
+use rw_worker::Plan;
 
 /// As many events a worker, executed for good, make a round worth its threads, if nothing else is said.
 const GRAIN: u64 = 64;
@@ -106,19 +107,12 @@ impl Pace {
         }
     }
 
-    /// A round of a run within `bounds` was made, which took the floor from `from` to `to`, in ticks, and the counts from
-    /// `before` to `after`. Takes no memory.
-    pub(crate) fn note_round(
-        &mut self,
-        bounds: &Plan,
-        from: u64,
-        to: u64,
-        before: &Traffic,
-        after: &Traffic,
-    ) {
-        let executed = after.executed.wrapping_sub(before.executed);
-        let undone = after.undone.wrapping_sub(before.undone);
-        self.note(bounds, to.saturating_sub(from), executed, undone);
+    /// A round of a run within `bounds` was made, which took the run from `before` to `after`. Takes no memory.
+    pub(crate) fn note_round(&mut self, bounds: &Plan, before: &Mark, after: &Mark) {
+        let moved = after.floor.saturating_sub(before.floor);
+        let executed = after.traffic.executed.wrapping_sub(before.traffic.executed);
+        let undone = after.traffic.undone.wrapping_sub(before.traffic.undone);
+        self.note(bounds, moved, executed, undone);
     }
 
     /// A round of a run within `bounds` was made: its floor moved by `moved` ticks, and of `executed` events `undone` were

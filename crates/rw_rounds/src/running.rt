@@ -1,4 +1,4 @@
-ghost use Rattle.std.specs.Prelude.{◌≡◌, ◌≤◌, ◌↔◌, ◌^◌, IfOk, map};
+ghost use Rattle.std.specs.Prelude.{◌≡◌, ◌≤◌, ◌↔◌, ◌^◌, IfErr, IfOk, map};
 ghost use Rattle.rw_vt.specs.Limits.{end_of_time};
 ghost use Rattle.rw_vt.specs.System.{IsOutcome};
 ghost use Rattle.rw_world.specs.Calls.{system_of};
@@ -79,19 +79,30 @@ where
     let mut sim = Sim::open(world, plan)?;
     let mut pace = Pace::new();
     for _round in 0..plan.max_rounds {
-        let floor = sim.floor();
-        let before = sim.traffic();
+        let before = sim.mark();
         sim = run_round(rt, alloc, sim.by(pace.plan(&plan)), gate)?;
-        let traffic = sim.traffic();
-        let reached = sim.floor();
-        if reached == END {
-            let outcome = outcome(alloc, sim.into_world())?;
-            return Ok((outcome, traffic));
+        let after = sim.mark();
+        if after.floor == END {
+            return finish(alloc, sim);
         }
-        pace.note_round(&plan, floor, reached, &before, &traffic);
-        progress.reach(reached);
+        pace.note_round(&plan, &before, &after);
+        progress.reach(after.floor);
     }
     Err(Stop::RoundsUsed)
+}
+
+/// What a run comes to where nothing is outstanding and all is collected: the committed events and the state of each process,
+/// and what the rounds did.
+fn finish<M: VtModel + Drop>(alloc: Global, sim: Sim<M>) -> Result<(Outcome<M>, Traffic), Stop>
+    requires floor { end_of_time ≤ floor sim.simulation.world }
+    requires collected { end_of_time ≤ sim.simulation.world.collected }
+    ensures outcome { IfOk result (λ r. IsOutcome (system_of M.Model M.Body.cmp sim.simulation)
+        end_of_time (map (λ j. j.items) r.0.journals.items) r.0.states.items) }
+    ensures memory { IfErr result (λ stop. stop ≡ Stop.Memory) }
+{
+    let traffic = sim.traffic();
+    let outcome = outcome(alloc, sim.into_world())?;
+    Ok((outcome, traffic))
 }
 
 /// The committed events and the state of each process, where nothing is outstanding and all is collected.

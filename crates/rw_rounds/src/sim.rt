@@ -17,6 +17,15 @@ pub struct Sim<M: VtModel> {
     pub(crate) traffic: Traffic,
 }
 
+/// How far the rounds of a run have come.
+#[derive(Clone, Copy)]
+pub(crate) struct Mark {
+    /// What the last round gave as its floor, in ticks.
+    pub(crate) floor: u64,
+    /// What the rounds so far did, in counts.
+    pub(crate) traffic: Traffic,
+}
+
 impl<M: VtModel> Model for Sim<M> {
     ghost use Rattle.rw_worker.specs.Plans.{IsInRanges};
     ghost use Rattle.rw_rounds.specs.Rounds.{SimState};
@@ -62,6 +71,16 @@ impl<M: VtModel + Drop> Sim<M> {
     /// What the rounds so far did, in counts. Takes no memory.
     pub fn traffic(&self) -> Traffic {
         self.traffic
+    }
+
+    /// How far the rounds have come. Takes no memory.
+    pub(crate) fn mark(&self) -> Mark
+        ensures floor { result.floor ≡ self.now.floor }
+    {
+        Mark {
+            floor: self.floor,
+            traffic: self.traffic,
+        }
     }
 
     /// The same run, with its next round by `plan`. Takes no memory.

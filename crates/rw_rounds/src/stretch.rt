@@ -4,7 +4,7 @@ ghost use Rattle.rw_rounds.specs.Stretches.{IsSameSystem};
 
 use crate::pace::Pace;
 use crate::round::{RoundWork, run_round_until};
-use crate::sim::Sim;
+use crate::sim::{Mark, Sim};
 use crate::stop::Stop;
 use rw_crew::Hands;
 use rw_progress::Progress;
@@ -54,26 +54,40 @@ where
     ensures before { IfOk result (λ s. s.world.world.collected ≤ until) }
     ensures plan { (result ≡ Err Stop.BadPlan) ↔ (IsInRanges plan → ⊥) }
 {
-    let mut floor = world.floor();
+    let mut reached = Mark {
+        floor: world.floor(),
+        traffic: Traffic::default(),
+    };
     let mut sim = Sim::open(world, plan)?;
     for _round in 0..rounds {
-        let before = sim.traffic();
+        let before = reached;
         sim = run_round_until(hands, alloc, sim.by(pace.plan(&plan)), until)?;
-        let from = floor;
-        floor = sim.floor();
-        if floor >= until {
-            break;
-        }
-        pace.note_round(&plan, from, floor, &before, &sim.traffic());
-        progress.reach(floor);
-        if pace.alone().is_some() {
+        reached = sim.mark();
+        if !may_go_on(&plan, until, &before, &reached, pace, progress) {
             break;
         }
     }
-    let traffic = sim.traffic();
     Ok(Stretch {
         world: sim.into_world(),
-        floor,
-        traffic,
+        floor: reached.floor,
+        traffic: reached.traffic,
     })
+}
+
+/// After a round of a stretch, which took the run from `before` to `after`: whether another one may follow. Tells the pace and
+/// `progress` of a round that was not the last.
+fn may_go_on<P: Progress>(
+    plan: &Plan,
+    until: u64,
+    before: &Mark,
+    after: &Mark,
+    pace: &mut Pace,
+    progress: &mut P,
+) -> bool {
+    if after.floor >= until {
+        return false;
+    }
+    pace.note_round(plan, before, after);
+    progress.reach(after.floor);
+    pace.alone().is_none()
 }
