@@ -148,7 +148,11 @@ impl<M: VtModel> HeldBack<M> {
     pub fn give_to(&self, out: &mut Vec<Event<M::Body>>) -> Result<(), AllocError>
         ensures { OnOk result (out.new.items ≡ out.old.items ++ held_messages self.now) }
     {
-        give_messages(out, self.pairs.as_slice())
+        let pairs = self.pairs.as_slice();
+        for pair in pairs {
+            out.push(pair.message)?;
+        }
+        Ok(())
     }
 
     /// Lets the first pair with this message go, and answers whether there was one.
@@ -224,16 +228,6 @@ fn give_antis<B: Copy>(out: &mut Vec<Letter<B>>, pairs: &[Held<B>]) -> Result<()
             event: pair.message,
             anti: true,
         })?;
-    }
-    Ok(())
-}
-
-/// Appends the messages.
-fn give_messages<B: Copy>(out: &mut Vec<Event<B>>, pairs: &[Held<B>]) -> Result<(), AllocError>
-    ensures { OnOk result (out.new.items ≡ out.old.items ++ held_messages pairs.now) }
-{
-    for pair in pairs {
-        out.push(pair.message)?;
     }
     Ok(())
 }
