@@ -11,7 +11,7 @@ use crate::setting_up::set_up;
 use crate::sim::Sim;
 use crate::stop::Stop;
 use rw_board::Board;
-use rw_crew::{Hands, Job, may_move, run_each};
+use rw_crew::{Halt, Hands, Job, may_move, run_each};
 use rw_exchange::Port;
 use rw_vt::{Event, Letter, Model as VtModel, NoMemory, Refusal};
 use rw_worker::{Plan, Traffic, Worker};
@@ -123,7 +123,7 @@ fn go_round<M, G, R>(
     plan: &Plan,
     gate: &G,
     traffic: &mut Traffic,
-) -> Result<(Parts<M>, u64), Stop>
+) -> Result<(Parts<M>, u64), Halt>
 where
     M: VtModel + Drop + Sync,
     M::State: Send,
@@ -134,7 +134,6 @@ where
     requires whole { IsWhole M.Model M.Body.cmp parts }
     requires plan { IsInRanges plan.now }
     ensures round { IfOk result (λ r. Round M.Model M.Body.cmp plan.now parts r.0 r.1) }
-    ensures others { IfErr result (λ stop. EndsRound stop) }
 {
     let (work, workers, rest) = begin_round(alloc, plan, parts)?;
     let round = WorkerRound {
@@ -147,8 +146,7 @@ where
     // On this rests that a worker may move.
     may_move::<Port<Letter<M::Body>>>();
     let workers = run_each(rt, alloc, workers, &round)?;
-    let ended = end_round(alloc, work, workers, rest, traffic)?;
-    Ok(ended)
+    end_round(alloc, work, workers, rest, traffic)
 }
 
 /// The same by threads that are there already, to which the work goes and comes back.
@@ -158,19 +156,17 @@ fn go_round_by<M, H>(
     parts: Parts<M>,
     plan: &Plan,
     traffic: &mut Traffic,
-) -> Result<(Parts<M>, u64), Stop>
+) -> Result<(Parts<M>, u64), Halt>
 where
     M: VtModel + Drop,
     H: Hands<RoundWork<M>, Worker<M>>,
     requires whole { IsWhole M.Model M.Body.cmp parts }
     requires plan { IsInRanges plan.now }
     ensures round { IfOk result (λ r. Round M.Model M.Body.cmp plan.now parts r.0 r.1) }
-    ensures others { IfErr result (λ stop. EndsRound stop) }
 {
     let (work, workers, rest) = begin_round(alloc, plan, parts)?;
     let (work, workers) = hands.do_each(alloc, work, workers)?;
-    let ended = end_round(alloc, work, workers, rest, traffic)?;
-    Ok(ended)
+    end_round(alloc, work, workers, rest, traffic)
 }
 
 /// What a round leaves of the parts as it is, and how many processes it has.
@@ -224,7 +220,7 @@ fn end_round<M: VtModel + Drop>(
     workers: Vec<Worker<M>>,
     rest: Rest<M>,
     traffic: &mut Traffic,
-) -> Result<(Parts<M>, u64), NoMemory>
+) -> Result<(Parts<M>, u64), Halt>
     requires done { AreDone rest.count work.board workers.items }
     ensures ended { IfOk result (λ r. IsEnded work workers.items rest r.0 r.1) }
 {

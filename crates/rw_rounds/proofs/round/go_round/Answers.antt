@@ -1,4 +1,5 @@
 use denote.Param.Send.{param_send}
+use Rattle.std.proofs.lemmas.Result.{IfOk-weaker}
 use Rattle.rw_vt.proofs.Laws.{Laws}
 use Rattle.rw_rounds.proofs.Gathered.{AllTook, begun_seated, all_done, round_made}
 use Rattle.rw_worker.proofs.Cited.{worker_may_move}
@@ -32,7 +33,10 @@ end_round-requires g c =
     let at = goal.at.end_round-requires g c in
     record { done = all_done (laws g) c.requires.plan c.requires.whole c.in_ok-work.ensures.begun (went g at.In_ok-workers) }
 
-pub returns-clause-round : goal.returns-clause-round
-returns-clause-round g c =
-    let at = goal.at.returns-clause-round g c in
-    round_made (laws g) c.requires.plan c.requires.whole c.in_ok-work.ensures.begun (went g at.In_ok-workers) _ _ c.in_ok-ended.ensures.ended
+pub returns : goal.returns
+returns g c =
+    let at = goal.at.returns g c in
+    record {
+      round = IfOk-weaker c.end_round.result _ _
+          (λ r ended. round_made (laws g) c.requires.plan c.requires.whole c.in_ok-work.ensures.begun (went g at.In_ok-workers) r.0 r.1 ended) c.end_round.ensures.ended;
+    }

@@ -1,4 +1,5 @@
 use Rattle.std.proofs.Common.{sym, subst}
+use Rattle.std.proofs.lemmas.Result.{IfOk-weaker}
 use Rattle.rw_vt.proofs.Laws.{Laws, laws_of}
 use Rattle.rw_rounds.specs.Gathering.{AreDone, IsEnded}
 use Rattle.rw_rounds.proofs.Gathered.{AllTook, begun_seated, all_done, round_made}
@@ -22,8 +23,12 @@ end_round-requires g c =
     let at = goal.at.end_round-requires g c in
     record { done = subst (λ work. AreDone c.in_ok-work.rest.count work.board c.in_ok-work-2.workers.items) (sym c.in_ok-work-2.ensures.job) (all_done (laws g) c.requires.plan c.requires.whole c.in_ok-work.ensures.begun (went g at.In_ok-work-2)) }
 
-pub returns-clause-round : goal.returns-clause-round
-returns-clause-round g c =
-    let at = goal.at.returns-clause-round g c in
-    let ended = subst (λ work. IsEnded work c.in_ok-work-2.workers.items c.in_ok-work.rest c.in_ok-ended.ended.0 c.in_ok-ended.ended.1) c.in_ok-work-2.ensures.job c.in_ok-ended.ensures.ended in
-    round_made (laws g) c.requires.plan c.requires.whole c.in_ok-work.ensures.begun (went g at.In_ok-work-2) _ _ ended
+pub returns : goal.returns
+returns g c =
+    let at = goal.at.returns g c in
+    let workers = c.in_ok-work-2.workers.items in
+    record {
+      round = IfOk-weaker c.end_round.result _ _
+          (λ r ended. round_made (laws g) c.requires.plan c.requires.whole c.in_ok-work.ensures.begun (went g at.In_ok-work-2) r.0 r.1
+          (subst (λ work. IsEnded work workers c.in_ok-work.rest r.0 r.1) c.in_ok-work-2.ensures.job ended)) c.end_round.ensures.ended;
+    }
