@@ -2,13 +2,17 @@
 use Rattle.std.proofs.Common.{◌≡◌, Result, Ok, Err, IfErr}
 use Rattle.std.specs.Result.{IsErrAnd}
 use Rattle.rw_rounds.specs.declared.stop.Stop.{Stop}
-use Rattle.rw_rounds.specs.declared.stop.Stop.TheVariants.{BadPlan, Memory}
+use Rattle.rw_rounds.specs.declared.stop.Stop.TheVariants.{BadPlan, Memory, RoundsUsed}
 
 -- an answer is no bad plan
 pub ok-is-no-plan : {T : Type 0} (t : T) → Ok t ≡ Err BadPlan → ⊥
 ok-is-no-plan t same = cc
 
--- nor is a stop for want of memory
+-- nor is a stop since the rounds are used up
+pub used-is-no-plan : {T : Type 0} (r : Result T Stop) → r ≡ Err RoundsUsed → r ≡ Err BadPlan → ⊥
+used-is-no-plan r used same = cc
+
+-- nor one for want of memory
 pub memory-alone-is-no-plan : {T : Type 0} (r : Result T Stop) → IfErr r (λ s. s ≡ Memory) → r ≡ Err BadPlan → ⊥
 memory-alone-is-no-plan (Ok t) is same = cc
 memory-alone-is-no-plan (Err s) is same = cc

@@ -6,6 +6,17 @@ use Rattle.std.proofs.lemmas.List.{get_or-set_same, get_or-set_other, take_more}
 use Rattle.std.proofs.lemmas.List.Elements.{filter-append}
 use Rattle.rw_vt.specs.System.{flatten}
 
+-- of the n elements of a list that is walked, none is done
+pub none_done : {X Y : Type 0} {xs : List X} {rest all : List Y} {done n : ℕ} → done ≡ length xs → xs ≡ [] → rest ≡ all → n ≡ length all → done + length rest ≡ n
+none_done is none begin many = omega (arith, ap length none, ap length begin)
+
+-- where so many are done there is room for the next one, and with it one more is done
+pub room_for_one : {X : Type 0} {x : X} {xs rest : List X} {done n room : ℕ} → xs ≡ x ∷ rest → done + length xs ≡ n → room ≡ n → done < room
+room_for_one one all is = omega (arith, ap length one)
+
+pub one_more : {X : Type 0} {x : X} {xs rest : List X} (done : ℕ) {done' n : ℕ} → xs ≡ x ∷ rest → done + length xs ≡ n → done' ≡ done + 1 → done' + length rest ≡ n
+one_more done one all next = omega (arith, ap length one)
+
 -- of what is sorted out by f, the elements at q, one element further
 module _ {X : Type 0} (f : X → ℕ) (q : ℕ) (xs : List X) (k : ℕ) (x : X) (within : k < length xs) (read : x ≡ get_or xs k x) where
   more : filter (λ a. f a == q) (take (k + 1) xs) ≡ filter (λ a. f a == q) (take k xs) ++ cond (f x == q) (x ∷ []) []

@@ -1,7 +1,7 @@
-use Rattle.std.proofs.Common.{◌≡◌, [], ◌∷◌, ◌++◌, length, map, sym, ap, ◌∙◌, arith}
+use Rattle.std.proofs.Common.{◌≡◌, [], ◌∷◌, ◌++◌, map, sym, ap, ◌∙◌}
 use Rattle.std.proofs.lemmas.List.{length-map}
 use Rattle.rw_crew.proofs.Lists.{one_done, all_walked}
-use Rattle.rw_rounds.proofs.Walking.{piece_done}
+use Rattle.rw_rounds.proofs.Walking.{none_done, one_more, piece_done, room_for_one}
 use Rattle.rw_rounds.proofs.gathering.take_apart.Goals as goal
 
 pub loop-worker-preserved : goal.loop-worker-preserved
@@ -13,11 +13,11 @@ loop-worker-preserved g c =
     let r : c.loop-worker.worker-iterator.rest.items ≡ w ∷ rest' = c.in-Some.ensures.steps.0 in
     let its = c.into_belongings-processes.ensures in
     record {
-      shares_room = (c.push_back_reserved.ensures.capacity ∙ known.shares_room.0, omega (arith, ap length r, c.push_back_reserved.ensures.len, known.shares_room.1));
-      kept_room = (c.push_reserved.ensures.capacity ∙ known.kept_room.0, omega (arith, ap length r, c.push_reserved.ensures.len, known.kept_room.1));
-      aside_room = (c.push_reserved-in-loop-worker.ensures.capacity ∙ known.aside_room.0, omega (arith, ap length r, c.push_reserved-in-loop-worker.ensures.len, known.aside_room.1));
-      ports_room = (c.push_reserved-in-loop-worker-2.ensures.capacity ∙ known.ports_room.0, omega (arith, ap length r, c.push_reserved-in-loop-worker-2.ensures.len, known.ports_room.1));
-      seats_room = (c.push_reserved-in-loop-worker-3.ensures.capacity ∙ known.seats_room.0, omega (arith, ap length r, c.push_reserved-in-loop-worker-3.ensures.len, known.seats_room.1));
+      shares_room = (c.push_back_reserved.ensures.capacity ∙ known.shares_room.0, one_more _ r known.shares_room.1 c.push_back_reserved.ensures.len);
+      kept_room = (c.push_reserved.ensures.capacity ∙ known.kept_room.0, one_more _ r known.kept_room.1 c.push_reserved.ensures.len);
+      aside_room = (c.push_reserved-in-loop-worker.ensures.capacity ∙ known.aside_room.0, one_more _ r known.aside_room.1 c.push_reserved-in-loop-worker.ensures.len);
+      ports_room = (c.push_reserved-in-loop-worker-2.ensures.capacity ∙ known.ports_room.0, one_more _ r known.ports_room.1 c.push_reserved-in-loop-worker-2.ensures.len);
+      seats_room = (c.push_reserved-in-loop-worker-3.ensures.capacity ∙ known.seats_room.0, one_more _ r known.seats_room.1 c.push_reserved-in-loop-worker-3.ensures.len);
       shares = one_done (λ h. h.items) l.shares.items _ _ (map (λ w. w.processes) rest') _ w.processes c.from.result known.shares (ap (map (λ w. w.processes)) r) (c.from.ensures.0 ∙ its.processes) c.push_back_reserved.ensures.items;
       kept = one_done (λ k. k.items) l.kept.items _ _ (map (λ w. w.kept) rest') _ w.kept c.into_belongings-processes.result.kept known.kept (ap (map (λ w. w.kept)) r) its.kept c.push_reserved.ensures.items;
       aside = one_done (λ a. a.items) l.aside.items _ _ (map (λ w. w.aside) rest') _ w.aside c.into_belongings-processes.result.aside known.aside (ap (map (λ w. w.aside)) r) its.aside c.push_reserved-in-loop-worker.ensures.items;
@@ -58,11 +58,11 @@ loop-worker-init g c =
     let made = c.in_ok-holdings.ensures in
     let all = c.args.workers.ok.0 in
     record {
-      shares_room = (omega (arith, made.room.0, c.len.ensures), omega (arith, its.shares.ok.0, ap length made.others.0, ap length begin, all));
-      kept_room = (omega (arith, made.letters_room.0, c.len.ensures), omega (arith, its.kept.ok.0, ap length made.letters.0, ap length begin, all));
-      aside_room = (omega (arith, made.letters_room.1, c.len.ensures), omega (arith, its.aside.ok.0, ap length made.letters.1, ap length begin, all));
-      ports_room = (omega (arith, made.room.1, c.len.ensures), omega (arith, its.ports.ok.0, ap length made.others.1, ap length begin, all));
-      seats_room = (omega (arith, made.room.2, c.len.ensures), omega (arith, its.seats.ok.0, ap length made.others.2, ap length begin, all));
+      shares_room = (made.room.0 ∙ c.len.ensures, none_done its.shares.ok.0 made.others.0 begin all);
+      kept_room = (made.letters_room.0 ∙ c.len.ensures, none_done its.kept.ok.0 made.letters.0 begin all);
+      aside_room = (made.letters_room.1 ∙ c.len.ensures, none_done its.aside.ok.0 made.letters.1 begin all);
+      ports_room = (made.room.1 ∙ c.len.ensures, none_done its.ports.ok.0 made.others.1 begin all);
+      seats_room = (made.room.2 ∙ c.len.ensures, none_done its.seats.ok.0 made.others.2 begin all);
       shares = ap (λ z. map (λ h. h.items) z ++ map (λ w. w.processes) rest) made.others.0 ∙ ap (map (λ w. w.processes)) begin;
       kept = ap (λ z. map (λ k. k.items) z ++ map (λ w. w.kept) rest) made.letters.0 ∙ ap (map (λ w. w.kept)) begin;
       aside = ap (λ z. map (λ a. a.items) z ++ map (λ w. w.aside) rest) made.letters.1 ∙ ap (map (λ w. w.aside)) begin;
@@ -71,16 +71,16 @@ loop-worker-init g c =
     }
 
 pub push_back_reserved-requires : goal.push_back_reserved-requires
-push_back_reserved-requires g c = omega (arith, c.loop-worker.invariant.shares_room.0, c.loop-worker.invariant.shares_room.1, ap length c.in-Some.ensures.steps.0)
+push_back_reserved-requires g c = room_for_one c.in-Some.ensures.steps.0 c.loop-worker.invariant.shares_room.1 c.loop-worker.invariant.shares_room.0
 
 pub push_reserved-requires : goal.push_reserved-requires
-push_reserved-requires g c = omega (arith, c.loop-worker.invariant.kept_room.0, c.loop-worker.invariant.kept_room.1, ap length c.in-Some.ensures.steps.0)
+push_reserved-requires g c = room_for_one c.in-Some.ensures.steps.0 c.loop-worker.invariant.kept_room.1 c.loop-worker.invariant.kept_room.0
 
 pub push_reserved-requires-in-loop-worker : goal.push_reserved-requires-in-loop-worker
-push_reserved-requires-in-loop-worker g c = omega (arith, c.loop-worker.invariant.aside_room.0, c.loop-worker.invariant.aside_room.1, ap length c.in-Some.ensures.steps.0)
+push_reserved-requires-in-loop-worker g c = room_for_one c.in-Some.ensures.steps.0 c.loop-worker.invariant.aside_room.1 c.loop-worker.invariant.aside_room.0
 
 pub push_reserved-requires-in-loop-worker-2 : goal.push_reserved-requires-in-loop-worker-2
-push_reserved-requires-in-loop-worker-2 g c = omega (arith, c.loop-worker.invariant.ports_room.0, c.loop-worker.invariant.ports_room.1, ap length c.in-Some.ensures.steps.0)
+push_reserved-requires-in-loop-worker-2 g c = room_for_one c.in-Some.ensures.steps.0 c.loop-worker.invariant.ports_room.1 c.loop-worker.invariant.ports_room.0
 
 pub push_reserved-requires-in-loop-worker-3 : goal.push_reserved-requires-in-loop-worker-3
-push_reserved-requires-in-loop-worker-3 g c = omega (arith, c.loop-worker.invariant.seats_room.0, c.loop-worker.invariant.seats_room.1, ap length c.in-Some.ensures.steps.0)
+push_reserved-requires-in-loop-worker-3 g c = room_for_one c.in-Some.ensures.steps.0 c.loop-worker.invariant.seats_room.1 c.loop-worker.invariant.seats_room.0

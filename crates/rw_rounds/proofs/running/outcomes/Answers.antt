@@ -1,7 +1,7 @@
 use Rattle.std.proofs.Common.{◌≡◌, [], ◌∷◌, ◌++◌, length, map, sym, ap, ◌∙◌, arith}
 use Rattle.std.proofs.lemmas.List.{length-map}
 use Rattle.rw_crew.proofs.Lists.{one_done, all_walked}
-use Rattle.rw_rounds.proofs.Walking.{piece_done}
+use Rattle.rw_rounds.proofs.Walking.{one_more, piece_done, room_for_one}
 use Rattle.rw_rounds.proofs.running.outcomes.Goals as goal
 
 pub loop-process-preserved : goal.loop-process-preserved
@@ -16,7 +16,7 @@ loop-process-preserved g c =
     let states = c.loop-process.states.items in
     record {
       room = (first.capacity ∙ known.room.0, second.capacity ∙ known.room.1);
-      many = (omega (arith, ap length r, first.len, known.many.0), omega (arith, ap length r, second.len, known.many.1));
+      many = (one_more _ r known.many.0 first.len, one_more _ r known.many.1 second.len);
       journals = one_done (λ j. j.items) c.loop-process.journals.items _ _ (map (λ x. x.process.committed) rest') _ x.process.committed c.into_outcome-journal.result.0 known.journals (ap (map (λ x. x.process.committed)) r) its.journal first.items;
       states = piece_done states _ _ (map (λ x. x.process.state) rest') _ (x.process.state ∷ []) known.states (ap (map (λ x. x.process.state)) r) (second.items ∙ ap (λ s. states ++ s ∷ []) its.state);
     }
@@ -45,7 +45,7 @@ loop-process-init g c =
     }
 
 pub push_reserved-requires : goal.push_reserved-requires
-push_reserved-requires g c = omega (arith, c.loop-process.invariant.room.0, c.loop-process.invariant.many.0, ap length c.in-Some.ensures.steps.0)
+push_reserved-requires g c = room_for_one c.in-Some.ensures.steps.0 c.loop-process.invariant.many.0 c.loop-process.invariant.room.0
 
 pub push_reserved-requires-in-loop-process : goal.push_reserved-requires-in-loop-process
-push_reserved-requires-in-loop-process g c = omega (arith, c.loop-process.invariant.room.1, c.loop-process.invariant.many.1, ap length c.in-Some.ensures.steps.0)
+push_reserved-requires-in-loop-process g c = room_for_one c.in-Some.ensures.steps.0 c.loop-process.invariant.many.1 c.loop-process.invariant.room.1

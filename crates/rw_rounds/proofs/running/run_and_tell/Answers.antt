@@ -1,10 +1,10 @@
-use Rattle.std.proofs.Common.{◌≡◌, map, ap, ◌∙◌, subst, arith, Err, IfOk}
+use Rattle.std.proofs.Common.{◌≡◌, map, refl, ap, ◌∙◌, subst, arith, Err, IfOk}
 use Rattle.std.proofs.lemmas.Result.{IfOk-from_err}
 use Rattle.rw_vt.specs.Limits.{end_of_time}
 use Rattle.rw_vt.specs.System.{IsOutcome}
 use Rattle.rw_world.specs.Calls.{system_of}
 use Rattle.rw_rounds.proofs.Ending.{same_system}
-use Rattle.rw_rounds.proofs.Stopping.{ok-is-no-plan, memory-alone-is-no-plan, end-is-no-plan, still-bad-plan}
+use Rattle.rw_rounds.proofs.Stopping.{ok-is-no-plan, used-is-no-plan, memory-alone-is-no-plan, end-is-no-plan, still-bad-plan}
 use Rattle.rw_rounds.proofs.running.run_and_tell.Goals as goal
 
 -- what the round gave as its floor is a lower bound of what is outstanding, and all before it is committed
@@ -47,7 +47,7 @@ returns-in_err-sim-2-clause-plan g c = (
 )
 
 pub returns-clause-plan : goal.returns-clause-plan
-returns-clause-plan g c = ((λ is. cc), λ out. absurd (ok-is-no-plan c.in_ok-sim.sim (c.in_ok-sim.ensures.plan.1 out)))
+returns-clause-plan g c = ((λ is. absurd (used-is-no-plan _ refl is)), λ out. absurd (ok-is-no-plan c.in_ok-sim.sim (c.in_ok-sim.ensures.plan.1 out)))
 
 pub by-requires : goal.by-requires
 by-requires g c = record { plan = c.plan.ensures }

@@ -39,7 +39,7 @@ returns-in_err-sim-2-clause-plan g c = (
 )
 
 pub returns-clause-plan : goal.returns-clause-plan
-returns-clause-plan g c = ((λ is. cc), λ out. absurd (ok-is-no-plan c.in_ok-sim.sim (c.in_ok-sim.ensures.plan.1 out)))
+returns-clause-plan g c = ((λ is. absurd (ok-is-no-plan _ is)), λ out. absurd (ok-is-no-plan c.in_ok-sim.sim (c.in_ok-sim.ensures.plan.1 out)))
 
 pub by-requires : goal.by-requires
 by-requires g c = record { plan = c.plan.ensures }
