@@ -55,13 +55,13 @@ impl<M: VtModel> HeldBack<M> {
     }
 
     /// Holds what an undone event had sent. No held message is of a lesser event.
-    pub fn hold(&mut self, event: Event<M::Body>, sends: &Sends<M::Body>) -> Result<(), AllocError>
+    pub fn hold(&mut self, event: Event<M::Body>, sends: Sends<M::Body>) -> Result<(), AllocError>
         requires last { All (λ h. AtMost (event_cmp M.Body.cmp) event h.undone) self.old }
-        ensures held { OnOk result (self.new ≡ self.old ++ held_of event sends.now) }
+        ensures held { OnOk result (self.new ≡ self.old ++ held_of event sends) }
     {
-        match sends.kept() {
+        match sends.into_kept() {
             Kept::Nothing => Ok(()),
-            Kept::One(message) => self.hold_one(event, *message),
+            Kept::One(message) => self.hold_one(event, message),
             Kept::Many(messages) => self.hold_all(event, messages.as_slice()),
         }
     }

@@ -430,7 +430,7 @@ fn hold_undone<M: VtModel>(
     let Some(Undone { event, sends }) = undone else {
         return Ok(Answer::Refused(StepFault::NothingToUndo));
     };
-    held.hold(event, &sends)?;
+    held.hold(event, sends)?;
     pending.put(event)?;
     Ok(Answer::Done)
 }

@@ -53,23 +53,20 @@ impl<B: Copy> Sends<B> {
     }
 
     /// The events, as they are kept. Takes no memory.
-    pub fn kept(&self) -> &Kept<B>
-        ensures { events_of result.now ≡ self.now }
+    pub fn into_kept(self) -> Kept<B>
+        ensures { events_of result ≡ self }
     {
-        &self.kept
+        self.kept
     }
 
     /// Appends anti-messages of the events, in order.
-    pub fn cancel(&self, out: &mut Vec<Letter<B>>) -> Result<(), AllocError>
-        ensures given { OnOk result (out.new.items ≡ out.old.items ++ letters_of true self.now) }
+    pub fn cancel(self, out: &mut Vec<Letter<B>>) -> Result<(), AllocError>
+        ensures given { OnOk result (out.new.items ≡ out.old.items ++ letters_of true self) }
     {
-        match &self.kept {
+        match self.kept {
             Kept::Nothing => Ok(()),
             Kept::One(event) => {
-                out.push(Letter {
-                    event: *event,
-                    anti: true,
-                })?;
+                out.push(Letter { event, anti: true })?;
                 Ok(())
             }
             Kept::Many(events) => give(out, events.as_slice(), true),
