@@ -25,3 +25,6 @@ returns-clause-used_up g c =
     all ≡ false → (limit : ℕ) → g.L.Ledger.StandsFor c.args.ledger.now limit (replicate (length starts) [])
     → limit < events_below (system g.M.Model g.M.Body.Ord.cmp c.args.model.now starts es) (2 ^ 40)))
     c.new-pending.ensures.events ran.ensures.used_up
+
+pub execute_pending-requires-clause-none : goal.execute_pending-requires-clause-none
+execute_pending-requires-clause-none g c = c.requires.none

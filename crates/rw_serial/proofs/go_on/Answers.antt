@@ -12,7 +12,7 @@ use Rattle.rw_serial.specs.Counts.{events_below}
 use Rattle.rw_serial.proofs.Counting.{count_entered, count_none, midrun_counted}
 use Rattle.rw_serial.proofs.Midrun.{length-states, midrun_start, next_valid, next_inside, next_well_formed, midrun_step_by, midrun_meets, next_sends_later}
 use Rattle.rw_serial.proofs.Onward.{midrun_ready, midrun_rest, none_still}
-use Rattle.rw_serial.proofs.Waiting.{taken_at, least_at, reached_at}
+use Rattle.rw_serial.proofs.Waiting.{taken_at, least_at, none_at, reached_at}
 use Rattle.rw_serial.proofs.go_on.Goals as goal
 
 pub loop-executed-init : goal.loop-executed-init
@@ -114,3 +114,9 @@ pub returns-in_err-extend-clause-exhausted : goal.returns-in_err-extend-clause-e
 returns-in_err-extend-clause-exhausted g c =
     let p = err_from_is_err_and c.from_residual-in_err-extend.result c.from_residual-in_err-extend.ensures.1 in
     rw (p.1, p.2) (λ e. cc)
+
+pub returns-in_default-clause-all : goal.returns-in_default-clause-all
+returns-in_default-clause-all g c = λ _. none_at c.in_default.is c.in_ok-pop.ensures.none_left
+
+pub returns-clause-all : goal.returns-clause-all
+returns-clause-all g c = λ fewer. absurd (omega (arith, fewer))

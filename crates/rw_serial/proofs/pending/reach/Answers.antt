@@ -53,3 +53,21 @@ pub returns-then-is_some-clause-reached : goal.returns-then-is_some-clause-reach
 returns-then-is_some-clause-reached g c =
     let some = some_first c.first.result c.args.now.now c.first.ensures.first (sym c.is_some.ensures ∙ c.if-is_some.true) in
     λ _. (refl, reached_before c.args.time c.args.initial.now c.args.now.now c.args.later.now c.requires some)
+
+pub returns-then-is_some-clause-taken : goal.returns-then-is_some-clause-taken
+returns-then-is_some-clause-taken g c = λ is. absurd (true≢false (sym is))
+
+pub returns-in_default-clause-reached : goal.returns-in_default-clause-reached
+returns-in_default-clause-reached g c = λ is. absurd (true≢false is)
+
+pub gather-requires-clause-least : goal.gather-requires-clause-least
+gather-requires-clause-least g c =
+    let first = c.in-Some.first in
+    let due = c.in-Some.ensures in
+    late_left (λ e. first.time ≤ e.time) c.args.later.now (first ∷ []) c.take_due.new.later due.taken due.least.0
+
+pub returns-then-is_time-clause-taken : goal.returns-then-is_time-clause-taken
+returns-then-is_time-clause-taken g c = λ is. absurd (true≢false (sym is))
+
+pub returns-clause-reached : goal.returns-clause-reached
+returns-clause-reached g c = λ is. absurd (true≢false is)

@@ -1,4 +1,5 @@
-use Rattle.std.proofs.Common.{◌≡◌, false, IsTrue}
+use Rattle.std.proofs.Common.{◌≡◌, [], false, IsTrue, append-nil, refl}
+use Rattle.std.specs.Option.{option_to_list}
 use Rattle.std.proofs.lemmas.Option.{IfSome_then}
 use Rattle.rw_vt.specs.Order.{AtMost, event_cmp}
 use Rattle.rw_vt.proofs.EventOrder.{events_total}
@@ -24,3 +25,13 @@ pub returns-else-is_initial_next-clause-none : goal.returns-else-is_initial_next
 returns-else-is_initial_next-clause-none g c =
     nothing_there c.pop-else-is_initial_next.result c.args.initial.now c.args.now.now c.first.result c.first-2.result c.is_initial_next.result c.pop-else-is_initial_next.ensures.none
     c.first.ensures.first c.first-2.ensures.first c.if-is_initial_next.false c.is_initial_next.ensures.only
+
+pub returns-then-is_initial_next-clause-taken : goal.returns-then-is_initial_next-clause-taken
+returns-then-is_initial_next-clause-taken g c =
+    let first = option_to_list c.pop.result in
+    record { from_first = first; from_second = []; first = c.pop.ensures.taken; second = refl; both = append-nil first }
+
+pub returns-else-is_initial_next-clause-taken : goal.returns-else-is_initial_next-clause-taken
+returns-else-is_initial_next-clause-taken g c =
+    let pop = c.pop-else-is_initial_next in
+    record { from_first = []; from_second = option_to_list pop.result; first = refl; second = pop.ensures.taken; both = refl }

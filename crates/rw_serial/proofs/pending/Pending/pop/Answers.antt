@@ -15,3 +15,6 @@ returns g c =
       taken = subst (λ w. IfSome given (λ e. IsPermutation w.events (e ∷ left))) c.self.view_is next.taken;
       reached = reached_is given c.self.inside.time c.time_or-self-inside.result c.time_or-self-inside.ensures;
     }
+
+pub take_least-requires : goal.take_least-requires
+take_least-requires g c = c.self.invariant
