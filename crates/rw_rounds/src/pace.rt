@@ -1,6 +1,6 @@
 ghost use Rattle.rw_worker.specs.Plans.{IsInRanges};
 
-use crate::sim::Mark;
+use crate::sim::Reached;
 use rw_worker::Plan;
 
 /// As many events a worker, executed for good, make a round worth its threads, if nothing else is said.
@@ -108,7 +108,7 @@ impl Pace {
     }
 
     /// A round of a run within `bounds` was made, which took the run from `before` to `after`. Takes no memory.
-    pub(crate) fn note_round(&mut self, bounds: &Plan, before: &Mark, after: &Mark) {
+    pub(crate) fn note_round(&mut self, bounds: &Plan, before: &Reached, after: &Reached) {
         let moved = after.floor.saturating_sub(before.floor);
         let executed = after.traffic.executed.wrapping_sub(before.traffic.executed);
         let undone = after.traffic.undone.wrapping_sub(before.traffic.undone);

@@ -79,9 +79,9 @@ where
     let mut sim = Sim::open(world, plan)?;
     let mut pace = Pace::new();
     for _round in 0..plan.max_rounds {
-        let before = sim.mark();
+        let before = sim.reached();
         sim = run_round(rt, alloc, sim.by(pace.plan(&plan)), gate)?;
-        let after = sim.mark();
+        let after = sim.reached();
         if after.floor == END {
             return finish(alloc, sim);
         }

@@ -19,7 +19,7 @@ pub struct Sim<M: VtModel> {
 
 /// How far the rounds of a run have come.
 #[derive(Clone, Copy)]
-pub(crate) struct Mark {
+pub(crate) struct Reached {
     /// What the last round gave as its floor, in ticks.
     pub(crate) floor: u64,
     /// What the rounds so far did, in counts.
@@ -74,10 +74,10 @@ impl<M: VtModel + Drop> Sim<M> {
     }
 
     /// How far the rounds have come. Takes no memory.
-    pub(crate) fn mark(&self) -> Mark
+    pub(crate) fn reached(&self) -> Reached
         ensures floor { result.floor ≡ self.now.floor }
     {
-        Mark {
+        Reached {
             floor: self.floor,
             traffic: self.traffic,
         }

@@ -4,7 +4,7 @@ ghost use Rattle.rw_rounds.specs.Stretches.{IsSameSystem};
 
 use crate::pace::Pace;
 use crate::round::{RoundWork, run_round_until};
-use crate::sim::{Mark, Sim};
+use crate::sim::{Reached, Sim};
 use crate::stop::Stop;
 use rw_crew::Hands;
 use rw_progress::Progress;
@@ -54,7 +54,7 @@ where
     ensures before { IfOk result (λ s. s.world.world.collected ≤ until) }
     ensures plan { (result ≡ Err Stop.BadPlan) ↔ (IsInRanges plan → ⊥) }
 {
-    let mut reached = Mark {
+    let mut reached = Reached {
         floor: world.floor(),
         traffic: Traffic::default(),
     };
@@ -62,7 +62,7 @@ where
     for _round in 0..rounds {
         let before = reached;
         sim = run_round_until(hands, alloc, sim.by(pace.plan(&plan)), until)?;
-        reached = sim.mark();
+        reached = sim.reached();
         if !may_go_on(&plan, until, &before, &reached, pace, progress) {
             break;
         }
@@ -79,8 +79,8 @@ where
 fn may_go_on<P: Progress>(
     plan: &Plan,
     until: u64,
-    before: &Mark,
-    after: &Mark,
+    before: &Reached,
+    after: &Reached,
     pace: &mut Pace,
     progress: &mut P,
 ) -> bool {

@@ -24,7 +24,7 @@ use Rattle.rw_windows.specs.contracts.batch.Batch.TheInside as BatchInside
 use Rattle.rw_windows.specs.contracts.batch.InTime as InTime
 use Rattle.rw_windows.specs.contracts.bells.Bells as Bells
 use Rattle.crossbeam_channel.proofs.channel.Receiver.TheSendSync.{the_send as receiver_may_move}
-use Rattle.rw_windows.specs.contracts.seat.Seat as Seat
+use Rattle.rw_windows.specs.contracts.domain.Domain as Domain
 use Rattle.rw_windows.specs.contracts.share.Share as Share
 use Rattle.rw_windows.specs.contracts.share.Share.TheInside as ShareInside
 
@@ -71,9 +71,9 @@ module _ (M S B U : RattleType) (g : Ghosts M.Denot S.Denot B.Denot U.Denot) (o 
   lists_may_move : IsSend B → IsSend (Vec.the_row (Vec.the_row (Event.the_row B) Global.the_row global.ghosts) Global.the_row global.ghosts)
   lists_may_move b = let events = events_may_move B b in search (sendable, crosses) depth 40
 
-  seat_may_move : IsSend S → IsSend B → IsSend U → IsSend (Seat.the_field M S B U g o w e p c).row
+  seat_may_move : IsSend S → IsSend B → IsSend U → IsSend (Domain.the_field M S B U g o w e p c).row
   seat_may_move s b u =
-      let T = Seat.the_type M S B U g o w e p c in
+      let T = Domain.the_type M S B U g o w e p c in
       let n = number_may_move in
       let t = time_may_move in
       let starts = shot_may_move (Vec.the_row S Global.the_row global.ghosts) in

@@ -7,7 +7,7 @@ ghost use Rattle.rw_windows.specs.Working.{IsAhead};
 
 use crate::batch::{Batch, InTime};
 use crate::bells::{Bells, hang};
-use crate::seat::Seat;
+use crate::domain::Domain;
 use crate::share::Share;
 use rw_crew::{deal_out, first_of};
 use rw_exchange::{Greeting, Port};
@@ -274,7 +274,7 @@ fn next_share<M: VtModel>(
     let away = empty_lists(alloc, terms.workers as usize)?;
     let inbox = first_of(&mut supply.inboxes);
     let given = Snapshot::of(&inbox);
-    let seat = Seat {
+    let domain = Domain {
         number,
         workers: terms.workers,
         end: terms.end,
@@ -292,7 +292,7 @@ fn next_share<M: VtModel>(
         given,
     };
     Ok(Share {
-        seat,
+        domain,
         events: inbox,
     })
 }

@@ -80,12 +80,12 @@ impl<M: VtModel> Holdings<M> {
         ensures events { OnOk result ((h : Event M.Body → ℕ) → weigh h self.new.events.items
             ≡ weigh h self.old.events.items + weigh h (share.waiting ++ flatten share.away)) }
     {
-        let Share { seat, events } = share;
-        self.executed = self.executed.wrapping_add(seat.executed);
-        self.received = self.received.wrapping_add(seat.received);
-        add_events(&mut self.events, events, seat.away)?;
-        self.ports.push(seat.port)?;
-        self.shares.push_back(VecDeque::from(seat.states))?;
+        let Share { domain, events } = share;
+        self.executed = self.executed.wrapping_add(domain.executed);
+        self.received = self.received.wrapping_add(domain.received);
+        add_events(&mut self.events, events, domain.away)?;
+        self.ports.push(domain.port)?;
+        self.shares.push_back(VecDeque::from(domain.states))?;
         Ok(())
     }
 }

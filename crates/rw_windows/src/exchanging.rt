@@ -25,12 +25,12 @@ impl<M: VtModel> Worker<M> {
         ensures handed_over { IfOk result (λ there. there ≡ true → HandedOver self.new) }
     {
         let least = self.pending.least_time().unwrap_or(u64::MAX);
-        let seat = &mut self.seat;
-        seat.said = seat
+        let domain = &mut self.domain;
+        domain.said = domain
             .said
-            .max(least.min(seat.heard).saturating_add(seat.lookahead));
-        for to in 0..self.seat.workers {
-            if to == self.seat.number {
+            .max(least.min(domain.heard).saturating_add(domain.lookahead));
+        for to in 0..self.domain.workers {
+            if to == self.domain.number {
                 continue;
             }
             if !self.tell(rt, alloc, model, to)? {
@@ -52,24 +52,24 @@ impl<M: VtModel> Worker<M> {
         ensures told { IfOk result (λ there. there ≡ true
             → self.new.away ≡ slice_set self.old.away to []) }
     {
-        let events = take_list(alloc, &mut self.seat.away[to as usize])?;
+        let events = take_list(alloc, &mut self.domain.away[to as usize])?;
         let batch = Batch {
             events,
-            reach: self.seat.said,
+            reach: self.domain.said,
             model: Snapshot::of(model),
-            workers: Snapshot::of(&self.seat.workers),
+            workers: Snapshot::of(&self.domain.workers),
             to: Snapshot::of(&to),
         };
         match send_waiting(
             rt,
-            &mut self.seat.port,
-            &self.seat.bells,
+            &mut self.domain.port,
+            &self.domain.bells,
             to as usize,
             batch,
         ) {
             Ok(()) => Ok(true),
             Err(back) => {
-                self.seat.away[to as usize] = back.events;
+                self.domain.away[to as usize] = back.events;
                 Ok(false)
             }
         }
@@ -85,8 +85,8 @@ impl<M: VtModel> Worker<M> {
         ensures handed_over { OnOk result (HandedOver self.new) }
     {
         let mut heard = u64::MAX;
-        for from in 0..self.seat.workers {
-            if from == self.seat.number {
+        for from in 0..self.domain.workers {
+            if from == self.domain.number {
                 continue;
             }
             let Some(reach) = self.take_up(rt, model, from)? else {
@@ -94,7 +94,7 @@ impl<M: VtModel> Worker<M> {
             };
             heard = heard.min(reach);
         }
-        self.seat.heard = self.seat.heard.max(heard);
+        self.domain.heard = self.domain.heard.max(heard);
         Ok(true)
     }
 
@@ -113,12 +113,16 @@ impl<M: VtModel> Worker<M> {
         ensures reach { IfOk result (λ heard. IfSome heard (λ reach.
             reach ≤ last_reach (received_from self.new.port from))) }
     {
-        let Some(batch) = receive_waiting(rt, &mut self.seat.port, &self.seat.bells, from as usize)
-        else {
+        let Some(batch) = receive_waiting(
+            rt,
+            &mut self.domain.port,
+            &self.domain.bells,
+            from as usize,
+        ) else {
             return Ok(None);
         };
         self.pending.extend(&batch.events)?;
-        self.seat.received = self.seat.received.wrapping_add(batch.events.len() as u64);
+        self.domain.received = self.domain.received.wrapping_add(batch.events.len() as u64);
         Ok(Some(batch.reach))
     }
 }

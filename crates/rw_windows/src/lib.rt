@@ -27,10 +27,10 @@
 mod batch;
 mod beginning;
 mod bells;
+mod domain;
 mod ending;
 mod exchanging;
 mod running;
-mod seat;
 mod share;
 mod waiting;
 mod work;

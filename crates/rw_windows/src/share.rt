@@ -1,6 +1,6 @@
 ghost use Rattle.std.specs.Prelude.{◌≡◌, ◌≤◌, true};
 
-use crate::seat::Seat;
+use crate::domain::Domain;
 use rw_vt::{Event, Model as VtModel};
 use std::marker::Model;
 
@@ -10,7 +10,8 @@ use std::marker::Model;
 /// A contract sees it as it sees the worker (`ShareState`).
 #[derive(Drop)]
 pub struct Share<M: VtModel> {
-    pub(crate) seat: Seat<M>,
+    /// What it has of the run beside that.
+    pub(crate) domain: Domain<M>,
     /// What is still to be executed at its processes, in any order.
     pub(crate) events: Vec<Event<M::Body>>,
 }
@@ -22,20 +23,20 @@ impl<M: VtModel> Model for Share<M> {
     ghost Value = { ShareState M M.State M.Body };
 
     ghost view = { λ w. record {
-      number = w.seat.number;
-      workers = w.seat.workers;
-      end = w.seat.end;
-      lookahead = w.seat.lookahead;
-      starts = w.seat.starts.value.items;
-      given = w.seat.given.value.items;
-      states = w.seat.states.items;
+      number = w.domain.number;
+      workers = w.domain.workers;
+      end = w.domain.end;
+      lookahead = w.domain.lookahead;
+      starts = w.domain.starts.value.items;
+      given = w.domain.given.value.items;
+      states = w.domain.states.items;
       waiting = w.events.items;
       reached = 0;
-      port = w.seat.port;
-      away = map (λ list. list.items) w.seat.away.items;
-      until = w.seat.until;
-      heard = w.seat.heard;
-      said = w.seat.said;
+      port = w.domain.port;
+      away = map (λ list. list.items) w.domain.away.items;
+      until = w.domain.until;
+      heard = w.domain.heard;
+      said = w.domain.said;
     } };
 }
 
@@ -44,6 +45,6 @@ impl<M: VtModel> Share<M> {
     pub(crate) fn is_done(&self) -> bool
         ensures done { result ≡ true → self.now.end ≤ self.now.until }
     {
-        self.seat.until >= self.seat.end
+        self.domain.until >= self.domain.end
     }
 }

@@ -1,7 +1,7 @@
 ghost use Rattle.std.specs.Prelude.{◌≡◌, ◌≤◌, ◌<◌, ◌≢◌, [], ◌∷◌, All, IfOk, OnOk, false, length, true};
 ghost use Rattle.rw_windows.specs.Working.{HandedOver, IsAtWork, IsDealt, IsReordered, SameWorker};
 
-use crate::seat::Seat;
+use crate::domain::Domain;
 use crate::share::Share;
 use rw_serial::{Pending, Sorted};
 use rw_vt::{Event, Model as VtModel, Refusal};
@@ -17,7 +17,8 @@ const UNHEARD: u32 = 2;
 /// A contract sees what it is and what it holds, as of its share (`ShareState`).
 #[derive(Drop)]
 pub(crate) struct Worker<M: VtModel> {
-    pub(crate) seat: Seat<M>,
+    /// What it has of the run beside what waits.
+    pub(crate) domain: Domain<M>,
     /// What is still to be executed at its processes.
     pub(crate) pending: Pending<M::Body, Sorted<M::Body>>,
     /// How many batches of each other worker it has left to be heard later.
@@ -33,20 +34,20 @@ impl<M: VtModel> Model for Worker<M> {
     ghost Value = { ShareState M M.State M.Body };
 
     ghost view = { λ w. record {
-      number = w.seat.number;
-      workers = w.seat.workers;
-      end = w.seat.end;
-      lookahead = w.seat.lookahead;
-      starts = w.seat.starts.value.items;
-      given = w.seat.given.value.items;
-      states = w.seat.states.items;
+      number = w.domain.number;
+      workers = w.domain.workers;
+      end = w.domain.end;
+      lookahead = w.domain.lookahead;
+      starts = w.domain.starts.value.items;
+      given = w.domain.given.value.items;
+      states = w.domain.states.items;
       waiting = w.pending.events;
       reached = w.pending.time;
-      port = w.seat.port;
-      away = map (λ list. list.items) w.seat.away.items;
-      until = w.seat.until;
-      heard = w.seat.heard;
-      said = w.seat.said;
+      port = w.domain.port;
+      away = map (λ list. list.items) w.domain.away.items;
+      until = w.domain.until;
+      heard = w.domain.heard;
+      said = w.domain.said;
     } };
 }
 
@@ -55,10 +56,10 @@ impl<M: VtModel> Worker<M> {
     pub(crate) fn of(alloc: Global, share: Share<M>) -> Result<Worker<M>, AllocError>
         ensures is { IfOk result (λ w. IsReordered share w) }
     {
-        let Share { seat, events } = share;
+        let Share { domain, events } = share;
         let pending = Pending::new(alloc, Sorted::new(events)?);
         Ok(Worker {
-            seat,
+            domain,
             pending,
             unheard: 0,
             idle: 0,
@@ -77,18 +78,22 @@ impl<M: VtModel> Worker<M> {
     pub(crate) fn with_left(self, events: Vec<Event<M::Body>>) -> Share<M>
         ensures { result ≡ record self { waiting = events.items; reached = 0 } }
     {
-        let Worker { seat, pending, .. } = self;
+        let Worker {
+            domain,
+            pending,
+            ..
+        } = self;
         drop(pending);
-        Share { seat, events }
+        Share { domain, events }
     }
 
     /// Whether it has executed all that is before the end, in the last window, and all workers have nothing to do before the
     /// end any more, as they said, it too, in the batches that are heard by now. Each finds so after as many batches, so none
     /// waits for one that does not come.
     pub(crate) fn is_at_the_end(&self) -> bool {
-        let seat = &self.seat;
-        seat.until >= seat.end
-            && seat.heard >= seat.end.saturating_add(seat.lookahead)
+        let domain = &self.domain;
+        domain.until >= domain.end
+            && domain.heard >= domain.end.saturating_add(domain.lookahead)
             && self.idle > self.lag()
     }
 
@@ -96,7 +101,7 @@ impl<M: VtModel> Worker<M> {
     pub(crate) fn note_idle(&mut self)
         ensures same { self.new ≡ self.old }
     {
-        if self.seat.said >= self.seat.end.saturating_add(self.seat.lookahead) {
+        if self.domain.said >= self.domain.end.saturating_add(self.domain.lookahead) {
             self.idle = self.idle.saturating_add(1);
         }
     }
@@ -122,18 +127,18 @@ impl<M: VtModel> Worker<M> {
     {
         let parts = u64::from(self.lag()) + 1;
         let first = self.pending.least_time().unwrap_or(u64::MAX);
-        let seat = &mut self.seat;
-        let next = seat
+        let domain = &mut self.domain;
+        let next = domain
             .until
             .max(first)
-            .saturating_add(seat.lookahead.div_ceil(parts));
-        let bound = seat.heard.min(seat.said).min(seat.end).min(next);
-        seat.until = seat.until.max(bound);
+            .saturating_add(domain.lookahead.div_ceil(parts));
+        let bound = domain.heard.min(domain.said).min(domain.end).min(next);
+        domain.until = domain.until.max(bound);
     }
 
     /// How many batches of each other worker it stays behind: less than the lookahead has ticks.
     fn lag(&self) -> u32 {
-        let most = self.seat.lookahead.saturating_sub(1);
+        let most = self.domain.lookahead.saturating_sub(1);
         if most < u64::from(UNHEARD) {
             most as u32
         } else {
@@ -156,14 +161,14 @@ impl<M: VtModel> Worker<M> {
             → All (λ a. self.new.until ≤ a.time) self.new.waiting) }
     {
         let mut next = None;
-        self.pending.pop_before(self.seat.until, &mut next)?;
+        self.pending.pop_before(self.domain.until, &mut next)?;
         let Some(event) = &next else {
             return Ok(false);
         };
         sent.clear();
-        let place = (event.to / self.seat.workers) as usize;
-        model.advance(alloc, event.to, &mut self.seat.states[place], event, sent)?;
-        self.seat.executed = self.seat.executed.wrapping_add(1);
+        let place = (event.to / self.domain.workers) as usize;
+        model.advance(alloc, event.to, &mut self.domain.states[place], event, sent)?;
+        self.domain.executed = self.domain.executed.wrapping_add(1);
         self.deal(sent)?;
         Ok(true)
     }
@@ -188,12 +193,12 @@ impl<M: VtModel> Worker<M> {
         requires later { self.old.reached < event.time }
         ensures dealt { OnOk result (IsDealt self.old self.new (event ∷ [])) }
     {
-        let to = event.to % self.seat.workers;
-        if to == self.seat.number {
+        let to = event.to % self.domain.workers;
+        if to == self.domain.number {
             self.pending.put(event)?;
             return Ok(());
         }
-        self.seat.away[to as usize].push(event)?;
+        self.domain.away[to as usize].push(event)?;
         Ok(())
     }
 }

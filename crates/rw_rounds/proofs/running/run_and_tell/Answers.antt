@@ -9,10 +9,10 @@ use Rattle.rw_rounds.proofs.running.run_and_tell.Goals as goal
 
 -- what the round gave as its floor is a lower bound of what is outstanding, and all before it is committed
 pub finish-requires-clause-floor : goal.finish-requires-clause-floor
-finish-requires-clause-floor g c = omega (arith, c.in_ok-sim-2.ensures.round.below_floor, c.mark-after.ensures.floor)
+finish-requires-clause-floor g c = omega (arith, c.in_ok-sim-2.ensures.round.below_floor, c.reached-after.ensures.floor)
 
 pub finish-requires-clause-collected : goal.finish-requires-clause-collected
-finish-requires-clause-collected g c = omega (arith, c.in_ok-sim-2.ensures.round.collected, c.mark-after.ensures.floor)
+finish-requires-clause-collected g c = omega (arith, c.in_ok-sim-2.ensures.round.collected, c.reached-after.ensures.floor)
 
 pub loop-round-init : goal.loop-round-init
 loop-round-init g c =

@@ -13,17 +13,17 @@ index_mut-requires g c =
     let laws = laws_of g.met.M.Model g.met.M.Body.Ord.total in
     let at = subst (IsAtWork g.M.Model g.M.Body.Ord.cmp c.args.model.now) (sym c.self.view_is) c.requires.at_work in
     let popped = c.in_ok-pop_before.ensures in
-    let soon = subst (λ o. IfSome o (λ e. e.time < c.self.inside.seat.until)) c.in-Some.is popped.before in
+    let soon = subst (λ o. IfSome o (λ e. e.time < c.self.inside.domain.until)) c.in-Some.is popped.before in
     let least = subst (λ o. IfSome o (λ e. All (AtMost (event_cmp g.M.Body.Ord.cmp) e) c.self.inside.pending.events)) c.in-Some.is popped.least in
     let taken = subst (λ o. IfSome o (λ e. IsPermutation c.self.inside.pending.events (e ∷ c.pop_before.new.self.events))) c.in-Some.is popped.taken in
-    omega (arith, has_place laws c.args.model.now _ at c.in-Some.event c.pop_before.new.self.events soon least taken, c.self.inside.seat.states.ok.0)
+    omega (arith, has_place laws c.args.model.now _ at c.in-Some.event c.pop_before.new.self.events soon least taken, c.self.inside.domain.states.ok.0)
 
 pub advance-requires-clause-process : goal.advance-requires-clause-process
 advance-requires-clause-process g c =
     let laws = laws_of g.met.M.Model g.met.M.Body.Ord.total in
     let at = subst (IsAtWork g.M.Model g.M.Body.Ord.cmp c.args.model.now) (sym c.self.view_is) c.requires.at_work in
     let popped = c.in_ok-pop_before.ensures in
-    let soon = subst (λ o. IfSome o (λ e. e.time < c.self.inside.seat.until)) c.in-Some.is popped.before in
+    let soon = subst (λ o. IfSome o (λ e. e.time < c.self.inside.domain.until)) c.in-Some.is popped.before in
     let least = subst (λ o. IfSome o (λ e. All (AtMost (event_cmp g.M.Body.Ord.cmp) e) c.self.inside.pending.events)) c.in-Some.is popped.least in
     let taken = subst (λ o. IfSome o (λ e. IsPermutation c.self.inside.pending.events (e ∷ c.pop_before.new.self.events))) c.in-Some.is popped.taken in
     in_range laws c.args.model.now _ at c.in-Some.event c.pop_before.new.self.events soon least taken
@@ -33,11 +33,11 @@ advance-requires-clause-well_formed g c =
     let laws = laws_of g.met.M.Model g.met.M.Body.Ord.total in
     let at = subst (IsAtWork g.M.Model g.M.Body.Ord.cmp c.args.model.now) (sym c.self.view_is) c.requires.at_work in
     let popped = c.in_ok-pop_before.ensures in
-    let soon = subst (λ o. IfSome o (λ e. e.time < c.self.inside.seat.until)) c.in-Some.is popped.before in
+    let soon = subst (λ o. IfSome o (λ e. e.time < c.self.inside.domain.until)) c.in-Some.is popped.before in
     let least = subst (λ o. IfSome o (λ e. All (AtMost (event_cmp g.M.Body.Ord.cmp) e) c.self.inside.pending.events)) c.in-Some.is popped.least in
     let taken = subst (λ o. IfSome o (λ e. IsPermutation c.self.inside.pending.events (e ∷ c.pop_before.new.self.events))) c.in-Some.is popped.taken in
     let there = here laws c.args.model.now _ at c.in-Some.event c.pop_before.new.self.events soon least taken in
-    let state = c.index_mut.ensures.value ∙ get_or_from_slice_get c.self.inside.seat.states.items (c.in-Some.event.to / c.self.inside.seat.workers) _ c.index_mut.result.now there in
+    let state = c.index_mut.ensures.value ∙ get_or_from_slice_get c.self.inside.domain.states.items (c.in-Some.event.to / c.self.inside.domain.workers) _ c.index_mut.result.now there in
     fine_here laws c.args.model.now _ at c.in-Some.event c.pop_before.new.self.events soon least taken c.index_mut.result.now state
 
 pub advance-requires-clause-valid : goal.advance-requires-clause-valid
@@ -45,7 +45,7 @@ advance-requires-clause-valid g c =
     let laws = laws_of g.met.M.Model g.met.M.Body.Ord.total in
     let at = subst (IsAtWork g.M.Model g.M.Body.Ord.cmp c.args.model.now) (sym c.self.view_is) c.requires.at_work in
     let popped = c.in_ok-pop_before.ensures in
-    let soon = subst (λ o. IfSome o (λ e. e.time < c.self.inside.seat.until)) c.in-Some.is popped.before in
+    let soon = subst (λ o. IfSome o (λ e. e.time < c.self.inside.domain.until)) c.in-Some.is popped.before in
     let least = subst (λ o. IfSome o (λ e. All (AtMost (event_cmp g.M.Body.Ord.cmp) e) c.self.inside.pending.events)) c.in-Some.is popped.least in
     let taken = subst (λ o. IfSome o (λ e. IsPermutation c.self.inside.pending.events (e ∷ c.pop_before.new.self.events))) c.in-Some.is popped.taken in
     valid laws c.args.model.now _ at c.in-Some.event c.pop_before.new.self.events soon least taken
@@ -55,11 +55,11 @@ deal-requires-clause-later g c =
     let laws = laws_of g.met.M.Model g.met.M.Body.Ord.total in
     let at = subst (IsAtWork g.M.Model g.M.Body.Ord.cmp c.args.model.now) (sym c.self.view_is) c.requires.at_work in
     let popped = c.in_ok-pop_before.ensures in
-    let soon = subst (λ o. IfSome o (λ e. e.time < c.self.inside.seat.until)) c.in-Some.is popped.before in
+    let soon = subst (λ o. IfSome o (λ e. e.time < c.self.inside.domain.until)) c.in-Some.is popped.before in
     let least = subst (λ o. IfSome o (λ e. All (AtMost (event_cmp g.M.Body.Ord.cmp) e) c.self.inside.pending.events)) c.in-Some.is popped.least in
     let taken = subst (λ o. IfSome o (λ e. IsPermutation c.self.inside.pending.events (e ∷ c.pop_before.new.self.events))) c.in-Some.is popped.taken in
     let there = here laws c.args.model.now _ at c.in-Some.event c.pop_before.new.self.events soon least taken in
-    let state = c.index_mut.ensures.value ∙ get_or_from_slice_get c.self.inside.seat.states.items (c.in-Some.event.to / c.self.inside.seat.workers) _ c.index_mut.result.now there in
+    let state = c.index_mut.ensures.value ∙ get_or_from_slice_get c.self.inside.domain.states.items (c.in-Some.event.to / c.self.inside.domain.workers) _ c.index_mut.result.now there in
     let time = subst (λ o. IfSome o (λ e. c.pop_before.new.self.time ≡ e.time)) c.in-Some.is popped.reached in
     let sends = c.deref.ensures.value ∙ c.in_ok-advance.ensures.sends ∙ ap (λ l. l ++ (g.M.Model.step c.args.model.now c.in-Some.event.to c.index_mut.result.now c.in-Some.event).1) c.clear.ensures.items in
     later_here laws c.args.model.now _ at c.in-Some.event c.pop_before.new.self.events soon least taken c.index_mut.result.now state c.deref.result.now sends c.pop_before.new.self.time time
@@ -69,11 +69,11 @@ returns-clause-at_work g c =
     let laws = laws_of g.met.M.Model g.met.M.Body.Ord.total in
     let at = subst (IsAtWork g.M.Model g.M.Body.Ord.cmp c.args.model.now) (sym c.self.view_is) c.requires.at_work in
     let popped = c.in_ok-pop_before.ensures in
-    let soon = subst (λ o. IfSome o (λ e. e.time < c.self.inside.seat.until)) c.in-Some.is popped.before in
+    let soon = subst (λ o. IfSome o (λ e. e.time < c.self.inside.domain.until)) c.in-Some.is popped.before in
     let least = subst (λ o. IfSome o (λ e. All (AtMost (event_cmp g.M.Body.Ord.cmp) e) c.self.inside.pending.events)) c.in-Some.is popped.least in
     let taken = subst (λ o. IfSome o (λ e. IsPermutation c.self.inside.pending.events (e ∷ c.pop_before.new.self.events))) c.in-Some.is popped.taken in
     let there = here laws c.args.model.now _ at c.in-Some.event c.pop_before.new.self.events soon least taken in
-    let state = c.index_mut.ensures.value ∙ get_or_from_slice_get c.self.inside.seat.states.items (c.in-Some.event.to / c.self.inside.seat.workers) _ c.index_mut.result.now there in
+    let state = c.index_mut.ensures.value ∙ get_or_from_slice_get c.self.inside.domain.states.items (c.in-Some.event.to / c.self.inside.domain.workers) _ c.index_mut.result.now there in
     let time = subst (λ o. IfSome o (λ e. c.pop_before.new.self.time ≡ e.time)) c.in-Some.is popped.reached in
     let sends = c.deref.ensures.value ∙ c.in_ok-advance.ensures.sends ∙ ap (λ l. l ++ (g.M.Model.step c.args.model.now c.in-Some.event.to c.index_mut.result.now c.in-Some.event).1) c.clear.ensures.items in
     executed_here laws c.args.model.now _ at c.in-Some.event c.pop_before.new.self.events soon least taken c.index_mut.result.now state c.deref.result.now sends c.pop_before.new.self.time time c.advance.new.state c.in_ok-advance.ensures.state c.deal.new.self
@@ -81,17 +81,17 @@ returns-clause-at_work g c =
 
 pub returns-in_default-clause-at_work : goal.returns-in_default-clause-at_work
 returns-in_default-clause-at_work g c =
-    let none = subst (λ o. IfNone o (All (λ e. c.self.inside.seat.until ≤ e.time) c.self.inside.pending.events × (c.pop_before.new.self ≡ c.self.inside.pending))) c.in_default.is c.in_ok-pop_before.ensures.none in
+    let none = subst (λ o. IfNone o (All (λ e. c.self.inside.domain.until ≤ e.time) c.self.inside.pending.events × (c.pop_before.new.self ≡ c.self.inside.pending))) c.in_default.is c.in_ok-pop_before.ensures.none in
     rw none.1 (subst (IsAtWork g.M.Model g.M.Body.Ord.cmp c.args.model.now) (sym c.self.view_is) c.requires.at_work)
 
 pub returns-in_default-clause-same : goal.returns-in_default-clause-same
 returns-in_default-clause-same g c =
-    let none = subst (λ o. IfNone o (All (λ e. c.self.inside.seat.until ≤ e.time) c.self.inside.pending.events × (c.pop_before.new.self ≡ c.self.inside.pending))) c.in_default.is c.in_ok-pop_before.ensures.none in
+    let none = subst (λ o. IfNone o (All (λ e. c.self.inside.domain.until ≤ e.time) c.self.inside.pending.events × (c.pop_before.new.self ≡ c.self.inside.pending))) c.in_default.is c.in_ok-pop_before.ensures.none in
     rw none.1 (subst (SameWorker c.args.self.now) (sym c.self.view_is) (same_itself c.args.self.now))
 
 pub returns-in_default-clause-none : goal.returns-in_default-clause-none
 returns-in_default-clause-none g c =
-    let none = subst (λ o. IfNone o (All (λ e. c.self.inside.seat.until ≤ e.time) c.self.inside.pending.events × (c.pop_before.new.self ≡ c.self.inside.pending))) c.in_default.is c.in_ok-pop_before.ensures.none in
+    let none = subst (λ o. IfNone o (All (λ e. c.self.inside.domain.until ≤ e.time) c.self.inside.pending.events × (c.pop_before.new.self ≡ c.self.inside.pending))) c.in_default.is c.in_ok-pop_before.ensures.none in
     λ _. rw none.1 none.0
 
 pub nonzero_div-place : goal.nonzero_div-place
@@ -124,5 +124,5 @@ returns-clause-same g c =
       lookahead = ap (λ w. w.lookahead) dealt;
       starts = ap (λ w. w.starts) dealt;
       given = ap (λ w. w.given) dealt;
-      port = subst (SamePort c.self.inside.seat.port) (sym (ap (λ w. w.port) dealt)) port;
+      port = subst (SamePort c.self.inside.domain.port) (sym (ap (λ w. w.port) dealt)) port;
     })

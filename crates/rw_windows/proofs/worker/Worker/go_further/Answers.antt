@@ -7,5 +7,5 @@ pub returns-clause-at_work : goal.returns-clause-at_work
 returns-clause-at_work g c =
     let at = subst (IsAtWork g.M.Model g.M.Body.Ord.cmp c.args.model.now) (sym c.self.view_is) c.requires.at_work in
     let none = subst HandedOver (sym c.self.view_is) c.requires.handed_over in
-    further c.args.model.now _ at none c.max-seat.result
-    (omega (arith, c.max-seat.ensures, c.min-2.ensures, c.min.ensures, at.times.until.0, at.times.until.1, at.times.until.2)) (omega (arith, c.max-seat.ensures, c.min-2.ensures, c.min.ensures, at.times.until.0, at.times.until.1, at.times.until.2)) (omega (arith, c.max-seat.ensures, c.min-2.ensures, c.min.ensures, at.times.until.0, at.times.until.1, at.times.until.2)) (omega (arith, c.max-seat.ensures, c.min-2.ensures, c.min.ensures, at.times.until.0, at.times.until.1, at.times.until.2))
+    further c.args.model.now _ at none c.max-domain.result
+    (omega (arith, c.max-domain.ensures, c.min-2.ensures, c.min.ensures, at.times.until.0, at.times.until.1, at.times.until.2)) (omega (arith, c.max-domain.ensures, c.min-2.ensures, c.min.ensures, at.times.until.0, at.times.until.1, at.times.until.2)) (omega (arith, c.max-domain.ensures, c.min-2.ensures, c.min.ensures, at.times.until.0, at.times.until.1, at.times.until.2)) (omega (arith, c.max-domain.ensures, c.min-2.ensures, c.min.ensures, at.times.until.0, at.times.until.1, at.times.until.2))

@@ -9,8 +9,8 @@ pub loop-to-init : goal.loop-to-init
 loop-to-init g c =
     let work = subst (IsAtWork g.M.Model g.M.Body.Ord.cmp c.args.model.now) (sym c.self.view_is) c.requires.at_work in
     record {
-      at_work = next_saying c.args.model.now _ work c.least_time.result 18446744073709551615 c.min.result c.saturating_add.result c.max-seat.result c.least_time.ensures (c.min.ensures ∙ ap (λ n. min n c.self.inside.seat.heard) c.unwrap_or-least.ensures) c.saturating_add.ensures c.max-seat.ensures;
-      same = same_saying c.args.self.now _ c.max-seat.result c.self.view_is;
+      at_work = next_saying c.args.model.now _ work c.least_time.result 18446744073709551615 c.min.result c.saturating_add.result c.max-domain.result c.least_time.ensures (c.min.ensures ∙ ap (λ n. min n c.self.inside.domain.heard) c.unwrap_or-least.ensures) c.saturating_add.ensures c.max-domain.ensures;
+      same = same_saying c.args.self.now _ c.max-domain.result c.self.view_is;
       until = ap (λ w. w.until) c.self.view_is;
       waiting = ap (λ w. w.waiting) c.self.view_is;
       handed = λ v h. absurd (omega (arith, h));

@@ -7,7 +7,7 @@ use std::snapshot::Snapshot;
 /// What a worker has of a run, at work or not, beside the events that are still to be executed: the processes whose number is
 /// its own modulo the number of workers, and its port.
 #[derive(Drop)]
-pub(crate) struct Seat<M: VtModel> {
+pub(crate) struct Domain<M: VtModel> {
     /// Which worker it is, counted from 0.
     pub(crate) number: u32,
     /// How many workers there are.
