@@ -172,19 +172,17 @@ impl<M: VtModel> Worker<M> {
         ensures port { result.port ≡ self.port }
         ensures seat { result.seat ≡ self.seat }
     {
-        let traffic = self.traffic();
         let Worker { desk, at_hand: _ } = self;
         let Desk {
-            number: _,
-            plan: _,
-            collected: _,
             processes,
             kept,
             aside,
             port,
             seat,
-            traffic: _,
+            mut traffic,
+            ..
         } = desk;
+        traffic.kept = (kept.len() as u64).wrapping_add(aside.len() as u64);
         Belongings {
             processes: processes.into_list(),
             kept,
@@ -200,14 +198,6 @@ impl<M: VtModel> Worker<M> {
         ensures number { result ≡ self.now.role.number }
     {
         self.desk.number
-    }
-
-    /// What the worker did so far: executions, undoings, letters received through rings, and letters that it keeps or
-    /// set aside. Takes no memory.
-    fn traffic(&self) -> Traffic {
-        let mut traffic = self.desk.traffic;
-        traffic.kept = (self.desk.kept.len() as u64).wrapping_add(self.desk.aside.len() as u64);
-        traffic
     }
 }
 
