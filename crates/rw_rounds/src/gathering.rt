@@ -98,12 +98,10 @@ struct Holdings<M: VtModel> {
 impl<M: VtModel> Holdings<M> {
     /// Nothing yet, with room for what `workers` workers hold.
     fn with_capacity(alloc: Global, workers: usize) -> Result<Holdings<M>, NoMemory>
-        ensures letters { IfOk result (λ l. (l.kept.items ≡ []) × (l.aside.items ≡ [])) }
-        ensures others { IfOk result (λ l.
-            (l.shares.items ≡ []) × (l.ports.items ≡ []) × (l.seats.items ≡ [])) }
-        ensures letters_room { IfOk result (λ l.
-            (vec_capacity l.kept ≡ workers) × (vec_capacity l.aside ≡ workers)) }
+        ensures none { IfOk result (λ l. (l.shares.items ≡ []) × (l.kept.items ≡ [])
+            × (l.aside.items ≡ []) × (l.ports.items ≡ []) × (l.seats.items ≡ [])) }
         ensures room { IfOk result (λ l. (deque_capacity l.shares ≡ workers)
+            × (vec_capacity l.kept ≡ workers) × (vec_capacity l.aside ≡ workers)
             × (vec_capacity l.ports ≡ workers) × (vec_capacity l.seats ≡ workers)) }
     {
         let shares = VecDeque::with_capacity(alloc, workers)?;

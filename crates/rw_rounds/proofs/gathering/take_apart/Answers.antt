@@ -58,16 +58,16 @@ loop-worker-init g c =
     let made = c.in_ok-holdings.ensures in
     let all = c.args.workers.ok.0 in
     record {
-      shares_room = (made.room.0 ∙ c.len.ensures, none_done its.shares.ok.0 made.others.0 begin all);
-      kept_room = (made.letters_room.0 ∙ c.len.ensures, none_done its.kept.ok.0 made.letters.0 begin all);
-      aside_room = (made.letters_room.1 ∙ c.len.ensures, none_done its.aside.ok.0 made.letters.1 begin all);
-      ports_room = (made.room.1 ∙ c.len.ensures, none_done its.ports.ok.0 made.others.1 begin all);
-      seats_room = (made.room.2 ∙ c.len.ensures, none_done its.seats.ok.0 made.others.2 begin all);
-      shares = ap (λ z. map (λ h. h.items) z ++ map (λ w. w.processes) rest) made.others.0 ∙ ap (map (λ w. w.processes)) begin;
-      kept = ap (λ z. map (λ k. k.items) z ++ map (λ w. w.kept) rest) made.letters.0 ∙ ap (map (λ w. w.kept)) begin;
-      aside = ap (λ z. map (λ a. a.items) z ++ map (λ w. w.aside) rest) made.letters.1 ∙ ap (map (λ w. w.aside)) begin;
-      ports = ap (λ z. z ++ map (λ w. w.port) rest) made.others.1 ∙ ap (map (λ w. w.port)) begin;
-      seats = ap (λ z. z ++ map (λ w. w.seat) rest) made.others.2 ∙ ap (map (λ w. w.seat)) begin;
+      shares_room = (made.room.0 ∙ c.len.ensures, none_done its.shares.ok.0 made.none.0 begin all);
+      kept_room = (made.room.1 ∙ c.len.ensures, none_done its.kept.ok.0 made.none.1 begin all);
+      aside_room = (made.room.2 ∙ c.len.ensures, none_done its.aside.ok.0 made.none.2 begin all);
+      ports_room = (made.room.3 ∙ c.len.ensures, none_done its.ports.ok.0 made.none.3 begin all);
+      seats_room = (made.room.4 ∙ c.len.ensures, none_done its.seats.ok.0 made.none.4 begin all);
+      shares = ap (λ z. map (λ h. h.items) z ++ map (λ w. w.processes) rest) made.none.0 ∙ ap (map (λ w. w.processes)) begin;
+      kept = ap (λ z. map (λ k. k.items) z ++ map (λ w. w.kept) rest) made.none.1 ∙ ap (map (λ w. w.kept)) begin;
+      aside = ap (λ z. map (λ a. a.items) z ++ map (λ w. w.aside) rest) made.none.2 ∙ ap (map (λ w. w.aside)) begin;
+      ports = ap (λ z. z ++ map (λ w. w.port) rest) made.none.3 ∙ ap (map (λ w. w.port)) begin;
+      seats = ap (λ z. z ++ map (λ w. w.seat) rest) made.none.4 ∙ ap (map (λ w. w.seat)) begin;
     }
 
 pub push_back_reserved-requires : goal.push_back_reserved-requires

@@ -20,9 +20,9 @@ went g c = record { long = c.in_ok-workers.ensures.count; went = c.in_ok-workers
 -- a worker may move to a thread of its own
 pub run_each-requires-send-T : goal.run_each-requires-send-T
 run_each-requires-send-T g c κs within =
-    let r = c.requires-raw.1.1.1.1.1.1 in
+    let t = c.type_bounds in
     let port = c.may_move.ensures.moves in
-    let worker = worker_may_move (denote.Param.param 0 g.row.M) _ _ _ g.M.Model g.M.Body.Ord g.M.Body.Eq g.M.Body.PartialEq g.M.Body.PartialOrd r.0 r.1.0 r.1.1.0 (record { owned = port.owned; leaving = λ k d w. tt }) in
+    let worker = worker_may_move (denote.Param.param 0 g.row.M) _ _ _ g.M.Model g.M.Body.Ord g.M.Body.Eq g.M.Body.PartialEq g.M.Body.PartialOrd t.send-M-State t.send-M-Body t.send-M-Undo (record { owned = port.owned; leaving = λ k d w. tt }) in
     record { owned = worker.owned; leaving = λ k. (param_send 1 _ worker).leaving k }
 
 pub run_each-requires-clause-takes : goal.run_each-requires-clause-takes

@@ -24,3 +24,15 @@ returns-clause-seat g c =
 
 pub returns-clause-none : goal.returns-clause-none
 returns-clause-none g c = (ap (λ w. w.kept) c.new.ensures.is, ap (λ w. w.aside) c.new.ensures.is)
+
+pub first_of-processes-requires : goal.first_of-processes-requires
+first_of-processes-requires g c = record { some = c.requires.shares }
+
+pub first_of-inbox-requires : goal.first_of-inbox-requires
+first_of-inbox-requires g c = record { some = c.requires.inboxes }
+
+pub first_of-port-requires : goal.first_of-port-requires
+first_of-port-requires g c = record { some = c.requires.ports }
+
+pub first_of-seat-requires : goal.first_of-seat-requires
+first_of-seat-requires g c = record { some = c.requires.seats }
