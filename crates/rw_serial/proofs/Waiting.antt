@@ -274,6 +274,14 @@ module _ {B : Type 0} where
   pub around_start : (xs start now later : List (Event B)) → All (λ e. e.time ≡ 0) start → All (λ e. 0 < e.time) later → IsPermutation start now → AreAround 0 xs now later
   around_start xs start now later at past moved = record { initial_from = λ k d l. omega arith; now_at = All-permutation (λ e. e.time ≡ 0) start now moved at; later_past = past }
 
+  -- of what was sent nothing is left, and time 0 is reached again
+  pub around_none : (xs now later : List (Event B)) → now ≡ [] → later ≡ [] → AreAround 0 xs now later
+  around_none xs now later no_now no_later = record {
+    initial_from = λ k d l. omega arith;
+    now_at = subst (All (λ e. e.time ≡ 0)) (sym no_now) (All-nil (λ e. e.time ≡ 0));
+    later_past = subst (All (λ e. 0 < e.time)) (sym no_later) (All-nil (λ e. 0 < e.time));
+  }
+
 -- What is taken where a time is due
 
 module _ {B : Type 0} where

@@ -1,4 +1,4 @@
-use Rattle.std.proofs.Common.{rules, arith, IsPermutation, true, false, ◌≡◌, All, ◌<◌, ◌^◌, ◌-◌, ◌∙◌, sym, subst, refl, [], ◌∷◌, ◌++◌, get_or, length, replicate}
+use Rattle.std.proofs.Common.{rules, arith, IsPermutation, true, false, true≢false, ◌≡◌, All, ◌<◌, ◌^◌, ◌-◌, ◌∙◌, sym, subst, refl, [], ◌∷◌, ◌++◌, get_or, length, replicate}
 use Rattle.std.specs.List.{slice_set}
 use Rattle.std.proofs.lemmas.List.Sorted.{IsPermutation-refl}
 use Rattle.std.proofs.lemmas.Result.{err_from_is_err_and}
@@ -105,3 +105,9 @@ pub returns-in_err-extend-clause-exhausted : goal.returns-in_err-extend-clause-e
 returns-in_err-extend-clause-exhausted g c =
     let p = err_from_is_err_and c.from_residual-in_err-extend.result c.from_residual-in_err-extend.ensures.1 in
     rw (p.1, p.2) (λ e. cc)
+
+pub returns-in_default-clause-used_up : goal.returns-in_default-clause-used_up
+returns-in_default-clause-used_up g c = λ is. absurd (true≢false is)
+
+pub returns-then-not-branch-clause-outcome : goal.returns-then-not-branch-clause-outcome
+returns-then-not-branch-clause-outcome g c = λ is. absurd (true≢false (sym is))

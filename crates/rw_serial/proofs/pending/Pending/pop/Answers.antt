@@ -1,5 +1,6 @@
-use Rattle.std.proofs.Common.{[], ◌∷◌, ◌++◌, ◌≡◌, All, IfNone, IfSome, IsPermutation, subst}
+use Rattle.std.proofs.Common.{[], ◌∷◌, ◌++◌, ◌≡◌, All, IfNone, IfSome, IsPermutation, subst, sym}
 use Rattle.rw_vt.specs.Order.{AtMost, event_cmp}
+use Rattle.rw_serial.specs.Pending.{AreAround}
 use Rattle.rw_serial.proofs.Waiting.{reached_is}
 use Rattle.rw_serial.proofs.pending.Pending.pop.Goals as goal
 
@@ -18,3 +19,8 @@ returns g c =
 
 pub take_least-requires : goal.take_least-requires
 take_least-requires g c = c.self.invariant
+
+pub invariant_of-self-2 : goal.invariant_of-self-2
+invariant_of-self-2 g c =
+    let left = c.take_least.new in
+    subst (λ t. AreAround t left.initial left.now left.later) (sym c.time_or-self-inside.ensures) c.in_ok-take_least.ensures.next.around

@@ -17,3 +17,9 @@ invariant_of-self g c = c.move_sent.ensures.around c.self.inside.time c.self.ins
 
 pub invariant_of-self-2 : goal.invariant_of-self-2
 invariant_of-self-2 g c = around_start c.self.inside.initial c.put_apart.new.start.items c.fill.new.self c.put_apart.new.later c.in_ok-put_apart.ensures.start c.put_apart.ensures.later c.fill.ensures
+
+pub put_apart-requires : goal.put_apart-requires
+put_apart-requires g c = record { none = (c.clear.ensures.items, c.in_ok-move_sent.ensures.none.1) }
+
+pub fill-requires : goal.fill-requires
+fill-requires g c = c.in_ok-move_sent.ensures.none.0

@@ -1,5 +1,6 @@
 use Rattle.std.proofs.Common.{◌++◌, IsPermutation, subst}
 use Rattle.rw_serial.proofs.Onward.{taken_enough, taken_out}
+use Rattle.rw_serial.proofs.Waiting.{around_none}
 use Rattle.rw_serial.proofs.pending.Pending.take_out.Goals as goal
 
 pub returns-clause-parts : goal.returns-clause-parts
@@ -12,3 +13,13 @@ returns-clause-enough g c = taken_enough c.move_first.new.taken.items c.move_sen
 
 pub invariant_of-self : goal.invariant_of-self
 invariant_of-self g c = c.move_sent.ensures.around c.self.inside.time c.self.inside.initial c.self.invariant
+
+pub invariant_of-self-in_err-move_first : goal.invariant_of-self-in_err-move_first
+invariant_of-self-in_err-move_first g c =
+    let none = c.in_ok-move_sent.ensures.none in
+    around_none c.move_first.new.initial c.move_sent.new.now c.move_sent.new.later none.0 none.1
+
+pub invariant_of-self-2 : goal.invariant_of-self-2
+invariant_of-self-2 g c =
+    let none = c.in_ok-move_sent.ensures.none in
+    around_none c.move_first.new.initial c.move_sent.new.now c.move_sent.new.later none.0 none.1
