@@ -76,7 +76,7 @@ module _ (M S B U : RattleType) (g : Ghosts M.Denot S.Denot B.Denot U.Denot) (o 
       let T = Domain.the_type M S B U g o w e p c in
       let n = number_may_move in
       let t = time_may_move in
-      let starts = shot_may_move (Vec.the_row S Global.the_row global.ghosts) in
+      let starts = shot_may_move (Snapshot.the_row (Vec.the_row S Global.the_row global.ghosts)) in
       let given = shot_may_move (Vec.the_row (Event.the_row B) Global.the_row global.ghosts) in
       let all : AllSend (shape T).fields = (n, (n, (t, (t, (states_may_move s, (ends_may_move b, (bells_may_move, (lists_may_move b, (t, (t, (t, (t, (t, (starts, (given, tt))))))))))))))) in
       struct_send (shape T) all

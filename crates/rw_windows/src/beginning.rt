@@ -30,8 +30,6 @@ struct Supply<M: VtModel> {
     ports: VecDeque<Port<Batch<M>, InTime>>,
     /// The bells of each.
     bells: VecDeque<Bells>,
-    /// Where all processes start, once for each.
-    starts: VecDeque<Snapshot<Vec<M::State>>>,
 }
 
 /// What all workers of a run know of it.
@@ -78,8 +76,9 @@ pub(crate) fn begin<M: VtModel>(
         lookahead,
         reach: first.saturating_add(lookahead),
     };
+    let starts = Snapshot::of(&states);
     let supply = supplies(alloc, model, terms, states, &events)?;
-    let shares = make_shares(alloc, terms, supply)?;
+    let shares = make_shares(alloc, terms, &starts, supply)?;
     Ok(shares)
 }
 
@@ -117,21 +116,16 @@ fn supplies<M: VtModel>(
         AreGreeted terms.workers (greeting model.now terms.workers terms.reach) s.ports.items
         × NoneItself terms.workers s.ports.items) }
     ensures bells { IfOk result (λ s. length s.bells.items ≡ terms.workers) }
-    ensures starts { IfOk result (λ s.
-        map (λ x. x.value.items) s.starts.items ≡ replicate terms.workers states.items) }
 {
-    let count = terms.workers as usize;
-    let starts = snapshots(alloc, count, &states)?;
     let shares = deal_out(alloc, terms.workers, states)?;
     let inboxes = deal_events(alloc, terms.workers, events)?;
     let ports = open_ports(alloc, model, terms)?;
-    let bells = hang(alloc, count)?;
+    let bells = hang(alloc, terms.workers as usize)?;
     Ok(Supply {
         shares: VecDeque::from(shares),
         inboxes: VecDeque::from(inboxes),
         ports: VecDeque::from(ports),
         bells: VecDeque::from(bells),
-        starts: VecDeque::from(starts),
     })
 }
 
@@ -160,18 +154,6 @@ fn open_ports<M: VtModel>(
         CAPACITY,
         &greet,
     )
-}
-
-/// So many snapshots of a value. They take no room.
-fn snapshots<T>(alloc: Global, count: usize, value: &T) -> Result<Vec<Snapshot<T>>, NoMemory>
-    ensures { IfOk result (λ all.
-        map (λ s. s.value) all.items ≡ replicate count value.now) }
-{
-    let mut all = Vec::with_capacity(alloc, count)?;
-    for _ in 0..count {
-        all.push_reserved(Snapshot::of(value));
-    }
-    Ok(all)
 }
 
 /// The events for each worker, in order: an event goes to the worker of its process.
@@ -218,13 +200,13 @@ fn lists_with_room<T: Drop>(
 fn make_shares<M: VtModel>(
     alloc: Global,
     terms: Terms,
+    starts: &Snapshot<Vec<M::State>>,
     supply: Supply<M>,
 ) -> Result<Vec<Share<M>>, NoMemory>
     requires shares { length supply.shares.items ≡ terms.workers }
     requires inboxes { length supply.inboxes.items ≡ terms.workers }
     requires ports { length supply.ports.items ≡ terms.workers }
     requires bells { length supply.bells.items ≡ terms.workers }
-    requires starts { length supply.starts.items ≡ terms.workers }
     ensures count { IfOk result (λ ws. length ws.items ≡ terms.workers) }
     ensures numbers { IfOk result (λ ws. (i : ℕ) (d : _) → i < terms.workers
         → (slice_index_or ws.items i d).number ≡ i) }
@@ -234,13 +216,13 @@ fn make_shares<M: VtModel>(
         map (λ w. w.given) ws.items ≡ map (λ b. b.items) supply.inboxes.items) }
     ensures ports { IfOk result (λ ws. map (λ w. w.port) ws.items ≡ supply.ports.items) }
     ensures starts { IfOk result (λ ws.
-        map (λ w. w.starts) ws.items ≡ map (λ x. x.value.items) supply.starts.items) }
+        map (λ w. w.starts) ws.items ≡ replicate terms.workers starts.now.value.items) }
     ensures new { IfOk result (λ ws. All (HasNotBegun terms) ws.items) }
 {
     let mut supply = supply;
     let mut shares = Vec::with_capacity(alloc, terms.workers as usize)?;
     for number in 0..terms.workers {
-        let share = next_share(alloc, terms, number, &mut supply)?;
+        let share = next_share(alloc, terms, number, starts, &mut supply)?;
         shares.push_reserved(share);
     }
     Ok(shares)
@@ -251,13 +233,13 @@ fn next_share<M: VtModel>(
     alloc: Global,
     terms: Terms,
     number: u32,
+    starts: &Snapshot<Vec<M::State>>,
     supply: &mut Supply<M>,
 ) -> Result<Share<M>, NoMemory>
     requires shares { supply.old.shares.items ≢ [] }
     requires inboxes { supply.old.inboxes.items ≢ [] }
     requires ports { supply.old.ports.items ≢ [] }
     requires bells { supply.old.bells.items ≢ [] }
-    requires starts { supply.old.starts.items ≢ [] }
     ensures number { IfOk result (λ w. w.number ≡ number) }
     ensures states { IfOk result (λ w. map (λ h. h.items) supply.old.shares.items
         ≡ w.states ∷ map (λ h. h.items) supply.new.shares.items) }
@@ -267,8 +249,7 @@ fn next_share<M: VtModel>(
         supply.old.ports.items ≡ w.port ∷ supply.new.ports.items) }
     ensures bells { IfOk result (λ _.
         length supply.old.bells.items ≡ length supply.new.bells.items + 1) }
-    ensures starts { IfOk result (λ w. map (λ x. x.value.items) supply.old.starts.items
-        ≡ w.starts ∷ map (λ x. x.value.items) supply.new.starts.items) }
+    ensures starts { IfOk result (λ w. w.starts ≡ starts.now.value.items) }
     ensures new { IfOk result (HasNotBegun terms) }
 {
     let away = empty_lists(alloc, terms.workers as usize)?;
@@ -288,7 +269,7 @@ fn next_share<M: VtModel>(
         said: terms.reach,
         executed: 0,
         received: 0,
-        starts: first_of(&mut supply.starts),
+        starts: Snapshot::of(starts),
         given,
     };
     Ok(Share {

@@ -34,8 +34,8 @@ pub(crate) struct Domain<M: VtModel> {
     pub(crate) executed: u64,
     /// How many events it heard of.
     pub(crate) received: u64,
-    /// Where all processes start. For contracts alone.
-    pub(crate) starts: Snapshot<Vec<M::State>>,
+    /// Where all processes start, as it was seen before they were dealt out. For contracts alone.
+    pub(crate) starts: Snapshot<Snapshot<Vec<M::State>>>,
     /// The events that it was dealt. For contracts alone.
     pub(crate) given: Snapshot<Vec<Event<M::Body>>>,
 }

@@ -27,7 +27,7 @@ impl<M: VtModel> Model for Share<M> {
       workers = w.domain.workers;
       end = w.domain.end;
       lookahead = w.domain.lookahead;
-      starts = w.domain.starts.value.items;
+      starts = w.domain.starts.value.value.items;
       given = w.domain.given.value.items;
       states = w.domain.states.items;
       waiting = w.events.items;

@@ -38,7 +38,7 @@ impl<M: VtModel> Model for Worker<M> {
       workers = w.domain.workers;
       end = w.domain.end;
       lookahead = w.domain.lookahead;
-      starts = w.domain.starts.value.items;
+      starts = w.domain.starts.value.value.items;
       given = w.domain.given.value.items;
       states = w.domain.states.items;
       waiting = w.pending.events;

@@ -1,6 +1,5 @@
-use Rattle.std.proofs.Common.{◌≤◌, All, length, map, sym, ap, ◌∙◌, subst, filter}
+use Rattle.std.proofs.Common.{◌≤◌, All, map, replicate, ap, ◌∙◌, subst, filter}
 use Rattle.std.specs.Prelude.{◌%◌, ◌==◌}
-use Rattle.std.proofs.lemmas.List.{length-map, length-replicate}
 use Rattle.rw_vt.proofs.Laws.{Laws, laws_of}
 use Rattle.rw_windows.specs.declared.beginning.Terms.{Terms}
 use Rattle.rw_windows.proofs.Fresh.{all_begun, first_reach, some_reach}
@@ -9,11 +8,6 @@ use Rattle.rw_windows.proofs.beginning.begin.Goals as goal
 
 laws : (g : given.Over) → Laws g.M.Model g.M.Body.Ord.cmp
 laws g = laws_of g.met.M.Model g.met.M.Body.Ord.total
-
-pub make_shares-requires-clause-starts : goal.make_shares-requires-clause-starts
-make_shares-requires-clause-starts g c =
-    let supply = c.in_ok-supply.supply in
-    sym (length-map supply.starts.items (λ x. x.value.items)) ∙ ap length c.in_ok-supply.ensures.starts ∙ length-replicate c.args.workers c.args.states.items
 
 pub returns : goal.returns
 returns g c =
@@ -31,5 +25,5 @@ returns g c =
           (map (λ h. h.items) supply.shares.items) had.shares.1
           (map (λ b. b.items) supply.inboxes.items) (λ i inside. had.inboxes.1 i inside ∙ ap (filter (λ e. e.to % c.args.workers == i)) c.deref-2.ensures.value)
           supply.ports.items had.ports.0 had.ports.1 had.ports.2 had.greeted.0 had.greeted.1
-          ws its.count its.numbers its.states its.given its.ports (its.starts ∙ had.starts) its.new;
+          ws its.count its.numbers its.states its.given its.ports (its.starts ∙ ap (λ s. replicate c.args.workers s.items) c.of-starts.ensures) its.new;
     }

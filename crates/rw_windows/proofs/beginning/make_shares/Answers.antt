@@ -1,5 +1,5 @@
-use Rattle.std.proofs.Common.{◌≡◌, ◌+◌, [], ◌∷◌, ◌++◌, length, map, refl, sym, ap, ◌∙◌, arith}
-use Rattle.std.proofs.lemmas.List.{length-map}
+use Rattle.std.proofs.Common.{◌≡◌, ◌+◌, [], ◌∷◌, ◌++◌, length, map, replicate, refl, sym, ap, ◌∙◌, arith}
+use Rattle.std.proofs.lemmas.List.{length-map, map_push, replicate_more}
 use Rattle.std.proofs.lemmas.List.Elements.{All-same, All-push}
 use Rattle.rw_crew.proofs.Lists.{all_walked, one_done}
 use Rattle.rw_windows.specs.Beginning.{HasNotBegun}
@@ -14,14 +14,13 @@ loop-number-init g c =
       inboxes_left = omega (arith, c.requires.inboxes);
       ports_left = omega (arith, c.requires.ports);
       bells_left = omega (arith, c.requires.bells);
-      starts_left = omega (arith, c.requires.starts);
       capacity = c.in_ok-shares.ensures.exact;
       count = c.in_ok-shares.ensures.len;
       numbers = λ i d below. absurd (omega arith);
       states = ap (λ ws. map (λ w. w.states) ws ++ map (λ h. h.items) c.args.supply.shares.items) none;
       given = ap (λ ws. map (λ w. w.given) ws ++ map (λ b. b.items) c.args.supply.inboxes.items) none;
       ports = ap (λ ws. map (λ w. w.port) ws ++ c.args.supply.ports.items) none;
-      starts = ap (λ ws. map (λ w. w.starts) ws ++ map (λ x. x.value.items) c.args.supply.starts.items) none;
+      starts = ap (map (λ w. w.starts)) none;
       new = All-same (HasNotBegun c.args.terms) _ _ none (λ i d within. absurd (omega arith));
     }
 
@@ -36,9 +35,6 @@ next_share-requires-clause-ports g c = λ empty. omega (arith, ap length empty, 
 
 pub next_share-requires-clause-bells : goal.next_share-requires-clause-bells
 next_share-requires-clause-bells g c = λ empty. omega (arith, ap length empty, c.loop-number.invariant.bells_left, c.loop-number-test.true)
-
-pub next_share-requires-clause-starts : goal.next_share-requires-clause-starts
-next_share-requires-clause-starts g c = λ empty. omega (arith, ap length empty, c.loop-number.invariant.starts_left, c.loop-number-test.true)
 
 pub push_reserved-requires : goal.push_reserved-requires
 push_reserved-requires g c = omega (arith, c.loop-number.invariant.capacity, c.loop-number.invariant.count, c.loop-number-test.true)
@@ -55,20 +51,23 @@ loop-number-preserved g c =
     let more : ws' ≡ ws ++ w ∷ [] = c.push_reserved.ensures.items in
     let shares : length before.shares.items ≡ length after.shares.items + 1 = omega (arith, length-map before.shares.items (λ h. h.items), length-map after.shares.items (λ h. h.items), ap length is.states) in
     let inboxes : length before.inboxes.items ≡ length after.inboxes.items + 1 = omega (arith, length-map before.inboxes.items (λ b. b.items), length-map after.inboxes.items (λ b. b.items), ap length is.given) in
-    let starts : length before.starts.items ≡ length after.starts.items + 1 = omega (arith, length-map before.starts.items (λ x. x.value.items), length-map after.starts.items (λ x. x.value.items), ap length is.starts) in
+    let starts = c.args.starts.now.value.items in
     record {
       shares_left = omega (arith, shares, known.shares_left);
       inboxes_left = omega (arith, inboxes, known.inboxes_left);
       ports_left = omega (arith, ap length is.port, known.ports_left);
       bells_left = omega (arith, is.bells, known.bells_left);
-      starts_left = omega (arith, starts, known.starts_left);
       capacity = c.push_reserved.ensures.capacity ∙ known.capacity;
       count = omega (arith, c.push_reserved.ensures.len, known.count);
       numbers = numbered_more (λ v. v.number) c.loop-number.number ws ws' w (sym c.loop-number.shares.ok.0 ∙ known.count) known.numbers is.number more;
       states = one_done (λ w. w.states) ws ws' (map (λ h. h.items) before.shares.items) (map (λ h. h.items) after.shares.items) (map (λ h. h.items) c.args.supply.shares.items) w.states w known.states is.states refl more;
       given = one_done (λ w. w.given) ws ws' (map (λ b. b.items) before.inboxes.items) (map (λ b. b.items) after.inboxes.items) (map (λ b. b.items) c.args.supply.inboxes.items) w.given w known.given is.given refl more;
       ports = one_done (λ w. w.port) ws ws' before.ports.items after.ports.items c.args.supply.ports.items w.port w known.ports is.port refl more;
-      starts = one_done (λ w. w.starts) ws ws' (map (λ x. x.value.items) before.starts.items) (map (λ x. x.value.items) after.starts.items) (map (λ x. x.value.items) c.args.supply.starts.items) w.starts w known.starts is.starts refl more;
+      starts = ap (map (λ w. w.starts)) more
+          ∙ map_push (λ w. w.starts) ws w
+          ∙ ap (λ l. l ++ w.starts ∷ []) known.starts
+          ∙ ap (λ s. replicate c.loop-number.number starts ++ s ∷ []) is.starts
+          ∙ replicate_more c.loop-number.number starts;
       new = All-same (HasNotBegun c.args.terms) ws' (ws ++ w ∷ []) more (All-push (HasNotBegun c.args.terms) ws w known.new is.new);
     }
 
@@ -93,8 +92,8 @@ returns-clause-ports g c = all_walked _ c.loop-number.supply.ports.items _ c.loo
 
 pub returns-clause-starts : goal.returns-clause-starts
 returns-clause-starts g c =
-    let rest = c.loop-number.supply.starts.items in
-    all_walked _ (map (λ x. x.value.items) rest) _ c.loop-number.invariant.starts (length-map rest (λ x. x.value.items) ∙ omega (arith, c.loop-number.invariant.starts_left, c.loop-number-test.false))
+    c.loop-number.invariant.starts
+    ∙ ap (λ n. replicate n c.args.starts.now.value.items) (omega (arith, c.loop-number-test.false, c.loop-number.auto.number-end))
 
 pub returns-clause-new : goal.returns-clause-new
 returns-clause-new g c = c.loop-number.invariant.new

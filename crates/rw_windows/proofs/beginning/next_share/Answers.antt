@@ -13,9 +13,6 @@ first_of-requires-2 g c = record { some = c.requires.ports }
 pub first_of-requires-3 : goal.first_of-requires-3
 first_of-requires-3 g c = record { some = c.requires.bells }
 
-pub first_of-requires-4 : goal.first_of-requires-4
-first_of-requires-4 g c = record { some = c.requires.starts }
-
 pub returns-clause-number : goal.returns-clause-number
 returns-clause-number g c = refl
 
@@ -34,4 +31,4 @@ pub returns-clause-bells : goal.returns-clause-bells
 returns-clause-bells g c = omega (arith, ap length c.first_of-3.ensures.first)
 
 pub returns-clause-starts : goal.returns-clause-starts
-returns-clause-starts g c = ap (map (λ x. x.value.items)) c.first_of-4.ensures.first
+returns-clause-starts g c = ap (λ s. s.value.items) c.of.ensures

@@ -2,7 +2,6 @@ use Rattle.std.proofs.Common.{[], length, map, sym, ap, ◌∙◌, subst, get_or
 use Rattle.std.specs.Prelude.{slice_get}
 use Rattle.rw_exchange.specs.Ports.{AreGreeted, IsOpening, NoneItself, StayAnOpening}
 use Rattle.rw_windows.specs.Beginning.{greeting}
-use Rattle.rw_windows.proofs.Lists.{map_twice, map_replicate}
 use Rattle.rw_windows.proofs.beginning.supplies.Goals as goal
 
 pub returns-clause-shares : goal.returns-clause-shares
@@ -34,10 +33,3 @@ returns-clause-greeted g c =
 
 pub returns-clause-bells : goal.returns-clause-bells
 returns-clause-bells g c = ap length c.from-4.ensures.0 ∙ c.in_ok-bells.ensures.count
-
-pub returns-clause-starts : goal.returns-clause-starts
-returns-clause-starts g c =
-    ap (map (λ x. x.value.items)) c.from-5.ensures.0
-    ∙ map_twice (λ v. v.items) (λ x. x.value) c.in_ok-starts.starts.items
-    ∙ ap (map (λ v. v.items)) c.in_ok-starts.ensures
-    ∙ map_replicate (λ v. v.items) c.args.terms.workers c.args.states
