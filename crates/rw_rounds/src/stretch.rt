@@ -74,8 +74,8 @@ where
     })
 }
 
-/// After a round of a stretch, which took the run from `before` to `after`: whether another one may follow. Tells the pace and
-/// `progress` of a round that was not the last.
+/// Whether another round of a stretch may follow the one that took the run from `before` to `after`. Tells the pace and
+/// `progress` of that one, unless its floor is `until` or later.
 fn may_go_on<P: Progress>(
     plan: &Plan,
     until: u64,
