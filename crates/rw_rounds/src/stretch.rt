@@ -28,8 +28,8 @@ pub struct Stretch<M: VtModel> {
 /// have one worker go on alone. Nothing is committed from the time `until` on, in ticks: so initial events of that time or
 /// later may still come from outside. `hands` does the work of each round; no thread is started here.
 ///
-/// Each round is by a plan within `plan`, as the pace says, which goes on from stretch to stretch. `progress` is told up to
-/// which time all is final after each round but the last.
+/// Each round is by a plan within `plan`, as the pace says, which goes on from stretch to stretch. After each round whose floor is
+/// before `until`, `progress` is told up to which time all is final.
 ///
 /// # Errors
 ///
