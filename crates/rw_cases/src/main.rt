@@ -1,6 +1,7 @@
 #![tactic(auto)]
 //! Runs the cases of `cases.jsonl` through the program's command, with a source and writers in memory, and compares what
-//! it writes and its exit status with what the case says. Prints each case that differs and how many agree.
+//! it writes and its exit status with what the case says. Prints each case that differs and how many agree; then how many of
+//! the command `serial` agree by the program that has no other.
 //!
 //! Then runs drawn traces through drawn caches in rounds, under several plans, and compares each report with that of the run
 //! on one thread. Prints how many agree.
@@ -31,6 +32,11 @@ fn main(rt: HostRuntime) -> Result<()> {
     let text = fs::read_to_string(&rt, "cases.jsonl").context("reading cases.jsonl")?;
     let stored = stored(&rt, alloc, &text)?;
     println!(rt; "{} agree, {} differ", stored.agree, stored.differ)?;
+    let alone = alone(&rt, alloc, &text)?;
+    println!(rt;
+        "{} of serial alone agree, {} differ",
+        alone.agree, alone.differ
+    )?;
     let drawn = drawn::compare(&rt, alloc, SEEDS)?;
     println!(rt; "{} drawn runs agree, {} differ", drawn.agree, drawn.differ)?;
     Ok(())
@@ -45,6 +51,18 @@ fn stored<R: Print + Threads + Wait + Clock + Sync>(
     let mut tally = Tally::default();
     for line in text.lines() {
         tally.count(agrees(rt, alloc, line)?);
+    }
+    Ok(tally)
+}
+
+/// Runs the cases of a text that are of the command `serial` by the program that has no other, and counts those that agree.
+fn alone<R: Clock>(rt: &R, alloc: Global, text: &str) -> Result<Tally> {
+    let mut tally = Tally::default();
+    for line in text.lines() {
+        let case = Case::parse(alloc, line).context("parsing a case")?;
+        if case.is_serial() {
+            tally.count(case.agrees_alone(rt, alloc)?);
+        }
     }
     Ok(tally)
 }

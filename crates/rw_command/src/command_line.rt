@@ -1,9 +1,10 @@
 use clap::ArgMatches;
-use clap::error::ErrorKind;
-use rw_options::{config, program};
+use rw_arguments::config;
+use rw_console::{CommandFault, Out, Source, answer, read, serial, write_line};
+use rw_options::program;
 use rw_progress::{Line, Measure, Progress};
-use rw_ripqwarp::{Mode, Out, Plan, Traffic, schedule, simulate_and_tell};
-use rw_studies::{Fault, Source, import, join, plot, read, sweep, write, write_line};
+use rw_ripqwarp::{Mode, Plan, Traffic, schedule, simulate_and_tell};
+use rw_studies::{Fault, import, join, plot, sweep};
 use std::alloc::Global;
 use std::io::Write;
 use std::sync::Wait;
@@ -70,7 +71,7 @@ fn attempt<S: Source, W: Write, E: Write, R: Threads + Wait + Clock + Sync>(
     let program = program(alloc)?;
     match program.try_get_matches_from(words) {
         Ok(matches) => carry_out(rt, alloc, &matches, source, out, err, terminal),
-        Err(error) => answer(alloc, error, out),
+        Err(error) => Ok(answer(alloc, error, out)?),
     }
 }
 
@@ -85,9 +86,10 @@ fn carry_out<S: Source, W: Write, E: Write, R: Threads + Wait + Clock + Sync>(
     terminal: bool,
 ) -> Result<(), Fault> {
     let Some((name, options)) = matches.subcommand() else {
-        return Err(Fault::Plan);
+        return Err(CommandFault::Plan.into());
     };
     match name {
+        "serial" => Ok(serial(rt, alloc, options, source, out, err, terminal)?),
         "import" => import(rt, alloc, options, source, out, err, terminal),
         "sweep" => sweep(rt, alloc, options, source, out, err, terminal),
         "join" => join(alloc, options, source, out),
@@ -96,7 +98,7 @@ fn carry_out<S: Source, W: Write, E: Write, R: Threads + Wait + Clock + Sync>(
     }
 }
 
-/// Runs a trace, and tells what the rounds of a run in rounds did.
+/// Runs a trace in rounds or by a schedule, and tells what the rounds did.
 fn simulation<S: Source, W: Write, E: Write, R: Threads + Wait + Clock + Sync>(
     rt: &R,
     alloc: Global,
@@ -123,13 +125,12 @@ fn simulation<S: Source, W: Write, E: Write, R: Threads + Wait + Clock + Sync>(
 /// How the command of this name runs a trace under these options.
 fn mode(alloc: Global, name: &str, options: &ArgMatches<'_>) -> Result<Mode, Fault> {
     match name {
-        "serial" => Ok(Mode::Serial),
-        "warp" => Ok(Mode::Warp(plan(options).ok_or(Fault::Plan)?)),
+        "warp" => Ok(Mode::Warp(plan(options).ok_or(CommandFault::Plan)?)),
         "journal" => {
-            let words = options.get_str("schedule").ok_or(Fault::Plan)?;
+            let words = options.get_str("schedule").ok_or(CommandFault::Plan)?;
             Ok(Mode::Journal(schedule(alloc, words)?))
         }
-        _ => Err(Fault::Plan),
+        _ => Err(CommandFault::Plan.into()),
     }
 }
 
@@ -156,24 +157,10 @@ fn run<S: Source, P: Progress, W: Write, R: Threads + Wait + Sync>(
     progress: &mut P,
     out: &mut Out<W>,
 ) -> Result<Traffic, Fault> {
-    let Some(config) = config(options) else {
-        return Err(Fault::Plan);
-    };
+    let config = config(options).ok_or(CommandFault::Plan)?;
     let bytes = read(alloc, options, "trace", source)?;
     let traffic = simulate_and_tell(rt, alloc, bytes.as_slice(), &config, mode, progress, out)?;
     Ok(traffic)
-}
-
-/// Deals with what `clap` answers in place of a command: help, which is printed, or a fault.
-fn answer<W: Write>(alloc: Global, error: clap::Error, out: &mut Out<W>) -> Result<(), Fault> {
-    if error.kind() == ErrorKind::OutOfMemory {
-        return Err(Fault::Memory);
-    }
-    let text = format!(in alloc; "{error}")?;
-    if error.use_stderr() {
-        return Err(Fault::CommandLine(text));
-    }
-    write(text.as_bytes(), out)
 }
 
 /// Writes what the rounds of a run did as one line; a writer that fails is let be.

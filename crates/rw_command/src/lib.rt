@@ -6,5 +6,6 @@
 mod command_line;
 
 pub use command_line::{command, command_at};
-pub use rw_ripqwarp::{Out, ScheduleFault, SimFault};
-pub use rw_studies::{Fault, Source, SourceFault};
+pub use rw_console::{CommandFault, Inputs, Out, SimFault, Source, SourceFault, words};
+pub use rw_ripqwarp::ScheduleFault;
+pub use rw_studies::Fault;

@@ -1,11 +1,10 @@
 // Lists of values, as the options of a sweep say them.
-use crate::caches::POLICIES;
-use crate::values::policy;
+use rw_arguments::{POLICIES, policy};
 use rw_photo::Policy;
 use std::alloc::Global;
 
 /// Why a text is no list.
-#[derive(Clone, Copy, Debug, PartialEq, Eq)]
+#[derive(Clone, Copy)]
 pub enum ListFault {
     /// An item is none of the option's values.
     Item,

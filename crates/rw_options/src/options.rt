@@ -1,30 +1,11 @@
 // What the commands take beside the options of caches, in the order of the help.
-use crate::arguments::{Argument, Given, Value};
-use crate::caches::{BACK, DOWN, EDGES, ORIGINS, UP};
+use rw_arguments::{
+    Argument, BACK, DOWN, EDGES, Given, ORIGINS, QUIET, TRACE, TRACE_HELP, UP, Value,
+};
 use rw_import::MAX_TICKS;
 use rw_photo::Config;
 use rw_sweep::MAX_CONFIGURATIONS;
 use rw_vt::END;
-
-/// The trace, which a run takes.
-pub(crate) const TRACE: Argument = Argument {
-    name: "trace",
-    value: Value::File("TRACE"),
-    given: Given::Always,
-    help: TRACE_HELP,
-};
-
-/// What the help says of the trace.
-const TRACE_HELP: &str =
-    "The trace: CSV under time,edge,object,size and, for purges, kind; - is standard input";
-
-/// Whether nothing is to be shown of how far a run has come.
-pub(crate) const QUIET: Argument = Argument {
-    name: "quiet",
-    value: Value::Flag,
-    given: Given::Maybe,
-    help: "Do not show on a terminal how much is done",
-};
 
 /// The steps by which a trace is run.
 pub(crate) const SCHEDULE: Argument = Argument {

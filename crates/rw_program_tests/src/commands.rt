@@ -1,6 +1,8 @@
 // The program's words, what it says on standard error, and its exit status.
 use crate::pipe::Pipe;
-use rw_command::{Fault, Out, ScheduleFault, SimFault, Source, SourceFault, command, command_at};
+use rw_command::{
+    CommandFault, Fault, Out, ScheduleFault, SimFault, Source, SourceFault, command, command_at,
+};
 use rw_trace::TraceFault;
 use std::alloc::{AllocError, Global};
 use std::io::Write;
@@ -23,21 +25,21 @@ fn is_told(alloc: Global, fault: Fault, line: &str, status: u8) -> bool {
 fn a_fault_is_one_line_and_a_status(rt: HostRuntime) {
     let alloc = rt.alloc();
     let many = SimFault::Trace(TraceFault::TooManyRows);
-    assert!(rt; is_told(alloc, Fault::Plan, "plan\n", 2));
-    assert!(rt; is_told(alloc, Fault::Run(many), "trace: too many rows\n", 3));
-    assert!(rt; is_told(alloc, Fault::Run(SimFault::Plan), "plan\n", 2));
-    assert!(rt; is_told(alloc, Fault::Run(SimFault::NoThread), "no thread\n", 6));
-    assert!(rt; is_told(alloc, Fault::Run(SimFault::Exhausted), "exhausted\n", 7));
-    assert!(rt; is_told(alloc, Fault::Run(SimFault::Output), "output\n", 8));
+    assert!(rt; is_told(alloc, CommandFault::Plan.into(), "plan\n", 2));
+    assert!(rt; is_told(alloc, many.into(), "trace: too many rows\n", 3));
+    assert!(rt; is_told(alloc, SimFault::Plan.into(), "plan\n", 2));
+    assert!(rt; is_told(alloc, SimFault::NoThread.into(), "no thread\n", 6));
+    assert!(rt; is_told(alloc, SimFault::Exhausted.into(), "exhausted\n", 7));
+    assert!(rt; is_told(alloc, SimFault::Output.into(), "output\n", 8));
 }
 
 #[test]
 fn want_of_memory_is_memory_wherever_it_is(rt: HostRuntime) {
     let alloc = rt.alloc();
-    assert!(rt; is_told(alloc, Fault::Memory, "memory\n", 5));
-    assert!(rt; is_told(alloc, Fault::Schedule(ScheduleFault::Memory), "memory\n", 5));
-    assert!(rt; is_told(alloc, Fault::Source(SourceFault::Memory), "memory\n", 5));
-    assert!(rt; is_told(alloc, Fault::Run(SimFault::Memory), "memory\n", 5));
+    assert!(rt; is_told(alloc, CommandFault::Memory.into(), "memory\n", 5));
+    assert!(rt; is_told(alloc, ScheduleFault::Memory.into(), "memory\n", 5));
+    assert!(rt; is_told(alloc, SourceFault::Memory.into(), "memory\n", 5));
+    assert!(rt; is_told(alloc, SimFault::Memory.into(), "memory\n", 5));
 }
 
 /// A trace on standard input; there is no file.

@@ -1,4 +1,5 @@
 pub mod Failing
 pub mod Lines
+pub mod Refused
 pub mod Runs
 pub mod Written

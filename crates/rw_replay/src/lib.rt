@@ -2,7 +2,8 @@
 //! The rows of a trace on one thread, and the report: what a run begins with, in which states the
 //! rows leave all caches, and what these have counted, as text.
 //!
-//! [`beginning`] reads a trace and gives the caches as they start, and the requests;
+//! [`replay`] does all of it: it reads a trace, runs it and writes its report. Its pieces serve other
+//! engines too: [`beginning`] reads a trace and gives the caches as they start, and the requests;
 //! [`beginning_of_rows`] gives them of rows that are read already, and [`last_states_of_rows`] runs
 //! these rows in order of time. [`report`] makes the text, and an [`Out`] writes it and counts its
 //! failures. [`SimFault`] says why a run has no text, whatever engine it is run by:
@@ -13,6 +14,7 @@
 mod output;
 mod replaying;
 mod report_text;
+mod running;
 mod sim_fault;
 mod telling;
 
@@ -21,6 +23,7 @@ pub use replaying::{
     beginning, beginning_of_rows, last_states_and_tell, last_states_of_rows, starts,
 };
 pub use report_text::{report, report_of_states, write_count};
+pub use running::{replay, report_of_trace};
 pub use rw_photo::{Body, CacheState, Config};
 pub use rw_trace::{Row, TraceFault};
 pub use rw_vt::{Event, NoMemory, Outcome, Refusal};

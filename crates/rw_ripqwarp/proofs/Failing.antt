@@ -1,8 +1,6 @@
 -- Which faults a run has of a call that failed.
 use Rattle.std.proofs.Common.{◌≡◌, ℕ, List, sym, subst}
 use Rattle.std.specs.Prelude.{◌≢◌}
-use Rattle.rw_vt.specs.declared.refusal.Refusal.{Refusal}
-use Rattle.rw_vt.specs.declared.refusal.Refusal.TheVariants as refusal
 use Rattle.rw_photo.specs.declared.config.Config.{Config}
 use Rattle.rw_worker.specs.declared.plan.Plan.{Plan}
 use Rattle.rw_rounds.specs.declared.stop.Stop.{Stop}
@@ -11,9 +9,10 @@ use Rattle.rw_engine.specs.Alone.{MayStopAlone}
 use Rattle.rw_engine.specs.Stretches.{MayStopInRounds}
 use Rattle.rw_replay.specs.declared.sim_fault.SimFault.{SimFault}
 use Rattle.rw_replay.specs.declared.sim_fault.SimFault.TheVariants as sim
-use Rattle.rw_replay.specs.Faults.{sim_refusal_of}
 use Rattle.rw_replay.specs.Beginning.{IsBeginningFault}
+use Rattle.rw_replay.specs.Replay.{IsReplayFault}
 use Rattle.rw_ripqwarp.specs.declared.mode.Mode.{Mode}
+use Rattle.rw_ripqwarp.specs.declared.mode.Mode.TheVariants.{Serial}
 use Rattle.rw_ripqwarp.specs.Faults.{sim_stop_of}
 use Rattle.rw_ripqwarp.specs.Simulate.{IsRunFault}
 
@@ -27,6 +26,16 @@ beginning-fault mode c bytes sim.Rounds is = absurd is
 beginning-fault mode c bytes sim.NoThread is = absurd is
 beginning-fault mode c bytes sim.Output is = absurd is
 
+-- why a run on one thread has no report is a fault of the run in that mode
+pub replay-fault : (c : Config) (bytes : List ℕ) (f : SimFault) → IsReplayFault c bytes f → IsRunFault Serial c bytes f
+replay-fault c bytes (sim.Trace f) is = is
+replay-fault c bytes sim.Memory is = tt
+replay-fault c bytes sim.Exhausted is = (is, λ bad. bad)
+replay-fault c bytes sim.Plan is = absurd is
+replay-fault c bytes sim.Rounds is = absurd is
+replay-fault c bytes sim.NoThread is = absurd is
+replay-fault c bytes sim.Output is = absurd is
+
 -- only a writer's failure is told as one
 pub beginning-unwritten : (c : Config) (bytes : List ℕ) (f : SimFault) → IsBeginningFault c bytes f → f ≢ sim.Output
 beginning-unwritten c bytes (sim.Trace f) is = λ same. cc
@@ -36,10 +45,6 @@ beginning-unwritten c bytes sim.Exhausted is = absurd is
 beginning-unwritten c bytes sim.Rounds is = absurd is
 beginning-unwritten c bytes sim.NoThread is = absurd is
 beginning-unwritten c bytes sim.Output is = absurd is
-
-pub refusal-unwritten : (e : Refusal) → sim_refusal_of e ≢ sim.Output
-refusal-unwritten refusal.Memory = λ same. cc
-refusal-unwritten refusal.Exhausted = λ same. cc
 
 unwritten : (s : Stop) → sim_stop_of s ≢ sim.Output
 unwritten stop.Memory = λ same. cc

@@ -1,4 +1,3 @@
 pub mod Failing
-pub mod InOrder
 pub mod Stopping
 pub mod Ways

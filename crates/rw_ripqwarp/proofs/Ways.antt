@@ -28,12 +28,13 @@ use Rattle.rw_engine.specs.Runs.{AreLastStates, ComesToExhaustion, HasRun, IsByB
 use Rattle.rw_replay.specs.declared.sim_fault.SimFault.{SimFault}
 use Rattle.rw_replay.specs.Report.{report_text}
 use Rattle.rw_replay.specs.Beginning.{IsBeginningOf}
+use Rattle.rw_replay.specs.Replay.{IsReportOf}
 use Rattle.rw_replay.proofs.Runs.{length-states, simulates}
 use Rattle.rw_ripqwarp.specs.declared.mode.Mode.{Mode}
 use Rattle.rw_ripqwarp.specs.declared.mode.Mode.TheVariants.{Serial, Warp, Journal}
 use Rattle.rw_ripqwarp.specs.Faults.{sim_stop_of}
 use Rattle.rw_journal.specs.Journal.{journal_text}
-use Rattle.rw_ripqwarp.specs.Simulate.{HasBadPlan, HasGoodPlan, IsExhausting, IsJournalOf, IsReportOf, IsRunFault, IsTextOf, IsWarp, IsWayOf}
+use Rattle.rw_ripqwarp.specs.Simulate.{HasBadPlan, HasGoodPlan, IsExhausting, IsJournalOf, IsRunFault, IsTextOf, IsWarp, IsWayOf}
 
 -- the caches at work
 abbrev pub caches : Photo → List Cache → List (Event Body) → System Cache Body

@@ -1,13 +1,10 @@
 -- From the bytes of a trace to the bytes of its report, or of its journal.
-use Rattle.std.specs.Prelude.{◌≡◌, ℕ, List, map, Ok, Err}
-use Rattle.rw_vt.specs.declared.event.Event.{Event}
-use Rattle.rw_vt.specs.System.{IsOutcome, Meets}
+use Rattle.std.specs.Prelude.{◌≡◌, ℕ, List, Ok, Err}
 use Rattle.rw_trace.specs.declared.Row.{Row}
 use Rattle.rw_trace.specs.Trace.{trace_of}
 use Rattle.rw_trace.specs.Unread.{records_of}
-use Rattle.rw_photo.specs.declared.body.Body.{Body}
 use Rattle.rw_photo.specs.declared.config.Config.{Config}
-use Rattle.rw_photo.specs.Cache.{Cache, is_exhausted}
+use Rattle.rw_photo.specs.Cache.{is_exhausted}
 use Rattle.rw_photo.specs.Simulation.{simulation}
 use Rattle.rw_world.specs.declared.step.Step.{Step}
 use Rattle.rw_world.specs.WorldState.{opening_world}
@@ -16,25 +13,13 @@ use Rattle.rw_world.specs.Calls.{MeetsAt}
 use Rattle.rw_worker.specs.Plans.{IsInRanges}
 use Rattle.rw_engine.specs.declared.how.How.{How}
 use Rattle.rw_engine.specs.declared.how.How.TheVariants.{InOrder, InRounds, BySteps}
-use Rattle.rw_replay.specs.Report.{report_text}
+use Rattle.rw_replay.specs.Replay.{IsReportOf, IsExhaustingInOrder}
 use Rattle.rw_replay.specs.declared.sim_fault.SimFault.{SimFault}
 use Rattle.rw_replay.specs.declared.sim_fault.SimFault.TheVariants as sim
 use Rattle.rw_journal.specs.Journal.{journal_text}
 use Rattle.rw_ripqwarp.specs.declared.mode.Mode.{Mode}
 use Rattle.rw_ripqwarp.specs.declared.mode.Mode.TheVariants.{Serial, Warp, Journal}
-use Rattle.rw_vt.specs.Limits.{end_of_time}
 use Rattle.rw_trace.specs.Limits.{most_rows}
-
--- the text is the report of the trace in these bytes: the trace is accepted with these rows; executing their requests,
--- and all that follows from them, in order of time leaves the caches in these states; and the text tells what they have
--- counted
-pub record IsReportOf (c : Config) (bytes text : List ℕ) : Type 0 where
-  pub rows : List Row
-  pub journals : List (List (Event Body))
-  pub states : List Cache
-  pub accepted : trace_of c.edges most_rows (records_of bytes) ≡ Ok rows
-  pub outcome : IsOutcome (simulation c rows) end_of_time journals states
-  pub told : text ≡ report_text c (map (λ s. s.counters) states)
 
 -- the text is the journal of the trace in these bytes under these steps: the trace is accepted with these rows; the
 -- text tells what the steps answer, refused ones included, and to which world they lead from the one in which nothing
@@ -52,13 +37,6 @@ abbrev pub IsTextOf : Mode → Config → List ℕ → List ℕ → Type 0
 IsTextOf Serial c bytes text = IsReportOf c bytes text
 IsTextOf (Warp plan) c bytes text = IsReportOf c bytes text
 IsTextOf (Journal steps) c bytes text = IsJournalOf steps.items c bytes text
-
--- the trace in these bytes is accepted, and executing it in order of time comes to a cache that can take no further
--- event
-pub record IsExhaustingInOrder (c : Config) (bytes : List ℕ) : Type 0 where
-  pub rows : List Row
-  pub accepted : trace_of c.edges most_rows (records_of bytes) ≡ Ok rows
-  pub met : Meets (simulation c rows) end_of_time is_exhausted
 
 -- the trace in these bytes is accepted, and one of these steps, when its turn comes, is to execute an event at such a
 -- cache

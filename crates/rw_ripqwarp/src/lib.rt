@@ -3,7 +3,7 @@
 //!
 //! What is proved of the whole stands in `specs/Headline.antt`, a closed statement for each sentence; [`every_reverse`],
 //! [`any_schedule`] and [`one_report`] carry them, and [`simulate`] does what they speak of: on one thread by
-//! [`last_states_of_rows`], else by the engine, [`rw_engine::run_in`].
+//! [`rw_replay::report_of_trace`], else by the engine, [`rw_engine::run_in`].
 //!
 //! Worked examples: `rw_program_tests/src/reports.rt`, and the cases of `rw_cases`.
 

@@ -5,7 +5,8 @@ ghost use Rattle.rw_trace.specs.Limits.{most_rows};
 ghost use Rattle.rw_engine.specs.Runs.{AreLastStates};
 ghost use Rattle.rw_engine.specs.Stretches.{MayStopInRounds};
 ghost use Rattle.rw_ripqwarp.specs.Faults.{sim_stop_of};
-ghost use Rattle.rw_ripqwarp.specs.Simulate.{HasGoodPlan, IsReportOf, IsRunFault};
+ghost use Rattle.rw_replay.specs.Replay.{IsReportOf};
+ghost use Rattle.rw_ripqwarp.specs.Simulate.{HasGoodPlan, IsRunFault};
 
 use crate::mode::Mode;
 use rw_engine::{

@@ -2,7 +2,7 @@ ghost use Rattle.std.specs.Prelude.{◌≡◌, ◌≢◌, ◌↔◌, Err, IfOk, 
 ghost use Rattle.std.specs.Io.KnownBytes.{Appends};
 ghost use Rattle.rw_engine.specs.Runs.{no_traffic};
 ghost use Rattle.rw_replay.specs.Sink.{AppendsBeginning};
-ghost use Rattle.rw_ripqwarp.specs.Simulate.{IsReportOf, IsTextOf, IsWarp, HasGoodPlan, IsRunFault};
+ghost use Rattle.rw_ripqwarp.specs.Simulate.{IsTextOf, IsWarp, HasGoodPlan, IsRunFault};
 ghost use Rattle.rw_ripqwarp.specs.Headline.{HasWritten, HasWrittenBeginning};
 
 use crate::mode::Mode;
@@ -11,8 +11,7 @@ use rw_engine::{Ran, Traffic, run_in_and_tell};
 use rw_journal::journal;
 use rw_photo::{Config, Photo};
 use rw_progress::{Progress, Silent};
-use rw_replay::{Out, SimFault, begin_events, beginning, last_states_and_tell, report_of_states};
-use rw_trace::read;
+use rw_replay::{Out, SimFault, begin_events, beginning, report_of_states, report_of_trace};
 use rw_vt::Model as VtModel;
 use std::alloc::Global;
 use std::io::Write;
@@ -97,28 +96,12 @@ fn text_of<P: Progress, R: Threads + Wait + Sync>(
 {
     match mode {
         Mode::Serial => {
-            let text = serial_text(alloc, bytes, config, progress)?;
+            let text = report_of_trace(alloc, bytes, config, progress)?;
             Ok((text, Traffic::default()))
         }
         Mode::Warp(plan) => rounds_text(rt, alloc, bytes, config, plan, progress),
         mode => engine_text(rt, alloc, bytes, config, mode, progress),
     }
-}
-
-/// The report of a run on one thread. The requests of a trace whose rows stand in order of time are not there all at once.
-fn serial_text<P: Progress>(
-    alloc: Global,
-    bytes: &[u8],
-    config: &Config,
-    progress: &mut P,
-) -> Result<Vec<u8>, SimFault>
-    ensures text { IfOk result (λ text. IsReportOf config.now bytes.now text.items) }
-    ensures fault { IfErr result (IsRunFault Mode.Serial config.now bytes.now) }
-    ensures unwritten { IfErr result (λ e. e ≢ SimFault.Output) }
-{
-    let trace = read(alloc, bytes, config.edges())?;
-    let states = last_states_and_tell(alloc, trace.as_slice(), config, progress)?;
-    Ok(report_of_states(alloc, config, states.as_slice())?)
 }
 
 /// The text of a run that the engine makes, in any mode, and what its rounds did.

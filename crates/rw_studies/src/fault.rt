@@ -1,34 +1,20 @@
-use crate::lines::write_line;
-use crate::source::SourceFault;
+use rw_console::{CommandFault, SimFault, SourceFault, write_line};
 use rw_import::ImportFault;
 use rw_join::JoinFault;
 use rw_journal::ScheduleFault;
 use rw_plot::PlotFault;
-use rw_replay::SimFault;
 use std::alloc::AllocError;
 use std::io::Write;
 
 /// Why the program did not do what its words ask, each shown as one line.
 #[derive(Debug, Drop, thiserror::Error)]
 pub enum Fault {
-    /// The command line is not one of the program's, for this reason.
-    #[error("{}", .0.trim_end())]
-    CommandLine(String),
-    /// The options are out of their ranges.
-    #[error("plan")]
-    Plan,
+    /// As any command may fail.
+    #[error("{0}")]
+    Command(#[from] CommandFault),
     /// The schedule has a word that says no step.
     #[error("{0}")]
     Schedule(#[from] ScheduleFault),
-    /// A request for memory was refused.
-    #[error("memory")]
-    Memory,
-    /// The trace cannot be read.
-    #[error("{0}")]
-    Source(#[from] SourceFault),
-    /// The run has no report.
-    #[error("{0}")]
-    Run(#[from] SimFault),
     /// An option is no list of its values.
     #[error("error: --{0}: no list of its values; see ripqwarp sweep --help")]
     List(&'static str),
@@ -56,27 +42,17 @@ impl Fault {
     /// The exit status that tells it. Takes no memory.
     pub fn status(&self) -> u8 {
         match self {
-            Fault::CommandLine(_)
-            | Fault::Plan
-            | Fault::List(_)
+            Fault::Command(fault) => fault.status(),
+            Fault::List(_)
             | Fault::Delimiter
             | Fault::Part
             | Fault::Combinations(_)
-            | Fault::Schedule(ScheduleFault::Word(_))
-            | Fault::Run(SimFault::Plan) => 2,
-            Fault::Memory
-            | Fault::Schedule(ScheduleFault::Memory)
-            | Fault::Source(SourceFault::Memory)
+            | Fault::Schedule(ScheduleFault::Word(_)) => 2,
+            Fault::Schedule(ScheduleFault::Memory)
             | Fault::Import(ImportFault::Memory)
             | Fault::Plot(PlotFault::Memory)
-            | Fault::Join(JoinFault::Memory)
-            | Fault::Run(SimFault::Memory) => 5,
-            Fault::Run(SimFault::Trace(_)) | Fault::Import(_) | Fault::Plot(_) | Fault::Join(_) =>
-                3,
-            Fault::Source(SourceFault::Read) => 4,
-            Fault::Run(SimFault::Rounds | SimFault::NoThread) => 6,
-            Fault::Run(SimFault::Exhausted) => 7,
-            Fault::Run(SimFault::Output) => 8,
+            | Fault::Join(JoinFault::Memory) => 5,
+            Fault::Import(_) | Fault::Plot(_) | Fault::Join(_) => 3,
         }
     }
 
@@ -88,7 +64,19 @@ impl Fault {
 }
 
 impl From<AllocError> for Fault {
-    fn from(_error: AllocError) -> Fault {
-        Fault::Memory
+    fn from(error: AllocError) -> Fault {
+        Fault::Command(error.into())
+    }
+}
+
+impl From<SourceFault> for Fault {
+    fn from(fault: SourceFault) -> Fault {
+        Fault::Command(fault.into())
+    }
+}
+
+impl From<SimFault> for Fault {
+    fn from(fault: SimFault) -> Fault {
+        Fault::Command(fault.into())
     }
 }

@@ -1,12 +1,9 @@
 // From a log to a trace.
 use crate::fault::Fault;
-use crate::files::{read, write};
-use crate::lines::write_line;
-use crate::source::Source;
 use clap::ArgMatches;
+use rw_console::{CommandFault, Out, Source, read, write, write_line};
 use rw_import::{Column, Dealing, Imported, Layout, LeftOut, Options, import_csv, import_oracle};
 use rw_progress::{Line, Measure, Progress};
-use rw_replay::Out;
 use std::alloc::Global;
 use std::io::Write;
 use std::time::Clock;
@@ -17,7 +14,7 @@ use std::time::Clock;
 /// # Errors
 ///
 /// What the source answers, an [`ImportFault`](rw_import::ImportFault), a delimiter that is none, `Output` and `Memory`; and
-/// [`Fault::Plan`] where an option is missing or out of its range, which the command line rules out.
+/// [`CommandFault::Plan`] where an option is missing or out of its range, which the command line rules out.
 pub fn import<S: Source, W: Write, E: Write, C: Clock>(
     clock: &C,
     alloc: Global,
@@ -44,7 +41,7 @@ fn imported<S: Source, P: Progress>(
     source: &mut S,
     progress: &mut P,
 ) -> Result<Imported, Fault> {
-    let reading = reading(options).ok_or(Fault::Plan)?;
+    let reading = reading(options).ok_or(CommandFault::Plan)?;
     let layout = layout(alloc, options)?;
     let log = read(alloc, options, "log", source)?;
     let imported = match options.get_str("from") {
@@ -91,7 +88,7 @@ fn delimiter(options: &ArgMatches<'_>) -> Option<u8> {
 
 /// A column that has a default.
 fn needed_column(alloc: Global, options: &ArgMatches<'_>, name: &str) -> Result<Column, Fault> {
-    column(alloc, options, name)?.ok_or(Fault::Plan)
+    Ok(column(alloc, options, name)?.ok_or(CommandFault::Plan)?)
 }
 
 /// The column that an option names, by its number where that is one.

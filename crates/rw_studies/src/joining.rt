@@ -1,9 +1,7 @@
 // Parts of a sweep, put together.
 use crate::fault::Fault;
-use crate::files::write;
-use crate::source::Source;
 use clap::ArgMatches;
-use rw_replay::Out;
+use rw_console::{CommandFault, Out, Source, write};
 use std::alloc::Global;
 use std::io::Write;
 
@@ -21,7 +19,7 @@ pub fn join<S: Source, W: Write>(
     let parts = parts(alloc, options, source)?;
     let count: Option<u32> = options.get_one("of");
     let table = rw_join::join(alloc, parts.as_slice(), count.map(u64::from))?;
-    write(table.as_slice(), out)
+    Ok(write(table.as_slice(), out)?)
 }
 
 /// The bytes of all files that the options name, in their order.
@@ -31,11 +29,11 @@ fn parts<S: Source>(
     source: &mut S,
 ) -> Result<Vec<Vec<u8>>, Fault> {
     let mut parts = Vec::new(alloc);
-    let paths = options.get_strs("parts").ok_or(Fault::Plan)?;
+    let paths = options.get_strs("parts").ok_or(CommandFault::Plan)?;
     for path in paths {
         let bytes = source.bytes(alloc, path)?;
         if parts.push(bytes).is_err() {
-            return Err(Fault::Memory);
+            return Err(CommandFault::Memory.into());
         }
     }
     Ok(parts)

@@ -1,10 +1,8 @@
 // From a sweep to a picture.
 use crate::fault::Fault;
-use crate::files::{read, write};
-use crate::source::Source;
 use clap::ArgMatches;
+use rw_console::{CommandFault, Out, Source, read, write};
 use rw_plot::{Caches, Measure};
-use rw_replay::Out;
 use std::alloc::Global;
 use std::io::Write;
 
@@ -19,11 +17,11 @@ pub fn plot<S: Source, W: Write>(
     source: &mut S,
     out: &mut Out<W>,
 ) -> Result<(), Fault> {
-    let measure = measure(options).ok_or(Fault::Plan)?;
-    let caches = caches(options).ok_or(Fault::Plan)?;
+    let measure = measure(options).ok_or(CommandFault::Plan)?;
+    let caches = caches(options).ok_or(CommandFault::Plan)?;
     let sweep = read(alloc, options, "sweep", source)?;
     let picture = rw_plot::plot(alloc, sweep.as_slice(), measure, caches)?;
-    write(picture.as_slice(), out)
+    Ok(write(picture.as_slice(), out)?)
 }
 
 /// What is drawn; None where it is none of the words that the command line takes.

@@ -1,12 +1,10 @@
 // One trace through many configurations.
 use crate::fault::Fault;
-use crate::files::{read, write};
-use crate::source::Source;
 use clap::ArgMatches;
+use rw_console::{CommandFault, Out, Source, read, write};
 use rw_options::{ListFault, numbers, policies};
 use rw_photo::Shape;
 use rw_progress::{Line, Measure, Progress};
-use rw_replay::Out;
 use rw_sweep::{Axes, Grid, GridFault, MAX_CONFIGURATIONS, MAX_WORKERS, Part, list, sweep_part};
 use std::alloc::Global;
 use std::io::Write;
@@ -67,8 +65,8 @@ fn write_list<W: Write>(
     part: Part,
     out: &mut Out<W>,
 ) -> Result<(), Fault> {
-    let text = list(alloc, grid, part).map_err(|_| Fault::Memory)?;
-    write(text.as_slice(), out)
+    let text = list(alloc, grid, part).map_err(|_| CommandFault::Memory)?;
+    Ok(write(text.as_slice(), out)?)
 }
 
 /// The part that the options ask for, if they do.
@@ -87,13 +85,13 @@ fn part_of(text: &str) -> Option<Part> {
 
 /// What the options list, and what all runs have in common.
 fn axes(alloc: Global, options: &ArgMatches<'_>) -> Result<Axes, Fault> {
-    let list = options.get_str("policy").ok_or(Fault::Plan)?;
+    let list = options.get_str("policy").ok_or(CommandFault::Plan)?;
     Ok(Axes {
-        edges: options.get_one("edges").ok_or(Fault::Plan)?,
-        origins: options.get_one("origins").ok_or(Fault::Plan)?,
-        up: options.get_one("up").ok_or(Fault::Plan)?,
-        down: options.get_one("down").ok_or(Fault::Plan)?,
-        back: options.get_one("back").ok_or(Fault::Plan)?,
+        edges: options.get_one("edges").ok_or(CommandFault::Plan)?,
+        origins: options.get_one("origins").ok_or(CommandFault::Plan)?,
+        up: options.get_one("up").ok_or(CommandFault::Plan)?,
+        down: options.get_one("down").ok_or(CommandFault::Plan)?,
+        back: options.get_one("back").ok_or(CommandFault::Plan)?,
         policies: listed("policy", policies(alloc, list))?,
         sections: numbers_of(alloc, options, "sections", Shape::MAX_SECTIONS)?,
         blocks: numbers_of(alloc, options, "block", Shape::MAX_BLOCK)?,
@@ -109,7 +107,7 @@ fn numbers_of(
     name: &'static str,
     most: u64,
 ) -> Result<Vec<u64>, Fault> {
-    let list = options.get_str(name).ok_or(Fault::Plan)?;
+    let list = options.get_str(name).ok_or(CommandFault::Plan)?;
     listed(name, numbers(alloc, list, most))
 }
 
@@ -118,7 +116,7 @@ fn listed<T: Drop>(name: &'static str, values: Result<Vec<T>, ListFault>) -> Res
     match values {
         Ok(values) => Ok(values),
         Err(ListFault::Item) => Err(Fault::List(name)),
-        Err(ListFault::Memory) => Err(Fault::Memory),
+        Err(ListFault::Memory) => Err(CommandFault::Memory.into()),
     }
 }
 
@@ -126,8 +124,8 @@ fn listed<T: Drop>(name: &'static str, values: Result<Vec<T>, ListFault>) -> Res
 fn fault_of_grid(fault: GridFault) -> Fault {
     match fault {
         GridFault::TooMany => Fault::Combinations(MAX_CONFIGURATIONS),
-        GridFault::OutOfRange => Fault::Plan,
-        GridFault::Memory => Fault::Memory,
+        GridFault::OutOfRange => CommandFault::Plan.into(),
+        GridFault::Memory => CommandFault::Memory.into(),
     }
 }
 

@@ -3,8 +3,10 @@ use Rattle.std.proofs.lemmas.Result.{IfOk-from_err}
 use Rattle.std.specs.Prelude.{◌≢◌, IfErr, IfOk, OnOk}
 use Rattle.rw_replay.specs.declared.sim_fault.SimFault.TheVariants as sim
 use Rattle.rw_replay.proofs.Failing.{handed-on}
+use Rattle.rw_replay.proofs.Refused.{replay-unwritten}
 use Rattle.rw_ripqwarp.specs.declared.mode.Mode.{Mode}
 use Rattle.rw_ripqwarp.specs.Simulate.{HasGoodPlan, IsRunFault, IsTextOf}
+use Rattle.rw_ripqwarp.proofs.Failing.{replay-fault}
 use Rattle.rw_ripqwarp.proofs.simulation.text_of.Goals as goal
 
 pub returns-in_err-text-in-Serial-clause-text : goal.returns-in_err-text-in-Serial-clause-text
@@ -34,10 +36,13 @@ returns-in_default-clause-unwritten g c = c.engine_text.ensures.unwritten
 pub returns-in_err-text-in-Serial-clause-fault : goal.returns-in_err-text-in-Serial-clause-fault
 returns-in_err-text-in-Serial-clause-fault g c =
     handed-on c.from_residual.result c.in_err-text-in-Serial.field-0.0 (IsRunFault c.args.mode c.args.config.now c.args.bytes.now) c.from_residual.ensures.1
-    (subst (λ (mode : Mode). IsRunFault mode c.args.config.now c.args.bytes.now c.in_err-text-in-Serial.field-0.0) (sym c.in-Serial.is) c.in_err-text-in-Serial.ensures.fault)
+    (subst (λ (mode : Mode). IsRunFault mode c.args.config.now c.args.bytes.now c.in_err-text-in-Serial.field-0.0) (sym c.in-Serial.is)
+    (replay-fault c.args.config.now c.args.bytes.now c.in_err-text-in-Serial.field-0.0 c.in_err-text-in-Serial.ensures.fault))
 
 pub returns-in_err-text-in-Serial-clause-unwritten : goal.returns-in_err-text-in-Serial-clause-unwritten
-returns-in_err-text-in-Serial-clause-unwritten g c = handed-on c.from_residual.result c.in_err-text-in-Serial.field-0.0 (λ e. e ≢ sim.Output) c.from_residual.ensures.1 c.in_err-text-in-Serial.ensures.unwritten
+returns-in_err-text-in-Serial-clause-unwritten g c =
+    handed-on c.from_residual.result c.in_err-text-in-Serial.field-0.0 (λ e. e ≢ sim.Output) c.from_residual.ensures.1
+    (replay-unwritten c.args.config.now c.args.bytes.now c.in_err-text-in-Serial.field-0.0 c.in_err-text-in-Serial.ensures.fault)
 
 pub returns-in-Warp-clause-text : goal.returns-in-Warp-clause-text
 returns-in-Warp-clause-text g c =

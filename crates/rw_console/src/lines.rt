@@ -1,6 +1,6 @@
 // Lines on standard error.
 ghost use Rattle.std.specs.Prelude.{◌≡◌, ◌≤◌};
-ghost use Rattle.rw_studies.specs.declared.lines.TheConstants.{ROOM};
+ghost use Rattle.rw_console.specs.declared.lines.TheConstants.{ROOM};
 
 use rw_replay::Out;
 use std::fmt;

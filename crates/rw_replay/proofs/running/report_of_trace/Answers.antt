@@ -1,6 +1,5 @@
 use Rattle.std.proofs.Common.{◌≡◌, ◌∙◌, ◌^◌, List, Ok, ap, length, map, subst}
 use Rattle.std.proofs.lemmas.Result.{IfOk-from_err}
-use Rattle.std.specs.Prelude.{◌≢◌}
 use Rattle.rw_vt.specs.Limits.{end_of_time}
 use Rattle.rw_vt.specs.System.{IsOutcome, Meets}
 use Rattle.rw_trace.specs.declared.Row.{Row}
@@ -10,14 +9,12 @@ use Rattle.rw_photo.specs.Cache.{Cache, is_exhausted}
 use Rattle.rw_photo.specs.Simulation.{simulation}
 use Rattle.rw_photo.specs.declared.config.Config.{Config}
 use Rattle.rw_replay.specs.declared.sim_fault.SimFault.TheVariants as sim
+use Rattle.rw_replay.specs.Replay.{IsReplayFault}
 use Rattle.rw_replay.specs.Report.{report_text}
 use Rattle.rw_replay.proofs.Failing.{handed-on}
 use Rattle.rw_replay.proofs.Runs.{length-of-caches}
-use Rattle.rw_ripqwarp.specs.declared.mode.Mode.TheVariants.{Serial}
-use Rattle.rw_ripqwarp.specs.Simulate.{IsRunFault}
-use Rattle.rw_ripqwarp.proofs.Failing.{refusal-unwritten}
-use Rattle.rw_ripqwarp.proofs.InOrder.{refusal-is-fault}
-use Rattle.rw_ripqwarp.proofs.simulation.serial_text.Goals as goal
+use Rattle.rw_replay.proofs.Refused.{refusal-is-fault}
+use Rattle.rw_replay.proofs.running.report_of_trace.Goals as goal
 
 pub report_of_states-requires : goal.report_of_states-requires
 report_of_states-requires g c =
@@ -44,15 +41,8 @@ returns-in_err-states-clause-fault g c =
       met = subst (λ rs. Meets (simulation config rs) end_of_time is_exhausted) c.as_slice.ensures.value (c.in_err-states.ensures.exhausted same);
     })
 
-pub returns-in_err-states-clause-unwritten : goal.returns-in_err-states-clause-unwritten
-returns-in_err-states-clause-unwritten g c =
-    handed-on c.from_residual-in_err-states.result _ (λ e. e ≢ sim.Output) c.from_residual-in_err-states.ensures.1 (refusal-unwritten c.in_err-states.field-0.0)
-
 pub returns-in_err-report_of_states-clause-fault : goal.returns-in_err-report_of_states-clause-fault
-returns-in_err-report_of_states-clause-fault g c = handed-on c.from_residual-in_err-report_of_states.result sim.Memory (IsRunFault Serial c.args.config.now c.args.bytes.now) c.from_residual-in_err-report_of_states.ensures.1 tt
-
-pub returns-in_err-report_of_states-clause-unwritten : goal.returns-in_err-report_of_states-clause-unwritten
-returns-in_err-report_of_states-clause-unwritten g c = handed-on c.from_residual-in_err-report_of_states.result sim.Memory (λ e. e ≢ sim.Output) c.from_residual-in_err-report_of_states.ensures.1 (λ same. cc)
+returns-in_err-report_of_states-clause-fault g c = handed-on c.from_residual-in_err-report_of_states.result sim.Memory (IsReplayFault c.args.config.now c.args.bytes.now) c.from_residual-in_err-report_of_states.ensures.1 tt
 
 pub returns-clause-text : goal.returns-clause-text
 returns-clause-text g c =

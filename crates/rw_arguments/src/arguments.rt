@@ -3,19 +3,19 @@ use clap::{Arg, ArgAction, value_parser};
 use std::alloc::{AllocError, Global};
 
 /// What a command takes.
-pub(crate) struct Argument {
+pub struct Argument {
     /// Its name: behind `--`, unless it is files.
-    pub(crate) name: &'static str,
+    pub name: &'static str,
     /// What it may be.
-    pub(crate) value: Value,
+    pub value: Value,
     /// Whether it is given.
-    pub(crate) given: Given,
+    pub given: Given,
     /// What the help says of it.
-    pub(crate) help: &'static str,
+    pub help: &'static str,
 }
 
 /// What an argument may be. The first text of it is what stands for it in the help.
-pub(crate) enum Value {
+pub enum Value {
     /// A file, or `-` for standard input, without an option.
     File(&'static str),
     /// One file or more, or `-` for standard input, without an option.
@@ -35,7 +35,7 @@ pub(crate) enum Value {
 }
 
 /// Whether an argument is given.
-pub(crate) enum Given {
+pub enum Given {
     /// It has to be.
     Always,
     /// It has to be, unless this flag is.
@@ -48,7 +48,7 @@ pub(crate) enum Given {
 
 impl Argument {
     /// Adds the argument to these, as `clap` knows it.
-    pub(crate) fn add_to<'a>(
+    pub fn add_to<'a>(
         &self,
         alloc: Global,
         arguments: &mut Vec<Arg<'a>>,

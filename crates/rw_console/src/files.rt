@@ -1,5 +1,5 @@
 // What commands read and write.
-use crate::fault::Fault;
+use crate::fault::CommandFault;
 use crate::source::Source;
 use clap::ArgMatches;
 use rw_replay::{Out, SimFault};
@@ -10,14 +10,14 @@ use std::io::Write;
 ///
 /// # Errors
 ///
-/// What the source answers, and [`Fault::Plan`] where the argument is missing, which the command line rules out.
+/// What the source answers, and [`CommandFault::Plan`] where the argument is missing, which the command line rules out.
 pub fn read<S: Source>(
     alloc: Global,
     options: &ArgMatches<'_>,
     argument: &str,
     source: &mut S,
-) -> Result<Vec<u8>, Fault> {
-    let path = options.get_str(argument).ok_or(Fault::Plan)?;
+) -> Result<Vec<u8>, CommandFault> {
+    let path = options.get_str(argument).ok_or(CommandFault::Plan)?;
     Ok(source.bytes(alloc, path)?)
 }
 
@@ -26,10 +26,10 @@ pub fn read<S: Source>(
 /// # Errors
 ///
 /// [`SimFault::Output`] where the writer fails; what went out is then a beginning of the text.
-pub fn write<W: Write>(text: &[u8], out: &mut Out<W>) -> Result<(), Fault> {
+pub fn write<W: Write>(text: &[u8], out: &mut Out<W>) -> Result<(), CommandFault> {
     if out.write_text(text) {
         Ok(())
     } else {
-        Err(Fault::Run(SimFault::Output))
+        Err(CommandFault::Run(SimFault::Output))
     }
 }

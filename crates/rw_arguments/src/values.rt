@@ -22,7 +22,7 @@ pub fn config(options: &ArgMatches<'_>) -> Option<Config> {
 }
 
 /// The policy of this name.
-pub(crate) fn policy(name: &str) -> Option<Policy> {
+pub fn policy(name: &str) -> Option<Policy> {
     match name {
         "off" => Some(Policy::Off),
         "lru" => Some(Policy::Lru),

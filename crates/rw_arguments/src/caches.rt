@@ -3,7 +3,7 @@ use crate::arguments::{Argument, Given, Value};
 use rw_photo::{Config, Shape};
 
 /// The names of the policies: under segmented LRU one for each number of segments.
-pub(crate) const POLICIES: [&str; 9] = [
+pub const POLICIES: [&str; 9] = [
     "off", "lru", "slru2", "slru3", "slru4", "slru5", "slru6", "slru7", "slru8",
 ];
 
@@ -48,7 +48,7 @@ pub(crate) const CACHES: [Argument; 10] = [
 ];
 
 /// How many edge caches there are.
-pub(crate) const EDGES: Argument = Argument {
+pub const EDGES: Argument = Argument {
     name: "edges",
     value: Value::Count(Config::MAX_EDGES as i64),
     given: Given::Or("1"),
@@ -56,7 +56,7 @@ pub(crate) const EDGES: Argument = Argument {
 };
 
 /// How many origin caches there are.
-pub(crate) const ORIGINS: Argument = Argument {
+pub const ORIGINS: Argument = Argument {
     name: "origins",
     value: Value::Count(Config::MAX_ORIGINS as i64),
     given: Given::Or("1"),
@@ -64,7 +64,7 @@ pub(crate) const ORIGINS: Argument = Argument {
 };
 
 /// How long a letter is on its way from an edge to an origin.
-pub(crate) const UP: Argument = Argument {
+pub const UP: Argument = Argument {
     name: "up",
     value: Value::Ticks(Config::MAX_DELAY as i64),
     given: Given::Or("3"),
@@ -72,7 +72,7 @@ pub(crate) const UP: Argument = Argument {
 };
 
 /// How long a letter is on its way from an origin to an edge.
-pub(crate) const DOWN: Argument = Argument {
+pub const DOWN: Argument = Argument {
     name: "down",
     value: Value::Ticks(Config::MAX_DELAY as i64),
     given: Given::Or("3"),
@@ -80,7 +80,7 @@ pub(crate) const DOWN: Argument = Argument {
 };
 
 /// How long it takes from an origin to the backend and back.
-pub(crate) const BACK: Argument = Argument {
+pub const BACK: Argument = Argument {
     name: "back",
     value: Value::Ticks(Config::MAX_DELAY as i64),
     given: Given::Or("10"),

@@ -1,0 +1,24 @@
+#![tactic(auto)]
+//! The program `ripqwarp`, as far as its command `serial` goes: it stands on a third of what the whole program stands on, so it is
+//! there in half the time.
+
+use rw_console::{Inputs, Out, serial_alone, words};
+use std::io::IsTerminal;
+use std::process::ExitCode;
+
+fn main(rt: HostRuntime) -> ExitCode {
+    let alloc = rt.alloc();
+    let mut err = rt.stderr();
+    let words = match words(&rt, alloc) {
+        Ok(words) => words,
+        Err(fault) => {
+            fault.tell(&mut err);
+            return ExitCode::from(fault.status());
+        }
+    };
+    let mut inputs = Inputs { rt: &rt };
+    let mut out = Out::new(rt.stdout());
+    let terminal = err.is_terminal();
+    let status = serial_alone(&rt, alloc, words, &mut inputs, &mut out, &mut err, terminal);
+    ExitCode::from(status)
+}

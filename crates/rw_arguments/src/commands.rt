@@ -1,0 +1,78 @@
+use crate::arguments::Argument;
+use crate::caches::CACHES;
+use crate::traces::{QUIET, TRACE};
+use clap::{Arg, Command};
+use std::alloc::{AllocError, Global};
+
+/// A command.
+pub struct Entry {
+    /// Its name.
+    pub name: &'static str,
+    /// What the help says of it.
+    pub about: &'static str,
+    /// What it takes of its own, which the help names first.
+    pub own: &'static [Argument],
+    /// Whether it takes the options that say which caches there are.
+    pub takes_caches: bool,
+}
+
+/// The command that runs a trace on one thread.
+pub const SERIAL: Entry = Entry {
+    name: "serial",
+    about: "Runs a trace on one thread and prints the counters of each cache",
+    own: &[TRACE, QUIET],
+    takes_caches: true,
+};
+
+/// The program with these commands, as `clap` knows it. The fault is memory that was refused.
+pub fn program_of<'a>(alloc: Global, entries: &[Entry]) -> Result<Command<'a>, AllocError> {
+    let commands = commands(alloc, entries)?;
+    Command::new(alloc, "ripqwarp")
+        .about("Simulates edge and origin photo caches from a trace")
+        .subcommand_required(true)
+        .arg_required_else_help(true)
+        .subcommands(commands)
+}
+
+/// The commands as `clap` knows them.
+fn commands<'a>(alloc: Global, entries: &[Entry]) -> Result<Vec<Command<'a>>, AllocError> {
+    let mut commands = Vec::new(alloc);
+    for entry in entries {
+        entry.add_to(alloc, &mut commands)?;
+    }
+    Ok(commands)
+}
+
+impl Entry {
+    /// Adds the command to these, as `clap` knows it.
+    fn add_to<'a>(&self, alloc: Global, commands: &mut Vec<Command<'a>>) -> Result<(), AllocError> {
+        let arguments = self.arguments(alloc)?;
+        let command = Command::new(alloc, self.name)
+            .about(self.about)
+            .args(arguments)?;
+        commands.push(command)?;
+        Ok(())
+    }
+
+    /// What it takes, as `clap` knows it.
+    fn arguments<'a>(&self, alloc: Global) -> Result<Vec<Arg<'a>>, AllocError> {
+        let mut arguments = Vec::new(alloc);
+        add_each(alloc, self.own, &mut arguments)?;
+        if self.takes_caches {
+            add_each(alloc, &CACHES, &mut arguments)?;
+        }
+        Ok(arguments)
+    }
+}
+
+/// Adds what a command takes to these, as `clap` knows it.
+fn add_each<'a>(
+    alloc: Global,
+    added: &[Argument],
+    arguments: &mut Vec<Arg<'a>>,
+) -> Result<(), AllocError> {
+    for argument in added {
+        argument.add_to(alloc, arguments)?;
+    }
+    Ok(())
+}

@@ -1,0 +1,35 @@
+// The program's files, and its standard input.
+use crate::source::{Source, SourceFault};
+use std::alloc::Global;
+use std::fs;
+use std::io::{self, ErrorKind, Read};
+use std::rt::Files;
+
+/// Bytes in files, and `-` for those of standard input.
+#[derive(Drop)]
+pub struct Inputs<'a, R> {
+    /// What opens them.
+    pub rt: &'a R,
+}
+
+impl<R: Files + Input + AllocGlobal> Source for Inputs<'_, R> {
+    fn bytes(&mut self, alloc: Global, path: &str) -> Result<Vec<u8>, SourceFault> {
+        let read = if path == "-" {
+            read_input(self.rt, alloc)
+        } else {
+            fs::read(self.rt, path)
+        };
+        match read {
+            Ok(bytes) => Ok(bytes),
+            Err(error) if error.kind() == ErrorKind::OutOfMemory => Err(SourceFault::Memory),
+            Err(_) => Err(SourceFault::Read),
+        }
+    }
+}
+
+/// All bytes of standard input.
+fn read_input<R: Input>(rt: &R, alloc: Global) -> io::Result<Vec<u8>> {
+    let mut bytes = Vec::new(alloc);
+    rt.reader().read_to_end(&mut bytes)?;
+    Ok(bytes)
+}

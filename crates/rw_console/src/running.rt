@@ -1,0 +1,78 @@
+// A trace on one thread.
+use crate::command_line::answer;
+use crate::fault::CommandFault;
+use crate::files::read;
+use crate::source::Source;
+use clap::ArgMatches;
+use rw_arguments::{SERIAL, config, program_of};
+use rw_progress::{Line, Measure};
+use rw_replay::{Out, replay};
+use std::alloc::Global;
+use std::io::Write;
+use std::time::Clock;
+
+/// Does what the words ask, the name of the program first, of a program whose one command is `serial`, and answers the exit
+/// status, which is that of [`CommandFault::status`] where it is not 0.
+///
+/// The report, or help, goes to `out`, a fault to `err` as one line. Where `err` may be a terminal, one line shows there how far the
+/// run has come, unless the words ask for quiet; it is taken away before anything else goes out.
+pub fn serial_alone<S: Source, W: Write, E: Write, C: Clock>(
+    clock: &C,
+    alloc: Global,
+    words: Vec<String>,
+    source: &mut S,
+    out: &mut Out<W>,
+    err: &mut E,
+    terminal: bool,
+) -> u8 {
+    match attempt(clock, alloc, words.as_slice(), source, out, err, terminal) {
+        Ok(()) => 0,
+        Err(fault) => {
+            fault.tell(err);
+            fault.status()
+        }
+    }
+}
+
+/// Does what the words ask.
+fn attempt<S: Source, W: Write, E: Write, C: Clock>(
+    clock: &C,
+    alloc: Global,
+    words: &[String],
+    source: &mut S,
+    out: &mut Out<W>,
+    err: &mut E,
+    terminal: bool,
+) -> Result<(), CommandFault> {
+    let program = program_of(alloc, &[SERIAL])?;
+    match program.try_get_matches_from(words) {
+        Ok(matches) => match matches.subcommand() {
+            Some((_, options)) => serial(clock, alloc, options, source, out, err, terminal),
+            None => Err(CommandFault::Plan),
+        },
+        Err(error) => answer(alloc, error, out),
+    }
+}
+
+/// Runs the trace that the options name on one thread, through the caches that they say, and writes the report. Where `err` may be
+/// a terminal, one line shows how far it has come, unless the options ask for quiet.
+///
+/// # Errors
+///
+/// What the source answers, and a fault of the run; and [`CommandFault::Plan`] where an option is missing or out of its range, which
+/// the command line rules out.
+pub fn serial<S: Source, W: Write, E: Write, C: Clock>(
+    clock: &C,
+    alloc: Global,
+    options: &ArgMatches<'_>,
+    source: &mut S,
+    out: &mut Out<W>,
+    err: &mut E,
+    terminal: bool,
+) -> Result<(), CommandFault> {
+    let shown = terminal && !options.get_flag("quiet");
+    let mut line = Line::new(err, clock, "serial", Measure::Time, shown);
+    let config = config(options).ok_or(CommandFault::Plan)?;
+    let bytes = read(alloc, options, "trace", source)?;
+    Ok(replay(alloc, bytes.as_slice(), &config, &mut line, out)?)
+}
