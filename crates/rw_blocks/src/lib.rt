@@ -24,7 +24,7 @@ pub use rw_vt::NoMemory;
 pub use shape::{Shape, every_limit};
 
 /// Whether a block takes flash, or only records a raised priority.
-#[derive(Clone, Copy, Debug, PartialEq, Eq)]
+#[derive(Clone, Copy)]
 pub enum Kind {
     /// The block gathers objects and is written to flash whole.
     Device,
@@ -33,7 +33,7 @@ pub enum Kind {
 }
 
 /// Where an object lies.
-#[derive(Clone, Copy, Debug, PartialEq, Eq)]
+#[derive(Clone, Copy)]
 pub struct Place {
     /// The object's size, in bytes: from 1 to the block size.
     pub size: u64,
@@ -44,7 +44,7 @@ pub struct Place {
 }
 
 /// Which of a section's two active blocks vanish where the section above takes over its blocks: those that hold nothing.
-#[derive(Clone, Copy, Debug, PartialEq, Eq)]
+#[derive(Clone, Copy)]
 pub struct Vanished {
     /// Whether the device block vanishes.
     pub device: bool,
@@ -61,7 +61,7 @@ impl Vanished {
 }
 
 /// Where two sections were joined: by this they are parted again.
-#[derive(Clone, Copy, Debug, PartialEq, Eq)]
+#[derive(Clone, Copy)]
 pub struct Seam {
     /// How many sealed blocks the upper section had.
     pub upper_sealed: usize,
@@ -74,7 +74,7 @@ pub struct Seam {
 }
 
 /// What undoes one primitive: only what the undoing of its change needs and the state after does not say.
-#[derive(Clone, Copy, Debug, PartialEq, Eq)]
+#[derive(Clone, Copy)]
 pub enum Mark {
     /// Of `add`: the object that came.
     Add {

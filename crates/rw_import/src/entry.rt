@@ -3,7 +3,7 @@
 use rw_trace::Kind;
 
 /// What a row of a log says, but its object.
-#[derive(Clone, Copy, PartialEq, Eq, Debug)]
+#[derive(Clone, Copy)]
 pub struct Entry {
     /// When, in billionths of the log's unit.
     pub time: u128,
@@ -16,7 +16,7 @@ pub struct Entry {
 }
 
 /// How many rows of a log were left out, each counted once, by what was first wrong with it.
-#[derive(Clone, Copy, PartialEq, Eq, Debug)]
+#[derive(Clone, Copy)]
 pub struct LeftOut {
     /// A column was not there, or a record was cut off.
     pub length: u64,

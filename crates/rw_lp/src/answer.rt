@@ -1,5 +1,5 @@
 /// Why a step was refused. Where several apply, the one that stands first here is answered; a refused step changes nothing.
-#[derive(Clone, Copy, Debug, PartialEq, Eq)]
+#[derive(Clone, Copy, PartialEq, Eq)]
 pub enum StepFault {
     /// There is no process of that number.
     NoSuchProcess,
@@ -18,7 +18,7 @@ pub enum StepFault {
 }
 
 /// What a step answers.
-#[derive(Clone, Copy, Debug, PartialEq, Eq)]
+#[derive(Clone, Copy, PartialEq, Eq)]
 pub enum Answer {
     /// It was made.
     Done,

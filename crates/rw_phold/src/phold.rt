@@ -16,7 +16,7 @@ pub const MAX_TICKS: u64 = 1 << 20;
 const GRAIN: u64 = 64;
 
 /// What a run of PHOLD is set up with.
-#[derive(Clone, Copy, Debug)]
+#[derive(Clone, Copy)]
 pub struct Phold {
     /// How many processes there are, 1 to [`MAX_PROCESSES`].
     pub processes: u32,
@@ -134,7 +134,7 @@ impl Phold {
 }
 
 /// What a process keeps.
-#[derive(Clone, Copy, Debug, Default, PartialEq, Eq)]
+#[derive(Clone, Copy, Default, PartialEq, Eq)]
 pub struct Holder {
     /// What was drawn last.
     pub random: u64,
@@ -147,14 +147,14 @@ pub struct Holder {
 }
 
 /// What comes to a process.
-#[derive(Clone, Copy, Debug, PartialEq, Eq, PartialOrd, Ord)]
+#[derive(Clone, Copy, PartialEq, Eq, PartialOrd, Ord)]
 pub struct Ball {
     /// Which ball it is.
     pub number: u32,
 }
 
 /// Whether a ball was passed on.
-#[derive(Clone, Copy, Debug, PartialEq, Eq)]
+#[derive(Clone, Copy, PartialEq, Eq)]
 pub struct Passed(pub bool);
 
 /// The number that is drawn after another (Knuth's MMIX).

@@ -5,7 +5,7 @@ use crate::phold::{Holder, draw};
 use std::fmt;
 
 /// What a run comes to, in two numbers.
-#[derive(Clone, Copy, Debug, PartialEq, Eq)]
+#[derive(Clone, Copy, PartialEq, Eq)]
 pub struct Report {
     /// How many events were executed, modulo 2^64.
     pub events: u64,

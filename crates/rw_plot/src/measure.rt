@@ -1,7 +1,7 @@
 use crate::sweep::Sample;
 
 /// What is drawn of each row.
-#[derive(Clone, Copy, PartialEq, Eq, Debug)]
+#[derive(Clone, Copy)]
 pub enum Measure {
     /// The share of requests that were hits: the column `hit_ratio`.
     HitRatio,
@@ -14,7 +14,7 @@ pub enum Measure {
 }
 
 /// Of which caches a row tells, and which rows are drawn.
-#[derive(Clone, Copy, PartialEq, Eq, Debug)]
+#[derive(Clone, Copy)]
 pub enum Caches {
     /// The edge caches.
     Edges,

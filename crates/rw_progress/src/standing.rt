@@ -5,7 +5,7 @@ use std::fmt::{Display, Formatter};
 use std::time::Duration;
 
 /// What a run is measured in, and so how its line tells how much of it is done.
-#[derive(Clone, Copy, Debug, PartialEq, Eq)]
+#[derive(Clone, Copy)]
 pub enum Measure {
     /// Ticks of a trace's virtual time, told as the share that is final: `serial 7%`.
     Time,
@@ -17,7 +17,7 @@ pub enum Measure {
 
 /// How far a run has come, shown as the text of its line: behind what is done stands how long the rest takes if it goes as what
 /// went before did, as `M:SS` or `H:MM:SS`, where something is done and not all.
-#[derive(Clone, Copy, Debug)]
+#[derive(Clone, Copy)]
 pub struct Standing<'a> {
     name: &'a str,
     measure: Measure,
@@ -89,7 +89,7 @@ fn seconds_left(spent: Duration, done: u64, of: u64) -> Option<u64>
 }
 
 /// A time, shown as `M:SS` or `H:MM:SS`.
-#[derive(Clone, Copy, Debug)]
+#[derive(Clone, Copy)]
 struct Left {
     seconds: u64,
 }

@@ -11,7 +11,7 @@ pub use stop::{Note, Seen, Stop};
 
 /// Two stations, processes 0 and 1. A parcel that has hops left is passed on to the other one with a hop less, `delay` ticks
 /// later, as long as that is before the end of time.
-#[derive(Clone, Copy, Debug)]
+#[derive(Clone, Copy)]
 pub struct Relay {
     /// How long a parcel is on its way, in ticks, at least 1.
     pub delay: u64,
@@ -21,7 +21,7 @@ pub struct Relay {
 }
 
 /// What a station keeps.
-#[derive(Clone, Copy, Debug, Default, PartialEq, Eq)]
+#[derive(Clone, Copy, Default, PartialEq, Eq)]
 pub struct Station {
     /// The hops that all parcels had left when they came, added modulo 2^64.
     pub sum: u64,
@@ -32,14 +32,14 @@ pub struct Station {
 }
 
 /// What comes to a station.
-#[derive(Clone, Copy, Debug, PartialEq, Eq, PartialOrd, Ord)]
+#[derive(Clone, Copy, PartialEq, Eq, PartialOrd, Ord)]
 pub struct Parcel {
     /// How often it is still to be passed on.
     pub hops: u32,
 }
 
 /// What a parcel's coming destroyed, and which way it went.
-#[derive(Clone, Copy, Debug)]
+#[derive(Clone, Copy)]
 pub struct Track {
     /// The hops of the one that had come last before.
     pub last: u32,

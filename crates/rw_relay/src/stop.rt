@@ -7,7 +7,7 @@ use std::alloc::Global;
 /// A bus stop, process 0, and its bus, process 1. Each passenger who comes to the stop before the bus is due makes it send two
 /// messages: a call, the very same for each passenger, and then how many have come. So there are equal messages, and of
 /// what a passenger causes only the second one depends on who came before.
-#[derive(Clone, Copy, Debug)]
+#[derive(Clone, Copy)]
 pub struct Stop {
     /// When the bus is due, in ticks, before the end of time.
     pub due: u64,
@@ -15,14 +15,14 @@ pub struct Stop {
 }
 
 /// What a stop or a bus keeps.
-#[derive(Clone, Copy, Debug, Default, PartialEq, Eq)]
+#[derive(Clone, Copy, Default, PartialEq, Eq)]
 pub struct Seen {
     /// How many events came, modulo 2^64.
     pub events: u64,
 }
 
 /// What comes to a stop or a bus.
-#[derive(Clone, Copy, Debug, PartialEq, Eq, PartialOrd, Ord)]
+#[derive(Clone, Copy, PartialEq, Eq, PartialOrd, Ord)]
 pub struct Note {
     /// Of how many people it speaks.
     pub people: u64,

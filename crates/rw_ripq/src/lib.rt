@@ -40,7 +40,7 @@ pub fn every_limit()
 {}
 
 /// Which section a miss and a hit go to.
-#[derive(Clone, Copy, Debug, PartialEq, Eq)]
+#[derive(Clone, Copy, PartialEq, Eq)]
 pub enum Policy {
     /// Nothing is stored.
     Off,
@@ -51,7 +51,7 @@ pub enum Policy {
 }
 
 /// What an insertion did, in counts.
-#[derive(Clone, Copy, Debug, Default, PartialEq, Eq)]
+#[derive(Clone, Copy, Default, PartialEq, Eq)]
 pub struct Tally {
     /// Rows that left.
     pub evicted: u64,

@@ -4,7 +4,7 @@ ghost use Rattle.rw_ripq.specs.Words.{IsSegmentCount};
 
 /// Into how many segments a segmented LRU parts the bytes of a queue, from the tail on; an object has the level of its
 /// segment, from 1 on.
-#[derive(Clone, Copy, Debug, PartialEq, Eq)]
+#[derive(Clone, Copy, PartialEq, Eq)]
 pub struct Levels {
     /// How many, 2 to 8.
     pub segments: u8,

@@ -3,7 +3,7 @@ ghost use Rattle.rw_ripqwarp.specs.Simulate.{IsWayOf};
 use rw_engine::{How, Plan, Step};
 
 /// How a trace is run.
-#[derive(Debug, Drop, PartialEq, Eq)]
+#[derive(Drop)]
 pub enum Mode {
     /// On one thread, each event in order of time. The text is a report.
     Serial,

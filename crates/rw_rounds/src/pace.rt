@@ -22,7 +22,7 @@ const TRIAL: u64 = 4;
 ///
 /// The plan is the bound of it all, and the first round is the plan's as it is; a plan of one worker stays as it is. No
 /// theorem rests on the pace.
-#[derive(Clone, Copy, Debug)]
+#[derive(Clone, Copy)]
 pub struct Pace {
     /// How far the floor moves in a round of all workers, in ticks: a mean, of which the last round is a quarter. `None`
     /// before the first round.

@@ -28,7 +28,7 @@ pub trait Gate {
 }
 
 /// The gate through which all pass at once.
-#[derive(Clone, Copy, Debug)]
+#[derive(Clone, Copy)]
 pub struct Open;
 
 impl Gate for Open {

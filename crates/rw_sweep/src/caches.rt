@@ -1,5 +1,5 @@
 /// Of which caches a line tells.
-#[derive(Clone, Copy, Debug, PartialEq, Eq)]
+#[derive(Clone, Copy)]
 pub enum Caches {
     /// The edges.
     Edges,

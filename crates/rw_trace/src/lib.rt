@@ -26,7 +26,7 @@ pub use reading::{next_record, open_records};
 use std::alloc::{AllocError, Global};
 
 /// What a row of a trace says of its object.
-#[derive(Clone, Copy, PartialEq, Eq, Debug)]
+#[derive(Clone, Copy, PartialEq, Eq)]
 pub enum Kind {
     /// A request for the object.
     Get,
@@ -35,7 +35,7 @@ pub enum Kind {
 }
 
 /// One row of a trace: a request, or a purge.
-#[derive(Clone, Copy, PartialEq, Eq, Debug)]
+#[derive(Clone, Copy, PartialEq, Eq)]
 pub struct Row {
     /// When, in ticks: at most [`MAX_TIME`].
     pub time: u64,

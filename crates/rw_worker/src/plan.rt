@@ -5,7 +5,7 @@ use rw_vt::END;
 
 /// How rounds are run. The first round of a run, as `rw_rounds` makes it, is by its plan as it is;
 /// later ones may have less of its workers, its batch and its window.
-#[derive(Clone, Copy, Debug, PartialEq, Eq)]
+#[derive(Clone, Copy)]
 pub struct Plan {
     /// How many workers there are, 1 to 16. Process p belongs to worker p modulo this number.
     pub workers: u32,

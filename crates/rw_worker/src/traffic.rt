@@ -1,5 +1,5 @@
 /// What rounds did, in counts modulo 2^64. No theorem speaks of it.
-#[derive(Clone, Copy, Debug, Default, PartialEq, Eq)]
+#[derive(Clone, Copy, Default, PartialEq, Eq)]
 pub struct Traffic {
     /// Rounds.
     pub rounds: u64,

@@ -1,5 +1,5 @@
 /// One step of the world.
-#[derive(Clone, Copy, Debug, PartialEq, Eq)]
+#[derive(Clone, Copy, PartialEq, Eq)]
 pub enum Step {
     /// The process of that number executes its least pending event.
     Execute(u32),
