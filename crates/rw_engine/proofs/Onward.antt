@@ -14,8 +14,8 @@ use Rattle.rw_vt.specs.Rest.{AreLastStates, EndsAs, IsRestOf, MayCome}
 use Rattle.rw_vt.specs.System.{IsReady, rules, system}
 use Rattle.rw_vt.proofs.Laws.{Laws, lawful}
 use Rattle.rw_vt.proofs.Rest.{ends_chain, ends_itself, rest_empty}
-use Rattle.rw_serial.specs.Later.{IsLeastTime}
-use Rattle.rw_serial.proofs.ByTime.{All-back, All-front}
+use Rattle.rw_pending.specs.Later.{IsLeastTime}
+use Rattle.rw_pending.proofs.Cited.{All-back, All-front}
 use Rattle.rw_serial.proofs.Onward.{rest_permuted}
 use Rattle.rw_world.specs.Calls.{Simulation, system_of}
 use Rattle.rw_rounds.specs.Stretches.{IsSameSystem}

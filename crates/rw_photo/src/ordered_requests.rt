@@ -9,7 +9,7 @@ ghost use Rattle.rw_photo.specs.Rows.{AreInOrder, AreInOrderFrom};
 use crate::body::Body;
 use crate::config::Config;
 use crate::rows::event_of;
-use rw_serial::Source;
+use rw_pending::Source;
 use rw_trace::Row;
 use rw_vt::Event;
 use std::marker::Model;

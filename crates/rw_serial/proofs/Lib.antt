@@ -1,12 +1,7 @@
 pub mod Counting
-pub mod First
 pub mod Left
 pub mod Lists
 pub mod Midrun
-pub mod Next
 pub mod Onward
 pub mod Permuted
-pub mod Queue
 pub mod Sanity
-pub mod ByTime
-pub mod Waiting

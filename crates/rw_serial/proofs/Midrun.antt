@@ -14,8 +14,8 @@ use Rattle.rw_vt.specs.System.{System, state_after, sends_of, map_from, flatten,
 use Rattle.rw_vt.proofs.Sorting.{IsExactOrder, IsAscending-append, IsAscending-in_order, copies-append, copies-filter, copies-in_order, absent, Has-append, Has-head, Has-cons, each_of_all, at_most_chain, at_most_both, at_most_itself}
 use Rattle.rw_vt.proofs.Runs.{IsLawful, Fits_at, earlier_at_most, outs-append, after-append, well_formed_after, copies_joined}
 use Rattle.rw_vt.proofs.Complete.{IsMidway, complete, below_more, Has-slice}
+use Rattle.rw_pending.proofs.Cited.{copies-IsPermutation}
 use Rattle.rw_serial.proofs.Lists.{at_list, as_family, there_below, get_map_from, map_from_same, map_from_set, copies_place, copies_joined_more, length-map_from}
-use Rattle.rw_serial.proofs.Queue.{copies-IsPermutation}
 
 same_or_other : (p q : ℕ) → (p ≡ q) ⊎ (p ≢ q)
 same_or_other p q = by_test (p == q) refl

@@ -1,14 +1,16 @@
 -- What comes of a run does not depend on the order in which its initial events are listed.
-use Rattle.std.proofs.Common.{◌≡◌, ℕ, zero, suc, cond, ◌&&◌, ◌==◌, List, ◌++◌, filter, length, refl, sym, ◌∙◌, ap, arith}
+use Rattle.std.proofs.Common.{◌≡◌, ℕ, zero, suc, true, cond, ◌&&◌, ◌==◌, List, ◌++◌, filter, length, refl, sym, ◌∙◌, ap, arith}
 use Rattle.std.specs.List.{sum_by}
 use Rattle.std.specs.List.Sorted.{IsPermutation}
+use Rattle.std.proofs.lemmas.List.Sorted.{All-permutation}
 use Rattle.rw_vt.specs.declared.event.Event.{Event}
+use Rattle.rw_vt.specs.declared.model.Model.{Ghosts}
 use Rattle.rw_vt.specs.Order.{copies, in_order}
-use Rattle.rw_vt.specs.System.{System, Rules, state_after, sends_of, map_from, flatten, all_sent, slice, journal_below, IsOutcome, Meets}
+use Rattle.rw_vt.specs.System.{System, Rules, state_after, sends_of, map_from, flatten, all_sent, slice, journal_below, IsOutcome, IsReady, Meets}
 use Rattle.rw_vt.proofs.Sorting.{IsExactOrder, IsAscending-in_order, ascending_settled, copies-append, copies-filter, copies-in_order}
+use Rattle.rw_pending.proofs.Cited.{copies-IsPermutation}
 use Rattle.rw_serial.specs.Counts.{events_below}
 use Rattle.rw_serial.proofs.Lists.{map_from_same}
-use Rattle.rw_serial.proofs.Queue.{copies-IsPermutation}
 
 -- the same rules and starts, with these initial events
 abbrev with_initial : {S B : Type 0} → Rules S B → List S → List (Event B) → System S B
@@ -65,3 +67,7 @@ module _ {S B : Type 0} (rules : Rules S B) (o : IsExactOrder rules.order) (star
   pub same_events : (t : ℕ) → events_below (with_initial rules starts xs) t ≡ events_below (with_initial rules starts ys) t
   same_events t =
       ap (sum_by length) (map_from_same 0 (λ q _. journal_below (with_initial rules starts xs) t q) (λ q _. journal_below (with_initial rules starts ys) t q) starts (λ i j s m h. same_journals t j))
+
+-- what is ready stays so, in whatever order its initial events are listed
+pub ready_permuted : {M S B U : Type 0} (model : Ghosts M S B U) (m : M) (starts : List S) (xs ys : List (Event B)) → IsPermutation xs ys → IsReady model m starts xs → IsReady model m starts ys
+ready_permuted model m starts xs ys moved ready = record { enough = ready.enough; well_formed = ready.well_formed; valid = All-permutation (λ e. model.is_valid m e ≡ true) xs ys moved ready.valid }

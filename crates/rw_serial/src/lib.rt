@@ -1,6 +1,6 @@
 #![tactic(auto)]
 //! A whole run on one thread: always the least event that is pending is executed. The initial events come from a [`Source`],
-//! which may make each of them when it is taken.
+//! which may make each of them when it is taken. What is pending stands in [`Pending`], which `rw_pending` has.
 //!
 //! So each process executes its events in order, and none is ever taken back. This is the sequential execution that Time
 //! Warp (Jefferson 1985) is measured by: whatever its schedule, a parallel run is to leave the very journals and states
@@ -11,15 +11,8 @@
 //!
 //! Worked examples: `rw_program_tests/src/reports.rt`, and the cases of `rw_cases`.
 
-mod fifo;
-mod heap;
-mod initial;
-mod later;
 mod ledger;
-mod pending;
-mod slice;
-mod source;
-mod times;
+mod sorted;
 
 ghost use Rattle.std.specs.Prelude.{◌≡◌, ◌+◌, ◌<◌, ◌≤◌, ◌++◌, ℕ, false, true, [], ◌∷◌, List, IfNone, IfOk, IfErr, IfSome, OnOk, length, map, replicate, slice_get, slice_index_or, slice_set};
 ghost use Rattle.rw_vt.specs.Limits.{end_of_time};
@@ -29,10 +22,10 @@ ghost use Rattle.rw_vt.specs.declared.event.Event.{Event};
 ghost use Rattle.rw_serial.specs.Counts.{events_below};
 
 use ledger::{Count, Ledger, NoJournals};
-pub use pending::Pending;
+pub use rw_pending::{Pending, Source};
 use rw_vt::empty_lists;
 pub use rw_vt::{Event, Model, Outcome, Refusal};
-pub use source::{Sorted, Source};
+pub use sorted::Sorted;
 use std::alloc::Global;
 
 /// Executes all events in order, the initial ones and those that are sent, and gives what each process has then executed

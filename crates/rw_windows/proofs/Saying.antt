@@ -10,7 +10,7 @@ use Rattle.std.specs.Option.{unwrap_or}
 use Rattle.std.specs.Prelude.{slice_set}
 use Rattle.rw_vt.specs.declared.event.Event.{Event}
 use Rattle.rw_vt.specs.declared.model.Model.{Ghosts}
-use Rattle.rw_serial.specs.Later.{IsLeastTime}
+use Rattle.rw_pending.specs.Later.{IsLeastTime}
 use Rattle.rw_windows.specs.Working.{ShareState, IsAtWork, HandedOver, away_to}
 use Rattle.rw_windows.proofs.Workers.{at_times}
 

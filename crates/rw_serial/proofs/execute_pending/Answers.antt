@@ -5,10 +5,10 @@ use Rattle.std.proofs.lemmas.Result.{err_from_is_err_and}
 use Rattle.rw_vt.specs.Order.{event_cmp}
 use Rattle.rw_vt.specs.System.{system}
 use Rattle.rw_vt.proofs.Laws.{lawful, laws_of}
+use Rattle.rw_pending.proofs.Cited.{taken_at, least_at, none_at, reached_at}
 use Rattle.rw_serial.proofs.Counting.{midrun_fewer}
 use Rattle.rw_serial.proofs.Left.{midrun_falls}
 use Rattle.rw_serial.proofs.Midrun.{length-states, midrun_start, next_valid, next_inside, next_well_formed, midrun_step_by, midrun_meets, midrun_done, next_sends_later}
-use Rattle.rw_serial.proofs.Waiting.{taken_at, least_at, none_at, reached_at}
 use Rattle.rw_serial.proofs.execute_pending.Goals as goal
 
 pub events-init : goal.events-init

@@ -8,11 +8,11 @@ use Rattle.rw_vt.specs.Order.{event_cmp}
 use Rattle.rw_vt.specs.Rest.{EndsAs}
 use Rattle.rw_vt.specs.System.{system, IsReady}
 use Rattle.rw_vt.proofs.Laws.{lawful, laws_of}
+use Rattle.rw_pending.proofs.Cited.{taken_at, least_at, none_at, reached_at}
 use Rattle.rw_serial.specs.Counts.{events_below}
 use Rattle.rw_serial.proofs.Counting.{count_entered, count_none, midrun_counted}
 use Rattle.rw_serial.proofs.Midrun.{length-states, midrun_start, next_valid, next_inside, next_well_formed, midrun_step_by, midrun_meets, next_sends_later}
 use Rattle.rw_serial.proofs.Onward.{midrun_ready, midrun_rest, none_still}
-use Rattle.rw_serial.proofs.Waiting.{taken_at, least_at, none_at, reached_at}
 use Rattle.rw_serial.proofs.go_on.Goals as goal
 
 pub loop-executed-init : goal.loop-executed-init

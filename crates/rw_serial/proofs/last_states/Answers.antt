@@ -2,8 +2,7 @@ use Rattle.std.proofs.Common.{◌^◌}
 use Rattle.std.proofs.lemmas.Result.{IfOk-weaker, IfErr-weaker}
 use Rattle.rw_vt.specs.System.{rules}
 use Rattle.rw_vt.proofs.Laws.{laws_of, rules_lawful}
-use Rattle.rw_serial.proofs.First.{ready_permuted}
-use Rattle.rw_serial.proofs.Permuted.{same_outcome, same_meets}
+use Rattle.rw_serial.proofs.Permuted.{ready_permuted, same_outcome, same_meets}
 use Rattle.rw_serial.proofs.last_states.Goals as goal
 
 pub last_states_from-requires : goal.last_states_from-requires

@@ -4,8 +4,7 @@ use Rattle.std.proofs.lemmas.Result.{IfOk-weaker, IfErr-weaker}
 use Rattle.rw_vt.specs.System.{rules}
 use Rattle.rw_vt.proofs.Laws.{laws_of, rules_lawful}
 use Rattle.rw_serial.proofs.Counting.{IfNone_then}
-use Rattle.rw_serial.proofs.First.{ready_permuted}
-use Rattle.rw_serial.proofs.Permuted.{same_events, same_outcome, same_meets}
+use Rattle.rw_serial.proofs.Permuted.{ready_permuted, same_events, same_outcome, same_meets}
 use Rattle.rw_serial.proofs.last_states_within.Goals as goal
 
 pub last_states_within_from-requires : goal.last_states_within_from-requires

@@ -3,8 +3,7 @@ use Rattle.std.proofs.lemmas.Result.{err_from_is_err_and}
 use Rattle.rw_vt.specs.System.{rules, system, IsOutcome}
 use Rattle.rw_vt.proofs.Laws.{laws_of, rules_lawful}
 use Rattle.rw_serial.proofs.Counting.{no_limit}
-use Rattle.rw_serial.proofs.First.{ready_permuted}
-use Rattle.rw_serial.proofs.Permuted.{same_outcome, same_meets}
+use Rattle.rw_serial.proofs.Permuted.{ready_permuted, same_outcome, same_meets}
 use Rattle.rw_serial.proofs.run.Goals as goal
 
 pub execute_all-requires-clause-ready : goal.execute_all-requires-clause-ready

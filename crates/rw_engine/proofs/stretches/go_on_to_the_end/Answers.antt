@@ -2,7 +2,7 @@ use Rattle.std.proofs.Common.{subst}
 use Rattle.std.proofs.lemmas.Result.{IfOk-weaker}
 use Rattle.rw_vt.specs.Rest.{AreLastStates}
 use Rattle.rw_vt.specs.System.{system}
-use Rattle.rw_serial.specs.Later.{IsLeastTime}
+use Rattle.rw_pending.specs.Later.{IsLeastTime}
 use Rattle.rw_engine.proofs.Onward.{goes_further, goes_to_end}
 use Rattle.rw_engine.proofs.stretches.go_on_to_the_end.Goals as goal
 

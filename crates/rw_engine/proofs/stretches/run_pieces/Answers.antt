@@ -1,5 +1,5 @@
 use Rattle.std.proofs.Common.{subst}
-use Rattle.rw_serial.specs.Later.{IsLeastTime}
+use Rattle.rw_pending.specs.Later.{IsLeastTime}
 use Rattle.rw_engine.proofs.Onward.{goes_further, goes_to_end}
 use Rattle.rw_engine.proofs.stretches.run_pieces.Goals as goal
 

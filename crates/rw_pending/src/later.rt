@@ -1,0 +1,295 @@
+ghost use Rattle.std.specs.Prelude.{◌≡◌, ◌<◌, ◌≤◌, ◌++◌, [], ◌∷◌, All, IfNone, IfSome, IsPermutation, List, OnErr, OnOk, true};
+ghost use Rattle.rw_vt.specs.declared.event.Event.{Event};
+ghost use Rattle.rw_pending.specs.Later.{HasMoved, IsLeastTime, IsLeft};
+
+use crate::fifo::Fifo;
+use crate::heap::Heap;
+use crate::times::{earlier, is_time, time_of};
+use rw_vt::Event;
+use std::alloc::{AllocError, Global};
+use std::marker::Model;
+
+/// Where events stand that were sent, until their time comes.
+pub trait Store<B: Copy>: Drop {
+    /// The events that are there, in no particular order.
+    ghost events: { Self → List (Event B) };
+
+    /// The least time of an event. `None` only where there is no event.
+    fn least_time(&self) -> Option<u64>
+        ensures { IsLeastTime (events self.now) result };
+
+    /// Adds an event. Where memory is refused, nothing has changed.
+    fn put(&mut self, event: Event<B>) -> Result<(), AllocError>
+        ensures added { OnOk result
+            (IsPermutation (events self.old ++ event ∷ []) (events self.new)) }
+        ensures unchanged { OnErr result (events self.new ≡ events self.old) };
+
+    /// Takes an event of a time, than which none is earlier. `None` only where there is none of that time.
+    fn take_one(&mut self, time: u64) -> Option<Event<B>>
+        requires { All (λ e. time ≤ e.time) (events self.old) }
+        ensures taken { IfSome result (λ e. IsPermutation (events self.old) (e ∷ events self.new)) }
+        ensures of_time { IfSome result (λ e. e.time ≡ time) }
+        ensures none { IfNone result (All (λ e. time < e.time) (events self.old)) };
+
+    /// Moves the events of a time, than which none is earlier, to the end of `taken`. Where memory is refused, some events
+    /// are lost.
+    fn take(&mut self, time: u64, taken: &mut Vec<Event<B>>) -> Result<(), AllocError>
+        requires { All (λ e. time ≤ e.time) (events self.old) }
+        ensures moved { OnOk result
+            (HasMoved time (events self.old) (events self.new) taken.old.items taken.new.items) }
+        ensures left { OnErr result (IsLeft (events self.old) (events self.new)) };
+}
+
+/// Events whose times never fall. Contracts see them as a list in order.
+#[derive(Drop)]
+struct Lane<B: Copy> {
+    events: Fifo<Event<B>>,
+    /// The time of the last event that came here.
+    last: u64,
+}
+
+impl<B: Copy> Model for Lane<B> {
+    ghost use Rattle.std.specs.Prelude.{List};
+    ghost use Rattle.rw_vt.specs.declared.event.Event.{Event};
+    ghost use Rattle.rw_pending.specs.Later.{IsLane};
+
+    ghost Value = { List (Event B) };
+
+    ghost view = { λ l. l.events };
+
+    ghost invariant = { λ l. IsLane l.events l.last };
+}
+
+impl<B: Copy> Lane<B> {
+    /// No events.
+    fn new(alloc: Global) -> Self
+        ensures { result ≡ [] }
+    {
+        Lane {
+            events: Fifo::new(alloc),
+            last: 0,
+        }
+    }
+
+    /// The time of the first event, which is the least. `None` only where there is no event.
+    #[inline]
+    fn least_time(&self) -> Option<u64>
+        ensures { IsLeastTime self.now result }
+    {
+        time_of(self.events.first())
+    }
+
+    /// Whether an event of this time may come behind those that are there.
+    #[inline]
+    fn takes(&self, time: u64) -> bool
+        ensures { result ≡ true → All (λ e. e.time ≤ time) self.now }
+    {
+        self.last <= time
+    }
+
+    /// Adds an event, than which none is later, at the end. Where memory is refused, nothing has changed.
+    #[inline]
+    fn push(&mut self, event: Event<B>) -> Result<(), AllocError>
+        requires { All (λ e. e.time ≤ event.time) self.old }
+        ensures added { OnOk result (self.new ≡ self.old ++ event ∷ []) }
+        ensures unchanged { OnErr result (self.new ≡ self.old) }
+    {
+        self.events.push(event)?;
+        self.last = event.time;
+        Ok(())
+    }
+
+    /// Takes the first event, than which none is earlier. `None` only where there is none.
+    #[inline]
+    fn pop(&mut self) -> Option<Event<B>>
+        ensures taken { IfSome result (λ e. IsPermutation self.old (e ∷ self.new)) }
+        ensures least { IfSome result (λ e. All (λ f. e.time ≤ f.time) self.old) }
+        ensures none { IfNone result (self.old ≡ []) }
+    {
+        self.events.pop()
+    }
+
+    /// Moves the events of a time, than which none is earlier, to the end of `taken`. Where memory is refused, some events
+    /// are lost.
+    #[inline(always)]
+    fn take(&mut self, time: u64, taken: &mut Vec<Event<B>>) -> Result<(), AllocError>
+        requires { All (λ e. time ≤ e.time) self.old }
+        ensures moved { OnOk result
+            (HasMoved time self.old self.new taken.old.items taken.new.items) }
+        ensures left { OnErr result (IsLeft self.old self.new) }
+    {
+        while is_time(self.least_time(), time) {
+            if let Some(event) = self.pop() {
+                taken.push(event)?;
+            }
+        }
+        Ok(())
+    }
+}
+
+/// Two lanes, and a store for the events that would break their order. What is put into a lane costs no comparison with what is
+/// there.
+#[derive(Drop)]
+pub struct TwoLanes<B: Copy, R: Store<B>> {
+    first: Lane<B>,
+    second: Lane<B>,
+    others: R,
+}
+
+impl<B: Copy, R: Store<B>> Model for TwoLanes<B, R> {
+    ghost use Rattle.std.specs.Prelude.{◌++◌, List};
+    ghost use Rattle.rw_vt.specs.declared.event.Event.{Event};
+
+    ghost Value = { List (Event B) };
+
+    ghost view = { λ l. l.first ++ (l.second ++ R.events l.others) };
+}
+
+impl<B: Copy, R: Store<B>> TwoLanes<B, R> {
+    /// Two empty lanes before an empty store.
+    fn new(alloc: Global, others: R) -> Self
+        ensures { result ≡ R.events others }
+    {
+        TwoLanes {
+            first: Lane::new(alloc),
+            second: Lane::new(alloc),
+            others,
+        }
+    }
+}
+
+impl<B: Copy, R: Store<B>> Store<B> for TwoLanes<B, R> {
+    ghost events = { λ l. l };
+
+    fn least_time(&self) -> Option<u64> {
+        earlier(
+            self.first.least_time(),
+            earlier(self.second.least_time(), self.others.least_time()),
+        )
+    }
+
+    #[inline]
+    fn put(&mut self, event: Event<B>) -> Result<(), AllocError>
+        ensures added { OnOk result (IsPermutation (self.old ++ event ∷ []) self.new) }
+        ensures unchanged { OnErr result (self.new ≡ self.old) }
+    {
+        if self.first.takes(event.time) {
+            self.first.push(event)
+        } else if self.second.takes(event.time) {
+            self.second.push(event)
+        } else {
+            self.others.put(event)
+        }
+    }
+
+    #[inline]
+    fn take_one(&mut self, time: u64) -> Option<Event<B>> {
+        if is_time(self.first.least_time(), time) {
+            self.first.pop()
+        } else if is_time(self.second.least_time(), time) {
+            self.second.pop()
+        } else {
+            self.others.take_one(time)
+        }
+    }
+
+    #[inline]
+    fn take(&mut self, time: u64, taken: &mut Vec<Event<B>>) -> Result<(), AllocError> {
+        self.first.take(time, taken)?;
+        self.second.take(time, taken)?;
+        self.others.take(time, taken)
+    }
+}
+
+/// As many lanes as a model has delays in effect, one for what other engines send a little later than its turn, and a heap for
+/// the rest. A model whose sends have at most four delays never comes to the heap: its events are executed in order of time, so
+/// those of one delay are.
+type Lanes<B> = TwoLanes<B, TwoLanes<B, Heap<B>>>;
+
+/// Events that were sent, until their time comes; it knows the least time of all. Contracts see them as a list, in no
+/// particular order.
+#[derive(Drop)]
+pub struct Later<B: Ord + Copy> {
+    lanes: Lanes<B>,
+    least: Option<u64>,
+}
+
+impl<B: Ord + Copy> Model for Later<B> {
+    ghost use Rattle.std.specs.Prelude.{List};
+    ghost use Rattle.rw_vt.specs.declared.event.Event.{Event};
+    ghost use Rattle.rw_pending.specs.Later.{IsLeastTime};
+
+    ghost Value = { List (Event B) };
+
+    ghost view = { λ l. l.lanes };
+
+    ghost invariant = { λ l. IsLeastTime l.lanes l.least };
+}
+
+impl<B: Ord + Copy> Later<B> {
+    /// No events.
+    pub fn new(alloc: Global) -> Self
+        ensures { result ≡ [] }
+    {
+        Later {
+            lanes: TwoLanes::new(alloc, TwoLanes::new(alloc, Heap::new(alloc))),
+            least: None,
+        }
+    }
+
+    /// The least time of an event. `None` only where there is no event.
+    #[inline]
+    pub fn least_time(&self) -> Option<u64>
+        ensures { IsLeastTime self.now result }
+    {
+        self.least
+    }
+
+    /// Adds an event. Where memory is refused, nothing has changed.
+    pub fn put(&mut self, event: Event<B>) -> Result<(), AllocError>
+        ensures added { OnOk result (IsPermutation (self.old ++ event ∷ []) self.new) }
+        ensures unchanged { OnErr result (self.new ≡ self.old) }
+    {
+        self.lanes.put(event)?;
+        self.least = earlier(self.least, Some(event.time));
+        Ok(())
+    }
+
+    /// Takes an event of a time, than which none is earlier. `None` only where there is none of that time.
+    #[inline]
+    pub fn take_one(&mut self, time: u64) -> Option<Event<B>>
+        requires { All (λ e. time ≤ e.time) self.old }
+        ensures taken { IfSome result (λ e. IsPermutation self.old (e ∷ self.new)) }
+        ensures of_time { IfSome result (λ e. e.time ≡ time) }
+        ensures none { IfNone result (All (λ e. time < e.time) self.old) }
+    {
+        let event = self.lanes.take_one(time);
+        self.least = self.lanes.least_time();
+        event
+    }
+
+    /// Moves the events of a time, than which none is earlier, to the end of `taken`. Where memory is refused, some events
+    /// are lost.
+    pub fn take(&mut self, time: u64, taken: &mut Vec<Event<B>>) -> Result<(), AllocError>
+        requires { All (λ e. time ≤ e.time) self.old }
+        ensures moved { OnOk result
+            (HasMoved time self.old self.new taken.old.items taken.new.items) }
+        ensures left { OnErr result (IsLeft self.old self.new) }
+    {
+        let result = self.lanes.take(time, taken);
+        self.least = self.lanes.least_time();
+        result
+    }
+
+    /// Moves all events to the end of `rest`, in order of time. Where memory is refused, some events are lost.
+    pub fn move_to(&mut self, rest: &mut Vec<Event<B>>) -> Result<(), AllocError>
+        ensures none { OnOk result (self.new ≡ []) }
+        ensures moved { OnOk result (IsPermutation (rest.old.items ++ self.old) rest.new.items) }
+        ensures left { IsLeft self.old self.new }
+    {
+        while let Some(time) = self.least_time() {
+            self.take(time, rest)?;
+        }
+        Ok(())
+    }
+}

@@ -1,6 +1,0 @@
-use Rattle.std.proofs.Common.{rules, heap_items}
-use Rattle.rw_serial.proofs.ByTime.{pushed_one}
-use Rattle.rw_serial.proofs.heap.HeapStore.put.Goals as goal
-
-pub returns-clause-added : goal.returns-clause-added
-returns-clause-added g c = rw (← c.self.view_is) (pushed_one c.args.event (heap_items c.self.inside.events) (heap_items c.push.new.self) (search rules))
