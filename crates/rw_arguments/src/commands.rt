@@ -24,10 +24,12 @@ pub const SERIAL: Entry = Entry {
     takes_caches: true,
 };
 
-/// The program with these commands, as `clap` knows it. The fault is memory that was refused.
+/// The program with these commands, as `clap` knows it, under its name whatever its file is called. The fault is memory that was
+/// refused.
 pub fn program_of<'a>(alloc: Global, entries: &[Entry]) -> Result<Command<'a>, AllocError> {
     let commands = commands(alloc, entries)?;
     Command::new(alloc, "ripqwarp")
+        .bin_name("ripqwarp")?
         .about("Simulates edge and origin photo caches from a trace")
         .subcommand_required(true)
         .arg_required_else_help(true)
