@@ -1,8 +1,9 @@
 #![tactic(auto)]
-//! The program `ripqwarp`, as far as its command `serial` goes: it stands on a third of what the whole program stands on, so it is
-//! there in half the time.
+//! The program `ripqwarp`, as far as its command `serial` goes: it stands on less than half of what the whole program stands on,
+//! so it is there in half the time.
 
-use rw_console::{Inputs, Out, serial_alone, words};
+use rw_console::{Inputs, Out, words};
+use rw_runs::serial_alone;
 use std::io::IsTerminal;
 use std::process::ExitCode;
 

@@ -1,6 +1,4 @@
 use crate::arguments::Argument;
-use crate::caches::CACHES;
-use crate::traces::{QUIET, TRACE};
 use clap::{Arg, Command};
 use std::alloc::{AllocError, Global};
 
@@ -12,17 +10,9 @@ pub struct Entry {
     pub about: &'static str,
     /// What it takes of its own, which the help names first.
     pub own: &'static [Argument],
-    /// Whether it takes the options that say which caches there are.
-    pub takes_caches: bool,
+    /// What it takes as other commands do, which the help names last.
+    pub shared: &'static [Argument],
 }
-
-/// The command that runs a trace on one thread.
-pub const SERIAL: Entry = Entry {
-    name: "serial",
-    about: "Runs a trace on one thread and prints the counters of each cache",
-    own: &[TRACE, QUIET],
-    takes_caches: true,
-};
 
 /// The program with these commands, as `clap` knows it, under its name whatever its file is called. The fault is memory that was
 /// refused.
@@ -60,9 +50,7 @@ impl Entry {
     fn arguments<'a>(&self, alloc: Global) -> Result<Vec<Arg<'a>>, AllocError> {
         let mut arguments = Vec::new(alloc);
         add_each(alloc, self.own, &mut arguments)?;
-        if self.takes_caches {
-            add_each(alloc, &CACHES, &mut arguments)?;
-        }
+        add_each(alloc, self.shared, &mut arguments)?;
         Ok(arguments)
     }
 }

@@ -1,6 +1,6 @@
 use crate::given::Given;
 use rw_command::{Out, command};
-use rw_console::serial_alone;
+use rw_runs::serial_alone;
 use std::alloc::Global;
 use std::sync::Wait;
 use std::thread::Threads;

@@ -1,9 +1,9 @@
 use clap::ArgMatches;
-use rw_arguments::config;
-use rw_console::{CommandFault, Out, Source, answer, read, serial, write_line};
+use rw_console::{CommandFault, Out, Source, answer, read, write_line};
 use rw_options::program;
 use rw_progress::{Line, Measure, Progress};
 use rw_ripqwarp::{Mode, Plan, Traffic, schedule, simulate_and_tell};
+use rw_runs::{config, serial};
 use rw_studies::{Fault, import, join, plot, sweep};
 use std::alloc::Global;
 use std::io::Write;

@@ -2,7 +2,7 @@
 use crate::fault::CommandFault;
 use crate::files::write;
 use clap::error::ErrorKind;
-use rw_replay::Out;
+use rw_output::Out;
 use std::alloc::Global;
 use std::io::Write;
 use std::rt::Env;

@@ -1,6 +1,6 @@
 use crate::lines::write_line;
 use crate::source::SourceFault;
-use rw_replay::SimFault;
+use rw_output::SimFault;
 use std::alloc::AllocError;
 use std::io::Write;
 

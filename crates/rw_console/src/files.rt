@@ -2,7 +2,7 @@
 use crate::fault::CommandFault;
 use crate::source::Source;
 use clap::ArgMatches;
-use rw_replay::{Out, SimFault};
+use rw_output::{Out, SimFault};
 use std::alloc::Global;
 use std::io::Write;
 

@@ -1,7 +1,6 @@
 #![tactic(auto)]
 //! What all commands of the program share: its words, where bytes come from, the faults that any command may have and the exit
-//! status of each, a line on standard error. And the first of the commands, [`serial`], which runs a trace on one thread;
-//! [`serial_alone`] is a program that has no other.
+//! status of each, and a line on standard error.
 //!
 //! Worked examples: `rw_program_tests/src/commands.rt`, and the cases of `rw_cases`.
 
@@ -10,7 +9,6 @@ mod fault;
 mod files;
 mod inputs;
 mod lines;
-mod running;
 mod source;
 
 pub use command_line::{answer, words};
@@ -18,6 +16,5 @@ pub use fault::CommandFault;
 pub use files::{read, write};
 pub use inputs::Inputs;
 pub use lines::write_line;
-pub use running::{serial, serial_alone};
-pub use rw_replay::{Out, SimFault};
+pub use rw_output::{Out, SimFault};
 pub use source::{Source, SourceFault};

@@ -2,7 +2,7 @@
 ghost use Rattle.std.specs.Prelude.{◌≡◌, ◌≤◌};
 ghost use Rattle.rw_console.specs.declared.lines.TheConstants.{ROOM};
 
-use rw_replay::Out;
+use rw_output::Out;
 use std::fmt;
 use std::fmt::{Display, Write as _};
 use std::io::Write;

@@ -1,6 +1,7 @@
 use crate::options::{DRAWING, GRID, LOG, PARTS, ROUNDS, SCHEDULE};
 use clap::Command;
-use rw_arguments::{Entry, SERIAL, TRACE, program_of};
+use rw_arguments::{Entry, TRACE, program_of};
+use rw_runs::{CACHES, SERIAL};
 use std::alloc::{AllocError, Global};
 
 /// The program with its commands, as `clap` knows it. The fault is memory that was refused.
@@ -15,36 +16,36 @@ const ENTRIES: [Entry; 7] = [
         name: "warp",
         about: "Runs a trace on several threads, ahead of time, and prints the report that serial prints",
         own: &ROUNDS,
-        takes_caches: true,
+        shared: &CACHES,
     },
     Entry {
         name: "journal",
         about: "Runs a trace by a schedule of steps and prints what was refused and what is final",
         own: &[SCHEDULE, TRACE],
-        takes_caches: true,
+        shared: &CACHES,
     },
     Entry {
         name: "import",
         about: "Reads a log and prints it as a trace",
         own: &LOG,
-        takes_caches: false,
+        shared: &[],
     },
     Entry {
         name: "sweep",
         about: "Runs a trace through every combination of some settings and prints a table, as CSV",
         own: &GRID,
-        takes_caches: false,
+        shared: &[],
     },
     Entry {
         name: "join",
         about: "Puts the parts of a sweep together and prints the table that sweep prints",
         own: &PARTS,
-        takes_caches: false,
+        shared: &[],
     },
     Entry {
         name: "plot",
         about: "Draws what sweep printed, a line for each policy over the size of the flash, as SVG",
         own: &DRAWING,
-        takes_caches: false,
+        shared: &[],
     },
 ];

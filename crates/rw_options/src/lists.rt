@@ -1,6 +1,6 @@
 // Lists of values, as the options of a sweep say them.
-use rw_arguments::{POLICIES, policy};
 use rw_photo::Policy;
+use rw_runs::{POLICIES, policy};
 use std::alloc::Global;
 
 /// Why a text is no list.

@@ -1,9 +1,8 @@
 // What the commands take beside the options of caches, in the order of the help.
-use rw_arguments::{
-    Argument, BACK, DOWN, EDGES, Given, ORIGINS, QUIET, TRACE, TRACE_HELP, UP, Value,
-};
+use rw_arguments::{Argument, Given, QUIET, TRACE, TRACE_HELP, Value};
 use rw_import::MAX_TICKS;
 use rw_photo::Config;
+use rw_runs::{BACK, DOWN, EDGES, ORIGINS, UP};
 use rw_sweep::MAX_CONFIGURATIONS;
 use rw_vt::END;
 

@@ -2,4 +2,3 @@ pub mod Failing
 pub mod Lines
 pub mod Refused
 pub mod Runs
-pub mod Written

@@ -4,10 +4,10 @@ use Rattle.std.specs.Prelude.{◌≢◌}
 use Rattle.std.specs.Result.{IfErr, IsErrAnd}
 use Rattle.rw_vt.specs.declared.refusal.Refusal.{Refusal}
 use Rattle.rw_vt.specs.declared.refusal.Refusal.TheVariants.{Memory, Exhausted}
+use Rattle.rw_output.specs.declared.sim_fault.SimFault.{SimFault}
+use Rattle.rw_output.specs.declared.sim_fault.SimFault.TheVariants as sim
+use Rattle.rw_output.specs.Faults.{sim_refusal_of}
 use Rattle.rw_photo.specs.declared.config.Config.{Config}
-use Rattle.rw_replay.specs.declared.sim_fault.SimFault.{SimFault}
-use Rattle.rw_replay.specs.declared.sim_fault.SimFault.TheVariants as sim
-use Rattle.rw_replay.specs.Faults.{sim_refusal_of}
 use Rattle.rw_replay.specs.Replay.{IsExhaustingInOrder, IsReplayFault, IsWritingFault}
 
 -- a refusal is a fault of the run: want of memory always, and a cache that can take no further event where one was met

@@ -6,13 +6,13 @@ use Rattle.rw_trace.specs.declared.Row.{Row}
 use Rattle.rw_trace.specs.Limits.{most_rows}
 use Rattle.rw_trace.specs.Trace.{trace_of}
 use Rattle.rw_trace.specs.Unread.{records_of}
+use Rattle.rw_output.specs.declared.sim_fault.SimFault.{SimFault}
+use Rattle.rw_output.specs.declared.sim_fault.SimFault.TheVariants as sim
 use Rattle.rw_photo.specs.declared.body.Body.{Body}
 use Rattle.rw_photo.specs.declared.config.Config.{Config}
 use Rattle.rw_photo.specs.contracts.photo.PhotoVtModel.TheImpl as model
 use Rattle.rw_photo.specs.Cache.{Cache}
 use Rattle.rw_photo.specs.Simulation.{simulation}
-use Rattle.rw_replay.specs.declared.sim_fault.SimFault.{SimFault}
-use Rattle.rw_replay.specs.declared.sim_fault.SimFault.TheVariants as sim
 
 -- a run of the trace in these bytes begins with these caches and events: the trace is accepted, the caches and the
 -- requests are those of its simulation, and a model of the configuration may run them

@@ -8,14 +8,14 @@ use Rattle.rw_trace.specs.declared.Row.{Row}
 use Rattle.rw_trace.specs.Limits.{most_rows}
 use Rattle.rw_trace.specs.Trace.{trace_of}
 use Rattle.rw_trace.specs.Unread.{records_of}
+use Rattle.rw_output.specs.Sink.{AppendsBeginning}
+use Rattle.rw_output.specs.declared.sim_fault.SimFault.{SimFault}
+use Rattle.rw_output.specs.declared.sim_fault.SimFault.TheVariants as sim
 use Rattle.rw_photo.specs.declared.body.Body.{Body}
 use Rattle.rw_photo.specs.declared.config.Config.{Config}
 use Rattle.rw_photo.specs.Cache.{Cache, is_exhausted}
 use Rattle.rw_photo.specs.Simulation.{simulation}
 use Rattle.rw_replay.specs.Report.{report_text}
-use Rattle.rw_replay.specs.Sink.{AppendsBeginning}
-use Rattle.rw_replay.specs.declared.sim_fault.SimFault.{SimFault}
-use Rattle.rw_replay.specs.declared.sim_fault.SimFault.TheVariants as sim
 
 -- the text is the report of the trace in these bytes: the trace is accepted with these rows; executing their requests,
 -- and all that follows from them, in order of time leaves the caches in these states; and the text tells what they have

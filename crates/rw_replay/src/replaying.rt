@@ -8,8 +8,8 @@ ghost use Rattle.rw_vt.specs.System.{IsOutcome, IsReady, Meets};
 ghost use Rattle.rw_vt.specs.declared.event.Event.{Event};
 ghost use Rattle.rw_replay.specs.Beginning.{IsBeginningOf, IsBeginningFault};
 
-use crate::sim_fault::SimFault;
 use crate::telling::{Telling, begin_rows};
+use rw_output::SimFault;
 use rw_photo::{Body, CacheState, Config, OrderedRequests, Photo, requests};
 use rw_progress::{Progress, Silent};
 use rw_serial::{last_states, last_states_from};

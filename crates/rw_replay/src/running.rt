@@ -1,10 +1,9 @@
 ghost use Rattle.std.specs.Prelude.{◌≡◌, ◌≢◌, ◌↔◌, Err, IfOk, IfErr, OnOk};
 ghost use Rattle.rw_replay.specs.Replay.{IsReportOf, IsReplayFault, IsWritingFault, HasReported, HasBegunToReport};
 
-use crate::output::Out;
 use crate::replaying::last_states_and_tell;
 use crate::report_text::report_of_states;
-use crate::sim_fault::SimFault;
+use rw_output::{Out, SimFault};
 use rw_photo::Config;
 use rw_progress::Progress;
 use rw_trace::read;

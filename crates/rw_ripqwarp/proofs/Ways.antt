@@ -5,6 +5,7 @@ use Rattle.std.specs.Prelude.{◌↔◌}
 use Rattle.std.specs.declared.alloc.Global.{Global}
 use Rattle.rw_vt.specs.declared.event.Event.{Event}
 use Rattle.rw_vt.specs.System.{IsOutcome, Meets, System, system}
+use Rattle.rw_output.specs.declared.sim_fault.SimFault.{SimFault}
 use Rattle.rw_photo.specs.declared.body.Body.{Body}
 use Rattle.rw_photo.specs.declared.config.Config.{Config}
 use Rattle.rw_photo.specs.declared.photo.Photo.{Photo}
@@ -25,7 +26,6 @@ use Rattle.rw_engine.specs.declared.how.How.{How}
 use Rattle.rw_engine.specs.declared.how.How.TheVariants.{InOrder, InRounds, BySteps}
 use Rattle.rw_engine.specs.declared.how.Ran.TheVariants.{Finished, Stepped}
 use Rattle.rw_engine.specs.Runs.{AreLastStates, ComesToExhaustion, HasRun, IsByBadPlan, IsOfAnyRun, IsSteppedTo, MayStopFor, no_traffic}
-use Rattle.rw_replay.specs.declared.sim_fault.SimFault.{SimFault}
 use Rattle.rw_replay.specs.Report.{report_text}
 use Rattle.rw_replay.specs.Beginning.{IsBeginningOf}
 use Rattle.rw_replay.specs.Replay.{IsReportOf}

@@ -5,6 +5,7 @@ use Rattle.std.specs.Io.KnownBytes.{Appends}
 use Rattle.rw_vt.specs.Words.{Process}
 use Rattle.rw_vt.specs.declared.event.Event.{Event}
 use Rattle.rw_vt.specs.System.{Setting, system_in}
+use Rattle.rw_output.specs.Sink.{AppendsBeginning}
 use Rattle.rw_photo.specs.declared.body.Body.{Body}
 use Rattle.rw_photo.specs.declared.config.Config.{Config}
 use Rattle.rw_photo.specs.declared.undo.Undo.{Undo}
@@ -18,7 +19,6 @@ use Rattle.rw_world.specs.declared.step.Step.{Step}
 use Rattle.rw_world.specs.WorldState.{opening_world}
 use Rattle.rw_world.specs.Steps.{run}
 use Rattle.rw_world.specs.Sound.{IsInOrder}
-use Rattle.rw_replay.specs.Sink.{AppendsBeginning}
 use Rattle.rw_ripqwarp.specs.Simulate.{IsTextOf}
 use Rattle.rw_ripqwarp.specs.declared.mode.Mode.{Mode}
 use Rattle.rw_ripqwarp.specs.declared.mode.Mode.TheVariants.{Serial, Warp}

@@ -12,11 +12,10 @@ use crate::mode::Mode;
 use rw_engine::{
     Plan, Stop, Traffic, run_alone, run_alone_from, run_in_rounds, run_in_rounds_from,
 };
+use rw_output::SimFault;
 use rw_photo::{CacheState, Config, OrderedRequests, Photo, Policy};
 use rw_progress::Progress;
-use rw_replay::{
-    SimFault, Telling, begin_events, begin_rows, beginning_of_rows, report_of_states, starts,
-};
+use rw_replay::{Telling, begin_events, begin_rows, beginning_of_rows, report_of_states, starts};
 use rw_trace::{Row, read_in_parts};
 use std::alloc::{AllocError, Global};
 use std::sync::Wait;

@@ -1,7 +1,7 @@
 ghost use Rattle.std.specs.Prelude.{◌≡◌, ◌≢◌, ◌↔◌, Err, IfOk, IfErr, OnOk};
 ghost use Rattle.std.specs.Io.KnownBytes.{Appends};
+ghost use Rattle.rw_output.specs.Sink.{AppendsBeginning};
 ghost use Rattle.rw_engine.specs.Runs.{no_traffic};
-ghost use Rattle.rw_replay.specs.Sink.{AppendsBeginning};
 ghost use Rattle.rw_ripqwarp.specs.Simulate.{IsTextOf, IsWarp, HasGoodPlan, IsRunFault};
 ghost use Rattle.rw_ripqwarp.specs.Headline.{HasWritten, HasWrittenBeginning};
 
@@ -9,9 +9,10 @@ use crate::mode::Mode;
 use crate::rounds::{rounds_text, why_it_stopped};
 use rw_engine::{Ran, Traffic, run_in_and_tell};
 use rw_journal::journal;
+use rw_output::{Out, SimFault};
 use rw_photo::{Config, Photo};
 use rw_progress::{Progress, Silent};
-use rw_replay::{Out, SimFault, begin_events, beginning, report_of_states, report_of_trace};
+use rw_replay::{begin_events, beginning, report_of_states, report_of_trace};
 use rw_vt::Model as VtModel;
 use std::alloc::Global;
 use std::io::Write;

@@ -17,7 +17,7 @@ use std::time::Clock;
 ///
 /// # Errors
 ///
-/// A list or a part that is none, too many combinations, what the source answers, and a fault of a run ([`SimFault`](rw_replay::SimFault)).
+/// A list or a part that is none, too many combinations, what the source answers, and a fault of a run ([`SimFault`](rw_output::SimFault)).
 pub fn sweep<S: Source, W: Write, E: Write, R: Threads + Clock + Sync>(
     rt: &R,
     alloc: Global,

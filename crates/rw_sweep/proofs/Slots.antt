@@ -3,13 +3,13 @@ use Rattle.std.proofs.Common.{◌≡◌, ℕ, ◌<◌, ◌⊎◌, inl, inr, List
 use Rattle.std.specs.Prelude.{IfSome, OnOk, replicate}
 use Rattle.std.specs.List.{Any}
 use Rattle.std.specs.Result.{IfErr}
-use Rattle.rw_replay.specs.declared.sim_fault.SimFault.{SimFault}
-use Rattle.rw_replay.specs.declared.sim_fault.SimFault.TheVariants as sim
 use Rattle.std.proofs.lemmas.List.{get_or-set_same, get_or-set_other, length-set, length-replicate, get_or-replicate}
 use Rattle.std.proofs.lemmas.Bool.{cases_eq}
 use Rattle.std.specs.Global.{Vec}
 use Rattle.rw_vt.specs.declared.refusal.Refusal.{Refusal}
 use Rattle.rw_trace.specs.declared.Row.{Row}
+use Rattle.rw_output.specs.declared.sim_fault.SimFault.{SimFault}
+use Rattle.rw_output.specs.declared.sim_fault.SimFault.TheVariants as sim
 use Rattle.rw_sweep.specs.declared.axes.Axes.{Axes}
 use Rattle.rw_sweep.specs.declared.point.Point.{Point}
 use Rattle.rw_sweep.specs.declared.entry.Entry.{Entry}

@@ -5,10 +5,10 @@ use Rattle.rw_vt.specs.System.{IsOutcome, Meets}
 use Rattle.rw_trace.specs.declared.Row.{Row}
 use Rattle.rw_trace.specs.Trace.{trace_of}
 use Rattle.rw_trace.specs.Unread.{records_of}
+use Rattle.rw_output.specs.declared.sim_fault.SimFault.TheVariants as sim
 use Rattle.rw_photo.specs.Cache.{Cache, is_exhausted}
 use Rattle.rw_photo.specs.Simulation.{simulation}
 use Rattle.rw_photo.specs.declared.config.Config.{Config}
-use Rattle.rw_replay.specs.declared.sim_fault.SimFault.TheVariants as sim
 use Rattle.rw_replay.specs.Replay.{IsReplayFault}
 use Rattle.rw_replay.specs.Report.{report_text}
 use Rattle.rw_replay.proofs.Failing.{handed-on}

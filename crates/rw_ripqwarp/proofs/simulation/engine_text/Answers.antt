@@ -1,12 +1,12 @@
 use Rattle.std.proofs.Common.{ℕ, ◌+◌, List, Err, sym, ◌∙◌, ap, subst, length, map}
 use Rattle.std.proofs.lemmas.Result.{IfOk-from_err}
 use Rattle.std.specs.Prelude.{◌≢◌}
+use Rattle.rw_output.specs.declared.sim_fault.SimFault.TheVariants as sim
 use Rattle.rw_photo.specs.Cache.{Cache}
 use Rattle.rw_photo.specs.contracts.photo.PhotoVtModel.TheImpl as model
 use Rattle.rw_photo.specs.contracts.body.BodyOrd.TheImpl as order
 use Rattle.rw_engine.specs.Runs.{HasRun}
 use Rattle.rw_replay.specs.Report.{report_text}
-use Rattle.rw_replay.specs.declared.sim_fault.SimFault.TheVariants as sim
 use Rattle.rw_replay.proofs.Failing.{handed-on}
 use Rattle.rw_replay.proofs.Runs.{ready-at}
 use Rattle.rw_ripqwarp.specs.declared.mode.Mode.{Mode}

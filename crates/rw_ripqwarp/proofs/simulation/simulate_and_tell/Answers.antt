@@ -1,7 +1,7 @@
 use Rattle.std.proofs.Common.{◌≡◌, refl, arith}
 use Rattle.std.proofs.lemmas.Result.{IfOk-from_err, err_from_is_err_and}
 use Rattle.std.specs.Prelude.{◌≢◌}
-use Rattle.rw_replay.specs.declared.sim_fault.SimFault.TheVariants as sim
+use Rattle.rw_output.specs.declared.sim_fault.SimFault.TheVariants as sim
 use Rattle.rw_replay.proofs.Failing.{handed-on}
 use Rattle.rw_ripqwarp.specs.Simulate.{IsRunFault}
 use Rattle.rw_ripqwarp.proofs.simulation.simulate_and_tell.Goals as goal

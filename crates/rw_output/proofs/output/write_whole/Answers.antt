@@ -1,6 +1,6 @@
 use Rattle.std.proofs.lemmas.List.{take_rest}
-use Rattle.rw_replay.proofs.Written.{taken-within, written-more}
-use Rattle.rw_replay.proofs.output.write_whole.Goals as goal
+use Rattle.rw_output.proofs.Written.{taken-within, written-more}
+use Rattle.rw_output.proofs.output.write_whole.Goals as goal
 
 pub loop-written-preserved : goal.loop-written-preserved
 loop-written-preserved g c =

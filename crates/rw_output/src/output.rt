@@ -1,6 +1,6 @@
 ghost use Rattle.std.specs.Prelude.{◌≡◌, MatchBool};
 ghost use Rattle.std.specs.Io.KnownBytes.{Appends};
-ghost use Rattle.rw_replay.specs.Sink.{AppendsBeginning, OutState, one_more};
+ghost use Rattle.rw_output.specs.Sink.{AppendsBeginning, OutState, one_more};
 
 use std::io::Write;
 use std::marker::Model;
@@ -16,7 +16,7 @@ pub struct Out<W> {
 }
 
 impl<W> Model for Out<W> {
-    ghost use Rattle.rw_replay.specs.Sink.{OutState};
+    ghost use Rattle.rw_output.specs.Sink.{OutState};
 
     ghost Value = { OutState W };
 

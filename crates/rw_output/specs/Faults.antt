@@ -3,8 +3,8 @@ use Rattle.rw_vt.specs.declared.refusal.Refusal.{Refusal}
 use Rattle.rw_vt.specs.declared.refusal.Refusal.TheVariants as refusal
 use Rattle.rw_trace.specs.declared.TraceFault.{TraceFault}
 use Rattle.rw_trace.specs.declared.TraceFault.TheVariants as fault
-use Rattle.rw_replay.specs.declared.sim_fault.SimFault.{SimFault}
-use Rattle.rw_replay.specs.declared.sim_fault.SimFault.TheVariants as sim
+use Rattle.rw_output.specs.declared.sim_fault.SimFault.{SimFault}
+use Rattle.rw_output.specs.declared.sim_fault.SimFault.TheVariants as sim
 
 -- a trace's fault, but for want of memory
 abbrev pub sim_fault_of : TraceFault → SimFault

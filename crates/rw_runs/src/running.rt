@@ -1,15 +1,22 @@
 // A trace on one thread.
-use crate::command_line::answer;
-use crate::fault::CommandFault;
-use crate::files::read;
-use crate::source::Source;
+use crate::caches::CACHES;
+use crate::values::config;
 use clap::ArgMatches;
-use rw_arguments::{SERIAL, config, program_of};
+use rw_arguments::{Entry, QUIET, TRACE, program_of};
+use rw_console::{CommandFault, Out, Source, answer, read};
 use rw_progress::{Line, Measure};
-use rw_replay::{Out, replay};
+use rw_replay::replay;
 use std::alloc::Global;
 use std::io::Write;
 use std::time::Clock;
+
+/// The command that runs a trace on one thread.
+pub const SERIAL: Entry = Entry {
+    name: "serial",
+    about: "Runs a trace on one thread and prints the counters of each cache",
+    own: &[TRACE, QUIET],
+    shared: &CACHES,
+};
 
 /// Does what the words ask, the name of the program first, of a program whose one command is `serial`, and answers the exit
 /// status, which is that of [`CommandFault::status`] where it is not 0.

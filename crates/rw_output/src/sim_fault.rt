@@ -1,5 +1,5 @@
 ghost use Rattle.std.specs.Prelude.{◌≡◌};
-ghost use Rattle.rw_replay.specs.declared.sim_fault.SimFault.TheVariants.{Memory};
+ghost use Rattle.rw_output.specs.declared.sim_fault.SimFault.TheVariants.{Memory};
 
 use rw_trace::TraceFault;
 use rw_vt::{NoMemory, Refusal};
@@ -33,7 +33,7 @@ pub enum SimFault {
 impl From<TraceFault> for SimFault {
     ghost from_gives = { λ fault sim. sim ≡ sim_fault_of fault };
 
-    ghost use Rattle.rw_replay.specs.Faults.{sim_fault_of};
+    ghost use Rattle.rw_output.specs.Faults.{sim_fault_of};
 
     fn from(fault: TraceFault) -> SimFault {
         match fault {
@@ -46,7 +46,7 @@ impl From<TraceFault> for SimFault {
 impl From<Refusal> for SimFault {
     ghost from_gives = { λ refusal sim. sim ≡ sim_refusal_of refusal };
 
-    ghost use Rattle.rw_replay.specs.Faults.{sim_refusal_of};
+    ghost use Rattle.rw_output.specs.Faults.{sim_refusal_of};
 
     fn from(refusal: Refusal) -> SimFault {
         match refusal {

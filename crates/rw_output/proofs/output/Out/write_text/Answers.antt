@@ -1,9 +1,9 @@
 use Rattle.std.proofs.Common.{◌≡◌, ◌∙◌, ℕ, List, ap, sym, subst, take}
 use Rattle.std.specs.Io.KnownBytes.{Appends}
-use Rattle.rw_replay.specs.Sink.{AppendsBeginning, one_more}
-use Rattle.rw_replay.proofs.Written.{appends-keeps}
-use Rattle.rw_replay.proofs.output.Out.write_text.Goals.{else-write_whole, then-write_whole}
-use Rattle.rw_replay.proofs.output.Out.write_text.Goals as goal
+use Rattle.rw_output.specs.Sink.{AppendsBeginning, one_more}
+use Rattle.rw_output.proofs.Written.{appends-keeps}
+use Rattle.rw_output.proofs.output.Out.write_text.Goals.{else-write_whole, then-write_whole}
+use Rattle.rw_output.proofs.output.Out.write_text.Goals as goal
 
 pub returns-then-not-whole-clause-failures : goal.returns-then-not-whole-clause-failures
 returns-then-not-whole-clause-failures g c =

@@ -1,5 +1,5 @@
 // The options that say which caches there are.
-use crate::arguments::{Argument, Given, Value};
+use rw_arguments::{Argument, Given, Value};
 use rw_photo::{Config, Shape};
 
 /// The names of the policies: under segmented LRU one for each number of segments.
@@ -9,7 +9,7 @@ pub const POLICIES: [&str; 9] = [
 
 /// How many caches there are, what they keep, how large they are, and how long what is sent is on
 /// its way.
-pub(crate) const CACHES: [Argument; 10] = [
+pub const CACHES: [Argument; 10] = [
     EDGES,
     ORIGINS,
     Argument {
