@@ -14,9 +14,15 @@ use std::marker::Model;
 /// The least event is at hand. An event that is put before those that the bag was made of, or behind all that came since, and
 /// one that is taken as the first of either, costs constant time; else a call costs the logarithm of what is held, and where
 /// an event leaves the middle of such a row, the number of those that move. It is boxed: moving a bag moves a pointer.
-#[derive(Drop)]
 pub struct Bag<M: VtModel> {
     stored: Box<Stored<M>>,
+}
+
+// By hand, so that it is proved here, and not in each crate above whose values have one.
+impl<M: VtModel> Drop for Bag<M> {
+    fn drop(self) {
+        let Bag { stored: _ } = self;
+    }
 }
 
 /// What stands in that box.

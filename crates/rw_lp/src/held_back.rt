@@ -20,11 +20,20 @@ use std::marker::Model;
 ///
 /// Their undone events fall, so the pairs of one event stand side by side and are found by halves: those of the least,
 /// which is executed next, stand last. The messages are counted, so a send that is not held costs one search.
-#[derive(Drop)]
 pub struct HeldBack<M: VtModel> {
     pairs: Vec<Held<M::Body>>,
     /// Their messages.
     messages: CountedBag<M>,
+}
+
+// By hand, so that it is proved here, and not in each crate above whose values have one.
+impl<M: VtModel> Drop for HeldBack<M> {
+    fn drop(self) {
+        let HeldBack {
+            pairs: _,
+            messages: _,
+        } = self;
+    }
 }
 
 impl<M: VtModel> Model for HeldBack<M> {

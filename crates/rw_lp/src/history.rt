@@ -20,7 +20,6 @@ use std::snapshot::Snapshot;
 
 /// What a process has done: the committed events, which stay, and then the processed ones, each with the record that
 /// takes it back, and the state that they lead to. Contracts see it by `seen_of`; a call that is refused breaks it.
-#[derive(Drop)]
 pub struct Past<M: VtModel> {
     model: Snapshot<M>,
     number: u32,
@@ -33,6 +32,22 @@ pub struct Past<M: VtModel> {
     state: M::State,
     /// Where the model puts the sends of an execution; empty in between.
     sends: Vec<Event<M::Body>>,
+}
+
+// By hand, so that it is proved here, and not in each crate above whose values have one.
+impl<M: VtModel> Drop for Past<M> {
+    fn drop(self) {
+        let Past {
+            model: _,
+            number: _,
+            start: _,
+            done: _,
+            cut: _,
+            records: _,
+            state: _,
+            sends: _,
+        } = self;
+    }
 }
 
 impl<M: VtModel> Past<M> {

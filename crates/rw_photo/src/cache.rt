@@ -23,12 +23,23 @@ use std::marker::Model;
 /// each, how many events it has sent, and what it has counted.
 ///
 /// Contracts see it as `Cache` of `specs/Cache.antt`.
-#[derive(Drop)]
 pub struct CacheState {
     queue: Queue,
     awaited: Awaited,
     sends: u64,
     counters: Counters,
+}
+
+// By hand, so that it is proved here, and not in each crate above whose values have one.
+impl Drop for CacheState {
+    fn drop(self) {
+        let CacheState {
+            queue: _,
+            awaited: _,
+            sends: _,
+            counters: _,
+        } = self;
+    }
 }
 
 impl Model for CacheState {

@@ -21,12 +21,21 @@ use std::marker::Model;
 /// Contracts see what it holds: its number and its plan, its processes in order, the letters that are still to
 /// arrive, those that a ring had no room for, those that failed its test, its port and its seat. A worker may move to
 /// a thread of its own.
-#[derive(Drop)]
 pub struct Worker<M: VtModel> {
     desk: Desk<M>,
     /// Before the first turn the letters that are on their way to the worker's processes; afterwards an empty list,
     /// whose memory each turn uses.
     at_hand: Vec<Letter<M::Body>>,
+}
+
+// By hand, so that it is proved here, and not in each crate above whose values have one.
+impl<M: VtModel> Drop for Worker<M> {
+    fn drop(self) {
+        let Worker {
+            desk: _,
+            at_hand: _,
+        } = self;
+    }
 }
 
 /// What a worker leaves at the end of a round: see [`Worker::into_belongings`].
