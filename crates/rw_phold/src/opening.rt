@@ -1,6 +1,6 @@
-ghost use Rattle.std.specs.Prelude.{◌≡◌, ◌≤◌, All, IfOk, length, true};
+ghost use Rattle.std.specs.Prelude.{◌≡◌, IfOk};
 ghost use Rattle.rw_vt.specs.System.{IsReady};
-ghost use Rattle.rw_phold.specs.Balls.{IsHolder, is_sound_ball};
+ghost use Rattle.rw_phold.specs.Beginning.{first_balls, first_holders};
 ghost use Rattle.rw_phold.specs.contracts.phold.PholdVtModel.TheImpl as model;
 
 use crate::phold::{Ball, Holder, Phold, draw};
@@ -15,7 +15,9 @@ pub fn beginning(
     population: u32,
     seed: u64,
 ) -> Result<(Vec<Holder>, Vec<Event<Ball>>), NoMemory>
-    ensures { IfOk result (λ r. IsReady model.ghosts phold.now r.0.items r.1.items) }
+    ensures starts { IfOk result (λ r. r.0.items ≡ first_holders phold.now seed) }
+    ensures balls { IfOk result (λ r. r.1.items ≡ first_balls phold.now population seed) }
+    ensures ready { IfOk result (λ r. IsReady model.ghosts phold.now r.0.items r.1.items) }
 {
     let starts = holders(alloc, phold, seed)?;
     let initial = balls(alloc, phold, population, seed)?;
@@ -24,8 +26,7 @@ pub fn beginning(
 
 /// Each process as it starts.
 fn holders(alloc: Global, phold: &Phold, seed: u64) -> Result<Vec<Holder>, NoMemory>
-    ensures count { IfOk result (λ v. length v.items ≡ phold.now.processes) }
-    ensures each { IfOk result (λ v. All IsHolder v.items) }
+    ensures { IfOk result (λ v. v.items ≡ first_holders phold.now seed) }
 {
     let mut holders = Vec::new(alloc);
     for process in 0..phold.processes {
@@ -46,7 +47,7 @@ fn balls(
     population: u32,
     seed: u64,
 ) -> Result<Vec<Event<Ball>>, NoMemory>
-    ensures { IfOk result (λ v. All (λ e. is_sound_ball phold.now e ≡ true) v.items) }
+    ensures { IfOk result (λ v. v.items ≡ first_balls phold.now population seed) }
 {
     let mut balls = Vec::new(alloc);
     let mut random = seed;

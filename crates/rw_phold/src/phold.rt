@@ -1,7 +1,8 @@
-ghost use Rattle.std.specs.Prelude.{◌≡◌, ◌≤◌, ◌<◌, ◌^◌, IfSome};
+ghost use Rattle.std.specs.Prelude.{◌≡◌, ◌≤◌, ◌<◌, ◌^◌, ◌↔◌, IfSome, IsSome};
 ghost use Rattle.std.specs.Fn.{iterate};
 ghost use Rattle.rw_vt.specs.Limits.{end_of_time};
 ghost use Rattle.rw_phold.specs.Draws.{drawn, undrawn};
+ghost use Rattle.rw_phold.specs.Settings.{most_processes, most_ticks, IsSetting};
 
 use rw_vt::{END, Event, Lookahead, Model as VtModel, NoMemory, Refusal};
 use std::alloc::Global;
@@ -37,11 +38,11 @@ pub struct Phold {
     /// ([`Lookahead::grain`]); with 0 workers go on in windows of the lookahead wherever they can.
     pub grain: u64,
     ghost some_processes: { 1 ≤ processes },
-    ghost few_processes: { processes ≤ 2 ^ 16 },
+    ghost few_processes: { processes ≤ most_processes },
     ghost some_lookahead: { 1 ≤ lookahead },
-    ghost few_lookahead: { lookahead ≤ 2 ^ 20 },
+    ghost few_lookahead: { lookahead ≤ most_ticks },
     ghost some_spread: { 1 ≤ spread },
-    ghost few_spread: { spread ≤ 2 ^ 20 },
+    ghost few_spread: { spread ≤ most_ticks },
     ghost before_end: { until ≤ end_of_time },
 }
 
@@ -57,6 +58,7 @@ impl Phold {
         spread: u64,
         until: u64,
     ) -> Option<Phold>
+        ensures in_range { IsSome result ↔ IsSetting processes lookahead spread until }
         ensures processes { IfSome result (λ m. m.processes ≡ processes) }
         ensures remote { IfSome result (λ m. m.remote ≡ remote) }
         ensures lookahead { IfSome result (λ m. m.lookahead ≡ lookahead) }
@@ -64,6 +66,7 @@ impl Phold {
         ensures until { IfSome result (λ m. m.until ≡ until) }
         ensures short { IfSome result (λ m. m.short ≡ 0) }
         ensures work { IfSome result (λ m. m.work ≡ 0) }
+        ensures grain { IfSome result (λ m. m.grain ≡ 64) }
     {
         let counts = (1..=MAX_PROCESSES).contains(&processes);
         let times = (1..=MAX_TICKS).contains(&lookahead) && (1..=MAX_TICKS).contains(&spread);
