@@ -25,6 +25,7 @@ use Rattle.rw_import.specs.declared.layout.Column.{Column}
 use Rattle.rw_import.specs.declared.layout.Column.TheVariants.{At, Named}
 use Rattle.rw_import.specs.declared.layout.Places.{Places}
 use Rattle.rw_import.specs.declared.options.Options.{Options}
+use Rattle.rw_import.specs.Limits.{most_log_edges}
 use Rattle.rw_import.specs.Log.{IsRowsFault, Saying, billion, first_time, in_time, kept_in, rows_for, told_apart}
 
 infixl 10 ◌>>=◌
@@ -196,10 +197,10 @@ rows_under l records = if has_header l then drop 1 records else records
 abbrev pub log_records : Layout → Text → List Fields
 log_records l bytes = records (record default_config { delimiter = l.delimiter }) (strip_bom bytes)
 
--- how many edges there are, so many if none are named: 256 where there is a column of edges
+-- how many edges there are, so many if none are named: the most where there is a column of edges
 abbrev pub edges_named : Option Column → ℕ → ℕ
 edges_named None edges = edges
-edges_named (Some column) edges = 256
+edges_named (Some column) edges = most_log_edges
 
 -- how many edges a log's trace is for
 abbrev pub edges_of : Layout → Options → ℕ

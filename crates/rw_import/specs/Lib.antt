@@ -1,4 +1,5 @@
 -- what public contracts say
+pub mod Limits
 pub mod Written
 pub mod Log
 pub mod Oracle

@@ -22,6 +22,6 @@ pub use csv_log::import_csv;
 pub use entry::{Entry, Imported, LeftOut};
 pub use fault::{Flaw, ImportFault, Part};
 pub use layout::{Column, Layout};
-pub use options::{DEFAULT_TICKS, Dealing, MAX_EDGES, MAX_TICKS, Options};
+pub use options::{DEFAULT_TICKS, Dealing, MAX_EDGES, MAX_TICKS, Options, every_limit};
 pub use oracle::import_oracle;
 pub use text::write_trace;

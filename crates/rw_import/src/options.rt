@@ -1,6 +1,7 @@
 //! How a log is read.
 
-ghost use Rattle.std.specs.Prelude.{◌≡◌, ◌≤◌, ◌^◌, IfSome};
+ghost use Rattle.std.specs.Prelude.{◌≡◌, ◌≤◌, ◌↔◌, IfSome, IsSome};
+ghost use Rattle.rw_import.specs.Limits.{most_log_edges, most_unit_ticks, AreOptions};
 
 /// Where a row of a log is asked for, if the log does not say it.
 #[derive(Clone, Copy)]
@@ -24,9 +25,9 @@ pub struct Options {
     pub strict: bool,
 
     ghost some_ticks: { 1 ≤ ticks },
-    ghost few_ticks: { ticks ≤ 10 ^ 9 },
+    ghost few_ticks: { ticks ≤ most_unit_ticks },
     ghost some_edges: { 1 ≤ edges },
-    ghost few_edges: { edges ≤ 256 },
+    ghost few_edges: { edges ≤ most_log_edges },
 }
 
 /// The ticks of a unit of time, if none are asked for.
@@ -42,6 +43,7 @@ impl Options {
     /// Options in their ranges: `ticks` from 1 to [`MAX_TICKS`], `edges` from 1 to [`MAX_EDGES`]. `None` exactly where
     /// one of them is not.
     pub fn new(ticks: u64, edges: u32, dealing: Dealing, strict: bool) -> Option<Options>
+        ensures in_range { IsSome result ↔ AreOptions ticks edges }
         ensures ticks { IfSome result (λ o. o.ticks ≡ ticks) }
         ensures edges { IfSome result (λ o. o.edges ≡ edges) }
         ensures dealing { IfSome result (λ o. o.dealing ≡ dealing) }
@@ -58,3 +60,10 @@ impl Options {
         })
     }
 }
+
+/// Each of the constants is the limit that stands in `specs/Limits.antt`, which the definitions cite. The call itself does
+/// nothing.
+pub fn every_limit()
+    ensures ticks { MAX_TICKS ≡ most_unit_ticks }
+    ensures edges { MAX_EDGES ≡ most_log_edges }
+{}

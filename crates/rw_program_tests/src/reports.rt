@@ -217,4 +217,6 @@ fn the_limits_are_stated(_rt: HostRuntime) {
     rw_blocks::every_limit();
     rw_ripq::every_limit();
     rw_photo::every_limit();
+    rw_import::every_limit();
+    rw_sweep::every_limit();
 }
