@@ -1,24 +1,30 @@
+-- what the crates above cite
+pub mod Cited
+-- what a loose queue says of its blocks
 pub mod Present
-pub mod Weighed
-pub mod Parting
-pub mod Moving
-pub mod Greater
-pub mod Using
-pub mod Holding
-pub mod Tagged
-pub mod Filed
-pub mod Laws
-pub mod Sums
-pub mod Fills
 pub mod Serials
-pub mod Kept
-pub mod Grown
-pub mod Moved
+pub mod Fills
+pub mod Greater
+pub mod Sums
 pub mod Starts
 pub mod Tails
 pub mod Firsts
-pub mod ByObject
-pub mod Cited
+-- that each primitive leaves a loose queue
+pub mod Kept
+pub mod Grown
+pub mod Moved
+pub mod Parting
+pub mod Holding
+-- that a mark undoes its primitive
+pub mod Laws
 pub mod Undone
-pub mod Errors
+pub mod Moving
+-- that the index follows: rows by block, blocks by section, bytes, devices
+pub mod Filed
+pub mod Using
+pub mod ByObject
+pub mod Tagged
+pub mod Weighed
 pub mod Devices
+-- what an error meets
+pub mod Errors

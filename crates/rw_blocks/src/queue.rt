@@ -27,7 +27,7 @@ use std::marker::Model;
 /// than its shape allows. Each primitive takes a loose queue and leaves a loose one.
 ///
 /// Sections and positions count from 0, sections from the head and positions from the front of a sealed list. After
-/// `NoMemory` nothing is said of the queue: it is only dropped.
+/// `NoMemory` nothing is said of the queue: it is only dropped. Its questions, which change nothing, take no memory.
 #[derive(Drop)]
 pub struct Queue {
     pub(crate) shape: Shape,

@@ -38,6 +38,7 @@ impl Shape {
     /// The shape with at most `sections` sections (1 to [`MAX_SECTIONS`](Shape::MAX_SECTIONS)), blocks of `block` bytes
     /// (1 to [`MAX_BLOCK`](Shape::MAX_BLOCK)) and at most `blocks` sealed device blocks (1 to
     /// [`MAX_BLOCKS`](Shape::MAX_BLOCKS)). `None` exactly where one of the three is out of its range.
+    /// Takes no memory.
     pub fn new(sections: u64, block: u64, blocks: u64) -> Option<Shape>
         ensures in_range { IsSome result ↔ IsShape sections block blocks }
         ensures shape { IfSome result (λ s. s ≡ shape_state sections block blocks) }

@@ -9,7 +9,7 @@ use crate::halt::Halt;
 use crate::hands::Hands;
 use crate::note::{Answer, Awaited};
 use crate::task::{Errand, Handed, Task, ask};
-use crate::threads::{Job, all_done};
+use crate::threads::{Job, outputs_of};
 use crossbeam_channel::{Receiver, Sender};
 use rtrb::{Consumer, Producer, RingBuffer};
 use rw_vt::Refusal;
@@ -132,7 +132,7 @@ impl<'r, R: Wait, J: Job<T> + Drop, T: Drop> Hands<J, T> for Crew<'r, R, J, T> {
         let Some(job) = Arc::into_inner(job) else {
             return Err(Halt::NoThread);
         };
-        let done = all_done(alloc, results)?;
+        let done = outputs_of(alloc, results)?;
         Ok((job, done))
     }
 }

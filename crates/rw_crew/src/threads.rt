@@ -95,23 +95,23 @@ where
             Ok(results)
         },
     )?;
-    let done = all_done(alloc, results)?;
+    let done = outputs_of(alloc, results)?;
     Ok(done)
 }
 
-/// The workers, or the refusal of the lowest one that was refused. What a worker is does not matter here.
-pub(crate) fn all_done<W: Drop>(
+/// What came of each input, or the refusal of the first that was refused.
+pub(crate) fn outputs_of<W: Drop>(
     alloc: Global,
     results: Vec<Result<W, Refusal>>,
 ) -> Result<Vec<W>, Refusal>
-    ensures { IfOk result (λ workers. map (λ w. Ok w) workers.items ≡ results.items) }
+    ensures { IfOk result (λ outputs. map (λ w. Ok w) outputs.items ≡ results.items) }
 {
-    let mut workers = Vec::with_capacity(alloc, results.len())?;
-    for worker in results {
-        let worker = worker?;
-        workers.push_reserved(worker);
+    let mut outputs = Vec::with_capacity(alloc, results.len())?;
+    for result in results {
+        let output = result?;
+        outputs.push_reserved(output);
     }
-    Ok(workers)
+    Ok(outputs)
 }
 
 /// A value of type `T` may move to another thread: a fact for the proofs of those who call it. Does nothing.

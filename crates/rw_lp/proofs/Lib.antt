@@ -1,23 +1,30 @@
-pub mod Holding
-pub mod Splits
-pub mod GivenOut
-pub mod Turns
-pub mod Committing
-pub mod Plain
-pub mod Bridges
-mod Chains
-mod Orders
-mod Lasts
-mod LeastTimes
-mod Arriving
-mod Balance
-mod Own
-mod Undoing
-pub mod WithBags
-mod PutBack
+-- what the crates above cite
 pub mod Cited
-mod Filled
+-- lists: their last elements, their order, and items taken out
+pub mod Splits
+mod Lasts
+mod Orders
+mod PutBack
 mod Searching
+-- records in runs, and what is taken back and committed of them
+mod Filled
+mod Chains
 mod Pasts
+pub mod Committing
+-- what is held
+pub mod Holding
 mod HeldRuns
+pub mod Plain
+-- the balance of letters
+mod Balance
+pub mod GivenOut
+-- the turn that a process takes, from what its body found
+pub mod Turns
+pub mod Bridges
+mod Undoing
+mod Arriving
 mod Meeting
+pub mod WithBags
+mod LeastTimes
+-- what stays for the process
+mod Own

@@ -1,12 +1,17 @@
-pub mod Dealt
-pub mod InRange
-pub mod Joining
+-- lists, and slots that are filled
 pub mod Lists
-pub mod Serial
 pub mod Slots
+-- the points of a grid
+pub mod Widened
+pub mod InRange
+-- the lines of a configuration
+pub mod Serial
+pub mod Totals
+pub mod ThreeLines
+pub mod WholeLines
+-- the table that they make
 pub mod Taken
 pub mod Tables
-pub mod ThreeLines
-pub mod Totals
-pub mod Widened
-pub mod WholeLines
+-- the parts of a sweep
+pub mod Dealt
+pub mod Joining
