@@ -8,11 +8,20 @@ use std::marker::Model;
 use std::mem;
 
 /// Events of one time, the least first. Contracts see those that are left, as a list in order.
-#[derive(Drop)]
 pub struct Slice<B: Ord + Copy> {
     events: Vec<Event<B>>,
     /// How many of them are taken already.
     taken: usize,
+}
+
+// By hand, so that it is proved here, and not in each function of a crate above that has one.
+impl<B: Ord + Copy> Drop for Slice<B> {
+    fn drop(self) {
+        let Slice {
+            events: _,
+            taken: _,
+        } = self;
+    }
 }
 
 impl<B: Ord + Copy> Model for Slice<B> {
