@@ -18,7 +18,7 @@ pub struct Desk<M: Model + Copy> {
 }
 
 /// A call on a process.
-#[derive(Clone, Copy)]
+#[derive(Drop)]
 pub enum Call<B> {
     ExecuteNext,
     UndoOne,
@@ -78,63 +78,53 @@ impl<M: Model + Copy> Desk<M> {
 
     fn follows(self, alloc: Global, line: &Line<'_, M::Body>) -> Result<Desk<M>, Fail> {
         let no_letters = [];
-        let no_events = [];
-        match *line {
-            Line::Gives(call, given) => self.answers(alloc, call, Answer::Done, given),
-            Line::Refuses(call, fault) => {
-                self.answers(alloc, call, Answer::Refused(fault), &no_letters)
+        let (desk, holds) = match *line {
+            Line::Gives(ref call, given) => self.answers(alloc, call, Answer::Done, given)?,
+            Line::Refuses(ref call, fault) => {
+                self.answers(alloc, call, Answer::Refused(fault), &no_letters)?
             }
-            Line::Ahead(processed, next, least) => {
-                let holds = self.shows(&no_events, processed, next, least);
-                self.if_it(holds)
+            _ => {
+                let holds = self.is(line);
+                (self, holds)
             }
-            Line::Settled(committed) => {
-                let holds = self.shows(committed, &no_events, None, END);
-                self.if_it(holds)
-            }
-            Line::Shows(committed, processed, next, least) => {
-                let holds = self.shows(committed, processed, next, least);
-                self.if_it(holds)
-            }
-            Line::Copies(event, pending, debts) => {
-                let lp = &self.lp;
-                let holds = lp.pending_copies(&event) == pending && lp.debt_copies(&event) == debts;
-                self.if_it(holds)
-            }
-        }
-    }
-
-    /// The process, where its line holds.
-    fn if_it(self, holds: bool) -> Result<Desk<M>, Fail> {
+        };
         if holds {
-            Ok(self)
+            Ok(desk)
         } else {
             Err(Fail::from("a line does not hold"))
         }
     }
 
+    /// Makes a call, and whether it has this answer and gives out these letters.
     fn answers(
         self,
         alloc: Global,
-        call: Call<M::Body>,
+        call: &Call<M::Body>,
         want: Answer,
         given: &[Letter<M::Body>],
-    ) -> Result<Desk<M>, Fail> {
+    ) -> Result<(Desk<M>, bool), Refusal> {
         let mut out = Vec::new(alloc);
-        let (desk, answer) = self.called(alloc, call, &mut out)?;
+        let Desk { model, number, lp } = self;
+        let (lp, answer) = make(alloc, &model, number, lp, call, &mut out)?;
         let holds = answer == want && out.as_slice() == given;
-        desk.if_it(holds)
+        Ok((Desk { model, number, lp }, holds))
     }
 
-    fn called(
-        self,
-        alloc: Global,
-        call: Call<M::Body>,
-        out: &mut Vec<Letter<M::Body>>,
-    ) -> Result<(Desk<M>, Answer), Refusal> {
-        let Desk { model, number, lp } = self;
-        let (lp, answer) = make(alloc, &model, number, lp, call, out)?;
-        Ok((Desk { model, number, lp }, answer))
+    /// Whether the process is as a line says that makes no call.
+    fn is(&self, line: &Line<'_, M::Body>) -> bool {
+        let no_events = [];
+        match *line {
+            Line::Ahead(processed, next, least) => self.shows(&no_events, processed, next, least),
+            Line::Settled(committed) => self.shows(committed, &no_events, None, END),
+            Line::Shows(committed, processed, next, least) => {
+                self.shows(committed, processed, next, least)
+            }
+            Line::Copies(event, pending, debts) => {
+                let lp = &self.lp;
+                lp.pending_copies(&event) == pending && lp.debt_copies(&event) == debts
+            }
+            _ => false,
+        }
     }
 
     fn shows(
@@ -176,84 +166,28 @@ fn make<M: Model + Copy>(
     model: &M,
     number: u32,
     lp: Lp<M>,
-    call: Call<M::Body>,
+    call: &Call<M::Body>,
     out: &mut Vec<Letter<M::Body>>,
 ) -> Result<(Lp<M>, Answer), Refusal>
     requires model { model.now ≡ lp.model }
     requires number { number ≡ lp.number }
     ensures same { IfOk result (λ r. (r.0.model ≡ lp.model) × (r.0.number ≡ lp.number)) }
 {
-    match call {
+    match *call {
         Call::ExecuteNext => lp.execute_next(alloc, model, out),
         Call::UndoOne => lp.undo_one(alloc, model, out),
         Call::UndoLazily => lp.undo_lazily(alloc, model),
-        Call::Deliver(letter) => deliver(model, number, lp, letter, out),
-        Call::Arrive(letter) => arrive(alloc, model, number, lp, letter, out),
-        Call::ArriveLazily(letter) => arrive_lazily(alloc, model, number, lp, letter, out),
-        Call::Collect(time) => collect(lp, time),
+        Call::Deliver(letter) if is_here(model, number, &letter) => lp.deliver(letter, out),
+        Call::Arrive(letter) if is_here(model, number, &letter) => {
+            Ok((lp.arrive(alloc, model, letter, out)?, Answer::Done))
+        }
+        Call::ArriveLazily(letter) if is_here(model, number, &letter) => {
+            Ok((lp.arrive_lazily(alloc, model, letter, out)?, Answer::Done))
+        }
+        Call::Collect(time) if time <= lp.least() => Ok((lp.collect(time)?, Answer::Done)),
+        Call::Collect(_) => Ok((lp, Answer::Refused(StepFault::AboveFloor))),
+        _ => Ok((lp, Answer::Refused(StepFault::NoSuchProcess))),
     }
-}
-
-fn deliver<M: Model>(
-    model: &M,
-    number: u32,
-    lp: Lp<M>,
-    letter: Letter<M::Body>,
-    out: &mut Vec<Letter<M::Body>>,
-) -> Result<(Lp<M>, Answer), Refusal>
-    requires model { model.now ≡ lp.model }
-    requires number { number ≡ lp.number }
-    ensures same { IfOk result (λ r. (r.0.model ≡ lp.model) × (r.0.number ≡ lp.number)) }
-{
-    if !is_here(model, number, &letter) {
-        return Ok((lp, Answer::Refused(StepFault::NoSuchProcess)));
-    }
-    lp.deliver(letter, out)
-}
-
-fn arrive<M: Model>(
-    alloc: Global,
-    model: &M,
-    number: u32,
-    lp: Lp<M>,
-    letter: Letter<M::Body>,
-    out: &mut Vec<Letter<M::Body>>,
-) -> Result<(Lp<M>, Answer), Refusal>
-    requires model { model.now ≡ lp.model }
-    requires number { number ≡ lp.number }
-    ensures same { IfOk result (λ r. (r.0.model ≡ lp.model) × (r.0.number ≡ lp.number)) }
-{
-    if !is_here(model, number, &letter) {
-        return Ok((lp, Answer::Refused(StepFault::NoSuchProcess)));
-    }
-    Ok((lp.arrive(alloc, model, letter, out)?, Answer::Done))
-}
-
-fn arrive_lazily<M: Model>(
-    alloc: Global,
-    model: &M,
-    number: u32,
-    lp: Lp<M>,
-    letter: Letter<M::Body>,
-    out: &mut Vec<Letter<M::Body>>,
-) -> Result<(Lp<M>, Answer), Refusal>
-    requires model { model.now ≡ lp.model }
-    requires number { number ≡ lp.number }
-    ensures same { IfOk result (λ r. (r.0.model ≡ lp.model) × (r.0.number ≡ lp.number)) }
-{
-    if !is_here(model, number, &letter) {
-        return Ok((lp, Answer::Refused(StepFault::NoSuchProcess)));
-    }
-    Ok((lp.arrive_lazily(alloc, model, letter, out)?, Answer::Done))
-}
-
-fn collect<M: Model>(lp: Lp<M>, time: u64) -> Result<(Lp<M>, Answer), Refusal>
-    ensures same { IfOk result (λ r. (r.0.model ≡ lp.model) × (r.0.number ≡ lp.number)) }
-{
-    if time > lp.least() {
-        return Ok((lp, Answer::Refused(StepFault::AboveFloor)));
-    }
-    Ok((lp.collect(time)?, Answer::Done))
 }
 
 /// Whether a letter may be handed to the process.

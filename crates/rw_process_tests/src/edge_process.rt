@@ -11,53 +11,33 @@ use rw_vt::{END, Event, Letter, Model, execute_and_reverse};
 use std::alloc::Global;
 use std::test::Fail;
 
-/// A request of object 7, of 4 bytes.
-fn request(time: u64, number: u64) -> Event<Body> {
-    let body = Body::Request { object: 7, size: 4 };
-    Event {
-        time,
-        source: 0,
-        number,
-        to: 0,
-        body,
-    }
-}
-
-/// What the edge asks of the origin.
-fn miss(time: u64, number: u64) -> Event<Body> {
-    let body = Body::Miss {
-        object: 7,
-        size: 4,
-        edge: 0,
+/// Something that happens to object 7, of 4 bytes.
+macro_rules! happens {
+    ($time:expr, $source:expr, $number:expr, $to:expr, $kind:ident { $($field:ident: $value:expr),* }) => {
+        Event {
+            time: $time,
+            source: $source,
+            number: $number,
+            to: $to,
+            body: Body::$kind { object: 7, size: 4, $($field: $value),* },
+        }
     };
-    Event {
-        time,
-        source: 1,
-        number,
-        to: 1,
-        body,
-    }
 }
 
-/// What the origin answers.
-fn fill(time: u64, number: u64) -> Event<Body> {
-    let body = Body::Fill { object: 7, size: 4 };
-    Event {
-        time,
-        source: 2,
-        number,
-        to: 0,
-        body,
-    }
-}
+/// The two requests that come to the edge.
+const FIRST: Event<Body> = happens!(5, 0, 0, 0, Request {});
 
-fn message(event: Event<Body>) -> Letter<Body> {
-    Letter { event, anti: false }
-}
+const SECOND: Event<Body> = happens!(22, 0, 1, 0, Request {});
 
-fn anti(event: Event<Body>) -> Letter<Body> {
-    Letter { event, anti: true }
-}
+/// What the edge asks of the origin, for the first one, and for the second one once the first is answered.
+const MISS: Event<Body> = happens!(8, 1, 0, 1, Miss { edge: 0 });
+
+const MISS_AGAIN: Event<Body> = happens!(25, 1, 1, 1, Miss { edge: 0 });
+
+/// What the origin answers, between the two requests, and after both.
+const FILL: Event<Body> = happens!(21, 2, 0, 0, Fill {});
+
+const LATER_FILL: Event<Body> = happens!(30, 2, 1, 0, Fill {});
 
 /// An edge under a policy, with these events pending.
 fn edge(alloc: Global, policy: Policy, initial: Vec<Event<Body>>) -> Result<Desk<Photo>, Fail> {
@@ -68,41 +48,9 @@ fn edge(alloc: Global, policy: Policy, initial: Vec<Event<Body>>) -> Result<Desk
     Desk::open(alloc, photo, 0, start, initial)
 }
 
-/// An edge that stores nothing and has executed two requests: the second one has joined the first.
-fn joined(alloc: Global) -> Result<Desk<Photo>, Fail> {
-    let initial = Vec::from_array(alloc, [request(5, 0), request(22, 1)])?;
-    edge(alloc, Policy::Off, initial)?.does(
-        alloc,
-        &[
-            Gives(ExecuteNext, &[message(miss(8, 0))]),
-            Gives(ExecuteNext, &[]),
-            Ahead(&[request(5, 0), request(22, 1)], None, END),
-        ],
-    )
-}
-
-/// The same, after a fill came late and the second request was executed again.
-fn filled(alloc: Global) -> Result<Desk<Photo>, Fail> {
-    joined(alloc)?.does(
-        alloc,
-        &[
-            Gives(Arrive(message(fill(21, 0))), &[]),
-            Ahead(&[request(5, 0)], Some(fill(21, 0)), 21),
-            Gives(ExecuteNext, &[]),
-            Gives(ExecuteNext, &[message(miss(25, 1))]),
-        ],
-    )
-}
-
-/// The same, after the fill was cancelled.
-fn cancelled(alloc: Global) -> Result<Desk<Photo>, Fail> {
-    filled(alloc)?.does(
-        alloc,
-        &[
-            Gives(Arrive(anti(fill(21, 0))), &[anti(miss(25, 1))]),
-            Ahead(&[request(5, 0)], Some(request(22, 1)), 22),
-        ],
-    )
+/// An edge that stores nothing, to which the two requests are to come.
+fn asked_twice(alloc: Global) -> Result<Desk<Photo>, Fail> {
+    edge(alloc, Policy::Off, Vec::from_array(alloc, [FIRST, SECOND])?)
 }
 
 /// Goes through the lines, after which the cache has counted this.
@@ -129,6 +77,27 @@ fn counted_after(
     Ok(desk.state().counters())
 }
 
+/// The counters of a cache to which nothing has come.
+pub const NOTHING: Counters = Counters {
+    requests: 0,
+    hits: 0,
+    misses: 0,
+    coalesced: 0,
+    late: 0,
+    bypassed: 0,
+    inserted: 0,
+    evicted: 0,
+    reinserted: 0,
+    promoted: 0,
+    writes: 0,
+    splits: 0,
+    merges: 0,
+    hit_bytes: 0,
+    request_bytes: 0,
+    purges: 0,
+    purged: 0,
+};
+
 /// The counters of an edge that has had `requests` requests of 4 bytes, each a miss, of which `coalesced` were coalesced
 /// and `late` are late.
 fn missed(requests: u64, coalesced: u64, late: u64) -> Counters {
@@ -138,8 +107,20 @@ fn missed(requests: u64, coalesced: u64, late: u64) -> Counters {
         coalesced,
         late,
         request_bytes: requests.wrapping_mul(4),
-        ..Counters::default()
+        ..NOTHING
     }
+}
+
+/// The edge executes both requests: the second one joins the first.
+const JOINS: &[Line<'static, Body>] = &[
+    Gives(ExecuteNext, &[message!(MISS)]),
+    Gives(ExecuteNext, &[]),
+    Ahead(&[FIRST, SECOND], None, END),
+];
+
+/// The edge that has executed both.
+fn joined(alloc: Global) -> Result<Desk<Photo>, Fail> {
+    asked_twice(alloc)?.does(alloc, JOINS)
 }
 
 #[test]
@@ -147,9 +128,33 @@ fn a_request_joins_the_one_before(rt: HostRuntime) -> Result<(), Fail> {
     ends(joined(rt.alloc())?, rt.alloc(), &[], missed(2, 1, 0))
 }
 
+/// A fill comes late, and the second request is executed again.
+const FILLS: &[Line<'static, Body>] = &[
+    Gives(Arrive(message!(FILL)), &[]),
+    Ahead(&[FIRST], Some(FILL), 21),
+    Gives(ExecuteNext, &[]),
+    Gives(ExecuteNext, &[message!(MISS_AGAIN)]),
+];
+
+/// The edge to which the fill has come.
+fn filled(alloc: Global) -> Result<Desk<Photo>, Fail> {
+    joined(alloc)?.does(alloc, FILLS)
+}
+
 #[test]
 fn a_fill_makes_a_request_late(rt: HostRuntime) -> Result<(), Fail> {
     ends(filled(rt.alloc())?, rt.alloc(), &[], missed(2, 0, 1))
+}
+
+/// The fill is cancelled.
+const CANCELS: &[Line<'static, Body>] = &[
+    Gives(Arrive(anti!(FILL)), &[anti!(MISS_AGAIN)]),
+    Ahead(&[FIRST], Some(SECOND), 22),
+];
+
+/// The edge at which the fill was cancelled.
+fn cancelled(alloc: Global) -> Result<Desk<Photo>, Fail> {
+    filled(alloc)?.does(alloc, CANCELS)
 }
 
 #[test]
@@ -157,97 +162,101 @@ fn a_cancelled_fill_is_undone(rt: HostRuntime) -> Result<(), Fail> {
     ends(cancelled(rt.alloc())?, rt.alloc(), &[], missed(1, 0, 0))
 }
 
+const ANTI_MESSAGE_FIRST: &[Line<'static, Body>] = &[
+    Gives(ExecuteNext, &[]),
+    Gives(Deliver(anti!(LATER_FILL)), &[]),
+    Ahead(&[FIRST, SECOND], None, 30),
+    Gives(Deliver(message!(LATER_FILL)), &[]),
+    Ahead(&[FIRST, SECOND], None, END),
+    Gives(Collect(END), &[]),
+    Settled(&[FIRST, SECOND]),
+];
+
 #[test]
 fn an_anti_message_comes_before_its_message(rt: HostRuntime) -> Result<(), Fail> {
-    let (first, second) = (request(5, 0), request(22, 1));
     ends(
         cancelled(rt.alloc())?,
         rt.alloc(),
-        &[
-            Gives(ExecuteNext, &[]),
-            Gives(Deliver(anti(fill(30, 1))), &[]),
-            Ahead(&[first, second], None, 30),
-            Gives(Deliver(message(fill(30, 1))), &[]),
-            Ahead(&[first, second], None, END),
-            Gives(Collect(END), &[]),
-            Settled(&[first, second]),
-        ],
+        ANTI_MESSAGE_FIRST,
         missed(2, 1, 0),
     )
 }
+
+const SENDS_NOTHING_AGAIN: &[Line<'static, Body>] = &[
+    Gives(UndoLazily, &[]),
+    Ahead(&[FIRST, FILL], Some(SECOND), 22),
+    Gives(ExecuteNext, &[]),
+    Ahead(&[FIRST, FILL, SECOND], None, END),
+];
 
 #[test]
 fn a_held_message_is_not_sent_again(rt: HostRuntime) -> Result<(), Fail> {
     ends(
         filled(rt.alloc())?,
         rt.alloc(),
-        &[
-            Gives(UndoLazily, &[]),
-            Ahead(&[request(5, 0), fill(21, 0)], Some(request(22, 1)), 22),
-            Gives(ExecuteNext, &[]),
-            Ahead(&[request(5, 0), fill(21, 0), request(22, 1)], None, END),
-        ],
+        SENDS_NOTHING_AGAIN,
         missed(2, 0, 1),
     )
 }
+
+const CANCELS_WHAT_IS_NOT_SENT_AGAIN: &[Line<'static, Body>] = &[
+    Gives(ArriveLazily(anti!(FILL)), &[]),
+    Ahead(&[FIRST], Some(SECOND), 22),
+    Gives(ExecuteNext, &[anti!(MISS_AGAIN)]),
+    Ahead(&[FIRST, SECOND], None, END),
+];
 
 #[test]
 fn a_held_message_is_cancelled_that_is_not_sent_again(rt: HostRuntime) -> Result<(), Fail> {
     ends(
         filled(rt.alloc())?,
         rt.alloc(),
-        &[
-            Gives(ArriveLazily(anti(fill(21, 0))), &[]),
-            Ahead(&[request(5, 0)], Some(request(22, 1)), 22),
-            Gives(ExecuteNext, &[anti(miss(25, 1))]),
-            Ahead(&[request(5, 0), request(22, 1)], None, END),
-        ],
+        CANCELS_WHAT_IS_NOT_SENT_AGAIN,
         missed(2, 1, 0),
     )
 }
+
+const CANCELS_WITH_ITS_EVENT: &[Line<'static, Body>] = &[
+    Gives(UndoLazily, &[]),
+    Gives(Deliver(anti!(SECOND)), &[anti!(MISS_AGAIN)]),
+    Ahead(&[FIRST, FILL], None, END),
+];
 
 #[test]
 fn a_held_message_is_cancelled_with_its_event(rt: HostRuntime) -> Result<(), Fail> {
     ends(
         filled(rt.alloc())?,
         rt.alloc(),
-        &[
-            Gives(UndoLazily, &[]),
-            Gives(Deliver(anti(request(22, 1))), &[anti(miss(25, 1))]),
-            Ahead(&[request(5, 0), fill(21, 0)], None, END),
-        ],
+        CANCELS_WITH_ITS_EVENT,
         missed(1, 0, 1),
     )
 }
 
-/// An edge that stores what it is given, and has executed a fill that nobody awaits.
+/// A fill comes that nobody awaits.
+const STORES: &[Line<'static, Body>] = &[
+    Gives(Arrive(message!(FILL)), &[]),
+    Gives(ExecuteNext, &[]),
+];
+
+/// An edge that stores what it is given, to which the fill has come.
 fn stored(alloc: Global) -> Result<Desk<Photo>, Fail> {
-    edge(alloc, Policy::Lru, Vec::new(alloc))?.does(
-        alloc,
-        &[
-            Gives(Arrive(message(fill(21, 0))), &[]),
-            Gives(ExecuteNext, &[]),
-        ],
-    )
+    edge(alloc, Policy::Lru, Vec::new(alloc))?.does(alloc, STORES)
 }
 
 #[test]
 fn a_fill_that_nobody_awaits_is_stored(rt: HostRuntime) -> Result<(), Fail> {
     let counted = Counters {
         inserted: 1,
-        ..Counters::default()
+        ..NOTHING
     };
     ends(stored(rt.alloc())?, rt.alloc(), &[], counted)
 }
 
+const TAKES_BACK: &[Line<'static, Body>] = &[Gives(UndoOne, &[])];
+
 #[test]
 fn a_fill_that_nobody_awaits_is_taken_back(rt: HostRuntime) -> Result<(), Fail> {
-    ends(
-        stored(rt.alloc())?,
-        rt.alloc(),
-        &[Gives(UndoOne, &[])],
-        Counters::default(),
-    )
+    ends(stored(rt.alloc())?, rt.alloc(), TAKES_BACK, NOTHING)
 }
 
 /// Caches that store what they are given: one edge and one origin.
@@ -269,8 +278,8 @@ fn taken_back(alloc: Global, photo: &Photo, fill: &Event<Body>) -> Result<(Count
 
 #[test]
 fn a_fill_at_the_start_leaves_the_very_state(rt: HostRuntime) -> Result<(), Fail> {
-    let left = taken_back(rt.alloc(), &storing()?, &fill(21, 0))?;
-    assert_eq!(rt; left, (Counters::default(), 0));
+    let left = taken_back(rt.alloc(), &storing()?, &FILL)?;
+    assert_eq!(rt; left, (NOTHING, 0));
     Ok(())
 }
 
@@ -279,12 +288,16 @@ fn asked(number: u8) -> (Event<Body>, Event<Body>) {
     let number = u64::from(number);
     let (object, size, edge) = (number, 4, 0);
     let request = Event {
+        time: number + 1,
+        number,
         body: Body::Request { object, size },
-        ..request(number + 1, number)
+        ..FIRST
     };
     let miss = Event {
+        time: number + 4,
+        number,
         body: Body::Miss { object, size, edge },
-        ..miss(number + 4, number)
+        ..MISS
     };
     (request, miss)
 }
@@ -302,7 +315,7 @@ fn requests(alloc: Global) -> Result<Vec<Event<Body>>, Fail> {
 fn executed(alloc: Global, edge: Desk<Photo>) -> Result<Desk<Photo>, Fail> {
     let mut edge = edge;
     for number in 0..200 {
-        edge = edge.does(alloc, &[Gives(ExecuteNext, &[message(asked(number).1)])])?;
+        edge = edge.does(alloc, &[Gives(ExecuteNext, &[message!(asked(number).1)])])?;
     }
     Ok(edge)
 }
@@ -311,7 +324,7 @@ fn executed(alloc: Global, edge: Desk<Photo>) -> Result<Desk<Photo>, Fail> {
 fn undone(alloc: Global, edge: Desk<Photo>) -> Result<Desk<Photo>, Fail> {
     let mut edge = edge;
     for number in (129..200).rev() {
-        edge = edge.does(alloc, &[Gives(UndoOne, &[anti(asked(number).1)])])?;
+        edge = edge.does(alloc, &[Gives(UndoOne, &[anti!(asked(number).1)])])?;
     }
     Ok(edge)
 }

@@ -3,7 +3,7 @@
 use crate::desk::Call::{ArriveLazily, Deliver, ExecuteNext, UndoLazily};
 use crate::desk::Line::{Ahead, Copies, Gives};
 use crate::desk::{Desk, Line};
-use crate::notes::{DUE, call, passenger, three_to_come, told};
+use crate::notes::{DUE, three_to_come};
 use rw_relay::{Note, Seen, Stop};
 use rw_rounds::{Open, Plan, run};
 use rw_vt::{END, Event, Letter, Outcome};
@@ -13,40 +13,65 @@ use std::sync::Wait;
 use std::test::Fail;
 use std::thread::Threads;
 
-fn message(event: Event<Note>) -> Letter<Note> {
-    Letter { event, anti: false }
+/// A passenger who comes to the stop.
+macro_rules! passenger {
+    ($time:expr, $number:expr) => {
+        Event {
+            time: $time,
+            source: 0,
+            number: $number,
+            to: 0,
+            body: Note { people: 1 },
+        }
+    };
 }
 
-fn anti(event: Event<Note>) -> Letter<Note> {
-    Letter { event, anti: true }
+/// What the stop sends to its bus.
+macro_rules! sent {
+    ($number:expr, $people:expr) => {
+        Event {
+            time: DUE,
+            source: 1,
+            number: $number,
+            to: 1,
+            body: Note { people: $people },
+        }
+    };
 }
 
-/// The stop, to which these passengers are to come.
-fn opened(alloc: Global, passengers: &[Event<Note>]) -> Result<Desk<Stop>, Fail> {
+/// Two passengers, one after the other, and one between them who comes late.
+const FIRST: Event<Note> = passenger!(5, 0);
+
+const SECOND: Event<Note> = passenger!(8, 1);
+
+const LATE: Event<Note> = passenger!(6, 2);
+
+/// What each passenger makes the stop call to its bus.
+const CALL: Event<Note> = sent!(0, 1);
+
+/// What the stop then tells: how many have come.
+const TOLD_ONE: Event<Note> = sent!(1, 1);
+
+const TOLD_TWO: Event<Note> = sent!(1, 2);
+
+const TOLD_THREE: Event<Note> = sent!(1, 3);
+
+/// The stop, to which the two are to come.
+fn opened(alloc: Global) -> Result<Desk<Stop>, Fail> {
     let stop = Stop::new(DUE).ok_or("stop")?;
-    let initial = Vec::from_slice(alloc, passengers)?;
+    let initial = Vec::from_array(alloc, [FIRST, SECOND])?;
     Desk::open(alloc, stop, 0, Seen::default(), initial)
 }
 
-/// Two passengers have come, one after the other.
-fn ahead(alloc: Global) -> Result<Desk<Stop>, Fail> {
-    opened(alloc, &[passenger(5, 0), passenger(8, 1)])?.does(
-        alloc,
-        &[
-            Gives(ExecuteNext, &[message(call()), message(told(1))]),
-            Gives(ExecuteNext, &[message(call()), message(told(2))]),
-        ],
-    )
-}
+/// Two passengers come, one after the other.
+const COME: &[Line<'static, Note>] = &[
+    Gives(ExecuteNext, &[message!(CALL), message!(TOLD_ONE)]),
+    Gives(ExecuteNext, &[message!(CALL), message!(TOLD_TWO)]),
+];
 
-/// Goes through the lines, after which so many passengers have come.
-fn ends(
-    desk: Desk<Stop>,
-    alloc: Global,
-    lines: &[Line<'_, Note>],
-    passengers: u64,
-) -> Result<(), Fail> {
-    let desk = desk.does(alloc, lines)?;
+/// Goes through the lines once the two have come, after which so many passengers have.
+fn ends(alloc: Global, lines: &[Line<'static, Note>], passengers: u64) -> Result<(), Fail> {
+    let desk = opened(alloc)?.does(alloc, COME)?.does(alloc, lines)?;
     if desk.state().events == passengers {
         Ok(())
     } else {
@@ -54,91 +79,71 @@ fn ends(
     }
 }
 
+const SENDS_NOTHING_AGAIN: &[Line<'static, Note>] = &[
+    Gives(UndoLazily, &[]),
+    Ahead(&[FIRST], Some(SECOND), 8),
+    Gives(ExecuteNext, &[]),
+    Ahead(&[FIRST, SECOND], None, END),
+];
+
 #[test]
 fn what_is_sent_again_as_it_was_is_not_sent(rt: HostRuntime) -> Result<(), Fail> {
-    ends(
-        ahead(rt.alloc())?,
-        rt.alloc(),
-        &[
-            Gives(UndoLazily, &[]),
-            Ahead(&[passenger(5, 0)], Some(passenger(8, 1)), 8),
-            Gives(ExecuteNext, &[]),
-            Ahead(&[passenger(5, 0), passenger(8, 1)], None, END),
-        ],
-        2,
-    )
+    ends(rt.alloc(), SENDS_NOTHING_AGAIN, 2)
 }
+
+const SENDS_WHAT_CHANGES: &[Line<'static, Note>] = &[
+    Gives(ArriveLazily(anti!(FIRST)), &[anti!(CALL), anti!(TOLD_ONE)]),
+    Ahead(&[], Some(SECOND), 8),
+    Gives(ExecuteNext, &[message!(TOLD_ONE), anti!(TOLD_TWO)]),
+    Ahead(&[SECOND], None, END),
+];
 
 #[test]
 fn of_two_messages_the_one_that_changes_is_sent_anew(rt: HostRuntime) -> Result<(), Fail> {
-    ends(
-        ahead(rt.alloc())?,
-        rt.alloc(),
-        &[
-            Gives(
-                ArriveLazily(anti(passenger(5, 0))),
-                &[anti(call()), anti(told(1))],
-            ),
-            Ahead(&[], Some(passenger(8, 1)), 8),
-            Gives(ExecuteNext, &[message(told(1)), anti(told(2))]),
-            Ahead(&[passenger(8, 1)], None, END),
-        ],
-        1,
-    )
+    ends(rt.alloc(), SENDS_WHAT_CHANGES, 1)
 }
+
+/// The later passenger is undone first. So the earlier one, executed again, takes the call of the later one for its own, and
+/// cancels its own; then the later one sends the call anew.
+const TAKES_THE_FIRST_COPY: &[Line<'static, Note>] = &[
+    Gives(UndoLazily, &[]),
+    Gives(UndoLazily, &[]),
+    Ahead(&[], Some(FIRST), 5),
+    Gives(ExecuteNext, &[anti!(CALL)]),
+    Gives(ExecuteNext, &[message!(CALL)]),
+    Ahead(&[FIRST, SECOND], None, END),
+];
 
 #[test]
 fn of_equal_messages_the_one_that_came_first_goes_first(rt: HostRuntime) -> Result<(), Fail> {
-    // The later passenger is undone first. So the earlier one, executed again, takes the call of the later one for its own,
-    // and cancels its own; then the later one sends the call anew.
-    ends(
-        ahead(rt.alloc())?,
-        rt.alloc(),
-        &[
-            Gives(UndoLazily, &[]),
-            Gives(UndoLazily, &[]),
-            Ahead(&[], Some(passenger(5, 0)), 5),
-            Gives(ExecuteNext, &[anti(call())]),
-            Gives(ExecuteNext, &[message(call())]),
-            Ahead(&[passenger(5, 0), passenger(8, 1)], None, END),
-        ],
-        2,
-    )
+    ends(rt.alloc(), TAKES_THE_FIRST_COPY, 2)
 }
+
+const STRAGGLER_SENDS_WHAT_IS_HELD: &[Line<'static, Note>] = &[
+    Gives(ArriveLazily(message!(LATE)), &[]),
+    Ahead(&[FIRST], Some(LATE), 6),
+    Gives(ExecuteNext, &[]),
+    Gives(ExecuteNext, &[message!(CALL), message!(TOLD_THREE)]),
+];
 
 #[test]
 fn a_straggler_may_send_what_is_held(rt: HostRuntime) -> Result<(), Fail> {
-    let late = passenger(6, 2);
-    ends(
-        ahead(rt.alloc())?,
-        rt.alloc(),
-        &[
-            Gives(ArriveLazily(message(late)), &[]),
-            Ahead(&[passenger(5, 0)], Some(late), 6),
-            Gives(ExecuteNext, &[]),
-            Gives(ExecuteNext, &[message(call()), message(told(3))]),
-        ],
-        3,
-    )
+    ends(rt.alloc(), STRAGGLER_SENDS_WHAT_IS_HELD, 3)
 }
+
+const CANCELS_WITH_THE_LAST_COPY: &[Line<'static, Note>] = &[
+    Gives(UndoLazily, &[]),
+    Gives(Deliver(message!(SECOND)), &[]),
+    Copies(SECOND, 2, 0),
+    Gives(Deliver(anti!(SECOND)), &[]),
+    Copies(SECOND, 1, 0),
+    Gives(Deliver(anti!(SECOND)), &[anti!(CALL), anti!(TOLD_TWO)]),
+    Ahead(&[FIRST], None, END),
+];
 
 #[test]
 fn what_is_held_is_cancelled_with_the_last_copy(rt: HostRuntime) -> Result<(), Fail> {
-    let twice = passenger(8, 1);
-    ends(
-        ahead(rt.alloc())?,
-        rt.alloc(),
-        &[
-            Gives(UndoLazily, &[]),
-            Gives(Deliver(message(twice)), &[]),
-            Copies(twice, 2, 0),
-            Gives(Deliver(anti(twice)), &[]),
-            Copies(twice, 1, 0),
-            Gives(Deliver(anti(twice)), &[anti(call()), anti(told(2))]),
-            Ahead(&[passenger(5, 0)], None, END),
-        ],
-        1,
-    )
+    ends(rt.alloc(), CANCELS_WITH_THE_LAST_COPY, 1)
 }
 
 /// A stop and its bus, with three passengers to come.

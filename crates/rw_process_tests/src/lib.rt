@@ -4,6 +4,26 @@
 //!
 //! They stand above the crates that they work through, so that each of those is proved once, without tests.
 
+/// The message of an event, for tables of constants.
+macro_rules! message {
+    ($event:expr) => {
+        Letter {
+            event: $event,
+            anti: false,
+        }
+    };
+}
+
+/// The anti-message of an event, for tables of constants.
+macro_rules! anti {
+    ($event:expr) => {
+        Letter {
+            event: $event,
+            anti: true,
+        }
+    };
+}
+
 #[cfg(test)]
 mod bags;
 #[cfg(test)]

@@ -1,4 +1,4 @@
-// Passengers of a bus stop, and what the stop then sends to its bus, written short.
+// Passengers of a bus stop.
 ghost use Rattle.std.specs.Prelude.{◌≡◌, true, IfOk};
 ghost use Rattle.rw_vt.specs.System.{IsReady};
 ghost use Rattle.rw_relay.specs.Notes.{is_sound_note};
@@ -29,26 +29,6 @@ pub fn passenger(time: u64, number: u64) -> Event<Note>
         number,
         to: 0,
         body: Note { people: 1 },
-    }
-}
-
-/// What each passenger makes the stop call to its bus.
-pub fn call() -> Event<Note> {
-    sent(0, 1)
-}
-
-/// What the stop then tells: how many have come.
-pub fn told(people: u64) -> Event<Note> {
-    sent(1, people)
-}
-
-fn sent(number: u64, people: u64) -> Event<Note> {
-    Event {
-        time: DUE,
-        source: 1,
-        number,
-        to: 1,
-        body: Note { people },
     }
 }
 

@@ -1,9 +1,9 @@
 // Purges in the photo caches: an object leaves the edge where that is asked for, its origin and then the other edges,
 // and is fetched anew when it is asked for again. What an origin tells the edges is taken back send by send.
 use crate::desk::Call::{ExecuteNext, UndoOne};
-use crate::desk::Desk;
 use crate::desk::Line::Gives;
-use crate::edge_process::ends;
+use crate::desk::{Desk, Line};
+use crate::edge_process::{NOTHING, ends};
 use rw_photo::{Body, CacheState, Config, Counters, Photo, Policy, Shape};
 use rw_ripqwarp::beginning;
 use rw_vt::{Event, Letter, Model};
@@ -34,32 +34,34 @@ fn counted(alloc: Global, config: &Config) -> Result<Vec<Counters>, Fail> {
     Ok(counted)
 }
 
+const EDGE: Counters = Counters {
+    requests: 2,
+    misses: 2,
+    late: 2,
+    inserted: 2,
+    request_bytes: 8,
+    purges: 1,
+    purged: 1,
+    ..NOTHING
+};
+
+const ORIGIN: Counters = Counters {
+    requests: 4,
+    hits: 2,
+    misses: 2,
+    inserted: 2,
+    hit_bytes: 8,
+    request_bytes: 16,
+    purges: 1,
+    purged: 1,
+    ..NOTHING
+};
+
 #[test]
 fn an_object_is_purged_everywhere(rt: HostRuntime) -> Result<(), Fail> {
-    let edge = Counters {
-        requests: 2,
-        misses: 2,
-        late: 2,
-        inserted: 2,
-        request_bytes: 8,
-        purges: 1,
-        purged: 1,
-        ..Counters::default()
-    };
-    let origin = Counters {
-        requests: 4,
-        hits: 2,
-        misses: 2,
-        inserted: 2,
-        hit_bytes: 8,
-        request_bytes: 16,
-        purges: 1,
-        purged: 1,
-        ..Counters::default()
-    };
     assert_eq!(rt;
         counted(rt.alloc(), &config(2)?)?.as_slice(),
-        [edge, edge, origin].as_slice()
+        [EDGE, EDGE, ORIGIN].as_slice()
     );
     Ok(())
 }
@@ -75,17 +77,29 @@ fn dropped() -> Event<Body> {
     }
 }
 
-/// What the origin then has an edge do, and the same as an anti-message.
-fn cleared(to: u32, number: u64, anti: bool) -> Letter<Body> {
-    let event = Event {
-        time: 46,
-        source: 4,
-        number,
-        to,
-        body: Body::Clear { object: 7 },
+/// What the origin then has an edge do.
+macro_rules! clear {
+    ($to:expr, $number:expr) => {
+        Event {
+            time: 46,
+            source: 4,
+            number: $number,
+            to: $to,
+            body: Body::Clear { object: 7 },
+        }
     };
-    Letter { event, anti }
 }
+
+const CLEAR_FIRST: Event<Body> = clear!(0, 0);
+
+const CLEAR_LAST: Event<Body> = clear!(2, 1);
+
+/// The origin tells the two other edges, takes that back, and tells them again.
+const TELLS_AND_TAKES_BACK: &[Line<'static, Body>] = &[
+    Gives(ExecuteNext, &[message!(CLEAR_FIRST), message!(CLEAR_LAST)]),
+    Gives(UndoOne, &[anti!(CLEAR_FIRST), anti!(CLEAR_LAST)]),
+    Gives(ExecuteNext, &[message!(CLEAR_FIRST), message!(CLEAR_LAST)]),
+];
 
 /// The origin of three edges, which edge 1 is to have drop an object.
 fn origin(alloc: Global) -> Result<Desk<Photo>, Fail> {
@@ -98,22 +112,17 @@ fn origin(alloc: Global) -> Result<Desk<Photo>, Fail> {
     Desk::open(alloc, photo, 3, start, initial)
 }
 
+const PURGED_ONCE: Counters = Counters {
+    purges: 1,
+    ..NOTHING
+};
+
 #[test]
 fn a_drop_tells_every_edge_but_one_and_is_taken_back(rt: HostRuntime) -> Result<(), Fail> {
-    let tells = [cleared(0, 0, false), cleared(2, 1, false)];
-    let takes_back = [cleared(0, 0, true), cleared(2, 1, true)];
-    let counted = Counters {
-        purges: 1,
-        ..Counters::default()
-    };
     ends(
         origin(rt.alloc())?,
         rt.alloc(),
-        &[
-            Gives(ExecuteNext, &tells),
-            Gives(UndoOne, &takes_back),
-            Gives(ExecuteNext, &tells),
-        ],
-        counted,
+        TELLS_AND_TAKES_BACK,
+        PURGED_ONCE,
     )
 }

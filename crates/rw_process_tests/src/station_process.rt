@@ -3,55 +3,59 @@ use crate::desk::Call::{Arrive, Collect, Deliver, ExecuteNext, UndoOne};
 use crate::desk::Line::{Ahead, Copies, Gives, Refuses, Settled, Shows};
 use crate::desk::{Desk, Line};
 use rw_lp::StepFault;
-use rw_relay::parcels::{parcel, station};
+use rw_relay::parcels::station;
 use rw_relay::{Parcel, Relay, Station};
 use rw_vt::{END, Event, Letter};
 use std::alloc::Global;
 use std::test::Fail;
 
-fn message(event: Event<Parcel>) -> Letter<Parcel> {
-    Letter { event, anti: false }
-}
-
-fn anti(event: Event<Parcel>) -> Letter<Parcel> {
-    Letter { event, anti: true }
+/// A parcel on its way to a station.
+macro_rules! parcel {
+    ($time:expr, $source:expr, $number:expr, $to:expr, $hops:expr) => {
+        Event {
+            time: $time,
+            source: $source,
+            number: $number,
+            to: $to,
+            body: Parcel { hops: $hops },
+        }
+    };
 }
 
 /// The two parcels that come to station 0 from outside.
-fn coming() -> (Event<Parcel>, Event<Parcel>) {
-    (parcel(5, 0, 0, 0, 3), parcel(8, 0, 1, 0, 4))
-}
+const FIRST: Event<Parcel> = parcel!(5, 0, 0, 0, 3);
+
+const SECOND: Event<Parcel> = parcel!(8, 0, 1, 0, 4);
 
 /// What station 0 passes on 10 ticks later.
-fn passed_on() -> (Event<Parcel>, Event<Parcel>) {
-    (parcel(15, 1, 0, 1, 2), parcel(18, 1, 1, 1, 3))
-}
+const FIRST_ON: Event<Parcel> = parcel!(15, 1, 0, 1, 2);
 
-/// Station 0, to which they are to come.
+const SECOND_ON: Event<Parcel> = parcel!(18, 1, 1, 1, 3);
+
+/// A parcel that comes between the two, and what station 0 then passes on for it and for the second one.
+const LATE: Event<Parcel> = parcel!(6, 2, 0, 0, 2);
+
+const LATE_ON: Event<Parcel> = parcel!(16, 1, 1, 1, 1);
+
+const THEN_ON: Event<Parcel> = parcel!(18, 1, 2, 1, 3);
+
+/// Station 0, to which the two are to come.
 fn opened(alloc: Global) -> Result<Desk<Relay>, Fail> {
     let relay = Relay::new(10, u64::MAX).ok_or("relay")?;
-    let (first, second) = coming();
-    let initial = Vec::from_array(alloc, [second, first])?;
+    let initial = Vec::from_array(alloc, [SECOND, FIRST])?;
     Desk::open(alloc, relay, 0, Station::default(), initial)
 }
 
 /// The same, which has executed both.
 fn ahead(alloc: Global) -> Result<Desk<Relay>, Fail> {
-    let (first_on, second_on) = passed_on();
-    opened(alloc)?.does(
-        alloc,
-        &[
-            Gives(ExecuteNext, &[message(first_on)]),
-            Gives(ExecuteNext, &[message(second_on)]),
-        ],
-    )
+    opened(alloc)?.does(alloc, EXECUTES)
 }
 
 /// Goes through the lines, which leave this journal and this state.
 fn ends(
     desk: Desk<Relay>,
     alloc: Global,
-    lines: &[Line<'_, Parcel>],
+    lines: &[Line<'static, Parcel>],
     journal: &[Event<Parcel>],
     state: Station,
 ) -> Result<(), Fail> {
@@ -63,90 +67,83 @@ fn ends(
     }
 }
 
+const WAITS: &[Line<'static, Parcel>] = &[
+    Refuses(UndoOne, StepFault::NothingToUndo),
+    Ahead(&[], Some(FIRST), 5),
+];
+
 #[test]
 fn waits_for_its_parcels(rt: HostRuntime) -> Result<(), Fail> {
-    let (first, _) = coming();
     ends(
         opened(rt.alloc())?,
         rt.alloc(),
-        &[
-            Refuses(UndoOne, StepFault::NothingToUndo),
-            Ahead(&[], Some(first), 5),
-        ],
+        WAITS,
         &[],
         station(0, 0, 0),
     )
 }
 
+const EXECUTES: &[Line<'static, Parcel>] = &[
+    Gives(ExecuteNext, &[message!(FIRST_ON)]),
+    Ahead(&[FIRST], Some(SECOND), 8),
+    Gives(ExecuteNext, &[message!(SECOND_ON)]),
+    Ahead(&[FIRST, SECOND], None, END),
+];
+
 #[test]
 fn executes_its_parcels(rt: HostRuntime) -> Result<(), Fail> {
-    let (first, second) = coming();
-    let (first_on, second_on) = passed_on();
     ends(
         opened(rt.alloc())?,
         rt.alloc(),
-        &[
-            Gives(ExecuteNext, &[message(first_on)]),
-            Ahead(&[first], Some(second), 8),
-            Gives(ExecuteNext, &[message(second_on)]),
-            Ahead(&[first, second], None, END),
-        ],
+        EXECUTES,
         &[],
         station(7, 4, 2),
     )
 }
+
+const NOTHING_PENDING: &[Line<'static, Parcel>] = &[Refuses(
+    ExecuteNext,
+    StepFault::NothingPending,
+)];
 
 #[test]
 fn has_nothing_left_to_execute(rt: HostRuntime) -> Result<(), Fail> {
-    let lines = [Refuses(ExecuteNext, StepFault::NothingPending)];
     ends(
         ahead(rt.alloc())?,
         rt.alloc(),
-        &lines,
+        NOTHING_PENDING,
         &[],
         station(7, 4, 2),
     )
 }
 
+const UNDOES: &[Line<'static, Parcel>] = &[
+    Gives(UndoOne, &[anti!(SECOND_ON)]),
+    Ahead(&[FIRST], Some(SECOND), 8),
+];
+
 #[test]
 fn an_undoing_gives_back_the_state(rt: HostRuntime) -> Result<(), Fail> {
-    let (first, second) = coming();
-    let (_, second_on) = passed_on();
     ends(
         ahead(rt.alloc())?,
         rt.alloc(),
-        &[
-            Gives(UndoOne, &[anti(second_on)]),
-            Ahead(&[first], Some(second), 8),
-        ],
+        UNDOES,
         &[],
         station(3, 3, 1),
     )
 }
 
-/// A parcel that comes between the two, and what station 0 then passes on for it and for the second one.
-fn late() -> (Event<Parcel>, Event<Parcel>, Event<Parcel>) {
-    (
-        parcel(6, 2, 0, 0, 2),
-        parcel(16, 1, 1, 1, 1),
-        parcel(18, 1, 2, 1, 3),
-    )
-}
+/// The station executes the late one in its place, and the second one again.
+const CATCHES_UP: &[Line<'static, Parcel>] = &[
+    Gives(Arrive(message!(LATE)), &[anti!(SECOND_ON)]),
+    Ahead(&[FIRST], Some(LATE), 6),
+    Gives(ExecuteNext, &[message!(LATE_ON)]),
+    Gives(ExecuteNext, &[message!(THEN_ON)]),
+];
 
-/// The station that has executed the late one in its place, and the second one again.
+/// The station that has done so.
 fn caught_up(alloc: Global) -> Result<Desk<Relay>, Fail> {
-    let (first, _) = coming();
-    let (_, second_on) = passed_on();
-    let (late, late_on, then_on) = late();
-    ahead(alloc)?.does(
-        alloc,
-        &[
-            Gives(Arrive(message(late)), &[anti(second_on)]),
-            Ahead(&[first], Some(late), 6),
-            Gives(ExecuteNext, &[message(late_on)]),
-            Gives(ExecuteNext, &[message(then_on)]),
-        ],
-    )
+    ahead(alloc)?.does(alloc, CATCHES_UP)
 }
 
 #[test]
@@ -160,118 +157,123 @@ fn a_late_parcel_is_executed_in_its_place(rt: HostRuntime) -> Result<(), Fail> {
     )
 }
 
+const STRAGGLER: &[Line<'static, Parcel>] = &[
+    Gives(Deliver(message!(LATE)), &[]),
+    Refuses(ExecuteNext, StepFault::Straggler),
+    Ahead(&[FIRST, SECOND], Some(LATE), 6),
+    Gives(Deliver(anti!(LATE)), &[]),
+    Ahead(&[FIRST, SECOND], None, END),
+];
+
 #[test]
 fn a_late_parcel_is_a_straggler_until_it_is_cancelled(rt: HostRuntime) -> Result<(), Fail> {
-    let (first, second) = coming();
-    let (late, _, _) = late();
     ends(
         ahead(rt.alloc())?,
         rt.alloc(),
-        &[
-            Gives(Deliver(message(late)), &[]),
-            Refuses(ExecuteNext, StepFault::Straggler),
-            Ahead(&[first, second], Some(late), 6),
-            Gives(Deliver(anti(late)), &[]),
-            Ahead(&[first, second], None, END),
-        ],
+        STRAGGLER,
         &[],
         station(7, 4, 2),
     )
 }
 
+const TAKES_BACK: &[Line<'static, Parcel>] = &[
+    Refuses(Deliver(anti!(LATE)), StepFault::StillDone),
+    Gives(Arrive(anti!(LATE)), &[anti!(THEN_ON), anti!(LATE_ON)]),
+    Ahead(&[FIRST], Some(SECOND), 8),
+];
+
 #[test]
 fn what_a_late_parcel_changed_is_taken_back(rt: HostRuntime) -> Result<(), Fail> {
-    let (first, second) = coming();
-    let (late, late_on, then_on) = late();
     ends(
         caught_up(rt.alloc())?,
         rt.alloc(),
-        &[
-            Refuses(Deliver(anti(late)), StepFault::StillDone),
-            Gives(Arrive(anti(late)), &[anti(then_on), anti(late_on)]),
-            Ahead(&[first], Some(second), 8),
-        ],
+        TAKES_BACK,
         &[],
         station(3, 3, 1),
     )
 }
 
+/// A parcel whose anti-message comes first.
+const OWED: Event<Parcel> = parcel!(9, 2, 1, 0, 1);
+
+const PAYS_A_DEBT: &[Line<'static, Parcel>] = &[
+    Gives(Deliver(anti!(OWED)), &[]),
+    Ahead(&[FIRST, SECOND], None, 9),
+    Refuses(Collect(10), StepFault::AboveFloor),
+    Gives(Deliver(message!(OWED)), &[]),
+    Ahead(&[FIRST, SECOND], None, END),
+];
+
 #[test]
 fn a_debt_is_paid(rt: HostRuntime) -> Result<(), Fail> {
-    let (first, second) = coming();
-    let owed = parcel(9, 2, 1, 0, 1);
     ends(
         ahead(rt.alloc())?,
         rt.alloc(),
-        &[
-            Gives(Deliver(anti(owed)), &[]),
-            Ahead(&[first, second], None, 9),
-            Refuses(Collect(10), StepFault::AboveFloor),
-            Gives(Deliver(message(owed)), &[]),
-            Ahead(&[first, second], None, END),
-        ],
+        PAYS_A_DEBT,
         &[],
         station(7, 4, 2),
     )
 }
 
+const COPIES: &[Line<'static, Parcel>] = &[
+    Gives(Deliver(message!(LATE)), &[]),
+    Gives(Deliver(message!(LATE)), &[]),
+    Gives(Deliver(message!(SECOND)), &[]),
+    Copies(LATE, 2, 0),
+    Copies(FIRST, 1, 0),
+    Copies(SECOND, 2, 0),
+    Gives(Deliver(anti!(LATE)), &[]),
+    Copies(LATE, 1, 0),
+    Ahead(&[], Some(FIRST), 5),
+    Gives(Deliver(anti!(LATE)), &[]),
+    Gives(Deliver(anti!(LATE)), &[]),
+    Gives(Deliver(anti!(LATE)), &[]),
+    Copies(LATE, 0, 2),
+    Gives(Deliver(message!(LATE)), &[]),
+    Copies(LATE, 0, 1),
+    Gives(Deliver(anti!(FIRST)), &[]),
+    Copies(FIRST, 0, 0),
+    Ahead(&[], Some(SECOND), 6),
+];
+
 #[test]
 fn equal_copies_count(rt: HostRuntime) -> Result<(), Fail> {
-    let (first, second) = coming();
-    let (late, _, _) = late();
-    let desk = opened(rt.alloc())?;
     ends(
-        desk,
+        opened(rt.alloc())?,
         rt.alloc(),
-        &[
-            Gives(Deliver(message(late)), &[]),
-            Gives(Deliver(message(late)), &[]),
-            Gives(Deliver(message(second)), &[]),
-            Copies(late, 2, 0),
-            Copies(first, 1, 0),
-            Copies(second, 2, 0),
-            Gives(Deliver(anti(late)), &[]),
-            Copies(late, 1, 0),
-            Ahead(&[], Some(first), 5),
-            Gives(Deliver(anti(late)), &[]),
-            Gives(Deliver(anti(late)), &[]),
-            Gives(Deliver(anti(late)), &[]),
-            Copies(late, 0, 2),
-            Gives(Deliver(message(late)), &[]),
-            Copies(late, 0, 1),
-            Gives(Deliver(anti(first)), &[]),
-            Copies(first, 0, 0),
-            Ahead(&[], Some(second), 6),
-        ],
+        COPIES,
         &[],
         station(0, 0, 0),
     )
 }
 
+const COMMITS: &[Line<'static, Parcel>] = &[
+    Gives(Collect(8), &[]),
+    Shows(&[FIRST], &[SECOND], None, END),
+    Gives(UndoOne, &[anti!(SECOND_ON)]),
+    Refuses(UndoOne, StepFault::NothingToUndo),
+    Gives(ExecuteNext, &[message!(SECOND_ON)]),
+    Gives(Collect(END), &[]),
+    Settled(&[FIRST, SECOND]),
+];
+
 #[test]
 fn the_past_is_committed(rt: HostRuntime) -> Result<(), Fail> {
-    let (first, second) = coming();
-    let (_, second_on) = passed_on();
+    let journal = [FIRST, SECOND];
     ends(
         ahead(rt.alloc())?,
         rt.alloc(),
-        &[
-            Gives(Collect(8), &[]),
-            Shows(&[first], &[second], None, END),
-            Gives(UndoOne, &[anti(second_on)]),
-            Refuses(UndoOne, StepFault::NothingToUndo),
-            Gives(ExecuteNext, &[message(second_on)]),
-            Gives(Collect(END), &[]),
-            Settled(&[first, second]),
-        ],
-        &[first, second],
+        COMMITS,
+        &journal,
         station(7, 4, 2),
     )
 }
 
+const COLLECTS: &[Line<'static, Parcel>] = &[Gives(Collect(8), &[])];
+
 #[test]
 fn what_has_collected_is_sound(rt: HostRuntime) -> Result<(), Fail> {
-    let desk = ahead(rt.alloc())?.does(rt.alloc(), &[Gives(Collect(8), &[])])?;
+    let desk = ahead(rt.alloc())?.does(rt.alloc(), COLLECTS)?;
     desk.soundness();
     Ok(())
 }
