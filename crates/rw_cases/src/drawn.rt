@@ -78,11 +78,17 @@ impl Drawn {
     fn words(&self, alloc: Global, command: &str) -> Result<Vec<String>, AllocError> {
         let text = format!(in alloc; "ripqwarp {command} {} -", self.caches)?;
         let mut words = Vec::new(alloc);
-        for word in text.split(' ') {
-            words.push(String::from_str(alloc, word)?)?;
-        }
+        push_words(alloc, &text, &mut words)?;
         Ok(words)
     }
+}
+
+/// Adds the words of a command line.
+fn push_words(alloc: Global, text: &str, words: &mut Vec<String>) -> Result<(), AllocError> {
+    for word in text.split(' ') {
+        words.push(String::from_str(alloc, word)?)?;
+    }
+    Ok(())
 }
 
 /// Numbers drawn by a linear congruential generator.
@@ -123,13 +129,18 @@ fn caches(alloc: Global, dice: &mut Dice, edges: u64) -> Result<String, AllocErr
 /// Requests at these edges, close to one another, for few objects, some of which are too large for a block.
 fn trace(alloc: Global, dice: &mut Dice, edges: u64) -> Result<String, AllocError> {
     let mut trace = String::from_str(alloc, "time,edge,object,size\n")?;
+    push_rows(dice, edges, &mut trace)?;
+    Ok(trace)
+}
+
+/// Adds these requests.
+fn push_rows(dice: &mut Dice, edges: u64, trace: &mut String) -> Result<(), AllocError> {
     let objects = dice.draw(4, 24);
     let mut time = 0u64;
     for _ in 0..dice.draw(40, 80) {
         time = time.wrapping_add(dice.draw(0, 5));
         let (edge, object, size) = (dice.draw(0, edges), dice.draw(0, objects), dice.draw(1, 10));
-        let row = format!(in alloc; "{time},{edge},{object},{size}\n")?;
-        trace.push_str(&row)?;
+        write!(trace, "{time},{edge},{object},{size}\n")?;
     }
-    Ok(trace)
+    Ok(())
 }
