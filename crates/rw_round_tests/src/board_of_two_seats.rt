@@ -17,14 +17,14 @@ fn closed_at(alloc: Global) -> Result<u64, Fail> {
 
 #[test]
 fn closes_at_the_least_note_of_two_seats(rt: HostRuntime) -> Result<(), Fail> {
-    assert_eq!(rt; closed_at(rt.alloc())?, 7);
+    assert!(rt; closed_at(rt.alloc())? == 7);
     Ok(())
 }
 
 #[test]
 fn closes_at_the_end_without_a_note(rt: HostRuntime) -> Result<(), Fail> {
     let (board, seats) = open(rt.alloc(), 2)?;
-    assert_eq!(rt; close(board, seats), 1099511627776);
+    assert!(rt; close(board, seats) == 1099511627776);
     Ok(())
 }
 
@@ -32,28 +32,23 @@ fn closes_at_the_end_without_a_note(rt: HostRuntime) -> Result<(), Fail> {
 // runtime. What may wait, as for a lock, would need one, so no lock is round the board.
 fn note_and_read(board: &Board, seat: &mut Seat, time: u64) -> u64
     requires board { seat.old.board ≡ board.now.board }
+    ensures board { seat.new.board ≡ seat.old.board }
 {
     board.note(seat, time);
     board.floor(seat)
 }
 
-#[test]
-fn notes_and_reads_without_a_handle(rt: HostRuntime) -> Result<(), Fail> {
-    let (board, mut seats) = open(rt.alloc(), 1)?;
-    assert_eq!(rt; note_and_read(&board, &mut seats[0], 9), 9);
-    Ok(())
-}
-
-/// What one seat reads, before and after the other one notes 7.
-fn read_twice(alloc: Global) -> Result<[u64; 2], Fail> {
+/// What one seat of two reads: at first, once it noted 9, and once the other one noted 7.
+fn read_thrice(alloc: Global) -> Result<[u64; 3], Fail> {
     let (board, mut seats) = open(alloc, 2)?;
-    let before = board.floor(&mut seats[0]);
+    let first = board.floor(&mut seats[0]);
+    let own = note_and_read(&board, &mut seats[0], 9);
     board.note(&mut seats[1], 7);
-    Ok([before, board.floor(&mut seats[0])])
+    Ok([first, own, board.floor(&mut seats[0])])
 }
 
 #[test]
-fn reads_what_another_seat_noted(rt: HostRuntime) -> Result<(), Fail> {
-    assert_eq!(rt; read_twice(rt.alloc())?, [END, 7]);
+fn reads_what_it_noted_and_what_another_seat_did(rt: HostRuntime) -> Result<(), Fail> {
+    assert!(rt; read_thrice(rt.alloc())? == [END, 9, 7]);
     Ok(())
 }

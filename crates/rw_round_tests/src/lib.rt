@@ -19,4 +19,6 @@ mod relay_world;
 #[cfg(test)]
 mod rings;
 #[cfg(test)]
+mod two_ports;
+#[cfg(test)]
 mod windows;

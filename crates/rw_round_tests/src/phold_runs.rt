@@ -1,25 +1,34 @@
 // PHOLD through the engine's door: in order, in rounds and by steps.
-use rw_engine::{END, How, Plan, Ran, Step, Stop, Traffic, run_alone, run_alone_from, run_in};
-use rw_phold::{Holder, Phold, Report, beginning, report_of};
+ghost use Rattle.std.specs.Prelude.{IfOk};
+ghost use Rattle.rw_vt.specs.System.{IsReady};
+ghost use Rattle.rw_phold.specs.contracts.phold.PholdVtModel.TheImpl as of_phold;
+
+use rw_engine::{
+    END, Event, How, Plan, Ran, Step, Stop, Traffic, run_alone, run_alone_from, run_in,
+};
+use rw_phold::{Ball, Holder, Phold, Report, beginning, report_of};
 use rw_serial::{Sorted, last_states_within, last_states_within_from};
 use std::alloc::Global;
 use std::sync::Wait;
 use std::test::Fail;
 use std::thread::Threads;
 
-/// 16 processes, half of whose balls go to a drawn one, after 8 ticks or more, up to tick 4000.
-fn setting() -> Result<Phold, Fail> {
-    Ok(Phold::new(16, 32768, 8, 24, 4000).ok_or("setting")?)
+/// 200 balls among 16 processes, half of which go to a drawn one, after 8 ticks or more, up to tick 4000.
+fn many_balls(alloc: Global) -> Result<(Phold, Vec<Holder>, Vec<Event<Ball>>), Fail>
+    ensures ready { IfOk result (λ r. IsReady of_phold.ghosts r.0 r.1.items r.2.items) }
+{
+    let phold = Phold::new(16, 32768, 8, 24, 4000).ok_or("setting")?;
+    let (starts, initial) = beginning(alloc, &phold, 200, 7)?;
+    Ok((phold, starts, initial))
 }
 
-/// The report of 200 balls among 16 processes, half of which go to a drawn one, up to tick 4000.
+/// The report of what a run of these leaves.
 fn reported<R: Threads + Wait + Sync>(
     rt: &R,
     alloc: Global,
     how: How<'_>,
 ) -> Result<Option<Report>, Fail> {
-    let phold = setting()?;
-    let (starts, initial) = beginning(alloc, &phold, 200, 7)?;
+    let (phold, starts, initial) = many_balls(alloc)?;
     match run_in(rt, alloc, phold, starts, initial, how)? {
         Ran::Finished(states, _traffic) => Ok(Some(report_of(states.as_slice()))),
         Ran::Stepped(_world, _answers) => Ok(None),
@@ -46,25 +55,28 @@ fn balls_come_to_the_same_in_order_and_in_rounds(rt: HostRuntime) -> Result<(), 
         events: 41004,
         checksum: 0xafec_247c_1e93_e9ba,
     });
-    assert!(rt; reported(&rt, rt.alloc(), How::InOrder)? == expected);
-    assert!(rt; reported(&rt, rt.alloc(), How::InRounds(plan(1, false)))? == expected);
-    assert!(rt; reported(&rt, rt.alloc(), How::InRounds(plan(3, false)))? == expected);
-    assert!(rt; reported(&rt, rt.alloc(), How::InRounds(plan(2, true)))? == expected);
+    let ways = [
+        How::InOrder,
+        How::InRounds(plan(1, false)),
+        How::InRounds(plan(3, false)),
+        How::InRounds(plan(2, true)),
+    ];
+    for (row, how) in ways.iter().enumerate() {
+        assert!(rt; reported(&rt, rt.alloc(), *how)? == expected, "way {row}");
+    }
     Ok(())
 }
 
 /// How many events one worker by itself counts, and what it does.
 fn counted_alone(alloc: Global) -> Result<(u64, Traffic), Fail> {
-    let phold = setting()?;
-    let (starts, initial) = beginning(alloc, &phold, 200, 7)?;
+    let (phold, starts, initial) = many_balls(alloc)?;
     let (states, traffic) = run_alone(alloc, &phold, starts, initial, plan(1, false))?;
     Ok((report_of(states.as_slice()).events, traffic))
 }
 
 /// Whether so many rounds are too few for one worker by itself.
 fn are_too_few(alloc: Global, max_rounds: u32) -> Result<bool, Fail> {
-    let phold = setting()?;
-    let (starts, initial) = beginning(alloc, &phold, 200, 7)?;
+    let (phold, starts, initial) = many_balls(alloc)?;
     let few = Plan {
         max_rounds,
         ..plan(1, false)
@@ -91,16 +103,16 @@ fn one_worker_makes_as_many_rounds_as_events_need(rt: HostRuntime) -> Result<(),
 
 /// The checksum and the number of events of a run that is given up beyond a limit.
 fn checksum_within(alloc: Global, limit: u64) -> Result<Option<(u64, u64)>, Fail> {
-    let phold = setting()?;
-    let (starts, initial) = beginning(alloc, &phold, 200, 7)?;
-    let ran = last_states_within(alloc, &phold, starts, initial, limit)?;
-    Ok(ran.map(|(states, executed)| (report_of(states.as_slice()).checksum, executed)))
+    let (phold, starts, initial) = many_balls(alloc)?;
+    match last_states_within(alloc, &phold, starts, initial, limit)? {
+        Some((states, executed)) => Ok(Some((report_of(states.as_slice()).checksum, executed))),
+        None => Ok(None),
+    }
 }
 
 /// Whether a run is given up beyond a limit, where its events come from a source.
 fn is_given_up(alloc: Global, limit: u64) -> Result<bool, Fail> {
-    let phold = setting()?;
-    let (starts, initial) = beginning(alloc, &phold, 200, 7)?;
+    let (phold, starts, initial) = many_balls(alloc)?;
     let source = Sorted::new(initial)?;
     Ok(last_states_within_from(alloc, &phold, starts, source, limit)?.is_none())
 }
@@ -115,21 +127,26 @@ fn a_run_is_given_up_where_there_are_more_events_than_its_limit(
     Ok(())
 }
 
-/// What comes of a run of one ball between two processes.
-fn one_ball<R: Threads + Wait + Sync>(
-    rt: &R,
-    alloc: Global,
-    how: How<'_>,
-) -> Result<Ran<Phold>, Stop> {
-    let phold = Phold::new(2, 0, 1, 1, 10).ok_or(Stop::Exhausted)?;
-    let (starts, initial) = beginning(alloc, &phold, 1, 1).map_err(|_| Stop::Memory)?;
-    run_in(rt, alloc, phold, starts, initial, how)
+/// One ball between two processes.
+fn one_ball(alloc: Global) -> Result<(Phold, Vec<Holder>, Vec<Event<Ball>>), Fail>
+    ensures ready { IfOk result (λ r. IsReady of_phold.ghosts r.0 r.1.items r.2.items) }
+{
+    let phold = Phold::new(2, 0, 1, 1, 10).ok_or("setting")?;
+    let (starts, initial) = beginning(alloc, &phold, 1, 1)?;
+    Ok((phold, starts, initial))
+}
+
+/// Whether this plan for a run of that ball is refused.
+fn is_refused<R: Threads + Wait + Sync>(rt: &R, alloc: Global, plan: Plan) -> Result<bool, Fail> {
+    let (phold, starts, initial) = one_ball(alloc)?;
+    let ran = run_in(rt, alloc, phold, starts, initial, How::InRounds(plan));
+    Ok(matches!(ran, Err(Stop::BadPlan)))
 }
 
 #[test]
-fn a_plan_out_of_its_range_is_refused(rt: HostRuntime) {
-    let ran = one_ball(&rt, rt.alloc(), How::InRounds(plan(17, false)));
-    assert!(rt; matches!(ran, Err(Stop::BadPlan)));
+fn a_plan_out_of_its_range_is_refused(rt: HostRuntime) -> Result<(), Fail> {
+    assert!(rt; is_refused(&rt, rt.alloc(), plan(17, false))?);
+    Ok(())
 }
 
 /// How many of these steps are answered, and the floor of the world to which they lead.
@@ -138,7 +155,8 @@ fn stepped<R: Threads + Wait + Sync>(
     alloc: Global,
     steps: &[Step],
 ) -> Result<Option<(usize, u64)>, Fail> {
-    match one_ball(rt, alloc, How::BySteps(steps))? {
+    let (phold, starts, initial) = one_ball(alloc)?;
+    match run_in(rt, alloc, phold, starts, initial, How::BySteps(steps))? {
         Ran::Stepped(world, answers) => Ok(Some((answers.len(), world.floor()))),
         Ran::Finished(_states, _traffic) => Ok(None),
     }

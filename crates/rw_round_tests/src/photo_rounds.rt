@@ -99,33 +99,21 @@ fn plan(window: u64) -> Plan {
 }
 
 /// The world of the trace in which nothing is done yet.
-fn opened(alloc: Global, config: &Config) -> Result<World<Photo>, Fail> {
-    let Ok((starts, initial)) = beginning(alloc, TRACE, config) else {
+fn opened(alloc: Global) -> Result<World<Photo>, Fail> {
+    let config = config()?;
+    let Ok((starts, initial)) = beginning(alloc, TRACE, &config) else {
         return Err(Fail::from("trace"));
     };
-    Ok(World::open(alloc, Photo::new(*config), starts, initial)?)
+    Ok(World::open(alloc, Photo::new(config), starts, initial)?)
 }
 
 /// What the run on one thread leaves.
-fn in_order(alloc: Global, config: &Config) -> Result<Outcome<Photo>, Fail> {
-    let Ok((starts, initial)) = beginning(alloc, TRACE, config) else {
+fn in_order(alloc: Global) -> Result<Outcome<Photo>, Fail> {
+    let config = config()?;
+    let Ok((starts, initial)) = beginning(alloc, TRACE, &config) else {
         return Err(Fail::from("trace"));
     };
-    Ok(rw_serial::run(alloc, &Photo::new(*config), starts, initial)?)
-}
-
-/// What rounds through the gate leave and do.
-fn in_rounds<G: Gate + Sync, R: Threads + Wait + Sync>(
-    rt: &R,
-    alloc: Global,
-    plan: Plan,
-    gate: &G,
-) -> Result<(Outcome<Photo>, Traffic), Fail> {
-    let world = opened(alloc, &config()?)?;
-    match run(rt, alloc, world, plan, gate) {
-        Ok(left) => Ok(left),
-        Err(_) => Err(Fail::from("run")),
-    }
+    Ok(rw_serial::run(alloc, &Photo::new(config), starts, initial)?)
 }
 
 /// Whether two outcomes have the same journals and counters.
@@ -134,15 +122,18 @@ fn agree(one: &Outcome<Photo>, other: &Outcome<Photo>) -> bool {
     one.journals == other.journals && counted.eq(other.states.iter().map(CacheState::counters))
 }
 
-/// What rounds through the gate do, where they leave what the run on one thread leaves.
+/// What rounds through the gate do, from this world on, where they leave what the run on one thread leaves.
 fn traffic<G: Gate + Sync, R: Threads + Wait + Sync>(
     rt: &R,
     alloc: Global,
+    world: World<Photo>,
     plan: Plan,
     gate: &G,
 ) -> Result<Traffic, Fail> {
-    let (outcome, traffic) = in_rounds(rt, alloc, plan, gate)?;
-    let want = in_order(alloc, &config()?)?;
+    let Ok((outcome, traffic)) = run(rt, alloc, world, plan, gate) else {
+        return Err(Fail::from("run"));
+    };
+    let want = in_order(alloc)?;
     if agree(&outcome, &want) {
         Ok(traffic)
     } else {
@@ -157,31 +148,25 @@ fn held<R: Threads + Wait + Sync>(
     plan: Plan,
 ) -> Result<(Traffic, bool, u64), Fail> {
     let gate = Handshake::new(PATIENCE);
-    let traffic = traffic(rt, alloc, plan, &gate)?;
+    let traffic = traffic(rt, alloc, opened(alloc)?, plan, &gate)?;
     Ok((traffic, gate.saw_both(), gate.misses()))
 }
 
 #[test]
 fn a_straggling_fill_is_made_room_for(rt: HostRuntime) -> Result<(), Fail> {
-    let free = traffic(&rt, rt.alloc(), plan(END), &Open)?;
-    assert!(rt; free.undone >= 1);
-    let (held, saw_both, misses) = held(&rt, rt.alloc(), plan(END))?;
-    assert!(rt; held.undone >= 1);
-    assert!(rt; held.ring >= 2);
-    assert_eq!(rt; (saw_both, misses), (true, 0));
+    let world = opened(rt.alloc())?;
+    assert!(rt; traffic(&rt, rt.alloc(), world, plan(END), &Open)?.undone >= 1);
     Ok(())
 }
 
 #[test]
-fn a_straggling_fill_is_made_room_for_lazily(rt: HostRuntime) -> Result<(), Fail> {
-    let lazily = Plan {
-        lazy: true,
-        ..plan(END)
-    };
-    let (held, saw_both, misses) = held(&rt, rt.alloc(), lazily)?;
-    assert!(rt; held.undone >= 1);
-    assert!(rt; held.ring >= 2);
-    assert_eq!(rt; (saw_both, misses), (true, 0));
+fn a_straggling_fill_is_made_room_for_at_a_gate(rt: HostRuntime) -> Result<(), Fail> {
+    for lazy in [false, true] {
+        let plan = Plan { lazy, ..plan(END) };
+        let (held, saw_both, misses) = held(&rt, rt.alloc(), plan)?;
+        assert!(rt; held.undone >= 1 && held.ring >= 2, "lazy: {lazy}");
+        assert!(rt; (saw_both, misses) == (true, 0), "lazy: {lazy}");
+    }
     Ok(())
 }
 
@@ -214,40 +199,24 @@ const ANSWERS: [Answer; 10] = [
 ];
 
 /// The world to which these steps lead, and whether they are answered so and nothing is left to do.
-fn scheduled(alloc: Global, config: &Config) -> Result<(World<Photo>, bool), Fail> {
-    let (world, answers) = opened(alloc, config)?.run_steps(alloc, &STEPS)?;
+fn scheduled(alloc: Global) -> Result<(World<Photo>, bool), Fail> {
+    let (world, answers) = opened(alloc)?.run_steps(alloc, &STEPS)?;
     let is_as_told = answers.as_slice() == ANSWERS.as_slice() && world.finished();
     Ok((world, is_as_told))
 }
 
-/// How many events rounds execute of a world that is finished, where they leave what the run on one thread leaves.
-fn executed<R: Threads + Wait + Sync>(
-    rt: &R,
-    alloc: Global,
-    world: World<Photo>,
-    config: &Config,
-) -> Result<Option<u64>, Fail> {
-    let want = in_order(alloc, config)?;
-    let Ok((outcome, traffic)) = run(rt, alloc, world, plan(END), &Open) else {
-        return Err(Fail::from("run"));
-    };
-    Ok(agree(&outcome, &want).then_some(traffic.executed))
-}
-
 #[test]
 fn a_schedule_takes_a_straggler_back_and_commits_all(rt: HostRuntime) -> Result<(), Fail> {
-    let config = config()?;
-    let (world, is_as_told) = scheduled(rt.alloc(), &config)?;
+    let (world, is_as_told) = scheduled(rt.alloc())?;
     assert!(rt; is_as_told);
-    assert!(rt; executed(&rt, rt.alloc(), world, &config)? == Some(0));
+    assert!(rt; traffic(&rt, rt.alloc(), world, plan(END), &Open)?.executed == 0);
     Ok(())
 }
 
 #[test]
 fn a_window_holds_back_what_would_be_undone(rt: HostRuntime) -> Result<(), Fail> {
     let (held, _saw_both, misses) = held(&rt, rt.alloc(), plan(1))?;
-    assert_eq!(rt; (held.rounds, held.undone, held.ring), (2, 0, 2));
-    assert_eq!(rt; misses, 0);
+    assert!(rt; (held.rounds, held.undone, held.ring, misses) == (2, 0, 2, 0));
     Ok(())
 }
 

@@ -40,43 +40,30 @@ fn first() -> Event<Parcel>
     parcel(5, 0, 0, 0, 9)
 }
 
-/// Another one, that meets it.
-fn second() -> Event<Parcel>
+/// Another one, that comes to the same station or to the other one, where it meets the first.
+fn second(same: bool) -> Event<Parcel>
     ensures { is_sound_event result ≡ true }
 {
-    parcel(8, 0, 1, 1, 12)
+    parcel(8, 0, 1, if same { 0 } else { 1 }, 12)
 }
 
-/// A third one, that comes to the station to which the first one does.
-fn third() -> Event<Parcel>
-    ensures { is_sound_event result ≡ true }
-{
-    parcel(8, 0, 1, 0, 12)
-}
-
-fn opened(alloc: Global, most: u64) -> Result<World<Relay>, Fail> {
+/// Two parcels come, to the same station or not, and each station takes none once it passed `most` on.
+fn opened(alloc: Global, same: bool, most: u64) -> Result<World<Relay>, Fail> {
     let relay = Relay::new(3, most).ok_or("relay")?;
-    let (starts, initial) = beginning(alloc, first(), second())?;
+    let (starts, initial) = beginning(alloc, first(), second(same))?;
     Ok(World::open(alloc, relay, starts, initial)?)
 }
 
 /// The world to which the steps that this seed draws lead.
 fn drawn(alloc: Global, seed: u64) -> Result<World<Relay>, Fail> {
     let steps = draw(alloc, seed, 60, 2)?;
-    let (world, _answers) = opened(alloc, u64::MAX)?.run_steps(alloc, &steps)?;
+    let (world, _answers) = opened(alloc, false, u64::MAX)?.run_steps(alloc, &steps)?;
     Ok(world)
-}
-
-/// Two parcels to one station, which can take no further one after the first.
-fn soon_exhausted(alloc: Global) -> Result<World<Relay>, Fail> {
-    let relay = Relay::new(3, 1).ok_or("relay")?;
-    let (starts, initial) = beginning(alloc, first(), third())?;
-    Ok(World::open(alloc, relay, starts, initial)?)
 }
 
 fn in_order(alloc: Global) -> Result<Outcome<Relay>, Fail> {
     let relay = Relay::new(3, u64::MAX).ok_or("relay")?;
-    let (starts, initial) = beginning(alloc, first(), second())?;
+    let (starts, initial) = beginning(alloc, first(), second(false))?;
     Ok(rw_serial::run(alloc, &relay, starts, initial)?)
 }
 
@@ -102,15 +89,15 @@ fn both_lead<R: Threads + Wait + Sync>(
     plan: Plan,
 ) -> Result<(bool, bool), Fail> {
     let want = in_order(alloc)?;
-    let from_opened = lead(rt, alloc, opened(alloc, u64::MAX)?, plan, &want);
+    let from_opened = lead(rt, alloc, opened(alloc, false, u64::MAX)?, plan, &want);
     let from_drawn = lead(rt, alloc, drawn(alloc, seed)?, plan, &want);
     Ok((from_opened, from_drawn))
 }
 
 #[test]
 fn rounds_lead_to_the_outcome_in_order(rt: HostRuntime) -> Result<(), Fail> {
-    for (seed, of) in (0..).zip(PLANS) {
-        let lead = both_lead(&rt, rt.alloc(), seed, plan(of, 1_048_576))?;
+    for (seed, of) in PLANS.iter().enumerate() {
+        let lead = both_lead(&rt, rt.alloc(), seed as u64, plan(*of, 1_048_576))?;
         assert!(rt; lead == (true, true), "plan {seed}");
     }
     Ok(())
@@ -119,7 +106,7 @@ fn rounds_lead_to_the_outcome_in_order(rt: HostRuntime) -> Result<(), Fail> {
 /// One round of one worker.
 fn one_round<R: Threads + Wait + Sync>(rt: &R, alloc: Global) -> Result<Sim<Relay>, Fail> {
     let plan = plan((1, 1, 2, END, 1), 1);
-    let Ok(sim) = Sim::open(opened(alloc, u64::MAX)?, plan) else {
+    let Ok(sim) = Sim::open(opened(alloc, false, u64::MAX)?, plan) else {
         return Err(Fail::from("plan"));
     };
     match run_round(rt, alloc, sim, &Open) {
@@ -142,28 +129,38 @@ fn told_of_one_round<R: Threads + Wait + Sync>(
 
 #[test]
 fn a_round_tells_its_floor_and_commits_what_is_before_it(rt: HostRuntime) -> Result<(), Fail> {
-    assert_eq!(rt; told_of_one_round(&rt, rt.alloc())?, (8, 2, true));
+    assert!(rt; told_of_one_round(&rt, rt.alloc())? == (8, 2, true));
     Ok(())
 }
 
-/// Why rounds do not lead to an end.
+/// Why rounds do not lead to an end, from the world that is opened so.
 fn stop<R: Threads + Wait + Sync>(
     rt: &R,
     alloc: Global,
-    world: World<Relay>,
+    same: bool,
+    most: u64,
     plan: Plan,
-) -> Option<Stop> {
-    run(rt, alloc, world, plan, &Open).err()
+) -> Result<Option<Stop>, Fail> {
+    let world = opened(alloc, same, most)?;
+    Ok(run(rt, alloc, world, plan, &Open).err())
 }
 
 #[test]
 fn a_run_stops_with_its_reason(rt: HostRuntime) -> Result<(), Fail> {
-    let alloc = rt.alloc();
-    let few = plan((2, 1, 1, END, 1), 3);
-    assert!(rt; stop(&rt, alloc, opened(alloc, u64::MAX)?, few) == Some(Stop::RoundsUsed));
-    let one = plan(PLANS[0], 9);
-    assert!(rt; stop(&rt, alloc, soon_exhausted(alloc)?, one) == Some(Stop::Exhausted));
-    let no_worker = plan((0, 1, 1, 1, 1), 1);
-    assert!(rt; stop(&rt, alloc, opened(alloc, 1)?, no_worker) == Some(Stop::BadPlan));
+    for (same, most, plan, reason) in [
+        (
+            false,
+            u64::MAX,
+            plan((2, 1, 1, END, 1), 3),
+            Stop::RoundsUsed,
+        ),
+        (true, 1, plan(PLANS[0], 9), Stop::Exhausted),
+        (false, 1, plan((0, 1, 1, 1, 1), 1), Stop::BadPlan),
+    ] {
+        assert!(rt;
+            stop(&rt, rt.alloc(), same, most, plan)? == Some(reason),
+            "{reason:?}"
+        );
+    }
     Ok(())
 }

@@ -3,6 +3,7 @@ ghost use Rattle.std.specs.Prelude.{◌≡◌, true, [], ◌∷◌, IfOk};
 ghost use Rattle.rw_exchange.specs.Ports.{IsWide};
 ghost use Rattle.rw_worker.specs.Turns.{IsFit};
 
+use crate::two_ports::two_ports;
 use rw_lp::Lp;
 use rw_relay::parcels::{parcel, station};
 use rw_relay::{Parcel, Relay};
@@ -57,21 +58,6 @@ fn first_worker<M: Model>(
     Ok(Worker::new(alloc, 0, &PLAN, processes, inbox, port, seat, 0))
 }
 
-/// The ports of both workers.
-fn two_ports(alloc: Global) -> Result<(Port<Letter<Parcel>>, Port<Letter<Parcel>>), Fail>
-    ensures first { IfOk result (λ r. (r.0.worker ≡ 0) × IsWide 2 r.0) }
-    ensures second { IfOk result (λ r. (r.1.worker ≡ 1) × IsWide 2 r.1) }
-{
-    let mut ports = rw_exchange::open(alloc, 2, 4)?;
-    let Some(second) = ports.pop() else {
-        unreachable!()
-    };
-    let Some(first) = ports.pop() else {
-        unreachable!()
-    };
-    Ok((first, second))
-}
-
 /// The board of both workers, and their seats.
 fn two_seats(alloc: Global) -> Result<(Board, Seat, Seat), Fail>
     ensures first { IfOk result (λ r. r.1.board ≡ r.0.board) }
@@ -113,7 +99,7 @@ fn executed_in_a_turn(
 
 /// That number, what then comes to worker 1, and the least time on the board.
 fn one_turn(alloc: Global) -> Result<(u64, [Option<Letter<Parcel>>; 3], u64), Fail> {
-    let (port, mut others_port) = two_ports(alloc)?;
+    let (port, mut others_port) = two_ports(alloc, 4)?;
     let (board, seat, mut others_seat) = two_seats(alloc)?;
     let executed = executed_in_a_turn(alloc, port, seat, &board)?;
     let came = [

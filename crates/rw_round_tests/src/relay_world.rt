@@ -90,15 +90,15 @@ fn follow<R: Abort>(
     Ok(world)
 }
 
-/// What a world shows of itself: the least time of what is outstanding, and whether nothing is left to do.
-fn outlook(world: &World<Relay>) -> (u64, bool) {
-    (world.floor(), world.finished())
+/// What a world shows of itself: the least time of what is outstanding, whether nothing is left to do, and how many events
+/// station 1 has committed.
+fn outlook(world: &World<Relay>) -> (u64, bool, usize) {
+    (world.floor(), world.finished(), world.journal(1).len())
 }
 
 #[test]
 fn begins_at_its_least_event(rt: HostRuntime) -> Result<(), Fail> {
-    let world = opened(rt.alloc())?;
-    assert!(rt; outlook(&world) == (5, false));
+    assert!(rt; outlook(&opened(rt.alloc())?) == (5, false, 0));
     Ok(())
 }
 
@@ -110,9 +110,7 @@ fn finished<R: Abort>(rt: &R, alloc: Global) -> Result<World<Relay>, Fail> {
 
 #[test]
 fn runs_ahead_and_back(rt: HostRuntime) -> Result<(), Fail> {
-    let world = finished(&rt, rt.alloc())?;
-    assert!(rt; outlook(&world) == (END, true));
-    assert!(rt; world.journal(1).is_empty());
+    assert!(rt; outlook(&finished(&rt, rt.alloc())?) == (END, true, 0));
     Ok(())
 }
 
@@ -127,19 +125,14 @@ fn is_committed(world: &World<Relay>) -> bool {
 #[test]
 fn a_finished_world_is_committed(rt: HostRuntime) -> Result<(), Fail> {
     let world = follow(&rt, rt.alloc(), finished(&rt, rt.alloc())?, &COMMITS)?;
-    assert!(rt; outlook(&world) == (END, true));
     assert!(rt; is_committed(&world));
+    assert!(rt; outlook(&world) == (END, true, 2));
     Ok(())
 }
 
-/// Whether some steps made as one are answered as one by one.
-fn are_answered(
-    alloc: Global,
-    world: World<Relay>,
-    steps: &[Step],
-    want: &[Answer],
-) -> Result<bool, Fail> {
-    let (_world, answers) = world.run_steps(alloc, steps)?;
+/// Whether some steps, made as one where nothing has come yet, are answered as one by one.
+fn are_answered(alloc: Global, steps: &[Step], want: &[Answer]) -> Result<bool, Fail> {
+    let (_world, answers) = opened(alloc)?.run_steps(alloc, steps)?;
     Ok(answers.as_slice() == want)
 }
 
@@ -151,7 +144,7 @@ fn answers_the_steps_of_a_list(rt: HostRuntime) -> Result<(), Fail> {
         Done,
         Refused(StepFault::NoSuchProcess),
     ];
-    assert!(rt; are_answered(rt.alloc(), opened(rt.alloc())?, &steps, &want)?);
+    assert!(rt; are_answered(rt.alloc(), &steps, &want)?);
     Ok(())
 }
 

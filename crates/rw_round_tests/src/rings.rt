@@ -2,6 +2,7 @@
 ghost use Rattle.std.specs.Prelude.{◌≡◌, ℕ, ◌<◌, ◌≤◌, [], ◌∷◌, length, map, slice_index_or, Ok, OnOk, IfOk, IfSome, vec_len};
 ghost use Rattle.rw_exchange.specs.Ports.{SamePort, StayAnOpening, IsOpening, IsNew, IsOther, received_from};
 
+use crate::two_ports::two_ports;
 use rw_exchange::{Left, Port, Protocol, open, settle};
 use rw_vt::{Event, Letter, NoMemory};
 use std::alloc::{AllocError, Global};
@@ -25,22 +26,6 @@ fn letter(from: usize, number: u64) -> Letter<u64> {
         body: from as u64,
     };
     Letter { event, anti: false }
-}
-
-// The ports of two workers, with rings of one slot.
-fn two_ports(alloc: Global) -> Result<(Port<Letter<u64>>, Port<Letter<u64>>), Fail>
-    ensures numbers { IfOk result (λ r. (r.0.worker ≡ 0) × (r.1.worker ≡ 1)) }
-    ensures wide { IfOk result (λ r. (length r.0.out ≡ 2) × (length r.1.out ≡ 2)) }
-    ensures opening { IfOk result (λ r. StayAnOpening (r.0 ∷ r.1 ∷ [])) }
-{
-    let mut ports = open(alloc, 2, 1)?;
-    let Some(second) = ports.pop() else {
-        unreachable!()
-    };
-    let Some(first) = ports.pop() else {
-        unreachable!()
-    };
-    Ok((first, second))
 }
 
 // Settles the ports of two workers.
@@ -68,7 +53,7 @@ fn is_left(left: &Left<Letter<u64>>, letter: Letter<u64>) -> bool {
 
 // Whether a ring of one slot takes a letter, refuses the next one until the first has come, and keeps what does not come.
 fn keeps_to_one_slot(alloc: Global, x: Letter<u64>, y: Letter<u64>) -> Result<bool, Fail> {
-    let (mut first, mut second) = two_ports(alloc)?;
+    let (mut first, mut second) = two_ports(alloc, 1)?;
     let sent = [first.send(1, x), first.send(1, y)];
     let came = [second.receive(0), second.receive(0)];
     let sent_later = first.send(1, y);
@@ -88,43 +73,12 @@ fn a_ring_of_one_slot(rt: HostRuntime) -> Result<(), Fail> {
     Ok(())
 }
 
-// Which worker each of two ports is for, and for how many.
-fn told_by_two(alloc: Global) -> Result<[(usize, usize); 2], Fail> {
-    let (first, second) = two_ports(alloc)?;
-    Ok([
-        (first.worker(), first.workers()),
-        (second.worker(), second.workers()),
-    ])
-}
-
-#[test]
-fn each_port_knows_its_worker(rt: HostRuntime) -> Result<(), Fail> {
-    assert!(rt; told_by_two(rt.alloc())? == [(0, 2), (1, 2)]);
-    Ok(())
-}
-
 /// The protocol of a ring of numbers: each is how many were sent before it.
 #[derive(Clone, Copy)]
 struct Counting;
 
 impl Protocol<u64> for Counting {
     ghost allows = { λ before number. number ≡ length before };
-}
-
-// The ports of two workers, with rings of one number.
-fn two_counting(alloc: Global) -> Result<(Port<u64, Counting>, Port<u64, Counting>), Fail>
-    ensures numbers { IfOk result (λ r. (r.0.worker ≡ 0) × (r.1.worker ≡ 1)) }
-    ensures wide { IfOk result (λ r. (length r.0.out ≡ 2) × (length r.1.out ≡ 2)) }
-    ensures new { IfOk result (λ r. IsNew r.0 × IsNew r.1) }
-{
-    let mut ports = open(alloc, 2, 1)?;
-    let Some(second) = ports.pop() else {
-        unreachable!()
-    };
-    let Some(first) = ports.pop() else {
-        unreachable!()
-    };
-    Ok((first, second))
 }
 
 // The next number from another worker, of which the protocol alone says what it is.
@@ -137,7 +91,7 @@ fn next_number(port: &mut Port<u64, Counting>, from: usize) -> Option<u64>
 
 // Whether the port of a worker that is gone is deserted, before and after it goes, and what number it sent.
 fn sent_and_gone(alloc: Global) -> Result<([bool; 2], Option<u64>), Fail> {
-    let (mut first, mut second) = two_counting(alloc)?;
+    let (mut first, mut second) = two_ports(alloc, 1)?;
     if first.send(1, 0).is_err() {
         return Err(Fail::from("refused"));
     }
@@ -150,6 +104,21 @@ fn sent_and_gone(alloc: Global) -> Result<([bool; 2], Option<u64>), Fail> {
 #[test]
 fn a_port_of_numbers_under_a_protocol(rt: HostRuntime) -> Result<(), Fail> {
     assert!(rt; sent_and_gone(rt.alloc())? == ([false, true], Some(0)));
+    Ok(())
+}
+
+// Which worker each of two ports is for, and for how many.
+fn told_by_two(alloc: Global) -> Result<[(usize, usize); 2], Fail> {
+    let (first, second) = two_ports::<u64, Counting>(alloc, 1)?;
+    Ok([
+        (first.worker(), first.workers()),
+        (second.worker(), second.workers()),
+    ])
+}
+
+#[test]
+fn each_port_knows_its_worker(rt: HostRuntime) -> Result<(), Fail> {
+    assert!(rt; told_by_two(rt.alloc())? == [(0, 2), (1, 2)]);
     Ok(())
 }
 

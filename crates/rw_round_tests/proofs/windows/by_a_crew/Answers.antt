@@ -1,7 +1,7 @@
 use denote.Param.{param}
 use denote.Param.Send.{param_send}
 use Rattle.rw_windows.proofs.Moving.{share_may_move}
-use Rattle.rw_round_tests.proofs.windows.by_its_threads.Goals as goal
+use Rattle.rw_round_tests.proofs.windows.by_a_crew.Goals as goal
 
 -- a share may move to a thread of the crew
 pub grow-requires-send-T : goal.grow-requires-send-T
