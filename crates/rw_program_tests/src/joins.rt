@@ -1,14 +1,15 @@
 // Parts of a sweep: cut and joined again they are the sweep, and each fault of a part has its line.
-use crate::bare_axes::bare_axes;
-use crate::pipe::Pipe;
-use rw_join::{JoinFault, join, join_of_parts};
+use crate::grids::grid;
+use crate::shown::is_shown;
+use rw_join::{join, join_of_parts};
 use rw_photo::Policy;
 use rw_progress::Silent;
 use rw_ripqwarp::Out;
-use rw_sweep::{Axes, Grid, Part, list, parts_make_the_sweep, sweep, sweep_part};
-use std::alloc::{AllocError, Global};
-use std::test::Fail;
+use rw_sweep::{Grid, Part, list, parts_make_the_sweep, sweep, sweep_part};
+use std::alloc::Global;
+use std::io::Write;
 use std::thread::Threads;
+use std::{io, slice};
 
 /// Two requests for two objects of 4 bytes.
 const TRACE: &[u8] = b"time,edge,object,size\n5,0,7,4\n100,0,8,4\n";
@@ -17,135 +18,110 @@ const TRACE: &[u8] = b"time,edge,object,size\n5,0,7,4\n100,0,8,4\n";
 const HEADER: &[u8] =
     b"place,policy,sections,block,edge_blocks,origin_blocks,caches,requests,hits,misses,coalesced,late,bypassed,inserted,evicted,reinserted,promoted,writes,splits,merges,hit_bytes,request_bytes,hit_ratio,byte_hit_ratio,flash_bytes,written_bytes,backend_requests\n";
 
-/// What stands behind the place and before the caches of a line, and behind those.
-const FRONT: &[u8] = b",lru,8,1,4,4,";
-
-const BACK: &[u8] = b",1,2,3,4,5,6,7,8,9,10,11,12,13,14,15,0.500000,1.000000,65536,77,99\n";
-
-/// Adds one policy, and 1 to 5 blocks on the edge.
-fn fill(axes: &mut Axes) -> Result<(), AllocError> {
-    axes.policies.push(Policy::Lru)?;
-    axes.sections.push(1)?;
-    axes.blocks.push(10)?;
-    axes.edge_blocks.extend_from_slice(&[1, 2, 3, 4, 5])?;
-    axes.origin_blocks.push(2)?;
-    Ok(())
+/// The grid of one policy, and 1 to 5 blocks on the edge.
+fn five(alloc: Global) -> Option<Grid> {
+    grid(alloc, &[Policy::Lru], &[1, 2, 3, 4, 5])
 }
 
-/// The grid of these five configurations.
-fn grid(alloc: Global) -> Result<Grid, Fail> {
-    let mut axes = bare_axes(alloc);
-    fill(&mut axes)?;
-    Ok(Grid::new(alloc, axes).ok().ok_or("grid")?)
+/// The table of a grid.
+fn table<R: Threads + Sync>(rt: &R, alloc: Global, grid: &Grid) -> Option<Vec<u8>> {
+    let mut out = Out::new(Vec::new(alloc));
+    sweep(rt, alloc, TRACE, grid, 1, &mut Silent, &mut out).ok()?;
+    Some(out.into_inner())
 }
 
-/// Writes the table of the grid, or of a part of it.
-fn write_table<R: Threads + Sync>(
-    rt: &R,
-    alloc: Global,
-    part: Option<Part>,
-    out: &mut Out<Pipe>,
-) -> Result<(), Fail> {
-    let grid = grid(alloc)?;
-    let done = match part {
-        Some(part) => sweep_part(rt, alloc, TRACE, &grid, part, 1, &mut Silent, out),
-        None => sweep(rt, alloc, TRACE, &grid, 1, &mut Silent, out),
-    };
-    Ok(done.ok().ok_or("sweep")?)
+/// The table of a part of a grid.
+fn table_of<R: Threads + Sync>(rt: &R, alloc: Global, grid: &Grid, part: Part) -> Option<Vec<u8>> {
+    let mut out = Out::new(Vec::new(alloc));
+    sweep_part(rt, alloc, TRACE, grid, part, 1, &mut Silent, &mut out).ok()?;
+    Some(out.into_inner())
 }
 
-/// The table of the grid, or of a part of it.
-fn swept<R: Threads + Sync>(rt: &R, alloc: Global, part: Option<Part>) -> Result<Vec<u8>, Fail> {
-    let mut out = Out::new(Pipe::new(alloc, 1000, 99, false));
-    write_table(rt, alloc, part, &mut out)?;
-    Ok(out.into_inner().held)
-}
-
-/// Adds the tables of so many parts of the grid, that of the last one first.
+/// Adds the tables of so many parts of a grid, that of the last one first.
 fn push_parts<R: Threads + Sync>(
     rt: &R,
     alloc: Global,
+    grid: &Grid,
     count: u32,
     parts: &mut Vec<Vec<u8>>,
-) -> Result<(), Fail> {
+) -> Option<()> {
     for index in (0..count).rev() {
-        let part = Part::new(index, count).ok_or("part")?;
-        parts.push(swept(rt, alloc, Some(part))?)?;
+        let table = table_of(rt, alloc, grid, Part::new(index, count)?)?;
+        parts.push(table).ok()?;
     }
-    Ok(())
+    Some(())
 }
 
-/// The table of the grid, joined of so many parts.
-fn joined<R: Threads + Sync>(rt: &R, alloc: Global, count: u32) -> Result<Vec<u8>, Fail> {
+/// The table of a grid of five configurations, joined of so many parts.
+fn joined<R: Threads + Sync>(rt: &R, alloc: Global, grid: &Grid, count: u32) -> Option<Vec<u8>> {
     let mut parts = Vec::new(alloc);
-    push_parts(rt, alloc, count, &mut parts)?;
-    Ok(join(alloc, parts.as_slice(), Some(5)).ok().ok_or("join")?)
+    push_parts(rt, alloc, grid, count, &mut parts)?;
+    join(alloc, parts.as_slice(), Some(5)).ok()
+}
+
+/// Whether so many parts make the table of a grid of five configurations.
+fn make_the_table<R: Threads + Sync>(rt: &R, alloc: Global, grid: &Grid, count: u32) -> bool {
+    match (joined(rt, alloc, grid, count), table(rt, alloc, grid)) {
+        (Some(joined), Some(whole)) => joined.as_slice() == whole.as_slice(),
+        _ => false,
+    }
 }
 
 #[test]
-fn parts_make_the_table(rt: HostRuntime) -> Result<(), Fail> {
+fn parts_make_the_table(rt: HostRuntime) {
     parts_make_the_sweep();
     join_of_parts();
     let alloc = rt.alloc();
-    let whole = swept(&rt, alloc, None)?;
-    for count in [1, 2, 5, 7] {
-        let joined = joined(&rt, alloc, count)?;
-        assert!(rt; joined.as_slice() == whole.as_slice());
+    let grid = five(alloc);
+    for count in &[1, 2, 5, 7] {
+        let is_made = matches!(&grid, Some(grid) if make_the_table(&rt, alloc, grid, *count));
+        assert!(rt; is_made, "of {count}");
     }
-    Ok(())
+}
+
+/// Whether this is listed of a part of the grid.
+fn is_listed(alloc: Global, part: Part, text: &[u8]) -> bool {
+    match five(alloc) {
+        Some(grid) => matches!(list(alloc, &grid, part), Ok(listed) if listed.as_slice() == text),
+        None => false,
+    }
 }
 
 #[test]
-fn a_part_is_listed(rt: HostRuntime) -> Result<(), Fail> {
-    let alloc = rt.alloc();
-    let part = Part::new(1, 3).ok_or("part")?;
-    let text = list(alloc, &grid(alloc)?, part).ok().ok_or("list")?;
-    assert!(rt;
-        text.as_slice()
-            == b"place,policy,sections,block,edge_blocks,origin_blocks\n1,lru,1,10,2,2\n4,lru,1,10,5,2\n".as_slice()
-    );
+fn a_part_is_listed(rt: HostRuntime) {
+    let text =
+        b"place,policy,sections,block,edge_blocks,origin_blocks\n1,lru,1,10,2,2\n4,lru,1,10,5,2\n";
+    assert!(rt; matches!(Part::new(1, 3), Some(part) if is_listed(rt.alloc(), part, text)));
     assert!(rt; Part::new(3, 3).is_none() && Part::new(0, 0).is_none());
     assert!(rt; Part::whole().count == 1);
-    Ok(())
+}
+
+/// Whether joining this text is told so, by the number of bytes or the line of the fault.
+fn is_told(alloc: Global, text: Vec<u8>, of: Option<u64>, line: &str) -> bool {
+    match join(alloc, slice::from_ref(&text), of) {
+        Ok(table) => is_shown(&format_args!("{} bytes", table.len()), line),
+        Err(fault) => is_shown(&fault, line),
+    }
 }
 
 /// The lines of a place, of as many caches as are asked for.
-fn lines(text: &mut Vec<u8>, place: &str, count: usize) -> Result<(), AllocError> {
+fn lines(text: &mut Vec<u8>, place: &str, count: usize) -> io::Result<()> {
     for caches in ["edges", "origins", "all"].iter().take(count) {
-        text.extend_from_slice(place.as_bytes())?;
-        text.extend_from_slice(FRONT)?;
-        text.extend_from_slice(caches.as_bytes())?;
-        text.extend_from_slice(BACK)?;
+        write!(
+            text,
+            "{place},lru,8,1,4,4,{caches},1,2,3,4,5,6,7,8,9,10,11,12,13,14,15,0.500000,1.000000,65536,77,99\n"
+        )?;
     }
     Ok(())
 }
 
-/// What joining a part of these lines, each place with so many, comes to, as a line.
-fn told(alloc: Global, places: &[(&str, usize)], of: Option<u64>) -> Result<String, Fail> {
+/// A part of these lines, each place with so many.
+fn part_of(alloc: Global, places: &[(&str, usize)]) -> io::Result<Vec<u8>> {
     let mut text = Vec::from_slice(alloc, HEADER)?;
     for (place, count) in places {
         lines(&mut text, place, *count)?;
     }
-    told_of(alloc, text, of)
-}
-
-/// What joining a text gives.
-fn joined_alone(
-    alloc: Global,
-    text: Vec<u8>,
-    of: Option<u64>,
-) -> Result<Result<Vec<u8>, JoinFault>, Fail> {
-    let mut parts = Vec::new(alloc);
-    parts.push(text)?;
-    Ok(join(alloc, parts.as_slice(), of))
-}
-
-/// What joining a text comes to, as a line.
-fn told_of(alloc: Global, text: Vec<u8>, of: Option<u64>) -> Result<String, Fail> {
-    match joined_alone(alloc, text, of)? {
-        Ok(table) => Ok(format!(in alloc; "{} bytes", table.len())?),
-        Err(fault) => Ok(format!(in alloc; "{fault}")?),
-    }
+    Ok(text)
 }
 
 /// Places, each with the number of its lines, how many places are asked for, and what joining a part of these comes to.
@@ -172,13 +148,19 @@ const PLACES: [(&[(&str, usize)], Option<u64>, &str); 8] = [
     (&[("65536", 3)], None, "join: file 0 row 0 column 0: number"),
 ];
 
-#[test]
-fn each_fault_of_a_place_has_its_line(rt: HostRuntime) -> Result<(), Fail> {
-    for (places, of, line) in PLACES {
-        let text = told(rt.alloc(), places, of)?;
-        assert!(rt; text.as_str() == line);
+/// Whether joining a part of these lines is told so.
+fn is_part_told(alloc: Global, places: &[(&str, usize)], of: Option<u64>, line: &str) -> bool {
+    match part_of(alloc, places) {
+        Ok(text) => is_told(alloc, text, of, line),
+        Err(_) => false,
     }
-    Ok(())
+}
+
+#[test]
+fn each_fault_of_a_place_has_its_line(rt: HostRuntime) {
+    for (places, of, line) in &PLACES {
+        assert!(rt; is_part_told(rt.alloc(), places, *of, line), "for {line}");
+    }
 }
 
 /// Texts, each with the line of its fault.
@@ -198,20 +180,20 @@ const FAULTS: [(&[u8], &str); 4] = [
     ),
 ];
 
-/// What joining a body behind the header comes to, as a line.
-fn told_body(alloc: Global, body: &[u8]) -> Result<String, Fail> {
-    let mut text = Vec::from_slice(alloc, HEADER)?;
-    text.extend_from_slice(body)?;
-    told_of(alloc, text, None)
+/// Whether joining a text of this header and body alone is told so.
+fn is_body_told(alloc: Global, header: &[u8], body: &[u8], line: &str) -> bool {
+    let mut text = Vec::new(alloc);
+    if text.extend_from_slice(header).is_err() || text.extend_from_slice(body).is_err() {
+        return false;
+    }
+    is_told(alloc, text, None, line)
 }
 
 #[test]
-fn each_fault_of_a_line_has_its_line(rt: HostRuntime) -> Result<(), Fail> {
+fn each_fault_of_a_line_has_its_line(rt: HostRuntime) {
     let alloc = rt.alloc();
-    for (body, line) in FAULTS {
-        assert!(rt; told_body(alloc, body)?.as_str() == line);
+    for (body, line) in &FAULTS {
+        assert!(rt; is_body_told(alloc, HEADER, body, line), "for {line}");
     }
-    let whole = Vec::from_slice(alloc, &HEADER[6..])?;
-    assert!(rt; told_of(alloc, whole, None)?.as_str() == "join: file 0: header");
-    Ok(())
+    assert!(rt; is_body_told(alloc, &HEADER[6..], b"", "join: file 0: header"));
 }

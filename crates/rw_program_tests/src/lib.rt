@@ -5,9 +5,9 @@
 //! They stand above the crates that they work through, so that each of those is proved once, without tests.
 
 #[cfg(test)]
-mod bare_axes;
-#[cfg(test)]
 mod commands;
+#[cfg(test)]
+mod grids;
 #[cfg(test)]
 mod imports;
 #[cfg(test)]
@@ -22,5 +22,7 @@ mod plots;
 mod progress;
 #[cfg(test)]
 mod reports;
+#[cfg(test)]
+mod shown;
 #[cfg(test)]
 mod sweeps;

@@ -1,17 +1,11 @@
 // Long traces, which several threads read in parts, and those that one thread reads all the same.
-use rw_trace::{read, read_in_parts};
-use std::alloc::Global;
-use std::test::Fail;
+use crate::shown::is_shown;
+use rw_trace::{Row, read, read_in_parts};
+use std::alloc::{AllocError, Global};
 use std::thread::Threads;
 
-/// So many rows are long enough for two threads: each has 14 bytes.
-const ROWS: u32 = 20_000;
-
-/// So many are long enough for four.
-const MORE_ROWS: u32 = 40_000;
-
-/// The text of a trace, a row a tick, where `line` stands in place of row `number`.
-fn trace(alloc: Global, rows: u32, number: u32, line: &str) -> Result<String, Fail> {
+/// The text of a trace, a row a tick, each of 14 bytes, where `line` stands in place of row `number`.
+fn trace(alloc: Global, rows: u32, number: u32, line: &str) -> Result<String, AllocError> {
     let mut text = String::new(alloc);
     write!(text, "time,edge,object,size\n")?;
     for at in 0..rows {
@@ -24,112 +18,84 @@ fn trace(alloc: Global, rows: u32, number: u32, line: &str) -> Result<String, Fa
     Ok(text)
 }
 
-/// How many rows so many threads read in each part, or the fault.
-fn told<R: Threads + Sync>(
+/// Whether these parts are what one thread reads.
+fn are_as_one(alloc: Global, text: &[u8], first: &[Row], rest: &[Row]) -> bool {
+    let Ok(rows) = read(alloc, text, 1) else {
+        return false;
+    };
+    let rows = rows.as_slice();
+    rows.len().checked_sub(first.len()) == Some(rest.len())
+        && rows.starts_with(first)
+        && rows.ends_with(rest)
+}
+
+/// Whether so many threads read so many rows in each part, which are what one thread reads.
+fn is_read<R: Threads + Sync>(
     rt: &R,
     alloc: Global,
-    text: &str,
+    text: &[u8],
     readers: u32,
-) -> Result<String, Fail> {
-    let mut told = String::new(alloc);
-    match read_in_parts(rt, alloc, text.as_bytes(), 1, readers) {
-        Ok((first, rest)) => write!(told, "{} and {}", first.len(), rest.len())?,
-        Err(fault) => write!(told, "{fault}")?,
-    }
-    Ok(told)
+    (first_rows, rest_rows): (usize, usize),
+) -> bool {
+    let Ok((first, rest)) = read_in_parts(rt, alloc, text, 1, readers) else {
+        return false;
+    };
+    first.len() == first_rows && rest.len() == rest_rows && are_as_one(alloc, text, &first, &rest)
 }
 
-/// Whether the parts that so many threads read are what one thread reads.
-fn are_as_one<R: Threads + Sync>(rt: &R, alloc: Global, text: &str, readers: u32) -> bool {
-    let Ok(rows) = read(alloc, text.as_bytes(), 1) else {
-        return false;
-    };
-    let Ok((first, rest)) = read_in_parts(rt, alloc, text.as_bytes(), 1, readers) else {
-        return false;
-    };
-    let count = first.len();
-    for (at, row) in rows.iter().enumerate() {
-        let of_part = if at < count {
-            first.get(at)
-        } else {
-            rest.get(at - count)
+/// Traces by the number of their rows, and a line in place of one of these; how many threads read each, and how many rows in
+/// each of two parts. 20000 rows are long enough for two threads, and 40000 for four.
+const READ: [(u32, u32, &str, u32, (usize, usize)); 6] = [
+    (20_000, 20_000, "", 2, (9_999, 10_001)),
+    // A quote behind the middle does no harm.
+    (20_000, 19_999, "\"1019999\",0,7,4", 2, (9_999, 10_001)),
+    // One thread reads a short trace, and one with a quote before the middle.
+    (100, 100, "", 2, (100, 0)),
+    (20_000, 0, "\"1000000\",0,7,4", 2, (20_000, 0)),
+    // Each half of a longer trace is read in two parts.
+    (40_000, 40_000, "", 4, (19_999, 20_001)),
+    (40_000, 25_000, "\"1025000\",0,7,4", 4, (19_999, 20_001)),
+];
+
+#[test]
+fn a_long_trace_is_read_in_parts(rt: HostRuntime) {
+    let alloc = rt.alloc();
+    for (rows, number, line, readers, parts) in &READ {
+        let is_read = match trace(alloc, *rows, *number, line) {
+            Ok(text) => is_read(&rt, alloc, text.as_bytes(), *readers, *parts),
+            Err(_) => false,
         };
-        if of_part != Some(row) {
-            return false;
-        }
+        assert!(rt; is_read, "for row {number} of {rows}");
     }
-    count.wrapping_add(rest.len()) == rows.len()
 }
 
-#[test]
-fn a_long_trace_is_read_in_two_parts(rt: HostRuntime) -> Result<(), Fail> {
-    let alloc = rt.alloc();
-    let text = trace(alloc, ROWS, ROWS, "")?;
-    assert_eq!(rt; told(&rt, alloc, &text, 2)?.as_str(), "9999 and 10001");
-    assert!(rt; are_as_one(&rt, alloc, &text, 2));
-    Ok(())
+/// Whether so many threads refuse a trace, with this line.
+fn is_refused<R: Threads + Sync>(
+    rt: &R,
+    alloc: Global,
+    text: &[u8],
+    readers: u32,
+    line: &str,
+) -> bool {
+    matches!(read_in_parts(rt, alloc, text, 1, readers), Err(fault) if is_shown(&fault, line))
 }
 
-#[test]
-fn a_quote_behind_the_middle_does_no_harm(rt: HostRuntime) -> Result<(), Fail> {
-    let alloc = rt.alloc();
-    let text = trace(alloc, ROWS, 19_999, "\"1019999\",0,7,4")?;
-    assert_eq!(rt; told(&rt, alloc, &text, 2)?.as_str(), "9999 and 10001");
-    assert!(rt; are_as_one(&rt, alloc, &text, 2));
-    Ok(())
-}
+/// Traces as above, and the line of the fault of each.
+const FAULTS: [(u32, u32, &str, u32, &str); 4] = [
+    (20_000, 3, "x", 2, "trace: row 3: length"),
+    (20_000, 15_000, "1015000,1,7,4", 2, "trace: row 15000: edge"),
+    (40_000, 12_000, "x", 4, "trace: row 12000: length"),
+    (40_000, 39_999, "1039999,1,7,4", 4, "trace: row 39999: edge"),
+];
 
 #[test]
-fn one_thread_reads_a_short_trace_and_one_with_a_quote_before_the_middle(
-    rt: HostRuntime,
-) -> Result<(), Fail> {
+fn a_fault_of_any_part_has_its_row(rt: HostRuntime) {
     let alloc = rt.alloc();
-    let short = trace(alloc, 100, 100, "")?;
-    assert_eq!(rt; told(&rt, alloc, &short, 2)?.as_str(), "100 and 0");
-    let quoted = trace(alloc, ROWS, 0, "\"1000000\",0,7,4")?;
-    assert_eq!(rt; told(&rt, alloc, &quoted, 2)?.as_str(), "20000 and 0");
-    Ok(())
-}
-
-#[test]
-fn a_fault_of_either_part_has_its_row(rt: HostRuntime) -> Result<(), Fail> {
-    let alloc = rt.alloc();
-    let before = trace(alloc, ROWS, 3, "x")?;
-    assert_eq!(rt;
-        told(&rt, alloc, &before, 2)?.as_str(),
-        "trace: row 3: length"
-    );
-    let behind = trace(alloc, ROWS, 15_000, "1015000,1,7,4")?;
-    assert_eq!(rt;
-        told(&rt, alloc, &behind, 2)?.as_str(),
-        "trace: row 15000: edge"
-    );
-    Ok(())
-}
-
-#[test]
-fn each_half_of_a_longer_trace_is_read_in_two_parts(rt: HostRuntime) -> Result<(), Fail> {
-    let alloc = rt.alloc();
-    let text = trace(alloc, MORE_ROWS, MORE_ROWS, "")?;
-    assert_eq!(rt; told(&rt, alloc, &text, 4)?.as_str(), "19999 and 20001");
-    assert!(rt; are_as_one(&rt, alloc, &text, 4));
-    let quoted = trace(alloc, MORE_ROWS, 25_000, "\"1025000\",0,7,4")?;
-    assert!(rt; are_as_one(&rt, alloc, &quoted, 4));
-    Ok(())
-}
-
-#[test]
-fn a_fault_of_any_quarter_has_its_row(rt: HostRuntime) -> Result<(), Fail> {
-    let alloc = rt.alloc();
-    let second = trace(alloc, MORE_ROWS, 12_000, "x")?;
-    assert_eq!(rt;
-        told(&rt, alloc, &second, 4)?.as_str(),
-        "trace: row 12000: length"
-    );
-    let last = trace(alloc, MORE_ROWS, 39_999, "1039999,1,7,4")?;
-    assert_eq!(rt;
-        told(&rt, alloc, &last, 4)?.as_str(),
-        "trace: row 39999: edge"
-    );
-    Ok(())
+    for (rows, number, line, readers, fault) in &FAULTS {
+        let is_refused = match trace(alloc, *rows, *number, line) {
+            Ok(text) => is_refused(&rt, alloc, text.as_bytes(), *readers, fault),
+            Err(_) => false,
+        };
+        assert!(rt; is_refused, "for row {number} of {rows}");
+    }
 }

@@ -1,4 +1,5 @@
 // Writers that fail.
+use rw_ripqwarp::Out;
 use std::alloc::Global;
 use std::io;
 use std::io::{ErrorKind, Write};
@@ -41,6 +42,11 @@ impl Write for Pipe {
         }
         Ok(())
     }
+}
+
+/// Whether what was written to such a writer and taken by it is this text.
+pub fn holds(out: Out<Pipe>, text: &[u8]) -> bool {
+    out.into_inner().held.as_slice() == text
 }
 
 /// A writer that takes at most 100 bytes a write and fails at one of its calls, a write or a flush, counted from 0. It then

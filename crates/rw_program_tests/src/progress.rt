@@ -1,7 +1,8 @@
 // The line that shows how far a run has come: its words, when it is drawn, and that it goes away.
 use crate::pipe::Pipe;
+use crate::shown::is_shown;
 use rw_progress::{Line, Measure, Progress, Standing};
-use std::alloc::AllocError;
+use std::alloc::Global;
 use std::cell::Cell;
 use std::io;
 use std::io::Write;
@@ -23,28 +24,33 @@ impl Clock for Watch {
     }
 }
 
+/// So much of a whole, the milliseconds spent, and how this is told of a run `a`.
+const TOLD: [(Measure, u64, u64, u64, &str); 6] = [
+    (Measure::Time, 0, 100, 500, "a 0%"),
+    (Measure::Time, 7, 100, 500, "a 7%, 0:06 left"),
+    (Measure::Time, 0, 0, 500, "a 100%"),
+    (
+        Measure::Bytes,
+        300,
+        400,
+        600000,
+        "a 300 of 400 bytes read, 3:20 left",
+    ),
+    (Measure::Pieces, 1, 3, 3661000, "a 1 of 3, 2:02:02 left"),
+    (Measure::Pieces, 5, 3, 1000, "a 3 of 3"),
+];
+
+/// Whether so much of a whole is told so, after so many milliseconds.
+fn is_told(measure: Measure, done: u64, of: u64, millis: u64, text: &str) -> bool {
+    let standing = Standing::new("a", measure, done, of, Duration::from_millis(millis));
+    is_shown(&standing, text)
+}
+
 #[test]
-fn how_far_a_run_has_come_in_words(rt: HostRuntime) -> Result<(), AllocError> {
-    let alloc = rt.alloc();
-    for (measure, done, of, millis, text) in [
-        (Measure::Time, 0, 100, 500, "a 0%"),
-        (Measure::Time, 7, 100, 500, "a 7%, 0:06 left"),
-        (Measure::Time, 0, 0, 500, "a 100%"),
-        (
-            Measure::Bytes,
-            300,
-            400,
-            600000,
-            "a 300 of 400 bytes read, 3:20 left",
-        ),
-        (Measure::Pieces, 1, 3, 3661000, "a 1 of 3, 2:02:02 left"),
-        (Measure::Pieces, 5, 3, 1000, "a 3 of 3"),
-    ] {
-        let standing = Standing::new("a", measure, done, of, Duration::from_millis(millis));
-        let told = format!(in alloc; "{standing}")?;
-        assert!(rt; told.as_str() == text, "for {text}");
+fn how_far_a_run_has_come_in_words(rt: HostRuntime) {
+    for (measure, done, of, millis, text) in &TOLD {
+        assert!(rt; is_told(*measure, *done, *of, *millis, text), "for {text}");
     }
-    Ok(())
 }
 
 /// Tells a line of a run from 100 to 300 that writes when it has come to 200.
@@ -64,17 +70,20 @@ fn tell<E: Write>(err: &mut E, shown: bool) {
     line.reach(260);
 }
 
+/// Whether this is drawn of such a run.
+fn is_drawn(alloc: Global, shown: bool, drawn: &[u8]) -> bool {
+    let mut err = Vec::new(alloc);
+    tell(&mut err, shown);
+    err.as_slice() == drawn
+}
+
 // Not before a run begins, at once when it does, not within a quarter of a second, and at once where it was taken away.
 #[test]
 fn when_a_line_is_drawn(rt: HostRuntime) {
-    let mut err = Vec::new(rt.alloc());
-    tell(&mut err, true);
     let drawn =
         b"\r\x1b[Kserial 0%\r\x1b[Kserial 50%, 0:01 left\r\x1b[K\r\x1b[Kserial 75%, 0:00 left\r\x1b[K";
-    assert!(rt; err.as_slice() == drawn.as_slice());
-    let mut err = Vec::new(rt.alloc());
-    tell(&mut err, false);
-    assert!(rt; err.is_empty());
+    assert!(rt; is_drawn(rt.alloc(), true, drawn));
+    assert!(rt; is_drawn(rt.alloc(), false, b""));
 }
 
 #[test]

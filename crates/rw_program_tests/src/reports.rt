@@ -1,5 +1,5 @@
 // Reports and journals to writers that fail, and a plan that is refused.
-use crate::pipe::{Hiccup, Pipe};
+use crate::pipe::{Hiccup, Pipe, holds};
 use rw_photo::{Config, Policy, Shape};
 use rw_ripqwarp::{
     Mode, Out, Plan, SimFault, Traffic, any_schedule, every_reverse, one_report, schedule, simulate,
@@ -8,7 +8,6 @@ use rw_trace::TraceFault;
 use std::alloc::Global;
 use std::io::Write;
 use std::sync::Wait;
-use std::test::Fail;
 use std::thread::Threads;
 
 /// The trace of one request; its report with nothing stored has 409 bytes.
@@ -32,69 +31,62 @@ fn simulated<W: Write, R: Threads + Wait + Sync>(
     Some(simulate(rt, alloc, trace, &config, mode, out))
 }
 
-/// How many bytes of the report such a writer holds, and how often it failed.
-fn held<R: Threads + Wait + Sync>(
+/// Whether a writer that fails so holds so many bytes of the report, with so many failures told and counted.
+fn is_held<R: Threads + Wait + Sync>(
     rt: &R,
     alloc: Global,
-    most: usize,
-    fails_in: u32,
-    flush_fails: bool,
-) -> Option<(usize, u64)> {
-    let mut out = Out::new(Pipe::new(alloc, most, fails_in, flush_fails));
-    let cut_off = match simulated(rt, alloc, TRACE, Mode::Serial, &mut out)? {
-        Ok(traffic) if traffic == Traffic::default() => false,
-        Ok(_) => return None,
-        Err(SimFault::Output) => true,
-        Err(_) => return None,
+    pipe: Pipe,
+    (bytes, failures): (usize, u64),
+) -> bool {
+    let mut out = Out::new(pipe);
+    let is_told = match simulated(rt, alloc, TRACE, Mode::Serial, &mut out) {
+        Some(Ok(traffic)) => failures == 0 && traffic == Traffic::default(),
+        Some(Err(SimFault::Output)) => failures == 1,
+        _ => false,
     };
-    let failures = out.failures();
-    if cut_off != (failures == 1) {
-        return None;
-    }
-    Some((out.into_inner().held.len(), failures))
+    let is_counted = out.failures() == failures;
+    let held = out.into_inner().held;
+    is_told && is_counted && held.len() == bytes
 }
 
 #[test]
 fn a_writer_that_fails_cuts_the_report_off(rt: HostRuntime) {
     let alloc = rt.alloc();
-    assert!(rt; held(&rt, alloc, 100, 2, false) == Some((200, 1)));
-    assert!(rt; held(&rt, alloc, 0, 9, false) == Some((0, 1)));
-    assert!(rt; held(&rt, alloc, 1000, 9, true) == Some((409, 1)));
-    assert!(rt; held(&rt, alloc, 1, 1000, false) == Some((409, 0)));
-    assert!(rt; held(&rt, alloc, 1, 408, false) == Some((408, 1)));
+    assert!(rt; is_held(&rt, alloc, Pipe::new(alloc, 100, 2, false), (200, 1)));
+    assert!(rt; is_held(&rt, alloc, Pipe::new(alloc, 0, 9, false), (0, 1)));
+    assert!(rt; is_held(&rt, alloc, Pipe::new(alloc, 1000, 9, true), (409, 1)));
+    assert!(rt; is_held(&rt, alloc, Pipe::new(alloc, 1, 1000, false), (409, 0)));
+    assert!(rt; is_held(&rt, alloc, Pipe::new(alloc, 1, 408, false), (408, 1)));
 }
 
-/// How many bytes of the report a writer holds that fails at one of its calls alone, how often it was called, and how many
-/// failures were counted.
-fn after_a_hiccup<R: Threads + Wait + Sync>(
+/// Whether a writer that fails at one of its calls alone holds so many bytes of the report and was called so often, with so
+/// many failures told and counted.
+fn is_held_after<R: Threads + Wait + Sync>(
     rt: &R,
     alloc: Global,
     fails_at: u32,
-) -> Option<(usize, u32, u64)> {
+    (bytes, calls, failures): (usize, u32, u64),
+) -> bool {
     let mut out = Out::new(Hiccup::new(alloc, fails_at));
-    let answer = simulated(rt, alloc, TRACE, Mode::Serial, &mut out)?;
-    let failures = out.failures();
-    let is_told = match answer {
-        Ok(_) => failures == 0,
-        Err(SimFault::Output) => failures == 1,
-        Err(_) => false,
+    let is_told = match simulated(rt, alloc, TRACE, Mode::Serial, &mut out) {
+        Some(Ok(_)) => failures == 0,
+        Some(Err(SimFault::Output)) => failures == 1,
+        _ => false,
     };
-    if !is_told {
-        return None;
-    }
-    let Hiccup { held, calls, .. } = out.into_inner();
-    Some((held.len(), calls, failures))
+    let is_counted = out.failures() == failures;
+    let writer = out.into_inner();
+    is_told && is_counted && writer.calls == calls && writer.held.len() == bytes
 }
 
 #[test]
 fn nothing_is_tried_after_a_failure(rt: HostRuntime) {
     // Five writes, of 100 bytes and the last of 9, and a flush.
     let alloc = rt.alloc();
-    assert!(rt; after_a_hiccup(&rt, alloc, 0) == Some((0, 1, 1)));
-    assert!(rt; after_a_hiccup(&rt, alloc, 2) == Some((200, 3, 1)));
-    assert!(rt; after_a_hiccup(&rt, alloc, 4) == Some((400, 5, 1)));
-    assert!(rt; after_a_hiccup(&rt, alloc, 5) == Some((409, 6, 1)));
-    assert!(rt; after_a_hiccup(&rt, alloc, 6) == Some((409, 6, 0)));
+    assert!(rt; is_held_after(&rt, alloc, 0, (0, 1, 1)));
+    assert!(rt; is_held_after(&rt, alloc, 2, (200, 3, 1)));
+    assert!(rt; is_held_after(&rt, alloc, 4, (400, 5, 1)));
+    assert!(rt; is_held_after(&rt, alloc, 5, (409, 6, 1)));
+    assert!(rt; is_held_after(&rt, alloc, 6, (409, 6, 0)));
 }
 
 /// The report of [`TRACE`] with nothing stored, whole.
@@ -123,47 +115,55 @@ floor 1099511627776
 finished yes
 ";
 
-/// Whether a writer that takes a byte a write, and is interrupted from one write on, holds the text up to there: `None`
-/// where something else went wrong.
+/// Whether a writer that takes a byte a write, and is interrupted from one write on, holds the text up to there.
 fn is_cut_off_at<R: Threads + Wait + Sync>(
     rt: &R,
     alloc: Global,
-    (trace, mode, text): (&[u8], Mode, &str),
+    trace: &[u8],
+    mode: Mode,
+    text: &str,
     fails_in: u32,
-) -> Option<bool> {
+) -> bool {
     let mut out = Out::new(Pipe::new(alloc, 1, fails_in, false));
-    let answer = simulated(rt, alloc, trace, mode, &mut out)?;
     let is_whole = fails_in as usize == text.len();
-    let is_told = match answer {
-        Ok(_) => is_whole && out.failures() == 0,
-        Err(SimFault::Output) => !is_whole && out.failures() == 1,
-        Err(_) => return None,
+    let is_told = match simulated(rt, alloc, trace, mode, &mut out) {
+        Some(Ok(_)) => is_whole && out.failures() == 0,
+        Some(Err(SimFault::Output)) => !is_whole && out.failures() == 1,
+        _ => false,
     };
-    let held = out.into_inner().held;
-    Some(is_told && held.len() == fails_in as usize && text.as_bytes().starts_with(&held))
+    let is_held = match text.as_bytes().get(..fails_in as usize) {
+        Some(held) => holds(out, held),
+        None => false,
+    };
+    is_told && is_held
 }
 
 #[test]
 fn a_report_is_cut_off_at_each_of_its_bytes(rt: HostRuntime) {
+    let alloc = rt.alloc();
     for fails_in in 0..=409 {
-        let run = (TRACE, Mode::Serial, REPORT);
-        let is_cut_off = is_cut_off_at(&rt, rt.alloc(), run, fails_in);
-        assert!(rt; is_cut_off == Some(true), "at byte {fails_in}");
+        let is_cut_off = is_cut_off_at(&rt, alloc, TRACE, Mode::Serial, REPORT, fails_in);
+        assert!(rt; is_cut_off, "at byte {fails_in}");
+    }
+}
+
+/// The same of the journal.
+fn is_journal_cut_off_at<R: Threads + Wait + Sync>(rt: &R, alloc: Global, fails_in: u32) -> bool {
+    match schedule(alloc, STEPS) {
+        Ok(steps) => is_cut_off_at(rt, alloc, TWO, Mode::Journal(steps), JOURNAL, fails_in),
+        Err(_) => false,
     }
 }
 
 #[test]
-fn a_journal_is_cut_off_at_each_of_its_bytes(rt: HostRuntime) -> Result<(), Fail> {
+fn a_journal_is_cut_off_at_each_of_its_bytes(rt: HostRuntime) {
     let alloc = rt.alloc();
     for fails_in in 0..=JOURNAL.len() as u32 {
-        let Ok(steps) = schedule(alloc, STEPS) else {
-            return Err(Fail::from("schedule"));
-        };
-        let run = (TWO, Mode::Journal(steps), JOURNAL);
-        let is_cut_off = is_cut_off_at(&rt, alloc, run, fails_in);
-        assert!(rt; is_cut_off == Some(true), "at byte {fails_in}");
+        assert!(rt;
+            is_journal_cut_off_at(&rt, alloc, fails_in),
+            "at byte {fails_in}"
+        );
     }
-    Ok(())
 }
 
 /// How many bytes are written of the run of a trace in rounds by the plan of no worker, and why it has no report.

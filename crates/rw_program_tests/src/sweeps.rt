@@ -1,13 +1,12 @@
 // Tables of a trace over a grid, by one worker and by more, and faults.
-use crate::bare_axes::bare_axes;
-use crate::pipe::Pipe;
+use crate::grids::{axes, grid};
+use crate::pipe::{Pipe, holds};
 use rw_photo::{Levels, Policy};
 use rw_progress::{Progress, Silent};
 use rw_ripqwarp::{Out, SimFault};
-use rw_sweep::{Axes, Grid, GridFault, sweep};
+use rw_sweep::{Grid, GridFault, sweep};
 use rw_trace::TraceFault;
-use std::alloc::{AllocError, Global};
-use std::test::Fail;
+use std::alloc::Global;
 use std::thread::Threads;
 
 /// Two requests for two objects of 4 bytes. Each misses at the edge, and 3 ticks later at the origin, which asks the backend; the
@@ -18,65 +17,43 @@ const TRACE: &[u8] = b"time,edge,object,size\n5,0,7,4\n100,0,8,4\n";
 const TABLE: &[u8] =
     b"policy,sections,block,edge_blocks,origin_blocks,caches,requests,hits,misses,coalesced,late,bypassed,inserted,evicted,reinserted,promoted,writes,splits,merges,hit_bytes,request_bytes,hit_ratio,byte_hit_ratio,flash_bytes,written_bytes,backend_requests\noff,1,10,1,2,edges,2,0,2,0,2,0,0,0,0,0,0,0,0,0,8,0.000000,0.000000,10,0,0\noff,1,10,1,2,origins,2,0,2,0,0,0,0,0,0,0,0,0,0,0,8,0.000000,0.000000,20,0,2\noff,1,10,1,2,all,4,0,4,0,2,0,0,0,0,0,0,0,0,0,16,0.000000,0.000000,30,0,2\nlru,1,10,1,2,edges,2,0,2,0,2,0,2,0,0,0,0,0,0,0,8,0.000000,0.000000,10,0,0\nlru,1,10,1,2,origins,2,0,2,0,0,0,2,0,0,0,0,0,0,0,8,0.000000,0.000000,20,0,2\nlru,1,10,1,2,all,4,0,4,0,2,0,4,0,0,0,0,0,0,0,16,0.000000,0.000000,30,0,2\nslru2,1,10,1,2,edges,2,0,2,0,2,0,2,0,0,0,0,0,0,0,8,0.000000,0.000000,10,0,0\nslru2,1,10,1,2,origins,2,0,2,0,0,0,2,0,0,0,0,0,0,0,8,0.000000,0.000000,20,0,2\nslru2,1,10,1,2,all,4,0,4,0,2,0,4,0,0,0,0,0,0,0,16,0.000000,0.000000,30,0,2\n";
 
-/// Adds so many of three policies, and one value of all else.
-fn fill(axes: &mut Axes, policies: usize, block: u64) -> Result<(), AllocError> {
-    axes.policies.push(Policy::Off)?;
-    axes.policies.push(Policy::Lru)?;
-    if let Some(levels) = Levels::new(2) {
-        axes.policies.push(Policy::Slru(levels))?;
-    }
-    axes.policies.truncate(policies);
-    axes.sections.push(1)?;
-    axes.blocks.push(block)?;
-    axes.edge_blocks.push(1)?;
-    axes.origin_blocks.push(2)?;
-    Ok(())
-}
-
-/// An edge and an origin, under so many of three policies.
-fn axes(alloc: Global, policies: usize, block: u64) -> Result<Axes, AllocError> {
-    let mut axes = bare_axes(alloc);
-    fill(&mut axes, policies, block)?;
-    Ok(axes)
-}
-
 /// The grid of an edge and an origin under so many of three policies.
-fn grid(alloc: Global, policies: usize) -> Result<Grid, Fail> {
-    let axes = axes(alloc, policies, 10)?;
-    Ok(Grid::new(alloc, axes).ok().ok_or("grid")?)
+fn grid_under(alloc: Global, policies: usize) -> Option<Grid> {
+    let all = [Policy::Off, Policy::Lru, Policy::Slru(Levels::new(2)?)];
+    grid(alloc, all.get(..policies)?, &[1])
 }
 
-/// Writes the table of a trace under three policies, by so many workers, and answers what the sweep does.
+/// Writes the table of a trace under so many policies, by so many workers. Want of memory for the grid is as that of a sweep.
 fn swept<R: Threads + Sync>(
     rt: &R,
     alloc: Global,
+    policies: usize,
     trace: &[u8],
     workers: u32,
     out: &mut Out<Pipe>,
-) -> Result<Result<(), SimFault>, Fail> {
-    let grid = grid(alloc, 3)?;
-    Ok(sweep(rt, alloc, trace, &grid, workers, &mut Silent, out))
+) -> Result<(), SimFault> {
+    let Some(grid) = grid_under(alloc, policies) else {
+        return Err(SimFault::Memory);
+    };
+    sweep(rt, alloc, trace, &grid, workers, &mut Silent, out)
 }
 
-/// The table of two requests under three policies, by so many workers.
-fn table<R: Threads + Sync>(rt: &R, alloc: Global, workers: u32) -> Result<Vec<u8>, Fail> {
+/// Whether so many workers write the table of two requests under three policies.
+fn is_table<R: Threads + Sync>(rt: &R, alloc: Global, workers: u32) -> bool {
     let mut out = Out::new(Pipe::new(alloc, 1000, 9, false));
-    let swept = swept(rt, alloc, TRACE, workers, &mut out)?;
-    swept.ok().ok_or("sweep")?;
-    Ok(out.into_inner().held)
+    let is_swept = swept(rt, alloc, 3, TRACE, workers, &mut out).is_ok();
+    holds(out, TABLE) && is_swept
 }
 
 #[test]
-fn three_policies_over_two_requests(rt: HostRuntime) -> Result<(), Fail> {
-    for workers in [0, 1, 3, 64, 1000] {
-        let held = table(&rt, rt.alloc(), workers)?;
-        assert!(rt; held.as_slice() == TABLE);
+fn three_policies_over_two_requests(rt: HostRuntime) {
+    for workers in &[0, 1, 3, 64, 1000] {
+        assert!(rt; is_table(&rt, rt.alloc(), *workers), "by {workers}");
     }
-    Ok(())
 }
 
 /// How often somebody was told, what last, and of how many.
-#[derive(Drop)]
+#[derive(Clone, Copy)]
 struct Told {
     times: u64,
     last: u64,
@@ -100,68 +77,102 @@ impl Progress for Told {
     }
 }
 
-#[test]
-fn one_worker_tells_of_each_configuration(rt: HostRuntime) -> Result<(), Fail> {
-    let alloc = rt.alloc();
-    let grid = grid(alloc, 3)?;
-    let mut out = Out::new(Pipe::new(alloc, 1000, 9, false));
+/// What one worker tells of a sweep over a grid; `None` where it fails.
+fn told_of<R: Threads + Sync>(rt: &R, alloc: Global, grid: &Grid) -> Option<Told> {
+    let mut out = Out::new(Vec::new(alloc));
     let mut told = Told {
         times: 0,
         last: 0,
         of: 0,
         writes: 0,
     };
-    let swept = sweep(&rt, alloc, TRACE, &grid, 1, &mut told, &mut out);
-    assert!(rt; swept.is_ok() && grid.len() == 3 && !grid.is_empty());
-    assert!(rt; told.times == 6 && told.last == 3 && told.of == 3 && told.writes == 3);
-    Ok(())
+    let is_swept = sweep(rt, alloc, TRACE, grid, 1, &mut told, &mut out).is_ok();
+    is_swept.then_some(told)
+}
+
+/// Whether one worker tells of each configuration of a grid of three.
+fn is_each_told<R: Threads + Sync>(rt: &R, alloc: Global) -> bool {
+    let Some(grid) = grid_under(alloc, 3) else {
+        return false;
+    };
+    let is_told = match told_of(rt, alloc, &grid) {
+        Some(told) => told.times == 6 && told.last == 3 && told.of == 3 && told.writes == 3,
+        None => false,
+    };
+    is_told && grid.len() == 3 && !grid.is_empty()
 }
 
 #[test]
-fn no_policy_leaves_the_header(rt: HostRuntime) -> Result<(), Fail> {
-    let alloc = rt.alloc();
-    let grid = grid(alloc, 0)?;
-    let mut out = Out::new(Pipe::new(alloc, 1000, 9, false));
-    let swept = sweep(&rt, alloc, TRACE, &grid, 4, &mut Silent, &mut out);
-    assert!(rt; swept.is_ok() && grid.is_empty());
-    assert!(rt;
-        out.into_inner()
-            .held
-            .as_slice()
-            .ends_with(b"backend_requests\n")
-    );
-    Ok(())
+fn one_worker_tells_of_each_configuration(rt: HostRuntime) {
+    assert!(rt; is_each_told(&rt, rt.alloc()));
+}
+
+/// Whether the grid of no policy is empty, and leaves the header alone.
+fn is_header_left<R: Threads + Sync>(rt: &R, alloc: Global) -> bool {
+    let Some(grid) = grid_under(alloc, 0) else {
+        return false;
+    };
+    let mut out = Out::new(Vec::new(alloc));
+    let is_swept = sweep(rt, alloc, TRACE, &grid, 4, &mut Silent, &mut out).is_ok();
+    let table = out.into_inner();
+    is_swept && grid.is_empty() && table.as_slice().ends_with(b"backend_requests\n")
 }
 
 #[test]
-fn a_block_out_of_its_range_is_no_grid(rt: HostRuntime) -> Result<(), Fail> {
-    let alloc = rt.alloc();
-    let refused = Grid::new(alloc, axes(alloc, 3, 0)?).err();
-    assert!(rt; refused == Some(GridFault::OutOfRange));
-    Ok(())
+fn no_policy_leaves_the_header(rt: HostRuntime) {
+    assert!(rt; is_header_left(&rt, rt.alloc()));
+}
+
+/// Whether blocks of this size and these numbers of them make no grid, for this reason.
+fn is_refused(
+    alloc: Global,
+    block: u64,
+    edge_blocks: &[u64],
+    origin_blocks: &[u64],
+    fault: GridFault,
+) -> bool {
+    match axes(alloc, &[Policy::Off], block, edge_blocks, origin_blocks) {
+        Ok(axes) => Grid::new(alloc, axes).err() == Some(fault),
+        Err(_) => false,
+    }
 }
 
 #[test]
-fn too_many_configurations_are_no_grid(rt: HostRuntime) -> Result<(), Fail> {
+fn out_of_range_or_too_many_is_no_grid(rt: HostRuntime) {
     let alloc = rt.alloc();
-    let mut many = axes(alloc, 1, 10)?;
-    many.edge_blocks = vec![in alloc; 1; 257]?;
-    many.origin_blocks = vec![in alloc; 1; 256]?;
-    assert!(rt; Grid::new(alloc, many).err() == Some(GridFault::TooMany));
-    Ok(())
+    assert!(rt; is_refused(alloc, 0, &[1], &[2], GridFault::OutOfRange));
+    assert!(rt; is_refused(alloc, 10, &[1; 257], &[1; 256], GridFault::TooMany));
 }
 
-#[test]
-fn faults_of_a_sweep(rt: HostRuntime) -> Result<(), Fail> {
-    let alloc = rt.alloc();
-    let mut out = Out::new(Pipe::new(alloc, 100, 2, false));
+/// Whether a trace with a row at no edge is refused there, with nothing written.
+fn is_edge_refused<R: Threads + Sync>(rt: &R, alloc: Global) -> bool {
     let bad = b"time,edge,object,size\n5,1,7,4\n";
-    let refused = swept(&rt, alloc, bad, 2, &mut out)?;
-    assert!(rt; matches!(refused, Err(SimFault::Trace(TraceFault::EdgeRange(0)))));
-    let cut_off = swept(&rt, alloc, TRACE, 2, &mut out)?;
-    assert!(rt; matches!(cut_off, Err(SimFault::Output)) && out.failures() == 1);
-    assert!(rt; out.into_inner().held.as_slice() == &TABLE[..200]);
-    Ok(())
+    let mut out = Out::new(Pipe::new(alloc, 100, 2, false));
+    let swept = swept(rt, alloc, 3, bad, 2, &mut out);
+    let is_told = matches!(swept, Err(SimFault::Trace(TraceFault::EdgeRange(0))));
+    holds(out, b"") && is_told
+}
+
+/// Whether a writer of at most so many bytes a write that fails from one of its writes on cuts a sweep off, told and counted
+/// once, where it holds this text.
+fn is_cut_off<R: Threads + Sync>(
+    rt: &R,
+    alloc: Global,
+    workers: u32,
+    (most, fails_in): (usize, u32),
+    text: &[u8],
+) -> bool {
+    let mut out = Out::new(Pipe::new(alloc, most, fails_in, false));
+    let swept = swept(rt, alloc, 3, TRACE, workers, &mut out);
+    let is_told = matches!(swept, Err(SimFault::Output)) && out.failures() == 1;
+    holds(out, text) && is_told
+}
+
+#[test]
+fn faults_of_a_sweep(rt: HostRuntime) {
+    let alloc = rt.alloc();
+    assert!(rt; is_edge_refused(&rt, alloc));
+    assert!(rt; is_cut_off(&rt, alloc, 2, (100, 2), &TABLE[..200]));
 }
 
 /// The first lines of the table.
@@ -178,16 +189,21 @@ fn first_lines(count: usize) -> &'static [u8] {
     TABLE
 }
 
+/// After how many writes a writer fails, and how many lines it then holds.
+const CUT_OFF: [(u32, usize); 4] = [(0, 0), (1, 1), (2, 4), (3, 7)];
+
 #[test]
-fn a_writer_that_fails_holds_whole_lines(rt: HostRuntime) -> Result<(), Fail> {
+fn a_writer_that_fails_holds_whole_lines(rt: HostRuntime) {
     let alloc = rt.alloc();
-    for (fails_in, lines) in [(0, 0), (1, 1), (2, 4), (3, 7)] {
-        for workers in [1, 2] {
-            let mut out = Out::new(Pipe::new(alloc, 1000, fails_in, false));
-            let swept = swept(&rt, alloc, TRACE, workers, &mut out)?;
-            assert!(rt; matches!(swept, Err(SimFault::Output)) && out.failures() == 1);
-            assert!(rt; out.into_inner().held.as_slice() == first_lines(lines));
-        }
+    for (fails_in, lines) in &CUT_OFF {
+        let text = first_lines(*lines);
+        assert!(rt;
+            is_cut_off(&rt, alloc, 1, (1000, *fails_in), text),
+            "in {fails_in}"
+        );
+        assert!(rt;
+            is_cut_off(&rt, alloc, 2, (1000, *fails_in), text),
+            "in {fails_in}"
+        );
     }
-    Ok(())
 }
