@@ -236,15 +236,22 @@ fn is_answered_in_vain<R: Threads + Wait + Clock + Sync>(
     is_answer(ripqwarp(rt, alloc, words, TRACE, &mut err), answer)
 }
 
-// A writer that is interrupted for ever, and one that takes nothing, change neither what is done nor its status.
+/// Command lines, each with its exit status and how many bytes are written, for a writer that is interrupted for ever and one
+/// that takes nothing.
+const IN_VAIN: [(&str, u32, (u8, usize)); 4] = [
+    ("ripqwarp warp - --policy off --workers 1", 0, (0, 409)),
+    ("ripqwarp warp - --policy off --workers 1", 9, (0, 409)),
+    ("ripqwarp serial nothing", 0, (4, 0)),
+    ("ripqwarp serial nothing", 9, (4, 0)),
+];
+
+// They change neither what is done nor its status.
 #[test]
 fn a_failing_standard_error_is_ignored(rt: HostRuntime) {
     let alloc = rt.alloc();
-    for fails_in in &[0, 9] {
-        let warp = "ripqwarp warp - --policy off --workers 1";
-        assert!(rt; is_answered_in_vain(&rt, alloc, warp, *fails_in, (0, 409)));
-        let serial = "ripqwarp serial nothing";
-        assert!(rt; is_answered_in_vain(&rt, alloc, serial, *fails_in, (4, 0)));
+    for (words, fails_in, answer) in &IN_VAIN {
+        let is_answered = is_answered_in_vain(&rt, alloc, words, *fails_in, *answer);
+        assert!(rt; is_answered, "for {words}, in {fails_in}");
     }
 }
 

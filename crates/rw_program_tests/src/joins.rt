@@ -60,8 +60,11 @@ fn joined<R: Threads + Sync>(rt: &R, alloc: Global, grid: &Grid, count: u32) -> 
 }
 
 /// Whether so many parts make the table of a grid of five configurations.
-fn make_the_table<R: Threads + Sync>(rt: &R, alloc: Global, grid: &Grid, count: u32) -> bool {
-    match (joined(rt, alloc, grid, count), table(rt, alloc, grid)) {
+fn make_the_table<R: Threads + Sync>(rt: &R, alloc: Global, count: u32) -> bool {
+    let Some(grid) = five(alloc) else {
+        return false;
+    };
+    match (joined(rt, alloc, &grid, count), table(rt, alloc, &grid)) {
         (Some(joined), Some(whole)) => joined.as_slice() == whole.as_slice(),
         _ => false,
     }
@@ -71,11 +74,8 @@ fn make_the_table<R: Threads + Sync>(rt: &R, alloc: Global, grid: &Grid, count: 
 fn parts_make_the_table(rt: HostRuntime) {
     parts_make_the_sweep();
     join_of_parts();
-    let alloc = rt.alloc();
-    let grid = five(alloc);
     for count in &[1, 2, 5, 7] {
-        let is_made = matches!(&grid, Some(grid) if make_the_table(&rt, alloc, grid, *count));
-        assert!(rt; is_made, "of {count}");
+        assert!(rt; make_the_table(&rt, rt.alloc(), *count), "of {count}");
     }
 }
 
@@ -125,7 +125,7 @@ fn part_of(alloc: Global, places: &[(&str, usize)]) -> io::Result<Vec<u8>> {
 }
 
 /// Places, each with the number of its lines, how many places are asked for, and what joining a part of these comes to.
-const PLACES: [(&[(&str, usize)], Option<u64>, &str); 8] = [
+static PLACES: [(&[(&str, usize)], Option<u64>, &str); 8] = [
     (&[("1", 3), ("0", 3)], Some(2), "754 bytes"),
     (&[("0", 3), ("2", 3)], None, "join: place 1: missing"),
     (&[("0", 3)], Some(2), "join: place 1: missing"),

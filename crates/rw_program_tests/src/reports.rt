@@ -35,10 +35,11 @@ fn simulated<W: Write, R: Threads + Wait + Sync>(
 fn is_held<R: Threads + Wait + Sync>(
     rt: &R,
     alloc: Global,
-    pipe: Pipe,
-    (bytes, failures): (usize, u64),
+    (most, fails_in, flush_fails): (usize, u32, bool),
+    bytes: usize,
+    failures: u64,
 ) -> bool {
-    let mut out = Out::new(pipe);
+    let mut out = Out::new(Pipe::new(alloc, most, fails_in, flush_fails));
     let is_told = match simulated(rt, alloc, TRACE, Mode::Serial, &mut out) {
         Some(Ok(traffic)) => failures == 0 && traffic == Traffic::default(),
         Some(Err(SimFault::Output)) => failures == 1,
@@ -49,14 +50,21 @@ fn is_held<R: Threads + Wait + Sync>(
     is_told && is_counted && held.len() == bytes
 }
 
+/// The most bytes a write, from which write on it fails, and whether the flush does; what is then held, and failures counted.
+const WRITERS: [((usize, u32, bool), usize, u64); 5] = [
+    ((100, 2, false), 200, 1),
+    ((0, 9, false), 0, 1),
+    ((1000, 9, true), 409, 1),
+    ((1, 1000, false), 409, 0),
+    ((1, 408, false), 408, 1),
+];
+
 #[test]
 fn a_writer_that_fails_cuts_the_report_off(rt: HostRuntime) {
-    let alloc = rt.alloc();
-    assert!(rt; is_held(&rt, alloc, Pipe::new(alloc, 100, 2, false), (200, 1)));
-    assert!(rt; is_held(&rt, alloc, Pipe::new(alloc, 0, 9, false), (0, 1)));
-    assert!(rt; is_held(&rt, alloc, Pipe::new(alloc, 1000, 9, true), (409, 1)));
-    assert!(rt; is_held(&rt, alloc, Pipe::new(alloc, 1, 1000, false), (409, 0)));
-    assert!(rt; is_held(&rt, alloc, Pipe::new(alloc, 1, 408, false), (408, 1)));
+    for (writer, bytes, failures) in &WRITERS {
+        let is_held = is_held(&rt, rt.alloc(), *writer, *bytes, *failures);
+        assert!(rt; is_held, "{bytes} bytes and {failures} failures");
+    }
 }
 
 /// Whether a writer that fails at one of its calls alone holds so many bytes of the report and was called so often, with so
@@ -78,15 +86,22 @@ fn is_held_after<R: Threads + Wait + Sync>(
     is_told && is_counted && writer.calls == calls && writer.held.len() == bytes
 }
 
+/// At which call a writer fails, and how many bytes it then holds, how often it was called, and how many failures are counted.
+/// There are five writes, of 100 bytes and the last of 9, and a flush.
+const CALLS: [(u32, (usize, u32, u64)); 5] = [
+    (0, (0, 1, 1)),
+    (2, (200, 3, 1)),
+    (4, (400, 5, 1)),
+    (5, (409, 6, 1)),
+    (6, (409, 6, 0)),
+];
+
 #[test]
 fn nothing_is_tried_after_a_failure(rt: HostRuntime) {
-    // Five writes, of 100 bytes and the last of 9, and a flush.
-    let alloc = rt.alloc();
-    assert!(rt; is_held_after(&rt, alloc, 0, (0, 1, 1)));
-    assert!(rt; is_held_after(&rt, alloc, 2, (200, 3, 1)));
-    assert!(rt; is_held_after(&rt, alloc, 4, (400, 5, 1)));
-    assert!(rt; is_held_after(&rt, alloc, 5, (409, 6, 1)));
-    assert!(rt; is_held_after(&rt, alloc, 6, (409, 6, 0)));
+    for (fails_at, held) in &CALLS {
+        let is_held = is_held_after(&rt, rt.alloc(), *fails_at, *held);
+        assert!(rt; is_held, "at call {fails_at}");
+    }
 }
 
 /// The report of [`TRACE`] with nothing stored, whole.
@@ -166,12 +181,12 @@ fn a_journal_is_cut_off_at_each_of_its_bytes(rt: HostRuntime) {
     }
 }
 
-/// How many bytes are written of the run of a trace in rounds by the plan of no worker, and why it has no report.
+/// Why the run of a trace in rounds by the plan of no worker has no report; `None` where something is written.
 fn without_workers<R: Threads + Wait + Sync>(
     rt: &R,
     alloc: Global,
     trace: &[u8],
-) -> Option<(usize, SimFault)> {
+) -> Option<SimFault> {
     let plan = Plan {
         workers: 0,
         turns: 16,
@@ -183,24 +198,16 @@ fn without_workers<R: Threads + Wait + Sync>(
     };
     let mut out = Out::new(Vec::new(alloc));
     let fault = simulated(rt, alloc, trace, Mode::Warp(plan), &mut out)?.err()?;
-    Some((out.into_inner().len(), fault))
+    out.into_inner().is_empty().then_some(fault)
 }
 
 #[test]
 fn a_plan_out_of_range_is_refused_after_the_trace(rt: HostRuntime) {
     let alloc = rt.alloc();
-    assert!(rt;
-        matches!(
-            &without_workers(&rt, alloc, TRACE),
-            Some((0, SimFault::Plan))
-        )
-    );
-    assert!(rt;
-        matches!(
-            &without_workers(&rt, alloc, b""),
-            Some((0, SimFault::Trace(TraceFault::Header)))
-        )
-    );
+    let refused = without_workers(&rt, alloc, TRACE);
+    assert!(rt; matches!(refused, Some(SimFault::Plan)));
+    let refused = without_workers(&rt, alloc, b"");
+    assert!(rt; matches!(refused, Some(SimFault::Trace(TraceFault::Header))));
 }
 
 #[test]

@@ -189,21 +189,23 @@ fn first_lines(count: usize) -> &'static [u8] {
     TABLE
 }
 
-/// After how many writes a writer fails, and how many lines it then holds.
-const CUT_OFF: [(u32, usize); 4] = [(0, 0), (1, 1), (2, 4), (3, 7)];
+/// How many workers sweep, after how many writes their writer fails, and how many lines it then holds.
+const CUT_OFF: [(u32, u32, usize); 8] = [
+    (1, 0, 0),
+    (2, 0, 0),
+    (1, 1, 1),
+    (2, 1, 1),
+    (1, 2, 4),
+    (2, 2, 4),
+    (1, 3, 7),
+    (2, 3, 7),
+];
 
 #[test]
 fn a_writer_that_fails_holds_whole_lines(rt: HostRuntime) {
-    let alloc = rt.alloc();
-    for (fails_in, lines) in &CUT_OFF {
-        let text = first_lines(*lines);
-        assert!(rt;
-            is_cut_off(&rt, alloc, 1, (1000, *fails_in), text),
-            "in {fails_in}"
-        );
-        assert!(rt;
-            is_cut_off(&rt, alloc, 2, (1000, *fails_in), text),
-            "in {fails_in}"
-        );
+    for (workers, fails_in, lines) in &CUT_OFF {
+        let pipe = (1000, *fails_in);
+        let is_cut_off = is_cut_off(&rt, rt.alloc(), *workers, pipe, first_lines(*lines));
+        assert!(rt; is_cut_off, "by {workers} in {fails_in}");
     }
 }
