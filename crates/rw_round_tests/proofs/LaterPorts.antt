@@ -1,11 +1,18 @@
 -- The ports of an opening, later: taken out of their list and put back, or handed to threads.
-use Rattle.std.proofs.Common.{◌≡◌, ℕ, zero, suc, ◌<◌, List, [], ◌∷◌, map, length, get_or, sym, ap, ◌∙◌, subst, Result, Ok, IfOk, arith}
+use Rattle.std.proofs.Common.{◌≡◌, ℕ, zero, suc, ◌<◌, List, [], ◌∷◌, map, length, get_or, slice_index_or, remove, sym, ap, ◌∙◌, subst, Result, Ok, IfOk, arith}
 use Rattle.std.proofs.lemmas.List.{length-map, get_or-map}
 use Rattle.rw_exchange.specs.Ports.{PortState, SamePort, IsOpening, StayAnOpening}
 
 some_of : {X : Type 0} (xs : List X) → 0 < length xs → X
 some_of [] h = absurd (omega arith)
 some_of (x ∷ xs) h = x
+
+-- a list of two, of which the second was taken out, and then the first
+pub are_two : {X : Type 0} (xs rest : List X) (first second : X) → length xs ≡ 2 → second ≡ slice_index_or xs 1 second → rest ≡ remove xs 1 → first ≡ slice_index_or rest 0 first → xs ≡ first ∷ second ∷ []
+are_two [] rest first second two = absurd (omega arith)
+are_two (x ∷ []) rest first second two = absurd (omega arith)
+are_two (x ∷ y ∷ []) rest first second two = λ last left front. sym (ap (λ z. z ∷ second ∷ []) (front ∙ ap (λ l. slice_index_or l 0 first) left) ∙ ap (λ z. x ∷ z ∷ []) last)
+are_two (x ∷ y ∷ z ∷ xs) rest first second two = absurd (omega arith)
 
 module _ {T : Type 0} where
   pub same_then : (p q r : PortState T) → SamePort p q → SamePort q r → SamePort p r

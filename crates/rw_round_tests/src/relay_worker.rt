@@ -64,12 +64,8 @@ fn two_seats(alloc: Global) -> Result<(Board, Seat, Seat), Fail>
     ensures second { IfOk result (λ r. r.2.board ≡ r.0.board) }
 {
     let (board, mut seats) = rw_board::open(alloc, 2)?;
-    let Some(second) = seats.pop() else {
-        unreachable!()
-    };
-    let Some(first) = seats.pop() else {
-        unreachable!()
-    };
+    let second = seats.remove(1);
+    let first = seats.remove(0);
     Ok((board, first, second))
 }
 

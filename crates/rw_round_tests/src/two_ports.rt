@@ -18,11 +18,7 @@ pub(crate) fn two_ports<T: Drop, P: Protocol<T>>(
     ensures opening { IfOk result (λ r. StayAnOpening (r.0 ∷ r.1 ∷ [])) }
 {
     let mut ports = open(alloc, 2, slots)?;
-    let Some(second) = ports.pop() else {
-        unreachable!()
-    };
-    let Some(first) = ports.pop() else {
-        unreachable!()
-    };
+    let second = ports.remove(1);
+    let first = ports.remove(0);
     Ok((first, second))
 }
