@@ -1,6 +1,7 @@
 //! Single calls of the library, by their names. Each is set up, made and told on standard output: its whole right answer, or
 //! why there is none.
 use crate::cache_calls::{EVICTION, PROMOTION, SPLIT_AND_MERGE};
+use crate::process_calls::{CANCELLING, FILL, STRAGGLER};
 use crate::setback::Setback;
 use crate::{cache_calls, process_calls, round_calls, simulate_calls};
 use std::alloc::Global;
@@ -49,9 +50,9 @@ pub fn call<R: Print + Threads + Wait + Sync>(
         "eviction" => cache_calls::tell(rt, alloc, &EVICTION),
         "promotion" => cache_calls::tell(rt, alloc, &PROMOTION),
         "split-and-merge" => cache_calls::tell(rt, alloc, &SPLIT_AND_MERGE),
-        "arrive-fill" => process_calls::tell_fill(rt, alloc),
-        "arrive-cancelling" => process_calls::tell_cancelling(rt, alloc),
-        "arrive-straggler" => process_calls::tell_straggler(rt, alloc),
+        "arrive-fill" => process_calls::tell(rt, alloc, &FILL),
+        "arrive-cancelling" => process_calls::tell(rt, alloc, &CANCELLING),
+        "arrive-straggler" => process_calls::tell(rt, alloc, &STRAGGLER),
         "round" => round_calls::tell_round(rt, alloc),
         "run" => round_calls::tell_run(rt, alloc),
         "simulate-serial" => simulate_calls::tell_serial(rt, alloc),

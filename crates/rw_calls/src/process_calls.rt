@@ -8,6 +8,96 @@ use rw_photo::{Body, Config, Event, Photo, Policy, Shape};
 use rw_vt::{Letter, Model};
 use std::alloc::Global;
 
+/// What an edge does, and the letter that then arrives.
+pub struct Course {
+    policy: Policy,
+    /// What is pending as the edge starts.
+    initial: &'static [Event<Body>],
+    /// What the edge does before the letter comes, first to last.
+    steps: &'static [Step],
+    letter: Letter<Body>,
+}
+
+/// A step of an edge.
+#[derive(Clone, Copy)]
+enum Step {
+    /// Executes the least pending event.
+    Execute,
+    /// A letter arrives.
+    Arrive(Letter<Body>),
+}
+
+/// Something that happens at the edge, of an object of this number and size.
+macro_rules! event {
+    ($time:expr, $source:expr, $number:expr, $body:ident, $object:expr, $size:expr) => {
+        Event {
+            time: $time,
+            source: $source,
+            number: $number,
+            to: 0,
+            body: Body::$body {
+                object: $object,
+                size: $size,
+            },
+        }
+    };
+}
+
+/// What the origin answers to the first of two requests, or the anti-message that cancels it.
+macro_rules! fill {
+    ($anti:expr) => {
+        Letter {
+            event: event!(21, 2, 0, Fill, 7, 4),
+            anti: $anti,
+        }
+    };
+}
+
+/// Two requests, of which the second one joins the first.
+const REQUESTS: &[Event<Body>] = &[
+    event!(5, 0, 0, Request, 7, 4),
+    event!(22, 0, 1, Request, 7, 4),
+];
+
+/// A late fill comes to the edge, which has executed two requests ahead.
+pub const FILL: Course = Course {
+    policy: Policy::Off,
+    initial: REQUESTS,
+    steps: &[Step::Execute, Step::Execute],
+    letter: fill!(false),
+};
+
+/// That fill is cancelled, after which a request was executed again.
+pub const CANCELLING: Course = Course {
+    policy: Policy::Off,
+    initial: REQUESTS,
+    steps: &[
+        Step::Execute,
+        Step::Execute,
+        Step::Arrive(fill!(false)),
+        Step::Execute,
+        Step::Execute,
+    ],
+    letter: fill!(true),
+};
+
+/// An edge stores: two insertions, a promotion of the first object, and an insertion that puts it in again and evicts the
+/// second object. A fill comes that is earlier than the last two of these events.
+pub const STRAGGLER: Course = Course {
+    policy: Policy::Lru,
+    initial: &[
+        event!(10, 2, 0, Fill, 1, 6),
+        event!(20, 2, 1, Fill, 2, 6),
+        event!(30, 0, 0, Request, 1, 6),
+        event!(40, 2, 2, Fill, 3, 6),
+    ],
+    steps: &[Step::Execute, Step::Execute, Step::Execute, Step::Execute],
+    letter: Letter {
+        event: event!(25, 2, 3, Fill, 4, 6),
+        anti: false,
+    },
+};
+
 /// The edge, with its model.
 #[derive(Drop)]
 struct Edge {
@@ -17,84 +107,22 @@ struct Edge {
     ghost number_is: { lp.number ≡ 0 },
 }
 
-/// A late fill comes to the edge, which has executed two requests ahead. Tells what it then is and gives out.
-pub fn tell_fill<R: Print>(rt: &R, alloc: Global) -> Result<(), Setback> {
+/// Follows a course. Tells what the edge then is, and what it gives out as the letter arrives.
+pub fn tell<R: Print>(rt: &R, alloc: Global, course: &Course) -> Result<(), Setback> {
     let mut out = Vec::new(alloc);
-    let edge = joined(alloc)?.arrive(alloc, fill(false), &mut out)?;
+    let edge = before(alloc, course)?.arrive(alloc, course.letter, &mut out)?;
     edge.tell(rt, &out)
 }
 
-/// The fill is cancelled, after which a request was executed again. Tells what the edge then is and gives out.
-pub fn tell_cancelling<R: Print>(rt: &R, alloc: Global) -> Result<(), Setback> {
-    let mut out = Vec::new(alloc);
-    let edge = filled(alloc)?.arrive(alloc, fill(true), &mut out)?;
-    edge.tell(rt, &out)
-}
-
-/// A fill comes that is earlier than the last two events that an edge has executed, of which the last one evicted. Tells what
-/// the edge then is and gives out.
-pub fn tell_straggler<R: Print>(rt: &R, alloc: Global) -> Result<(), Setback> {
-    let mut out = Vec::new(alloc);
-    let body = Body::Fill { object: 4, size: 6 };
-    let letter = Letter {
-        event: event(25, 2, 3, body),
-        anti: false,
-    };
-    let edge = evicted(alloc)?.arrive(alloc, letter, &mut out)?;
-    edge.tell(rt, &out)
-}
-
-/// The edge after it has executed two requests, of which the second one has joined the first.
-fn joined(alloc: Global) -> Result<Edge, Setback> {
-    let initial = Vec::from_array(alloc, [request(5, 0), request(22, 1)])?;
-    let edge = Edge::open(alloc, Policy::Off, initial)?;
-    edge.execute_next(alloc)?.execute_next(alloc)
-}
-
-/// The same, after a fill came late and the second request was executed again.
-fn filled(alloc: Global) -> Result<Edge, Setback> {
-    let mut out = Vec::new(alloc);
-    let edge = joined(alloc)?.arrive(alloc, fill(false), &mut out)?;
-    edge.execute_next(alloc)?.execute_next(alloc)
-}
-
-/// An edge that stores: two insertions, a promotion of the first object, and an insertion that puts it in again and evicts
-/// the second object.
-fn evicted(alloc: Global) -> Result<Edge, Setback> {
-    let size = 6;
-    let initial = [
-        event(10, 2, 0, Body::Fill { object: 1, size }),
-        event(20, 2, 1, Body::Fill { object: 2, size }),
-        event(30, 0, 0, Body::Request { object: 1, size }),
-        event(40, 2, 2, Body::Fill { object: 3, size }),
-    ];
-    let mut edge = Edge::open(alloc, Policy::Lru, Vec::from_array(alloc, initial)?)?;
-    for _event in 0..4 {
-        edge = edge.execute_next(alloc)?;
+/// The edge before the letter of the course comes.
+fn before(alloc: Global, course: &Course) -> Result<Edge, Setback> {
+    let mut initial = Vec::new(alloc);
+    initial.extend_from_slice(course.initial)?;
+    let mut edge = Edge::open(alloc, course.policy, initial)?;
+    for step in course.steps {
+        edge = edge.make(alloc, *step)?;
     }
     Ok(edge)
-}
-
-/// Something that happens at the edge.
-fn event(time: u64, source: u32, number: u64, body: Body) -> Event<Body> {
-    Event {
-        time,
-        source,
-        number,
-        to: 0,
-        body,
-    }
-}
-
-/// A request of object 7, of 4 bytes.
-fn request(time: u64, number: u64) -> Event<Body> {
-    event(time, 0, number, Body::Request { object: 7, size: 4 })
-}
-
-/// What the origin answers, or the anti-message that cancels it.
-fn fill(anti: bool) -> Letter<Body> {
-    let event = event(21, 2, 0, Body::Fill { object: 7, size: 4 });
-    Letter { event, anti }
 }
 
 /// Process 0 of a model in its start state, with these events pending.
@@ -131,11 +159,19 @@ impl Edge {
         Ok(Edge { photo, lp })
     }
 
-    /// Executes the least pending event.
-    fn execute_next(self, alloc: Global) -> Result<Edge, Setback> {
+    /// Makes a step.
+    fn make(self, alloc: Global, step: Step) -> Result<Edge, Setback> {
         let mut out = Vec::new(alloc);
+        match step {
+            Step::Execute => self.execute_next(alloc, &mut out),
+            Step::Arrive(letter) => self.arrive(alloc, letter, &mut out),
+        }
+    }
+
+    /// Executes the least pending event.
+    fn execute_next(self, alloc: Global, out: &mut Vec<Letter<Body>>) -> Result<Edge, Setback> {
         let Edge { photo, lp } = self;
-        let (lp, _answer) = lp.execute_next(alloc, &photo, &mut out)?;
+        let (lp, _answer) = lp.execute_next(alloc, &photo, out)?;
         Ok(Edge { photo, lp })
     }
 
@@ -156,12 +192,14 @@ impl Edge {
 
     /// Tells what the edge is, and what it has given out.
     fn tell<R: Print>(&self, rt: &R, out: &Vec<Letter<Body>>) -> Result<(), Setback> {
-        println!(rt; "given {out:?}")?;
-        println!(rt; "committed {:?}", self.lp.journal())?;
-        println!(rt; "processed {:?}", self.lp.processed())?;
-        println!(rt; "next {:?}", self.lp.next())?;
-        println!(rt; "least {}", self.lp.least())?;
-        println!(rt; "counted {:?}", self.lp.state().counters())?;
+        println!(rt;
+            "given {out:?}\ncommitted {:?}\nprocessed {:?}\nnext {:?}\nleast {}\ncounted {:?}",
+            self.lp.journal(),
+            self.lp.processed(),
+            self.lp.next(),
+            self.lp.least(),
+            self.lp.state().counters()
+        )?;
         Ok(())
     }
 }
