@@ -116,8 +116,7 @@ pub fn tell<R: Print>(rt: &R, alloc: Global, course: &Course) -> Result<(), Setb
 
 /// The edge before the letter of the course comes.
 fn before(alloc: Global, course: &Course) -> Result<Edge, Setback> {
-    let mut initial = Vec::new(alloc);
-    initial.extend_from_slice(course.initial)?;
+    let initial = Vec::from_slice(alloc, course.initial)?;
     let mut edge = Edge::open(alloc, course.policy, initial)?;
     for step in course.steps {
         edge = edge.make(alloc, *step)?;
