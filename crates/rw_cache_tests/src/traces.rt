@@ -1,40 +1,46 @@
 // Traces: what is read from their bytes, and the fault of each that is refused.
 use rw_trace::{Kind, MAX_ROWS, Row, TraceFault, read, read_up_to};
 use std::alloc::Global;
-use std::process::Abort;
 use std::test::Fail;
 
-/// What is read from a body behind the header, with one edge and at most `most` rows.
-fn reading(alloc: Global, body: &[u8], most: u64) -> Result<String, Fail> {
-    let mut bytes = Vec::from_slice(alloc, b"time,edge,object,size\n")?;
-    bytes.extend_from_slice(body)?;
-    let answer = read_up_to(alloc, bytes.as_slice(), 1, most.min(MAX_ROWS));
-    told(alloc, &answer)
-}
-
-/// The text of an answer: what each row holds, a purge's with its kind, or the fault's line.
+/// The text of what is read: what each row holds, a purge's with its kind, or the fault's line.
 fn told(alloc: Global, answer: &Result<Vec<Row>, TraceFault>) -> Result<String, Fail> {
     let mut text = String::new(alloc);
     match answer {
         Ok(rows) => {
             for row in rows {
+                let end = match row.kind {
+                    Kind::Get => ";",
+                    Kind::Purge => " purge;",
+                };
                 let Row {
                     time,
                     edge,
                     object,
                     size,
-                    kind,
+                    ..
                 } = *row;
-                write!(text, "{time} {edge} {object} {size}")?;
-                match kind {
-                    Kind::Get => write!(text, ";")?,
-                    Kind::Purge => write!(text, " purge;")?,
-                }
+                write!(text, "{time} {edge} {object} {size}{end}")?;
             }
         }
         Err(fault) => write!(text, "{fault}")?,
     }
     Ok(text)
+}
+
+/// Whether this is what is read from a trace of one edge.
+fn is_read(alloc: Global, bytes: &[u8], want: &str) -> Result<bool, Fail> {
+    let text = told(alloc, &read(alloc, bytes, 1))?;
+    Ok(text.as_str() == want)
+}
+
+/// Whether this is what is read from a body behind the header, with one edge and at most `most` rows.
+fn is_body(alloc: Global, body: &[u8], most: u64, want: &str) -> Result<bool, Fail> {
+    let mut bytes = Vec::from_slice(alloc, b"time,edge,object,size\n")?;
+    bytes.extend_from_slice(body)?;
+    let answer = read_up_to(alloc, bytes.as_slice(), 1, most.min(MAX_ROWS));
+    let text = told(alloc, &answer)?;
+    Ok(text.as_str() == want)
 }
 
 /// Bodies behind the header, each with what is read.
@@ -83,17 +89,7 @@ const BODIES: [(&[u8], &str); 24] = [
 #[test]
 fn a_body_gives_its_rows_or_its_first_fault(rt: HostRuntime) -> Result<(), Fail> {
     for (row, (body, want)) in BODIES.iter().enumerate() {
-        let text = reading(rt.alloc(), body, MAX_ROWS)?;
-        assert_eq!(rt; text.as_str(), *want, "row {row}");
-    }
-    Ok(())
-}
-
-/// Asserts that each of these traces of one edge, whole with their headers, is read so.
-fn must_read_each<R: Abort>(rt: &R, alloc: Global, traces: &[(&[u8], &str)]) -> Result<(), Fail> {
-    for (row, (bytes, want)) in traces.iter().enumerate() {
-        let text = told(alloc, &read(alloc, bytes, 1))?;
-        assert_eq!(rt; text.as_str(), *want, "row {row}");
+        assert!(rt; is_body(rt.alloc(), body, MAX_ROWS, want)?, "row {row}");
     }
     Ok(())
 }
@@ -114,7 +110,10 @@ const HEADERS: [(&[u8], &str); 10] = [
 
 #[test]
 fn a_header_is_its_four_words_or_five(rt: HostRuntime) -> Result<(), Fail> {
-    must_read_each(&rt, rt.alloc(), &HEADERS)
+    for (row, (bytes, want)) in HEADERS.iter().enumerate() {
+        assert!(rt; is_read(rt.alloc(), bytes, want)?, "row {row}");
+    }
+    Ok(())
 }
 
 /// Whole traces of both versions, with gets and purges.
@@ -168,7 +167,10 @@ const KINDS: [(&[u8], &str); 12] = [
 
 #[test]
 fn a_row_is_a_get_or_a_purge(rt: HostRuntime) -> Result<(), Fail> {
-    must_read_each(&rt, rt.alloc(), &KINDS)
+    for (row, (bytes, want)) in KINDS.iter().enumerate() {
+        assert!(rt; is_read(rt.alloc(), bytes, want)?, "row {row}");
+    }
+    Ok(())
 }
 
 /// Bodies behind the header, each with the most rows that are taken and with what is read.
@@ -185,8 +187,7 @@ const LIMITS: [(&[u8], u64, &str); 7] = [
 #[test]
 fn one_row_too_many_is_told(rt: HostRuntime) -> Result<(), Fail> {
     for (row, (body, most, want)) in LIMITS.iter().enumerate() {
-        let text = reading(rt.alloc(), body, *most)?;
-        assert_eq!(rt; text.as_str(), *want, "row {row}");
+        assert!(rt; is_body(rt.alloc(), body, *most, want)?, "row {row}");
     }
     Ok(())
 }
