@@ -28,13 +28,25 @@ use std::marker::Model;
 ///
 /// Sections and positions count from 0, sections from the head and positions from the front of a sealed list. After
 /// `NoMemory` nothing is said of the queue: it is only dropped. Its questions, which change nothing, take no memory.
-#[derive(Drop)]
 pub struct Queue {
     pub(crate) shape: Shape,
     pub(crate) sections: Sections,
     pub(crate) rows: Rows,
     pub(crate) bytes: Vec<u64>,
     pub(crate) next: u64,
+}
+
+// By hand, so that it is proved here, and not in each crate above whose values have one.
+impl Drop for Queue {
+    fn drop(self) {
+        let Queue {
+            shape: _,
+            sections: _,
+            rows: _,
+            bytes: _,
+            next: _,
+        } = self;
+    }
 }
 
 impl Model for Queue {
