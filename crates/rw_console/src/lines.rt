@@ -16,32 +16,32 @@ const ROOM: usize = 512;
 /// programs are not mixed; else in pieces. A failure is what it is for [`Out`]: an error, of an interrupted write too, or a
 /// write that takes nothing. So it ends at every writer. Takes no memory.
 pub fn write_line<E: Write, D: Display + Drop>(err: &mut E, line: D) {
-    let mut held = Held::new(err);
-    if writeln!(held, "{line}").is_ok() {
-        let _ = held.send();
+    let mut unsent = Unsent::new(err);
+    if writeln!(unsent, "{line}").is_ok() {
+        let _ = unsent.send();
     }
 }
 
 /// What is still to go out.
 #[derive(Drop)]
-struct Held<W> {
+struct Unsent<W> {
     out: Out<W>,
     bytes: [u8; ROOM],
     used: usize,
     ghost fits: { used ≤ ROOM },
 }
 
-impl<W: Write> Held<W> {
-    /// Nothing held, for this writer.
-    fn new(writer: W) -> Held<W> {
-        Held {
+impl<W: Write> Unsent<W> {
+    /// Nothing yet, for this writer.
+    fn new(writer: W) -> Unsent<W> {
+        Unsent {
             out: Out::new(writer),
             bytes: [0; ROOM],
             used: 0,
         }
     }
 
-    /// Writes what is held; whether the writer took it.
+    /// Writes what is there; whether the writer took it.
     fn send(&mut self) -> bool
         ensures { self.new.used ≡ 0 }
     {
@@ -51,7 +51,7 @@ impl<W: Write> Held<W> {
     }
 }
 
-impl<W: Write> fmt::Write for Held<W> {
+impl<W: Write> fmt::Write for Unsent<W> {
     fn write_str(&mut self, text: &str) -> fmt::Result {
         for byte in text.bytes() {
             if self.used == ROOM && !self.send() {
