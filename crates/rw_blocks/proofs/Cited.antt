@@ -2,8 +2,6 @@
 pub use Rattle.rw_blocks.proofs.Sums.{bytes_in-le-total}
 pub use Rattle.rw_blocks.proofs.Serials.{kinds, serials-cons}
 pub use Rattle.rw_blocks.proofs.Present.{has-times, times}
-pub use Rattle.rw_blocks.proofs.Tagged.{absent_from-position}
 pub use Rattle.rw_blocks.proofs.Grown.{IsLoose-after_seal, at_block, bytes_held-blocks, bytes_held-nowhere, count-after_seal, count_in-cons, one, one-other}
 pub use Rattle.rw_blocks.proofs.Kept.{IsLoose-after_add, IsLoose-after_rehome, IsLoose-after_remove, IsLoose-after_replace, bytes_held-is, of_row, weight}
 pub use Rattle.rw_blocks.proofs.Moved.{IsLoose-after_merge, IsLoose-after_split, IsLoose-after_take_out, count-after_merge, count-after_split, count-after_take_out, one-kind}
-pub use Rattle.rw_blocks.proofs.ByObject.{find-by_object, by_object-insert, by_object-remove}

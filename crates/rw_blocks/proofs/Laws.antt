@@ -3,17 +3,20 @@ use Rattle.std.proofs.Common.{◌≡◌, ℕ, zero, suc, ◌+◌, ◌≤◌, ◌
 use Rattle.std.proofs.lemmas.List.{set-get_or, take-append-drop, drop_at, take_at, length-append}
 use Rattle.std.proofs.lemmas.List.Edits.{length-remove, length-insert, get_or-insert_below, get_or-insert_at, get_or-remove_below}
 use Rattle.std.specs.Prelude.{Some, None, insert, remove, slice_get}
-use Rattle.rw_blocks.specs.declared.Kind.{Kind}
-use Rattle.rw_blocks.specs.declared.Kind.TheVariants.{Device, Virtual}
-use Rattle.rw_blocks.specs.declared.Place.{Place}
-use Rattle.rw_blocks.specs.declared.Vanished.{Vanished}
+use Rattle.std.proofs.lemmas.Option.{slice_get-get_or}
+use Rattle.rw_sections.specs.declared.Kind.{Kind}
+use Rattle.rw_sections.specs.declared.Kind.TheVariants.{Device, Virtual}
+use Rattle.rw_places.specs.declared.Place.{Place}
+use Rattle.rw_sections.specs.declared.Vanished.{Vanished}
 use Rattle.rw_blocks.specs.declared.Mark.{Mark}
 use Rattle.rw_blocks.specs.declared.Mark.TheVariants.{Add, Remove, Rehome, Replace, Seal, TakeOut, Split, Merge}
-use Rattle.rw_blocks.specs.State.{QueueState, SectionState, no_section, section_at, row_at}
+use Rattle.rw_sections.specs.Sections.{SectionState, no_section}
+use Rattle.rw_blocks.specs.State.{QueueState, section_at, row_at}
 use Rattle.rw_blocks.specs.Loose.{IsLoose}
-use Rattle.rw_blocks.specs.Primitives.{with_row, after_add, after_remove, after_rehome, after_replace, after_seal, after_take_out, after_split, after_merge, section_joining, block_unless, upper_of, empty_actives}
-use Rattle.rw_blocks.specs.Undo.{undo_of, lower_of, rest_unless, seam_of, seam_below, section_unsealing, IsJoined, Matches, Undoes}
-use Rattle.rw_vt.proofs.Entries.{lookup-insert_entry, lookup-remove_entry, remove_entry-insert_entry, insert_entry-insert_entry, insert_entry-same, insert_entry-remove_entry}
+use Rattle.rw_sections.specs.Changes.{section_joining, block_unless, upper_of, lower_of, rest_unless, section_unsealing}
+use Rattle.rw_blocks.specs.Primitives.{with_row, after_add, after_remove, after_rehome, after_replace, after_seal, after_take_out, after_split, after_merge, empty_actives}
+use Rattle.rw_blocks.specs.Undo.{undo_of, seam_of, seam_below, IsJoined, Matches, Undoes}
+use Rattle.rw_places.proofs.Entries.{lookup-insert_entry, lookup-remove_entry, remove_entry-insert_entry, insert_entry-insert_entry, insert_entry-same, insert_entry-remove_entry}
 
 -- between two loose states a mark that fits and leads back undoes
 undoing : (m : Mark) (before after : QueueState) → IsLoose before → IsLoose after → Matches m after → undo_of m after ≡ before → Undoes m before after
@@ -99,18 +102,13 @@ lower_of-section_joining : (v : Vanished) (u l : SectionState) → lower_of (sea
 lower_of-section_joining v u l =
     rw (drop_at u.sealed _ _ refl, rest_unless-block_unless v.device (l.active_device, Device), rest_unless-block_unless v.virtual_block (l.active_virtual, Virtual)) refl
 
-pub got : {X : Type 0} (xs : List X) (i : ℕ) (d : X) → i < length xs → slice_get xs i ≡ Some (get_or xs i d)
-got [] i d within = absurd (omega arith)
-got (x ∷ xs) zero d within = refl
-got (x ∷ xs) (suc i) d within = got xs i d (omega arith)
-
 -- a section takes back the one below, which was joined to it
 parted : (xs : List SectionState) (i : ℕ) (v : Vanished) (u l : SectionState) → i + 1 < length xs → u ≡ get_or xs i no_section → l ≡ get_or xs (i + 1) no_section
     → insert (set (remove xs (i + 1)) i (upper_of (length u.sealed) (section_joining v u l))) (i + 1) (lower_of (seam_of v u l) (section_joining v u l)) ≡ xs
 parted xs i v u l within is-u is-l =
     let long : length (remove xs (i + 1)) + 1 ≡ length xs = length-remove xs (i + 1) within in
     let below : get_or (remove xs (i + 1)) i no_section ≡ u = get_or-remove_below xs (i + 1) no_section i (omega arith) within ∙ sym is-u in
-    let lower : slice_get xs (i + 1) ≡ Some l = got xs (i + 1) no_section within ∙ ap Some (sym is-l) in
+    let lower : slice_get xs (i + 1) ≡ Some l = slice_get-get_or xs (i + 1) no_section within ∙ ap Some (sym is-l) in
     rw (take_at u.sealed _ _ refl, lower_of-section_joining v u l, ← below, set-get_or)
     (insert-remove xs (i + 1) l lower)
 

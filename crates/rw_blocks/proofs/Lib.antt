@@ -14,17 +14,9 @@ pub mod Kept
 pub mod Grown
 pub mod Moved
 pub mod Parting
-pub mod Holding
 -- that a mark undoes its primitive
 pub mod Laws
 pub mod Undone
 pub mod Moving
--- that the index follows: rows by block, blocks by section, bytes, devices
-pub mod Filed
-pub mod Using
-pub mod ByObject
-pub mod Tagged
+-- that the index follows: blocks by section, bytes, devices
 pub mod Weighed
-pub mod Devices
--- what an error meets
-pub mod Errors

@@ -1,9 +1,10 @@
 -- The last sealed block, by its section and its position.
 use Rattle.std.proofs.Common.{◌≡◌, ℕ, zero, suc, ◌+◌, ◌<◌, List, [], ◌∷◌, refl, sym, ◌∙◌, arith, length, get_or}
 use Rattle.std.specs.Prelude.{Option, Some, None}
-use Rattle.rw_blocks.specs.declared.Kind.{Kind}
-use Rattle.rw_blocks.specs.declared.Kind.TheVariants.{Device}
-use Rattle.rw_blocks.specs.State.{QueueState, SectionState, no_section, section_at, sealed_block}
+use Rattle.rw_sections.specs.declared.Kind.{Kind}
+use Rattle.rw_sections.specs.declared.Kind.TheVariants.{Device}
+use Rattle.rw_sections.specs.Sections.{SectionState, no_section}
+use Rattle.rw_blocks.specs.State.{QueueState, section_at, sealed_block}
 use Rattle.rw_blocks.specs.Questions.{last_or, last_from, last_block, IsLastSealed}
 
 last_or-end : (es : List (ℕ × Kind)) (p : ℕ) (so_far : Option (ℕ × Kind)) → p + 1 ≡ length es → last_or so_far es ≡ Some (get_or es p (0, Device))

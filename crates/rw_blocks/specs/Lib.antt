@@ -8,8 +8,4 @@ pub mod Primitives
 pub mod Undo
 pub mod Questions
 -- what the types inside the queue keep, and what is said between them: no public contract speaks of it
-pub mod Members
-pub mod Index
-pub mod RowMap
-pub mod Tags
 pub mod Weights

@@ -1,16 +1,17 @@
 -- Loose and well-formed queues.
-use Rattle.std.specs.Prelude.{◌≡◌, ◌+◌, ◌≤◌, Bool, true, List, length, count_by, sum_by, All, ◌⊎◌}
+use Rattle.std.specs.Prelude.{◌≡◌, ◌+◌, ◌≤◌, Bool, true, length, count_by, sum_by, All, ◌⊎◌}
 use Rattle.std.specs.List.{list_any}
 use Rattle.std.specs.List.Sorted.{IsStrictlySortedBy}
 use Rattle.std.specs.Ordering.{nat_cmp}
 use Rattle.std.specs.Map.{values_of, keys_of}
-use Rattle.rw_vt.specs.Words.{Count}
-use Rattle.rw_blocks.specs.Words.{Serial, most_bytes}
-use Rattle.rw_blocks.specs.declared.Kind.{Kind}
-use Rattle.rw_blocks.specs.declared.Kind.TheVariants.{Device, Virtual}
-use Rattle.rw_blocks.specs.declared.Place.{Place}
-use Rattle.rw_blocks.specs.State.{QueueState, SectionState, IsShape, blocks_of}
-use Rattle.rw_blocks.specs.Sums.{is_block, is_kind, bytes_held, total, rows_placed}
+use Rattle.rw_numbers.specs.Words.{Count, Serial}
+use Rattle.rw_blocks.specs.Words.{most_bytes}
+use Rattle.rw_sections.specs.declared.Kind.{Kind}
+use Rattle.rw_sections.specs.declared.Kind.TheVariants.{Device, Virtual}
+use Rattle.rw_places.specs.declared.Place.{Place}
+use Rattle.rw_sections.specs.Sections.{SectionState, blocks_of, is_block, devices_in}
+use Rattle.rw_blocks.specs.State.{QueueState, IsShape}
+use Rattle.rw_blocks.specs.Sums.{bytes_held, total, rows_placed}
 
 -- how many blocks of the kind have the serial
 abbrev pub count_in : Kind → Serial → SectionState → Count
@@ -51,12 +52,6 @@ pub record IsLoose (q : QueueState) : Type 0 where
 -- ---- sealed blocks
 abbrev pub is_sealed_virtual : QueueState → Serial → Bool
 is_sealed_virtual q b = list_any (λ s. list_any (is_block Virtual b) s.sealed) q.sections
-
-abbrev pub device_count_of : List (Serial × Kind) → Count
-device_count_of es = count_by (λ e. is_kind Device e.1) es
-
-abbrev pub devices_in : SectionState → Count
-devices_in s = count_by (λ e. is_kind Device e.1) s.sealed
 
 -- how many device blocks are sealed
 abbrev pub sealed_devices : QueueState → Count

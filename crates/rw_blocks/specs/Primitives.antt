@@ -1,12 +1,14 @@
 -- The queue after each primitive.
-use Rattle.std.specs.Prelude.{◌+◌, ◌≤◌, Bool, true, false, List, [], ◌∷◌, ◌++◌, take, drop, slice_set, insert, remove, nat_eq}
-use Rattle.rw_vt.specs.Words.{Count, Position}
-use Rattle.rw_blocks.specs.Words.{Object, Section, Serial, Size}
-use Rattle.rw_blocks.specs.declared.Kind.{Kind}
-use Rattle.rw_blocks.specs.declared.Kind.TheVariants.{Device, Virtual}
-use Rattle.rw_blocks.specs.declared.Place.{Place}
-use Rattle.rw_blocks.specs.declared.Vanished.{Vanished}
-use Rattle.rw_blocks.specs.State.{QueueState, SectionState, section_in, section_at, active_of, row_or, rows_with, rows_without}
+use Rattle.std.specs.Prelude.{◌+◌, ◌≤◌, Bool, drop, insert, nat_eq}
+use Rattle.rw_sections.specs.Changes.{sections_changing, section_sealing, section_losing, upper_of, joined_at}
+use Rattle.rw_numbers.specs.Words.{Count, Object, Position, Section, Serial, Size}
+use Rattle.rw_sections.specs.declared.Kind.{Kind}
+use Rattle.rw_sections.specs.declared.Kind.TheVariants.{Device, Virtual}
+use Rattle.rw_places.specs.declared.Place.{Place}
+use Rattle.rw_sections.specs.declared.Vanished.{Vanished}
+use Rattle.rw_places.specs.Rows.{rows_with, rows_without}
+use Rattle.rw_sections.specs.Sections.{SectionState, active_of}
+use Rattle.rw_blocks.specs.State.{QueueState, section_at, row_or}
 use Rattle.rw_blocks.specs.Sums.{bytes_held}
 
 -- the section's active block of the kind has room for z bytes more
@@ -36,24 +38,6 @@ after_replace q o i =
     with_row q o (record (row_or q o) { place = active_of Virtual (section_at q i) })
 
 -- ---- blocks
--- the sections, of which the one with the number is changed
-abbrev pub sections_changing :
-    List SectionState → Section → (SectionState → SectionState) → List SectionState
-sections_changing ss i change = slice_set ss i (change (section_in ss i))
-
-abbrev pub with_active : Kind → Serial → SectionState → SectionState
-with_active Device b s = record s { active_device = b }
-with_active Virtual b s = record s { active_virtual = b }
-
--- the active block of the kind goes to the front of the sealed list, and a fresh one takes its place
-abbrev pub section_sealing : Kind → Serial → SectionState → SectionState
-section_sealing kind fresh s =
-    record (with_active kind fresh s) { sealed = (active_of kind s, kind) ∷ s.sealed }
-
--- the sealed block at the position is gone
-abbrev pub section_losing : Position → SectionState → SectionState
-section_losing p s = record s { sealed = remove s.sealed p }
-
 abbrev pub after_seal : QueueState → Section → Kind → QueueState
 after_seal q i kind =
     record q {
@@ -65,10 +49,7 @@ abbrev pub after_take_out : QueueState → Section → Position → QueueState
 after_take_out q i p = record q { sections = sections_changing q.sections i (section_losing p) }
 
 -- ---- sections
--- the section with its first sealed blocks alone, and a section that has the others
-abbrev pub upper_of : Count → SectionState → SectionState
-upper_of count s = record s { sealed = take count s.sealed }
-
+-- a section that has the other ones
 abbrev pub rest_of : Count → Serial → Serial → SectionState → SectionState
 rest_of count device virtual_block s =
     record { active_device = device; active_virtual = virtual_block; sealed = drop count s.sealed }
@@ -83,30 +64,6 @@ after_split q i keep =
           (rest_of keep q.next (q.next + 1) (section_at q i));
       next = q.next + 2;
     }
-
--- the section with more sealed blocks behind its own
-abbrev pub section_appending : List (Serial × Kind) → SectionState → SectionState
-section_appending blocks s = record s { sealed = s.sealed ++ blocks }
-
-abbrev pub block_unless : Bool → Serial × Kind → List (Serial × Kind)
-block_unless true e = []
-block_unless false e = e ∷ []
-
--- the upper section takes over the lower one's blocks; an active one that vanishes is left out
-abbrev pub section_joining : Vanished → SectionState → SectionState → SectionState
-section_joining vanished upper lower =
-    section_appending
-    (block_unless vanished.device (lower.active_device, Device)
-    ++ (block_unless vanished.virtual_block (lower.active_virtual, Virtual) ++ lower.sealed))
-    upper
-
--- the sections, of which the one with the number has taken over the next one's blocks
-abbrev pub joined_at : List SectionState → Section → Vanished → List SectionState
-joined_at ss i vanished =
-    slice_set
-    (remove ss (i + 1))
-    i
-    (section_joining vanished (section_in ss i) (section_in ss (i + 1)))
 
 -- whether the section's active block of the kind holds nothing
 abbrev pub is_active_empty : Kind → QueueState → Section → Bool

@@ -1,11 +1,11 @@
 -- What the questions answer, beside the sums.
 use Rattle.std.specs.Prelude.{◌≡◌, ◌+◌, ◌<◌, List, [], ◌∷◌, Option, Some, None, length, find, position, nat_eq}
 use Rattle.std.specs.Option.{option_map}
-use Rattle.rw_vt.specs.Words.{Position}
-use Rattle.rw_blocks.specs.Words.{Object, Section, Serial, Size}
-use Rattle.rw_blocks.specs.declared.Kind.{Kind}
-use Rattle.rw_blocks.specs.State.{QueueState, SectionState, section_in, section_at, active_of}
-use Rattle.rw_blocks.specs.Sums.{bytes_held, has_block}
+use Rattle.rw_numbers.specs.Words.{Object, Position, Section, Serial, Size}
+use Rattle.rw_sections.specs.declared.Kind.{Kind}
+use Rattle.rw_sections.specs.Sections.{SectionState, active_of, has_block, NoneSealedBehind}
+use Rattle.rw_blocks.specs.State.{QueueState, section_at}
+use Rattle.rw_blocks.specs.Sums.{bytes_held}
 use Rattle.rw_blocks.specs.Loose.{count}
 
 -- the least object whose home, or whose place, the block is
@@ -32,13 +32,6 @@ last_from so_far (s ∷ ss) = last_from (last_or so_far s.sealed) ss
 -- the last sealed block in queue order, from head to tail and in each section from front to back
 abbrev pub last_block : QueueState → Option (Serial × Kind)
 last_block q = last_from None q.sections
-
--- no section has a sealed block, or none behind the one with the number
-abbrev pub NoneSealed : List SectionState → Type 0
-NoneSealed ss = (j : Section) → j < length ss → (section_in ss j).sealed ≡ []
-
-abbrev pub NoneSealedBehind : Section → List SectionState → Type 0
-NoneSealedBehind i ss = (j : Section) → i < j → j < length ss → (section_in ss j).sealed ≡ []
 
 -- the last position of a section's sealed list, behind which no section has a sealed block
 pub record IsLastSealed (q : QueueState) (i : Section) (p : Position) : Type 0 where

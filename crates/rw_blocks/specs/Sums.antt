@@ -1,15 +1,14 @@
 -- The sums of a queue: sizes of rows.
-use Rattle.std.specs.Prelude.{◌+◌, Bool, true, false, if◌then◌else◌, ◌&&◌, not, List, drop, nat_eq, filter, sum_by}
+use Rattle.std.specs.Prelude.{◌+◌, Bool, if◌then◌else◌, List, drop, nat_eq, filter, sum_by}
 use Rattle.std.specs.List.{list_any}
 use Rattle.std.specs.Map.{values_of}
-use Rattle.rw_blocks.specs.Words.{Section, Serial, Size}
-use Rattle.rw_blocks.specs.declared.Kind.{Kind}
-use Rattle.rw_blocks.specs.declared.Kind.TheVariants.{Device, Virtual}
-use Rattle.rw_blocks.specs.declared.Place.{Place}
-use Rattle.rw_blocks.specs.State.{QueueState, SectionState, section_at, blocks_of}
-
-abbrev pub size_of : List Place → Size
-size_of rows = sum_by (λ r. r.size) rows
+use Rattle.rw_places.specs.Rows.{size_of}
+use Rattle.rw_numbers.specs.Words.{Section, Serial, Size}
+use Rattle.rw_sections.specs.declared.Kind.{Kind}
+use Rattle.rw_sections.specs.declared.Kind.TheVariants.{Device, Virtual}
+use Rattle.rw_places.specs.declared.Place.{Place}
+use Rattle.rw_sections.specs.Sections.{SectionState, blocks_of, is_block, has_block}
+use Rattle.rw_blocks.specs.State.{QueueState, section_at}
 
 -- all rows
 abbrev pub total : QueueState → Size
@@ -28,25 +27,6 @@ bytes_held Device q b = size_of (rows_homed q b)
 bytes_held Virtual q b = size_of (rows_placed q b)
 
 -- ---- blocks by their serials
-abbrev pub is_virtual : Kind → Bool
-is_virtual Device = false
-is_virtual Virtual = true
-
-abbrev pub is_kind : Kind → Kind → Bool
-is_kind Device k = not (is_virtual k)
-is_kind Virtual k = is_virtual k
-
-abbrev pub has_serial : Serial → Serial × Kind → Bool
-has_serial b e = nat_eq e.0 b
-
--- whether it is the block of the kind with the serial
-abbrev pub is_block : Kind → Serial → Serial × Kind → Bool
-is_block kind b e = nat_eq e.0 b && is_kind kind e.1
-
--- whether a section has the block, active or sealed
-abbrev pub has_block : Serial → SectionState → Bool
-has_block b s = list_any (has_serial b) (blocks_of s)
-
 -- whether a queue has the block, as one of the kind
 abbrev pub has_kind : Kind → QueueState → Serial → Bool
 has_kind kind q b = list_any (λ s. list_any (is_block kind b) (blocks_of s)) q.sections

@@ -1,53 +1,15 @@
 -- Undoing a primitive by its mark.
-use Rattle.std.specs.Prelude.{◌≡◌, ◌+◌, ◌-◌, ◌≤◌, ◌<◌, Bool, true, false, List, [], ◌∷◌, length, drop, slice_get, slice_set, insert, remove, None, IsSome, IsSomeAnd}
-use Rattle.rw_vt.specs.Words.{Position}
-use Rattle.rw_blocks.specs.Words.{Section, Serial}
-use Rattle.rw_blocks.specs.declared.Kind.{Kind}
-use Rattle.rw_blocks.specs.declared.Vanished.{Vanished}
-use Rattle.rw_blocks.specs.declared.Seam.{Seam}
+use Rattle.std.specs.Prelude.{◌≡◌, ◌+◌, ◌-◌, ◌≤◌, ◌<◌, length, slice_get, slice_set, remove, None, IsSome, IsSomeAnd}
+use Rattle.rw_numbers.specs.Words.{Section}
+use Rattle.rw_sections.specs.declared.Vanished.{Vanished}
+use Rattle.rw_sections.specs.declared.Seam.{Seam}
 use Rattle.rw_blocks.specs.declared.Mark.{Mark}
 use Rattle.rw_blocks.specs.declared.Mark.TheVariants.{Add, Remove, Rehome, Replace, Seal, TakeOut, Split, Merge}
-use Rattle.rw_blocks.specs.State.{QueueState, SectionState, section_in, section_at, active_of, row_at, row_or}
-use Rattle.rw_blocks.specs.Primitives.{with_row, with_active, sections_changing, section_appending, section_joining, upper_of, empty_actives, after_remove}
+use Rattle.rw_sections.specs.Sections.{SectionState, active_of}
+use Rattle.rw_blocks.specs.State.{QueueState, section_at, row_at, row_or}
+use Rattle.rw_sections.specs.Changes.{sections_changing, section_appending, section_joining, upper_of, section_unsealing, section_gaining, lower_of, parted_at}
+use Rattle.rw_blocks.specs.Primitives.{with_row, empty_actives, after_remove}
 use Rattle.rw_blocks.specs.Loose.{IsLoose}
-
--- ---- sections
-abbrev pub front_of : List (Serial × Kind) → Serial
-front_of [] = 0
-front_of (e ∷ es) = e.0
-
--- the front block of the sealed list is active again
-abbrev pub section_unsealing : Kind → SectionState → SectionState
-section_unsealing kind s =
-    record (with_active kind (front_of s.sealed) s) { sealed = drop 1 s.sealed }
-
--- the sealed block is at the position again
-abbrev pub section_gaining : Position → Serial × Kind → SectionState → SectionState
-section_gaining p e s = record s { sealed = insert s.sealed p e }
-
--- the blocks without the first one, unless that vanished
-abbrev pub rest_unless : Bool → List (Serial × Kind) → List (Serial × Kind)
-rest_unless true es = es
-rest_unless false es = drop 1 es
-
--- the lower one of the two sections that were joined at the seam
-abbrev pub lower_of : Seam → SectionState → SectionState
-lower_of seam s =
-    record {
-      active_device = seam.device;
-      active_virtual = seam.virtual_block;
-      sealed = rest_unless
-          seam.vanished.virtual_block
-          (rest_unless seam.vanished.device (drop seam.upper_sealed s.sealed));
-    }
-
--- the sections, of which the one with the number is parted in two
-abbrev pub parted_at : List SectionState → Section → Seam → List SectionState
-parted_at ss i seam =
-    insert
-    (sections_changing ss i (upper_of seam.upper_sealed))
-    (i + 1)
-    (lower_of seam (section_in ss i))
 
 -- the section is the two that it is parted in, joined
 abbrev pub IsJoined : Seam → SectionState → Type 0

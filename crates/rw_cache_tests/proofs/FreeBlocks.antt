@@ -3,7 +3,7 @@ use Rattle.std.proofs.Common.{◌≡◌, ℕ, ◌<◌, List, [], ◌∷◌, refl
 use Rattle.std.proofs.lemmas.Bool.{eq-eqb}
 use Rattle.std.specs.Prelude.{filter, All}
 use Rattle.std.specs.Map.{values_of}
-use Rattle.rw_blocks.specs.declared.Place.{Place}
+use Rattle.rw_places.specs.declared.Place.{Place}
 use Rattle.rw_blocks.specs.State.{QueueState}
 use Rattle.rw_blocks.specs.Sums.{rows_homed, rows_placed}
 use Rattle.rw_blocks.specs.Loose.{IsFree}

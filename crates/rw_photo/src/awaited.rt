@@ -16,7 +16,7 @@ pub(crate) struct Awaited {
 
 impl Model for Awaited {
     ghost use Rattle.std.specs.Prelude.{List, ℕ};
-    ghost use Rattle.rw_blocks.specs.RowMap.{by_object};
+    ghost use Rattle.rw_places.specs.RowMap.{by_object};
 
     ghost Value = { List (ℕ × ℕ) };
 

@@ -15,7 +15,7 @@ use Rattle.rw_blocks.specs.Loose.{IsLoose}
 use Rattle.rw_blocks.specs.Primitives.{after_remove}
 use Rattle.rw_blocks.specs.Questions.{first_home, first_place}
 use Rattle.rw_blocks.specs.State.{QueueState, row_at}
-use Rattle.rw_blocks.specs.declared.Place.{Place}
+use Rattle.rw_places.specs.declared.Place.{Place}
 use Rattle.rw_ripq.proofs.Basics.{by_bool}
 use Rattle.rw_ripq.specs.Evict.{objects_homed, objects_placed}
 

@@ -6,9 +6,9 @@ use Rattle.std.specs.Map.{values_of}
 use Rattle.std.specs.List.{list_any, position_or_len}
 use Rattle.std.proofs.lemmas.Bool.{cases_Bool, cases_lt, ne_eqb, eqb-true, and_parts, lt-ltb}
 use Rattle.std.proofs.lemmas.List.Sums.{position_or_len_is}
-use Rattle.rw_blocks.specs.declared.Kind.{Kind}
-use Rattle.rw_blocks.specs.declared.Kind.TheVariants.{Device, Virtual}
-use Rattle.rw_blocks.specs.declared.Place.{Place}
+use Rattle.rw_sections.specs.declared.Kind.{Kind}
+use Rattle.rw_sections.specs.declared.Kind.TheVariants.{Device, Virtual}
+use Rattle.rw_places.specs.declared.Place.{Place}
 use Rattle.rw_blocks.proofs.Cited.{of_row}
 use Rattle.rw_ripq.proofs.Rooms.{fits-with_room, shape-with_room}
 use Rattle.rw_ripq.proofs.Reputs.{row-with_room, free-virtual, section_of-there, section_with-is, section-there}
@@ -18,12 +18,12 @@ use Rattle.rw_ripq.proofs.Places.{any_get, none-any}
 use Rattle.rw_ripq.proofs.Measures.{sealed-there, position-there, sealed-virtual-there}
 use Rattle.rw_blocks.specs.Loose.{IsFree, IsHomed, IsLoose, IsPlaced, IsSized, count, is_sealed_virtual}
 use Rattle.rw_blocks.specs.Questions.{first_place, section_of}
-use Rattle.rw_blocks.specs.State.{QueueState, no_place, no_section, row_at, row_or, section_at}
-use Rattle.rw_blocks.specs.Sums.{bytes_held, has_serial, rows_placed}
+use Rattle.rw_sections.specs.Sections.{no_section, has_serial}
+use Rattle.rw_blocks.specs.State.{QueueState, no_place, row_at, row_or, section_at}
+use Rattle.rw_blocks.specs.Sums.{bytes_held, rows_placed, total}
 use Rattle.std.specs.Ordering.{nat_cmp}
 use Rattle.std.specs.BTreeMap.{is_at}
 use Rattle.std.proofs.lemmas.Map.Entries.{sum_by-remove_entry}
-use Rattle.rw_blocks.specs.Sums.{total}
 use Rattle.rw_ripq.specs.Work.{Work, work_of, one_if}
 use Rattle.rw_blocks.specs.Primitives.{after_rehome}
 use Rattle.rw_ripq.specs.Evict.{reinsert}

@@ -1,13 +1,13 @@
 use Rattle.std.proofs.Common.{arith, sym, ap, ◌≡◌, ◌∙◌, ℕ, refl}
 use Rattle.std.specs.Prelude.{Some}
-use Rattle.rw_blocks.specs.declared.Place.{Place}
+use Rattle.rw_places.specs.declared.Place.{Place}
 use Rattle.rw_blocks.specs.State.{QueueState, row_at, section_at}
 use Rattle.rw_blocks.specs.Primitives.{with_row, after_rehome}
 use Rattle.rw_blocks.specs.Sums.{total}
 use Rattle.rw_blocks.proofs.Laws.{Undoes-after_rehome}
 use Rattle.rw_blocks.proofs.Kept.{IsLoose-after_rehome}
 use Rattle.rw_blocks.proofs.Moving.{moved, gone-row, room-again}
-use Rattle.rw_blocks.proofs.Errors.{if_error, on_error}
+use Rattle.rw_places.proofs.Errors.{if_error, on_error}
 use Rattle.rw_blocks.proofs.queue.Queue.rehome.Goals as goal
 
 pub put_row-requires-clause-new : goal.put_row-requires-clause-new

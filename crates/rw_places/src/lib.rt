@@ -1,0 +1,22 @@
+#![tactic(auto)]
+//! Where objects lie: one row for each object that is stored, found by the object, by the block that holds its bytes and by
+//! the block that gives its priority. Here a block is only its serial.
+//!
+//! Worked examples: `rw_cache_tests/src/primitives.rt`, through the queue that keeps them.
+
+mod members;
+mod row_map;
+mod rows;
+
+pub use rows::Rows;
+
+/// Where an object lies.
+#[derive(Clone, Copy)]
+pub struct Place {
+    /// The object's size, in bytes: from 1 to the block size.
+    pub size: u64,
+    /// The serial of the device block that holds its bytes.
+    pub home: u64,
+    /// The serial of the block that gives its priority: its home, or a virtual block.
+    pub place: u64,
+}
