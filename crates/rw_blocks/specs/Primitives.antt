@@ -49,7 +49,7 @@ abbrev pub after_take_out : QueueState → Section → Position → QueueState
 after_take_out q i p = record q { sections = sections_changing q.sections i (section_losing p) }
 
 -- ---- sections
--- a section that has the other ones
+-- a section with these active blocks, and the sealed ones behind the first
 abbrev pub rest_of : Count → Serial → Serial → SectionState → SectionState
 rest_of count device virtual_block s =
     record { active_device = device; active_virtual = virtual_block; sealed = drop count s.sealed }
