@@ -1,5 +1,6 @@
 -- The limits of a queue's shape, each by its number.
-use Rattle.rw_numbers.specs.Words.{Count, Size}
+use Rattle.rw_vt.specs.Words.{Count}
+use Rattle.rw_blocks.specs.Words.{Size}
 
 -- the most sections
 abbrev pub most_sections : Count

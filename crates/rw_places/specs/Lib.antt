@@ -1,4 +1,5 @@
 -- what public contracts say
+pub mod Words
 pub mod Rows
 pub mod Index
 -- what the types inside the rows keep, and what is said between them: no public contract speaks of it

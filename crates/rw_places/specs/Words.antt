@@ -1,13 +1,5 @@
--- What numbers are, in more than one crate.
+-- What the numbers of a row are.
 use Rattle.std.specs.Prelude.{ℕ}
-
--- how many
-abbrev pub Count : Type 0
-Count = ℕ
-
--- a place in a list, counted from 0
-abbrev pub Position : Type 0
-Position = ℕ
 
 -- an object, by its number
 abbrev pub Object : Type 0
@@ -20,7 +12,3 @@ Size = ℕ
 -- a block, by its serial
 abbrev pub Serial : Type 0
 Serial = ℕ
-
--- a section, counted from 0 at the head
-abbrev pub Section : Type 0
-Section = ℕ
