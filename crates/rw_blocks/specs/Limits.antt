@@ -1,6 +1,5 @@
 -- The limits of a queue's shape, each by its number.
-use Rattle.rw_vt.specs.Words.{Count}
-use Rattle.rw_blocks.specs.Words.{Size}
+use Rattle.rw_numbers.specs.Words.{Count, Size}
 
 -- the most sections
 abbrev pub most_sections : Count

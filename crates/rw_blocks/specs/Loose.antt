@@ -4,8 +4,8 @@ use Rattle.std.specs.List.{list_any}
 use Rattle.std.specs.List.Sorted.{IsStrictlySortedBy}
 use Rattle.std.specs.Ordering.{nat_cmp}
 use Rattle.std.specs.Map.{values_of, keys_of}
-use Rattle.rw_vt.specs.Words.{Count}
-use Rattle.rw_blocks.specs.Words.{Serial, most_bytes}
+use Rattle.rw_numbers.specs.Words.{Count, Serial}
+use Rattle.rw_blocks.specs.Words.{most_bytes}
 use Rattle.rw_sections.specs.declared.Kind.{Kind}
 use Rattle.rw_sections.specs.declared.Kind.TheVariants.{Device, Virtual}
 use Rattle.rw_places.specs.declared.Place.{Place}

@@ -1,8 +1,7 @@
 -- The queue after each primitive.
 use Rattle.std.specs.Prelude.{◌+◌, ◌≤◌, Bool, drop, insert, nat_eq}
 use Rattle.rw_sections.specs.Changes.{sections_changing, section_sealing, section_losing, upper_of, joined_at}
-use Rattle.rw_vt.specs.Words.{Count, Position}
-use Rattle.rw_blocks.specs.Words.{Object, Section, Serial, Size}
+use Rattle.rw_numbers.specs.Words.{Count, Object, Position, Section, Serial, Size}
 use Rattle.rw_sections.specs.declared.Kind.{Kind}
 use Rattle.rw_sections.specs.declared.Kind.TheVariants.{Device, Virtual}
 use Rattle.rw_places.specs.declared.Place.{Place}

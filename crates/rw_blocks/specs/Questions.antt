@@ -1,8 +1,7 @@
 -- What the questions answer, beside the sums.
 use Rattle.std.specs.Prelude.{◌≡◌, ◌+◌, ◌<◌, List, [], ◌∷◌, Option, Some, None, length, find, position, nat_eq}
 use Rattle.std.specs.Option.{option_map}
-use Rattle.rw_vt.specs.Words.{Position}
-use Rattle.rw_blocks.specs.Words.{Object, Section, Serial, Size}
+use Rattle.rw_numbers.specs.Words.{Object, Position, Section, Serial, Size}
 use Rattle.rw_sections.specs.declared.Kind.{Kind}
 use Rattle.rw_sections.specs.Sections.{SectionState, active_of, has_block, NoneSealedBehind}
 use Rattle.rw_blocks.specs.State.{QueueState, section_at}

@@ -2,8 +2,7 @@
 use Rattle.std.specs.Prelude.{◌≤◌, List, [], ◌∷◌, Option, unwrap_or}
 use Rattle.rw_sections.specs.Sections.{SectionState, new_section, section_in, sealed_in}
 use Rattle.rw_places.specs.Rows.{row_in}
-use Rattle.rw_vt.specs.Words.{Count, Position}
-use Rattle.rw_blocks.specs.Words.{Object, Section, Serial, Size}
+use Rattle.rw_numbers.specs.Words.{Count, Object, Position, Section, Serial, Size}
 use Rattle.rw_blocks.specs.Limits.{largest_block, most_blocks, most_sections}
 use Rattle.rw_sections.specs.declared.Kind.{Kind}
 use Rattle.rw_places.specs.declared.Place.{Place}

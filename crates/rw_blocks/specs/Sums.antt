@@ -3,7 +3,7 @@ use Rattle.std.specs.Prelude.{◌+◌, Bool, if◌then◌else◌, List, drop, na
 use Rattle.std.specs.List.{list_any}
 use Rattle.std.specs.Map.{values_of}
 use Rattle.rw_places.specs.Rows.{size_of}
-use Rattle.rw_blocks.specs.Words.{Section, Serial, Size}
+use Rattle.rw_numbers.specs.Words.{Section, Serial, Size}
 use Rattle.rw_sections.specs.declared.Kind.{Kind}
 use Rattle.rw_sections.specs.declared.Kind.TheVariants.{Device, Virtual}
 use Rattle.rw_places.specs.declared.Place.{Place}

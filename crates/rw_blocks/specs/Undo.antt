@@ -1,6 +1,6 @@
 -- Undoing a primitive by its mark.
 use Rattle.std.specs.Prelude.{◌≡◌, ◌+◌, ◌-◌, ◌≤◌, ◌<◌, length, slice_get, slice_set, remove, None, IsSome, IsSomeAnd}
-use Rattle.rw_blocks.specs.Words.{Section}
+use Rattle.rw_numbers.specs.Words.{Section}
 use Rattle.rw_sections.specs.declared.Vanished.{Vanished}
 use Rattle.rw_sections.specs.declared.Seam.{Seam}
 use Rattle.rw_blocks.specs.declared.Mark.{Mark}

@@ -2,8 +2,7 @@
 use Rattle.std.specs.Prelude.{◌≡◌, ◌<◌, Bool, List, if◌then◌else◌, length, drop, slice_index_or, sum_by}
 use Rattle.std.specs.List.{list_any}
 use Rattle.std.specs.Map.{values_of}
-use Rattle.rw_vt.specs.Words.{Position}
-use Rattle.rw_blocks.specs.Words.{Object, Section, Serial, Size}
+use Rattle.rw_numbers.specs.Words.{Object, Position, Section, Serial, Size}
 use Rattle.rw_places.specs.declared.Place.{Place}
 use Rattle.rw_sections.specs.Sections.{SectionState, section_in, has_block, has_serial}
 use Rattle.rw_blocks.specs.State.{QueueState, section_at}

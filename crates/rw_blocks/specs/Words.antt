@@ -1,7 +1,6 @@
--- What the numbers of a queue are, and how much it holds.
+-- How much a queue holds.
 use Rattle.std.specs.Prelude.{◌^◌}
-pub use Rattle.rw_places.specs.Words.{Object, Serial, Size}
-pub use Rattle.rw_sections.specs.Words.{Section}
+use Rattle.rw_numbers.specs.Words.{Size}
 
 -- all rows of a queue together hold no more bytes than these
 abbrev pub most_bytes : Size

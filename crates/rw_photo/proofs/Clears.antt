@@ -6,7 +6,7 @@ use Rattle.std.proofs.lemmas.List.Elements.{filter-append}
 use Rattle.rw_vt.specs.Words.{Count, Process, Time}
 use Rattle.rw_vt.specs.System.{map_from}
 use Rattle.rw_vt.specs.declared.event.Event.{Event}
-use Rattle.rw_blocks.specs.Words.{Object}
+use Rattle.rw_numbers.specs.Words.{Object}
 use Rattle.rw_photo.specs.declared.body.Body.{Body}
 use Rattle.rw_photo.specs.declared.body.Body.TheVariants.{Clear}
 use Rattle.rw_photo.specs.Counts.{plus}

@@ -5,7 +5,7 @@ use Rattle.std.specs.Map.{lookup, remove_entry, keys_of, values_of}
 use Rattle.std.specs.BTreeMap.{insert_entry, is_at}
 use Rattle.std.specs.Ordering.{nat_cmp}
 use Rattle.rw_vt.specs.Words.{Count, Process}
-use Rattle.rw_blocks.specs.Words.{Object}
+use Rattle.rw_numbers.specs.Words.{Object}
 use Rattle.rw_blocks.specs.State.{QueueState, ShapeState, row_at, start_of}
 use Rattle.rw_blocks.specs.Loose.{IsWellFormedQueue}
 use Rattle.rw_ripq.specs.Limits.{exhaustion}

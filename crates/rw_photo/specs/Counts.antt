@@ -1,7 +1,7 @@
 -- What caches count, modulo 2 ^ 64.
 use Rattle.std.specs.Prelude.{◌≡◌, ◌+◌, ◌-◌, ◌%◌, ◌^◌, Bool}
 use Rattle.rw_vt.specs.Words.{Count}
-use Rattle.rw_blocks.specs.Words.{Size}
+use Rattle.rw_numbers.specs.Words.{Size}
 use Rattle.rw_ripq.specs.Work.{one_if}
 use Rattle.rw_ripq.specs.declared.Tally.{Tally}
 use Rattle.rw_photo.specs.declared.counters.Counters.{Counters}

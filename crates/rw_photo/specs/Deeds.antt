@@ -1,7 +1,7 @@
 -- For the contracts inside the crate: what the code of an event does to a cache.
 use Rattle.std.specs.Prelude.{◌≡◌, ◌++◌, List, Bool, if◌then◌else◌}
 use Rattle.rw_vt.specs.declared.event.Event.{Event}
-use Rattle.rw_blocks.specs.Words.{Object, Size}
+use Rattle.rw_numbers.specs.Words.{Object, Size}
 use Rattle.rw_blocks.specs.declared.Mark.{Mark}
 use Rattle.rw_blocks.specs.State.{QueueState}
 use Rattle.rw_ripq.specs.declared.Policy.{Policy}

@@ -3,7 +3,7 @@ use Rattle.std.specs.Prelude.{min, ◌+◌, ◌%◌, ◌^◌, Bool, if◌then◌
 use Rattle.std.specs.List.{range_with_len}
 use Rattle.rw_vt.specs.Words.{Count, Process, Time}
 use Rattle.rw_vt.specs.System.{map_from}
-use Rattle.rw_blocks.specs.Words.{Object, Size}
+use Rattle.rw_numbers.specs.Words.{Object, Size}
 use Rattle.rw_vt.specs.declared.event.Event.{Event}
 use Rattle.rw_blocks.specs.State.{QueueState}
 use Rattle.rw_trace.specs.Limits.{greatest_size, latest_time}

@@ -1,6 +1,6 @@
 -- What a hit, a store and a purge do to a queue, and what they count.
 use Rattle.std.specs.Prelude.{Bool, not, is_some, nat_eq, nat_lt, if◌then◌else◌}
-use Rattle.rw_blocks.specs.Words.{Object, Size}
+use Rattle.rw_numbers.specs.Words.{Object, Size}
 use Rattle.rw_blocks.specs.State.{QueueState, row_at, row_or}
 use Rattle.rw_ripq.specs.declared.Policy.{Policy}
 use Rattle.rw_ripq.specs.declared.Policy.TheVariants.{Off}

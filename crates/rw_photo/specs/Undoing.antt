@@ -1,6 +1,6 @@
 -- What takes an event back.
 use Rattle.std.specs.Prelude.{◌≡◌}
-use Rattle.rw_blocks.specs.Words.{Object}
+use Rattle.rw_numbers.specs.Words.{Object}
 use Rattle.rw_vt.specs.declared.event.Event.{Event}
 use Rattle.rw_ripq.specs.Trail.{Leads, rewind_of}
 use Rattle.rw_ripq.specs.Weight.{IsShort}

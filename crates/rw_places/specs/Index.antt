@@ -3,7 +3,7 @@ use Rattle.std.specs.Prelude.{◌≡◌, List, if◌then◌else◌, nat_eq, filt
 use Rattle.std.specs.Ordering.{nat_cmp}
 use Rattle.std.specs.List.Sorted.{IsStrictlySortedBy}
 use Rattle.std.specs.Map.{values_of, keys_of}
-use Rattle.rw_places.specs.Words.{Object, Serial, Size}
+use Rattle.rw_numbers.specs.Words.{Object, Serial, Size}
 use Rattle.rw_places.specs.declared.Place.{Place}
 use Rattle.rw_places.specs.declared.members.Members.{Members}
 use Rattle.rw_places.specs.Members.{bytes_at, objects_at}

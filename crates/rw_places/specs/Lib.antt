@@ -1,5 +1,4 @@
 -- what public contracts say
-pub mod Words
 pub mod Rows
 pub mod Index
 -- what the types inside the rows keep, and what is said between them: no public contract speaks of it

@@ -6,7 +6,7 @@ use Rattle.std.specs.BTreeMap.{is_at}
 use Rattle.std.specs.BTreeSet.{insert_key}
 use Rattle.std.specs.Set.{remove_key}
 use Rattle.std.specs.HashMap.{get}
-use Rattle.rw_places.specs.Words.{Object, Serial, Size}
+use Rattle.rw_numbers.specs.Words.{Object, Serial, Size}
 use Rattle.rw_places.specs.declared.members.Members.{Members}
 
 -- the bytes of a block's objects, and those objects in rising order

@@ -2,7 +2,7 @@
 use Rattle.std.specs.Prelude.{List, [], ◌∷◌}
 use Rattle.std.specs.Ordering.{nat_cmp}
 use Rattle.std.specs.BTreeMap.{insert_entry}
-use Rattle.rw_places.specs.Words.{Object}
+use Rattle.rw_numbers.specs.Words.{Object}
 
 -- the entries, in the rising order of their objects
 unfoldable pub by_object : {X : Type 0} → List (Object × X) → List (Object × X)

@@ -3,7 +3,7 @@ use Rattle.std.specs.Prelude.{List, Option, sum_by}
 use Rattle.std.specs.Ordering.{nat_cmp}
 use Rattle.std.specs.Map.{lookup, remove_entry}
 use Rattle.std.specs.BTreeMap.{insert_entry, is_at}
-use Rattle.rw_places.specs.Words.{Object, Size}
+use Rattle.rw_numbers.specs.Words.{Object, Size}
 use Rattle.rw_places.specs.declared.Place.{Place}
 
 -- the row of an object, if it has one

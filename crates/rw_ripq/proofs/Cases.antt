@@ -2,7 +2,7 @@
 use Rattle.std.specs.Prelude.{◌+◌, Bool, if◌then◌else◌}
 use Rattle.rw_sections.specs.declared.Kind.{Kind}
 use Rattle.rw_sections.specs.declared.Kind.TheVariants.{Virtual}
-use Rattle.rw_blocks.specs.Words.{Object, Section, Serial}
+use Rattle.rw_numbers.specs.Words.{Object, Section, Serial}
 use Rattle.rw_blocks.specs.State.{QueueState, row_or}
 use Rattle.rw_blocks.specs.Primitives.{after_replace, after_seal}
 use Rattle.rw_ripq.specs.Work.{Work}

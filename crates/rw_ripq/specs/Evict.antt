@@ -2,7 +2,7 @@
 use Rattle.std.specs.Prelude.{zero, suc, ◌+◌, Bool, true, false, not, List, length, Option, Some, None, nat_eq, nat_lt, filter, fold, count_by}
 use Rattle.std.specs.Map.{values_of, keys_of}
 use Rattle.rw_vt.specs.Words.{Count}
-use Rattle.rw_blocks.specs.Words.{Object, Serial}
+use Rattle.rw_numbers.specs.Words.{Object, Serial}
 use Rattle.rw_sections.specs.declared.Kind.{Kind}
 use Rattle.rw_sections.specs.declared.Kind.TheVariants.{Device, Virtual}
 use Rattle.rw_blocks.specs.State.{QueueState, row_or}

@@ -1,6 +1,6 @@
 -- Insert: put at the target of the level, and adjust where the put sealed a device block.
 use Rattle.std.specs.Prelude.{if◌then◌else◌}
-use Rattle.rw_blocks.specs.Words.{Object, Section, Size}
+use Rattle.rw_numbers.specs.Words.{Object, Section, Size}
 use Rattle.rw_ripq.specs.Words.{Level}
 use Rattle.rw_sections.specs.declared.Kind.TheVariants.{Device}
 use Rattle.rw_blocks.specs.State.{QueueState}

@@ -2,7 +2,7 @@
 use Rattle.std.specs.Prelude.{◌+◌, ◌-◌, ◌*◌, ◌/◌, Bool, if◌then◌else◌, List, length, Option, nat_le, min, find, reverse, unwrap_or}
 use Rattle.std.specs.List.{range_with_len}
 use Rattle.std.specs.Option.{option_map}
-use Rattle.rw_blocks.specs.Words.{Object, Section}
+use Rattle.rw_numbers.specs.Words.{Object, Section}
 use Rattle.rw_ripq.specs.Words.{Level}
 use Rattle.rw_blocks.specs.State.{QueueState, row_at, row_or}
 use Rattle.rw_blocks.specs.Sums.{total, section_bytes, bytes_below}

@@ -1,7 +1,7 @@
 -- What stands behind a block, towards the tail.
 use Rattle.std.specs.Prelude.{◌≡◌, true, List, [], ◌∷◌, Some, None, ◌⊎◌}
 use Rattle.std.specs.List.{list_any}
-use Rattle.rw_blocks.specs.Words.{Object, Serial}
+use Rattle.rw_numbers.specs.Words.{Object, Serial}
 use Rattle.rw_sections.specs.declared.Kind.{Kind}
 use Rattle.rw_places.specs.declared.Place.{Place}
 use Rattle.rw_sections.specs.Sections.{SectionState, has_serial, has_block}

@@ -1,5 +1,5 @@
 -- Purge: an object leaves, whatever its priority.
-use Rattle.rw_blocks.specs.Words.{Object}
+use Rattle.rw_numbers.specs.Words.{Object}
 use Rattle.rw_blocks.specs.State.{QueueState, row_or}
 use Rattle.rw_blocks.specs.Primitives.{after_remove}
 use Rattle.rw_ripq.specs.Sealed.{without_if_emptied}

@@ -1,6 +1,6 @@
 -- Put: an object comes into the active device block of a section; where it does not fit, that block is sealed first.
 use Rattle.std.specs.Prelude.{◌+◌, Bool, if◌then◌else◌, nat_le}
-use Rattle.rw_blocks.specs.Words.{Object, Section, Size}
+use Rattle.rw_numbers.specs.Words.{Object, Section, Size}
 use Rattle.rw_sections.specs.declared.Kind.{Kind}
 use Rattle.rw_sections.specs.declared.Kind.TheVariants.{Device}
 use Rattle.rw_sections.specs.Sections.{active_of}

@@ -1,6 +1,6 @@
 -- For the contracts inside the crate: a trail that grows with the work, and the room that the work's numbers need.
 use Rattle.std.specs.Prelude.{◌≡◌, None, ◌+◌, ◌≤◌, ◌^◌, List, length}
-use Rattle.rw_blocks.specs.Words.{Object, Size}
+use Rattle.rw_numbers.specs.Words.{Object, Size}
 use Rattle.rw_blocks.specs.declared.Mark.{Mark}
 use Rattle.rw_blocks.specs.State.{QueueState, row_at}
 use Rattle.rw_blocks.specs.Loose.{IsLoose}

@@ -2,7 +2,7 @@
 use Rattle.std.specs.Prelude.{Bool, if◌then◌else◌, ◌&&◌, length, nat_eq, sum_by, unwrap_or}
 use Rattle.std.specs.List.{list_any, position_or_len}
 use Rattle.rw_vt.specs.Words.{Count, Position}
-use Rattle.rw_blocks.specs.Words.{Section, Serial}
+use Rattle.rw_numbers.specs.Words.{Section, Serial}
 use Rattle.rw_sections.specs.Sections.{SectionState, has_serial}
 use Rattle.rw_blocks.specs.State.{QueueState, section_at}
 use Rattle.rw_blocks.specs.Sums.{rows_placed}

@@ -1,6 +1,6 @@
 -- Sections after a change, and before one that is undone.
 use Rattle.std.specs.Prelude.{◌+◌, Bool, true, false, List, [], ◌∷◌, ◌++◌, take, drop, slice_set, insert, remove}
-use Rattle.rw_sections.specs.Words.{Count, Position, Section, Serial}
+use Rattle.rw_numbers.specs.Words.{Count, Position, Section, Serial}
 use Rattle.rw_sections.specs.declared.Kind.{Kind}
 use Rattle.rw_sections.specs.declared.Kind.TheVariants.{Device, Virtual}
 use Rattle.rw_sections.specs.declared.Vanished.{Vanished}

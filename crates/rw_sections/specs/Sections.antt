@@ -1,7 +1,7 @@
 -- Sections as data.
 use Rattle.std.specs.Prelude.{◌≡◌, ◌<◌, Bool, true, false, ◌&&◌, not, List, [], ◌∷◌, length, slice_index_or, count_by, nat_eq}
 use Rattle.std.specs.List.{list_any}
-use Rattle.rw_sections.specs.Words.{Count, Position, Section, Serial}
+use Rattle.rw_numbers.specs.Words.{Count, Position, Section, Serial}
 use Rattle.rw_sections.specs.declared.Kind.{Kind}
 use Rattle.rw_sections.specs.declared.Kind.TheVariants.{Device, Virtual}
 

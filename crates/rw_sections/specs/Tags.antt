@@ -3,7 +3,8 @@ use Rattle.std.specs.Prelude.{◌≡◌, ◌<◌, ◌+◌, Bool, true, false, if
 use Rattle.std.specs.HashMap.{get, HashMap}
 use Rattle.std.specs.declared.hash.FoldHasher.{FoldHasher}
 use Rattle.std.specs.declared.hash.BuildHasherDefault.{BuildHasherDefault}
-use Rattle.rw_sections.specs.Words.{Position, Section, Serial, Tag}
+use Rattle.rw_sections.specs.Words.{Tag}
+use Rattle.rw_numbers.specs.Words.{Position, Section, Serial}
 use Rattle.rw_sections.specs.declared.Kind.{Kind}
 use Rattle.rw_sections.specs.declared.Vanished.{Vanished}
 use Rattle.rw_sections.specs.Sections.{SectionState, section_in, sealed_in, active_of, has_block}

@@ -17,7 +17,7 @@ pub struct SealedBlocks {
 
 impl Model for SealedBlocks {
     ghost use Rattle.std.specs.Prelude.{◌≡◌, List};
-    ghost use Rattle.rw_sections.specs.Words.{Serial};
+    ghost use Rattle.rw_numbers.specs.Words.{Serial};
     ghost use Rattle.rw_sections.specs.declared.Kind.{Kind};
     ghost use Rattle.rw_sections.specs.Sections.{device_count_of};
 

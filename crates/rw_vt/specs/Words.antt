@@ -1,5 +1,6 @@
 -- What numbers are.
 use Rattle.std.specs.Prelude.{ℕ}
+pub use Rattle.rw_numbers.specs.Words.{Count, Position}
 
 -- virtual time, in ticks
 abbrev pub Time : Type 0
@@ -12,11 +13,3 @@ Process = ℕ
 -- a worker of a round, counted from 0
 abbrev pub Worker : Type 0
 Worker = ℕ
-
--- how many
-abbrev pub Count : Type 0
-Count = ℕ
-
--- a place in a list, counted from 0
-abbrev pub Position : Type 0
-Position = ℕ

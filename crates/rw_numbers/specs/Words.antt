@@ -1,5 +1,13 @@
--- What the numbers of a row are.
+-- What numbers are, in more than one crate.
 use Rattle.std.specs.Prelude.{ℕ}
+
+-- how many
+abbrev pub Count : Type 0
+Count = ℕ
+
+-- a place in a list, counted from 0
+abbrev pub Position : Type 0
+Position = ℕ
 
 -- an object, by its number
 abbrev pub Object : Type 0
@@ -12,3 +20,7 @@ Size = ℕ
 -- a block, by its serial
 abbrev pub Serial : Type 0
 Serial = ℕ
+
+-- a section, counted from 0 at the head
+abbrev pub Section : Type 0
+Section = ℕ
