@@ -1,5 +1,6 @@
 -- What rounds of one worker come to.
-use Rattle.std.specs.Prelude.{◌≡◌, ◌≤◌, ◌*◌, ℕ}
+use Rattle.std.specs.Prelude.{◌≡◌, ◌≤◌, ◌*◌}
+use Rattle.rw_vt.specs.Words.{Count}
 use Rattle.rw_worker.specs.declared.plan.Plan.{Plan}
 use Rattle.rw_worker.specs.declared.traffic.Traffic.{Traffic}
 use Rattle.rw_rounds.specs.declared.stop.Stop.{Stop}
@@ -7,18 +8,18 @@ use Rattle.rw_rounds.specs.declared.stop.Stop.TheVariants as stop
 use Rattle.rw_worker.specs.Plans.{IsInRanges}
 
 -- how many events the rounds of a plan have room for, where each has one worker
-abbrev pub most_events : Plan → ℕ
+abbrev pub most_events : Plan → Count
 most_events plan = plan.max_rounds * (plan.turns * plan.batch)
 
 -- so many rounds of one worker execute these events: one at least, and no more than have room for them
-pub record AreRoundsOf (plan : Plan) (events rounds : ℕ) : Type 0 where
+pub record AreRoundsOf (plan : Plan) (events rounds : Count) : Type 0 where
   pub one : 1 ≤ rounds
   pub enough : events ≤ rounds * (plan.turns * plan.batch)
-  pub fewest : (fewer : ℕ) → 1 ≤ fewer → events ≤ fewer * (plan.turns * plan.batch)
+  pub fewest : (fewer : Count) → 1 ≤ fewer → events ≤ fewer * (plan.turns * plan.batch)
       → rounds ≤ fewer
 
 -- what rounds of one worker did: each event was executed once, none was undone, and no letter left the worker
-pub record IsTrafficAlone (plan : Plan) (events : ℕ) (traffic : Traffic) : Type 0 where
+pub record IsTrafficAlone (plan : Plan) (events : Count) (traffic : Traffic) : Type 0 where
   pub rounds : AreRoundsOf plan events traffic.rounds
   pub executed : traffic.executed ≡ events
   pub undone : traffic.undone ≡ 0

@@ -7,6 +7,7 @@ use Rattle.std.specs.Option.{ok_or}
 use Rattle.std.specs.Str.{str_eq_ignore_ascii_case}
 use Rattle.csv.specs.Reading.{default_config, records, strip_bom}
 use Rattle.csv.specs.Records.{field_at}
+use Rattle.rw_numbers.specs.Words.{Count, Edge, Object, Position, Size, Time}
 use Rattle.rw_trace.specs.Limits.{greatest_size}
 use Rattle.rw_trace.specs.Trace.{number_of}
 use Rattle.rw_trace.specs.Words.{Fields, Text}
@@ -26,7 +27,7 @@ use Rattle.rw_import.specs.declared.layout.Column.TheVariants.{At, Named}
 use Rattle.rw_import.specs.declared.layout.Places.{Places}
 use Rattle.rw_import.specs.declared.options.Options.{Options}
 use Rattle.rw_import.specs.Limits.{most_log_edges}
-use Rattle.rw_import.specs.Log.{IsRowsFault, Saying, billion, first_time, in_time, kept_in, rows_for, told_apart}
+use Rattle.rw_import.specs.Log.{IsRowsFault, LogTime, Saying, billion, first_time, in_time, kept_in, rows_for, told_apart}
 
 infixl 10 ◌>>=◌
 abbrev pub ◌>>=◌ : {A B E : Type 0} → Result A E → (A → Result B E) → Result B E
@@ -40,15 +41,15 @@ is_same_text a b = pointwise nat_eq a b
 -- ---- the fields of a record
 
 -- the text of the field at a place, of which nothing is there past the last
-abbrev pub field_in : Fields → ℕ → Text
+abbrev pub field_in : Fields → Position → Text
 field_in fields n = unwrap_or (field_at fields n) []
 
 -- whether a record has a place
-abbrev pub has_place : Fields → ℕ → Bool
+abbrev pub has_place : Fields → Position → Bool
 has_place fields n = nat_lt n (length fields)
 
 -- the same of a place that need not be asked for
-abbrev pub has_place_if : Fields → Option ℕ → Bool
+abbrev pub has_place_if : Fields → Option Position → Bool
 has_place_if fields None = true
 has_place_if fields (Some n) = has_place fields n
 
@@ -60,24 +61,24 @@ has_places fields p =
 
 -- the billionths that the digits behind a point write: nine of them count, and where there are fewer the others are
 -- zeros
-unfoldable pub fraction_of : Text → Option ℕ
+unfoldable pub fraction_of : Text → Option LogTime
 fraction_of digits =
     if (length digits == 0) || not (list_all is_ascii_digit digits) then None
     else number_of (take 9 (digits ++ replicate 9 48))
 
 -- so many units and billionths, in billionths
-abbrev pub time_with : Option ℕ → Option ℕ → Option ℕ
+abbrev pub time_with : Option ℕ → Option LogTime → Option LogTime
 time_with None f = None
 time_with (Some n) None = None
 time_with (Some n) (Some f) = Some (n * billion + f)
 
 -- the time that a text writes, in billionths, where its point stands there, if it has one
-abbrev pub time_at : Text → Option ℕ → Option ℕ
+abbrev pub time_at : Text → Option Position → Option LogTime
 time_at text None = time_with (number_of text) (Some 0)
 time_at text (Some n) = time_with (number_of (take n text)) (fraction_of (drop (n + 1) text))
 
 -- the time that a text writes, in billionths: a number, and perhaps a point and digits behind it
-unfoldable pub time_of : Text → Option ℕ
+unfoldable pub time_of : Text → Option LogTime
 time_of text = time_at text (position (λ b. b == 46) text)
 
 -- a number below another, if there is one
@@ -86,14 +87,14 @@ below most None = None
 below most (Some n) = if nat_lt n most then Some n else None
 
 -- the edge that a record names, one of so many, where it has a column of edges
-abbrev pub edge_in : ℕ → Fields → Option ℕ → Result (Option ℕ) Flaw
+abbrev pub edge_in : Count → Fields → Option Position → Result (Option Edge) Flaw
 edge_in edges fields None = Ok None
 edge_in edges fields (Some n) =
     ok_or (option_map (λ e. Some e) (below edges (number_of (field_in fields n))))
     (flaw.Column n part.Edge)
 
 -- a size in its range, if there is one
-abbrev pub some_size : Option ℕ → Option ℕ
+abbrev pub some_size : Option Size → Option Size
 some_size None = None
 some_size (Some n) = if nat_le 1 n && nat_le n greatest_size then Some n else None
 
@@ -105,7 +106,7 @@ kind_named text =
     else None
 
 -- the kind of a record: a get where there is no column of kinds
-abbrev pub kind_in : Fields → Option ℕ → Result Kind Flaw
+abbrev pub kind_in : Fields → Option Position → Result Kind Flaw
 kind_in fields None = Ok Get
 kind_in fields (Some n) = ok_or (kind_named (field_in fields n)) (flaw.Column n part.Kind)
 
@@ -116,7 +117,7 @@ some_text (b ∷ bs) = Some (b ∷ bs)
 
 -- what a record says but its object, or what is first wrong with it: a place that it has not, and then its columns in
 -- the order of time, edge, object, size and kind
-unfoldable pub entry_of : Places → ℕ → Fields → Result Entry Flaw
+unfoldable pub entry_of : Places → Count → Fields → Result Entry Flaw
 entry_of p edges fields =
     if has_places fields p then (do
       time ← ok_or (time_of (field_in fields p.time)) (flaw.Column p.time part.Time)
@@ -133,11 +134,11 @@ beside object (Ok entry) = Ok (entry, object)
 beside object (Err flaw) = Err flaw
 
 -- what a record says, with the text of its object
-abbrev pub record_said : Places → ℕ → Fields → Saying Text
+abbrev pub record_said : Places → Count → Fields → Saying Text
 record_said p edges fields = beside (field_in fields p.object) (entry_of p edges fields)
 
 -- what becomes of a record, where the least time is known
-abbrev pub record_told : Places → ℕ → ℕ → ℕ → Fields → Saying Text
+abbrev pub record_told : Places → Count → Time → LogTime → Fields → Saying Text
 record_told p edges ticks least fields = in_time ticks least p.time (record_said p edges fields)
 
 -- ---- the columns of a log
@@ -158,13 +159,13 @@ has_header l =
     || is_named_if l.kind
 
 -- where a column stands: at its number, or where its name first stands in the header
-abbrev pub place_in : Fields → Part → Column → Result ℕ ImportFault
+abbrev pub place_in : Fields → Part → Column → Result Position ImportFault
 place_in header p (At n) = Ok n
 place_in header p (Named name) =
     ok_or (position (λ field. is_same_text field name.items) header) (fault.NoColumn p)
 
 -- the same of a column that need not be there
-abbrev pub place_if : Fields → Part → Option Column → Result (Option ℕ) ImportFault
+abbrev pub place_if : Fields → Part → Option Column → Result (Option Position) ImportFault
 place_if header p None = Ok None
 place_if header p (Some column) = place_in header p column >>= (λ n. Ok (Some n))
 
@@ -198,12 +199,12 @@ abbrev pub log_records : Layout → Text → List Fields
 log_records l bytes = records (record default_config { delimiter = l.delimiter }) (strip_bom bytes)
 
 -- how many edges there are, so many if none are named: the most where there is a column of edges
-abbrev pub edges_named : Option Column → ℕ → ℕ
+abbrev pub edges_named : Option Column → Count → Count
 edges_named None edges = edges
 edges_named (Some column) edges = most_log_edges
 
 -- how many edges a log's trace is for
-abbrev pub edges_of : Layout → Options → ℕ
+abbrev pub edges_of : Layout → Options → Count
 edges_of l o = edges_named l.edge o.edges
 
 -- what its rows say, where its columns stand there
@@ -216,7 +217,7 @@ abbrev pub csv_said : Layout → Options → Text → List (Saying Text)
 csv_said l o bytes = said_at l o bytes (columns_found l (log_records l bytes))
 
 -- the column of times
-abbrev pub time_column : Result Places ImportFault → ℕ
+abbrev pub time_column : Result Places ImportFault → Position
 time_column (Ok p) = p.time
 time_column (Err e) = 0
 
@@ -236,7 +237,7 @@ abbrev pub different : List Text → List Text
 different texts = fold with_text [] texts
 
 -- the number of a text: how many different ones come before it first does
-abbrev pub number_among : List Text → Text → ℕ
+abbrev pub number_among : List Text → Text → Object
 number_among texts t = position_or_len (is_same_text t) (different texts)
 
 -- the objects of the rows that are kept
@@ -250,7 +251,7 @@ csv_rows l o bytes =
     (kept_in (csv_told l o bytes))
 
 -- two rows have one number exactly where their objects are the same text
-abbrev pub HaveOneNumberEach : List Text → List ℕ → Type 0
+abbrev pub HaveOneNumberEach : List Text → List Object → Type 0
 HaveOneNumberEach texts numbers =
     (i j : ℕ) → i < length texts → j < length texts
     → (slice_index numbers i ≡ slice_index numbers j)

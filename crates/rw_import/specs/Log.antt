@@ -3,6 +3,7 @@
 use Rattle.std.specs.Prelude.{◌≡◌, ◌+◌, ◌-◌, ◌*◌, ◌/◌, ◌%◌, ◌^◌, ◌++◌, ℕ, List, [], ◌∷◌, Bool, true, false, Result, Ok, Err, Option, Some, None, map, fold, min, count_by, bit_xor, length, nat_le, unwrap_or, if◌then◌else◌}
 use Rattle.std.specs.List.{AllPass, filter_map}
 use Rattle.std.specs.Result.{is_ok, result_ok}
+use Rattle.rw_numbers.specs.Words.{Count, Edge, Object, Position, Time}
 use Rattle.rw_trace.specs.Limits.{latest_time, most_rows}
 use Rattle.rw_trace.specs.declared.Row.{Row}
 use Rattle.rw_import.specs.declared.options.Dealing.{Dealing}
@@ -17,7 +18,7 @@ use Rattle.rw_import.specs.declared.fault.ImportFault.TheVariants as fault
 use Rattle.rw_import.specs.declared.entry.Entry.{Entry}
 use Rattle.rw_import.specs.declared.entry.LeftOut.{LeftOut}
 
--- what a row says: an entry, its time in billionths of the log's unit, and its object
+-- what a row says: an entry, whose time is one of a log, and its object
 abbrev pub Said : Type 0 → Type 0
 Said O = Entry × O
 
@@ -25,33 +26,37 @@ Said O = Entry × O
 abbrev pub Saying : Type 0 → Type 0
 Saying O = Result (Said O) Flaw
 
+-- a time of a log, in billionths of its unit
+abbrev pub LogTime : Type 0
+LogTime = ℕ
+
 -- billionths in a unit of time
 abbrev pub billion : ℕ
 billion = 10 ^ 9
 
 -- the lesser of a time that may be there and that of a row, if it says one
-abbrev pub earlier : {O : Type 0} → Option ℕ → Saying O → Option ℕ
+abbrev pub earlier : {O : Type 0} → Option LogTime → Saying O → Option LogTime
 earlier m (Err f) = m
 earlier None (Ok s) = Some s.0.time
 earlier (Some t) (Ok s) = Some (min t s.0.time)
 
 -- the least time that rows say, or 0 where none says one
-abbrev pub first_time : {O : Type 0} → List (Saying O) → ℕ
+abbrev pub first_time : {O : Type 0} → List (Saying O) → LogTime
 first_time said = unwrap_or (fold earlier None said) 0
 
--- the ticks from the least time to another, rounded down
-abbrev pub ticks_from : ℕ → ℕ → ℕ → ℕ
+-- the ticks from the least time to another, at so many in a unit, rounded down
+abbrev pub ticks_from : Time → LogTime → LogTime → Time
 ticks_from ticks least time = ((time - least) * ticks) / billion
 
 -- a row whose time is past the latest one of a trace is left out, for its time, which stands in this column
-abbrev pub in_time : {O : Type 0} → ℕ → ℕ → ℕ → Saying O → Saying O
+abbrev pub in_time : {O : Type 0} → Time → LogTime → Position → Saying O → Saying O
 in_time ticks least column (Ok s) =
     if nat_le (ticks_from ticks least s.0.time) latest_time then Ok s
     else Err (Column column part.Time)
 in_time ticks least column (Err f) = Err f
 
 -- what becomes of each row: it is kept with what it says, or left out for what is wrong
-abbrev pub told_apart : {O : Type 0} → ℕ → ℕ → List (Saying O) → List (Saying O)
+abbrev pub told_apart : {O : Type 0} → Time → Position → List (Saying O) → List (Saying O)
 told_apart ticks column said = map (in_time ticks (first_time said) column) said
 
 -- the rows that are kept, in order
@@ -101,17 +106,17 @@ unfoldable pub mixed : ℕ → ℕ
 mixed n = bit_xor (mixed_twice (mixed_once n)) (mixed_twice (mixed_once n) / 2 ^ 31)
 
 -- the edge that a kept row is dealt to, from its place among these or from its object's number
-unfoldable pub dealt_edge : Dealing → ℕ → ℕ → ℕ → ℕ
+unfoldable pub dealt_edge : Dealing → Count → Position → Object → Edge
 dealt_edge ByRow edges place object = place % edges
 dealt_edge ByObject edges place object = mixed object % edges
 
 -- the edge of a kept row: its own where it names one
-abbrev pub edge_for : Options → ℕ → ℕ → Option ℕ → ℕ
+abbrev pub edge_for : Options → Position → Object → Option Edge → Edge
 edge_for o place object (Some edge) = edge
 edge_for o place object None = dealt_edge o.dealing o.edges place object
 
 -- the trace's row of the kept row at a place, whose object has this number
-abbrev pub row_for : Options → ℕ → ℕ → ℕ → Entry → Row
+abbrev pub row_for : Options → LogTime → Position → Object → Entry → Row
 row_for o least place object entry = record {
   time = ticks_from o.ticks least entry.time;
   edge = edge_for o place object entry.edge;
@@ -121,7 +126,8 @@ row_for o least place object entry = record {
 }
 
 -- the trace's rows of kept rows from a place on, where each object has its number
-unfoldable pub rows_for : {O : Type 0} → Options → ℕ → (O → ℕ) → ℕ → List (Said O) → List Row
+unfoldable pub rows_for : {O : Type 0} → Options → LogTime → (O → Object) → Position → List (Said O)
+    → List Row
 rows_for o least number place [] = []
 rows_for o least number place (s ∷ ss) =
     row_for o least place (number s.1) s.0 ∷ rows_for o least number (place + 1) ss
@@ -135,7 +141,7 @@ abbrev pub IsStrictlyKept : {O : Type 0} → Options → List (Saying O) → Typ
 IsStrictlyKept o said = o.strict ≡ true → AllKept said
 
 -- the fault that names a row and what is wrong with it
-abbrev pub fault_at : ℕ → Flaw → ImportFault
+abbrev pub fault_at : Position → Flaw → ImportFault
 fault_at n Length = fault.RowLength n
 fault_at n (Column c p) = fault.Row n c p
 

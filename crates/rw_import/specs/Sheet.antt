@@ -2,11 +2,12 @@
 use Rattle.std.specs.Prelude.{◌≡◌, ◌≤◌, ◌<◌, ◌+◌, ◌^◌, ◌++◌, ℕ, List, [], ◌∷◌, true, false, Result, Ok, Err, Option, Some, None, All, if◌then◌else◌, length, map, nat_le}
 use Rattle.std.specs.Global.{Vec}
 use Rattle.indexmap.specs.IndexSet.{IndexSet}
+use Rattle.rw_numbers.specs.Words.{Count, Edge, Object, Position, Time}
 use Rattle.rw_trace.specs.Laws.{IsRow}
 use Rattle.rw_trace.specs.Limits.{greatest_size, latest_time, most_rows}
 use Rattle.rw_trace.specs.Words.{Text}
 use Rattle.rw_import.specs.Csv.{number_among, objects_in, with_text}
-use Rattle.rw_import.specs.Log.{IsStrictlyKept, Saying, fault_at, kept_in, left_out_of, row_for, rows_for, ticks_from}
+use Rattle.rw_import.specs.Log.{IsStrictlyKept, LogTime, Saying, fault_at, kept_in, left_out_of, row_for, rows_for, ticks_from}
 use Rattle.rw_import.specs.declared.options.Options.{Options}
 use Rattle.rw_import.specs.declared.fault.ImportFault.{ImportFault}
 use Rattle.rw_import.specs.declared.fault.ImportFault.TheVariants as fault
@@ -31,7 +32,7 @@ abbrev pub no_counts_yet : LeftOut
 no_counts_yet = record { length = 0; time = 0; edge = 0; object = 0; size = 0; kind = 0 }
 
 -- each count is at most the rows so far
-pub record AreCountsOf (n : ℕ) (l : LeftOut) : Type 0 where
+pub record AreCountsOf (n : Count) (l : LeftOut) : Type 0 where
   pub length : l.length ≤ n
   pub time : l.time ≤ n
   pub edge : l.edge ≤ n
@@ -41,25 +42,25 @@ pub record AreCountsOf (n : ℕ) (l : LeftOut) : Type 0 where
 
 -- an edge that a row names is below the number of edges, and where it names none this is the number that rows are dealt
 -- to
-abbrev pub IsEdgeIn : ℕ → Options → Option ℕ → Type 0
+abbrev pub IsEdgeIn : Count → Options → Option Edge → Type 0
 IsEdgeIn edges o None = o.edges ≡ edges
 IsEdgeIn edges o (Some e) = e < edges
 
 -- a kept row has what a trace's row is to have
-abbrev pub IsKeepable : ℕ → Options → ℕ → Saying ℕ → Type 0
+abbrev pub IsKeepable : Count → Options → LogTime → Saying Object → Type 0
 IsKeepable edges o least (Err f) = Unit {0}
 IsKeepable edges o least (Ok s) =
     IsEdgeIn edges o s.0.edge × (1 ≤ s.0.size) × (s.0.size ≤ greatest_size) × (s.1 < 2 ^ 64)
     × (s.0.time < 10 ^ 29) × (ticks_from o.ticks least s.0.time ≤ latest_time)
 
 -- the time of a kept row is short, and within those of a trace
-abbrev pub IsTimely : Options → ℕ → Saying ℕ → Type 0
+abbrev pub IsTimely : Options → LogTime → Saying Object → Type 0
 IsTimely o least (Err f) = Unit {0}
 IsTimely o least (Ok s) =
     (s.0.time < 10 ^ 29) × (ticks_from o.ticks least s.0.time ≤ latest_time)
 
 -- one more row is kept, or left out
-abbrev pub AddsRow : Options → ℕ → Sheet → Sheet → Saying ℕ → Type 0
+abbrev pub AddsRow : Options → LogTime → Sheet → Sheet → Saying Object → Type 0
 AddsRow o least old new (Ok s) =
     (new.rows.items ≡ old.rows.items ++ row_for o least (length old.rows.items) s.1 s.0 ∷ [])
     × (new.left_out ≡ old.left_out) × (length old.rows.items < most_rows)
@@ -68,18 +69,18 @@ AddsRow o least old new (Err f) =
     × (o.strict ≡ false)
 
 -- why one more row is refused
-abbrev pub RefusesRow : Options → ℕ → Sheet → Saying ℕ → ImportFault → Type 0
+abbrev pub RefusesRow : Options → Position → Sheet → Saying Object → ImportFault → Type 0
 RefusesRow o row old (Ok s) e =
     (e ≡ fault.TooManyRows) × (most_rows ≤ length old.rows.items)
 RefusesRow o row old (Err f) e = (e ≡ fault_at row f) × (o.strict ≡ true)
 
 -- what a row says, its object by number
-abbrev pub numbered_by : {O : Type 0} → (O → ℕ) → Saying O → Saying ℕ
+abbrev pub numbered_by : {O : Type 0} → (O → Object) → Saying O → Saying Object
 numbered_by number (Ok s) = Ok (s.0, number s.1)
 numbered_by number (Err f) = Err f
 
 -- what a record says but its object, where its time is within those of a trace
-abbrev pub entry_in_time : ℕ → ℕ → ℕ → Result Entry Flaw → Result Entry Flaw
+abbrev pub entry_in_time : Time → LogTime → Position → Result Entry Flaw → Result Entry Flaw
 entry_in_time ticks least column (Err f) = Err f
 entry_in_time ticks least column (Ok entry) =
     if nat_le (ticks_from ticks least entry.time) latest_time then Ok entry
@@ -95,8 +96,8 @@ with_kept texts text (Ok entry) = with_text texts text
 with_kept texts text (Err f) = texts
 
 -- what has been collected of these rows, where each object has its number
-pub record IsSheetOf {O : Type 0} (number : O → ℕ) (edges : ℕ) (o : Options) (least : ℕ)
-    (done : List (Saying O)) (sheet : Sheet) : Type 0 where
+pub record IsSheetOf {O : Type 0} (number : O → Object) (edges : Count) (o : Options)
+    (least : LogTime) (done : List (Saying O)) (sheet : Sheet) : Type 0 where
   pub rows : sheet.rows.items ≡ rows_for o least number 0 (kept_in done)
   pub count : length sheet.rows.items ≡ length (kept_in done)
   pub left_out : sheet.left_out ≡ left_out_of done
@@ -105,6 +106,6 @@ pub record IsSheetOf {O : Type 0} (number : O → ℕ) (edges : ℕ) (o : Option
   pub ranges : 1 ≤ o.edges → All (IsRow edges) sheet.rows.items
 
 -- the same of a log of fields, where each object's number is that of its text
-abbrev pub IsTextSheet : ℕ → Options → ℕ → List (Saying Text) → Sheet → Type 0
+abbrev pub IsTextSheet : Count → Options → LogTime → List (Saying Text) → Sheet → Type 0
 IsTextSheet edges o least told sheet =
     IsSheetOf (number_among (objects_in told)) edges o least told sheet

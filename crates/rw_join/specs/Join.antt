@@ -1,7 +1,8 @@
 -- What becomes of some parts.
-use Rattle.std.specs.Prelude.{◌≡◌, ◌<◌, ◌≤◌, ℕ, List, All, Option, IfSome, length}
+use Rattle.std.specs.Prelude.{◌≡◌, ◌<◌, ◌≤◌, List, All, Option, IfSome, length}
 use Rattle.std.specs.List.{AllZip}
 use Rattle.rw_vt.specs.Words.{Count, Position}
+use Rattle.rw_trace.specs.Words.{Text}
 use Rattle.rw_sweep.specs.declared.axes.Axes.{Axes}
 use Rattle.rw_sweep.specs.Grids.{combinations}
 use Rattle.rw_sweep.specs.Limits.{most_configurations}
@@ -13,7 +14,7 @@ use Rattle.rw_join.specs.Lines.{IsPartWith}
 -- the text is the table of so many configurations that these parts make: each text is a part, each place is that of one
 -- of so many, each of these has three lines, and behind the header stand the lines of all parts in the order of their
 -- places, without the places
-pub record IsJoinOf (texts : List (List ℕ)) (count : Count) (text : List ℕ) : Type 0 where
+pub record IsJoinOf (texts : List Text) (count : Count) (text : Text) : Type 0 where
   pub parts : List (List PlacedLine)
   pub have : AllZip IsPartWith texts parts
   pub within : All (λ l. l.place < count) (lines_of_all parts)
@@ -22,15 +23,15 @@ pub record IsJoinOf (texts : List (List ℕ)) (count : Count) (text : List ℕ) 
   pub told : text ≡ in_order_of_place count (lines_of_all parts)
 
 -- the same, of as many configurations as are asked for
-abbrev pub HasJoined : List (List ℕ) → Option Count → List ℕ → Type 0
+abbrev pub HasJoined : List Text → Option Count → Text → Type 0
 HasJoined texts asked text =
     (count : Count) × IsJoinOf texts count text × IfSome asked (λ n. count ≡ n)
 
 -- what the parts of a sweep make, in whatever order, each there once, is the sweep, if its grid is not too large
 abbrev pub JoinOfPartsIsTheSweep : Type 0
 JoinOfPartsIsTheSweep =
-    (a : Axes) (bytes : List ℕ) (parts : Count) (indices : List ℕ) (texts : List (List ℕ))
-    (count : Count) (text : List ℕ)
+    (a : Axes) (bytes : Text) (parts : Count) (indices : List Position) (texts : List Text)
+    (count : Count) (text : Text)
     → 0 < parts → HasEachOnce parts indices
     → AllZip (λ index t. IsPartSweepOf a index parts bytes t) indices texts
     → length (combinations a) ≤ most_configurations → IsJoinOf texts count text

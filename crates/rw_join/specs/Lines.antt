@@ -1,5 +1,6 @@
 -- What the lines of a part are.
-use Rattle.std.specs.Prelude.{◌≡◌, ◌<◌, ℕ, List, All}
+use Rattle.std.specs.Prelude.{◌≡◌, ◌<◌, List, All}
+use Rattle.rw_trace.specs.Words.{Text}
 use Rattle.rw_sweep.specs.Joining.{IsLine, PlacedLine, part_with}
 use Rattle.rw_sweep.specs.Limits.{most_configurations}
 
@@ -9,6 +10,6 @@ pub record IsPartLine (l : PlacedLine) : Type 0 where
   pub place : l.place < most_configurations
 
 -- the text is a part that has these lines
-pub record IsPartWith (text : List ℕ) (ls : List PlacedLine) : Type 0 where
+pub record IsPartWith (text : Text) (ls : List PlacedLine) : Type 0 where
   pub told : text ≡ part_with ls
   pub lines : All IsPartLine ls

@@ -1,14 +1,16 @@
 -- What the text of a schedule says.
 use Rattle.std.specs.Prelude.{ℕ, ◌+◌, ◌^◌, ◌==◌, if◌then◌else◌, nat_lt, Bool, List, [], ◌∷◌, Option, Some, None, Result, Ok, Err}
 use Rattle.std.specs.List.{position_or_len}
+use Rattle.rw_vt.specs.Words.{Position}
 use Rattle.rw_trace.specs.Trace.{number_of}
+use Rattle.rw_trace.specs.Words.{Text}
 use Rattle.rw_world.specs.declared.step.Step.{Step}
 use Rattle.rw_world.specs.declared.step.Step.TheVariants.{Execute, Undo, UndoLazily, Deliver, Collect}
 use Rattle.rw_journal.specs.declared.schedule_text.ScheduleFault.{ScheduleFault}
 use Rattle.rw_journal.specs.declared.schedule_text.ScheduleFault.TheVariants.{Word}
 
 -- a byte before the first of some words
-abbrev pub before_words : ℕ → List (List ℕ) → List (List ℕ)
+abbrev pub before_words : ℕ → List Text → List Text
 before_words b [] = (b ∷ []) ∷ []
 before_words b (w ∷ ws) = (b ∷ w) ∷ ws
 
@@ -16,11 +18,11 @@ abbrev pub is_blank : ℕ → Bool
 is_blank b = b == 32
 
 -- where the first blank of a text stands, or its length
-abbrev pub end_of : List ℕ → ℕ
+abbrev pub end_of : Text → Position
 end_of text = position_or_len is_blank text
 
 -- the words of a text, parted by single blanks; there is always one, which may be empty
-unfoldable pub words_of : List ℕ → List (List ℕ)
+unfoldable pub words_of : Text → List Text
 words_of [] = [] ∷ []
 words_of (b ∷ bs) = if is_blank b then [] ∷ words_of bs else before_words b (words_of bs)
 
@@ -40,23 +42,23 @@ step_of_letter b n =
     else None
 
 -- the step that a word says, if it says one: a letter and 1 to 20 digits
-unfoldable pub step_of_word : List ℕ → Option Step
+unfoldable pub step_of_word : Text → Option Step
 step_of_word [] = None
 step_of_word (b ∷ digits) = step_of_letter b (number_of digits)
 
 -- a step, or a bad word, before what the words behind it say
-abbrev pub and_then : ℕ → Option Step → Result (List Step) ScheduleFault
+abbrev pub and_then : Position → Option Step → Result (List Step) ScheduleFault
     → Result (List Step) ScheduleFault
 and_then n None rest = Err (Word n)
 and_then n (Some step) (Ok steps) = Ok (step ∷ steps)
 and_then n (Some step) (Err fault) = Err fault
 
 -- the steps that these words say, the first being word n, or the first bad word
-unfoldable pub steps_of : ℕ → List (List ℕ) → Result (List Step) ScheduleFault
+unfoldable pub steps_of : Position → List Text → Result (List Step) ScheduleFault
 steps_of n [] = Ok []
 steps_of n (w ∷ ws) = and_then n (step_of_word w) (steps_of (n + 1) ws)
 
 -- the steps of a schedule, or its first bad word; an empty text is the empty schedule
-abbrev pub schedule_of : List ℕ → Result (List Step) ScheduleFault
+abbrev pub schedule_of : Text → Result (List Step) ScheduleFault
 schedule_of [] = Ok []
 schedule_of (b ∷ bs) = steps_of 0 (words_of (b ∷ bs))

@@ -9,6 +9,14 @@ Count = ℕ
 abbrev pub Position : Type 0
 Position = ℕ
 
+-- a time, in ticks: of a trace, and the virtual time of a run
+abbrev pub Time : Type 0
+Time = ℕ
+
+-- an edge, counted from 0
+abbrev pub Edge : Type 0
+Edge = ℕ
+
 -- an object, by its number
 abbrev pub Object : Type 0
 Object = ℕ

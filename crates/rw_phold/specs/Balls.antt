@@ -7,6 +7,7 @@ use Rattle.std.proofs.Common.{arith, ap}
 use Rattle.std.proofs.lemmas.Bool.Decides.{nat_tests}
 use Rattle.std.proofs.lemmas.List.Elements.{All-cons, All-nil}
 use Rattle.std.proofs.lemmas.Cmp.{ranked, by_ranked}
+use Rattle.rw_vt.specs.Words.{Process, Time}
 use Rattle.rw_vt.specs.Limits.{end_of_time}
 use Rattle.rw_vt.specs.declared.event.Event.{Event}
 use Rattle.rw_vt.specs.Valid.{IsInRange, IsSentBy}
@@ -37,11 +38,11 @@ abbrev pub second_draw : Holder → ℕ
 second_draw s = drawn (first_draw s)
 
 -- for how long a ball is held beyond the lookahead by what is drawn: not at all, or for a drawn time
-abbrev pub hold_by : Phold → ℕ → ℕ
+abbrev pub hold_by : Phold → ℕ → Time
 hold_by m draw = if nat_lt (draw / 2 ^ 16 % 2 ^ 16) m.short then 0 else draw / 2 ^ 32 % m.spread
 
 -- when the ball comes again
-abbrev pub next_time : Phold → Holder → Event Ball → ℕ
+abbrev pub next_time : Phold → Holder → Event Ball → Time
 next_time m s e = e.time + m.lookahead + hold_by m (first_draw s)
 
 -- whether it does, before the end of the run
@@ -49,14 +50,14 @@ abbrev pub comes_again : Phold → Holder → Event Ball → Bool
 comes_again m s e = nat_lt (next_time m s e) m.until
 
 -- where a ball of process p goes by what is drawn: to one of all processes, or it stays
-abbrev pub place_by : Phold → ℕ → ℕ → ℕ
+abbrev pub place_by : Phold → Process → ℕ → Process
 place_by m p draw = if nat_lt (draw / 2 ^ 48) m.remote then draw / 2 ^ 16 % m.processes else p
 
 -- where it comes
-abbrev pub next_process : Phold → ℕ → Holder → ℕ
+abbrev pub next_process : Phold → Process → Holder → Process
 next_process m p s = place_by m p (second_draw s)
 
-abbrev pub next_ball : Phold → ℕ → Holder → Event Ball → Event Ball
+abbrev pub next_ball : Phold → Process → Holder → Event Ball → Event Ball
 next_ball m p s e = record {
   time = next_time m s e;
   source = p + 1;
@@ -73,12 +74,12 @@ holder_after m s e = record {
   events = (s.events + 1) % 2 ^ 64;
 }
 
-abbrev pub phold_step : Phold → ℕ → Holder → Event Ball → Holder × List (Event Ball)
+abbrev pub phold_step : Phold → Process → Holder → Event Ball → Holder × List (Event Ball)
 phold_step m p s e =
     (holder_after m s e, if comes_again m s e then next_ball m p s e ∷ [] else [])
 
 -- the record links the process before, the event and the process after
-pub record IsPassed (m : Phold) (p : ℕ) (before : Holder) (e : Event Ball) (u : Passed)
+pub record IsPassed (m : Phold) (p : Process) (before : Holder) (e : Event Ball) (u : Passed)
     (later : Holder) : Type 0 where
   pub passed : u.0 ≡ comes_again m before e
   pub is : later ≡ holder_after m before e
@@ -92,7 +93,7 @@ phold_ranges m e h =
       to = grind (arith, nat_tests);
     }
 
-pub phold_keeps : (m : Phold) (p : ℕ) (s : Holder) (e : Event Ball) → IsHolder s
+pub phold_keeps : (m : Phold) (p : Process) (s : Holder) (e : Event Ball) → IsHolder s
     → is_sound_ball m e ≡ true → e.to ≡ p → IsHolder (phold_step m p s e).0
 phold_keeps m p s e w h t =
     record {
@@ -113,7 +114,7 @@ phold_keeps m p s e w h t =
     kept false n l = l
 
 -- the process to which a ball goes is one of those there are
-process-there : (m : Phold) (p : ℕ) (s : Holder) → p < m.processes
+process-there : (m : Phold) (p : Process) (s : Holder) → p < m.processes
     → next_process m p s < m.processes
 process-there m p s h = by (nat_lt (second_draw s / 2 ^ 48) m.remote)
   where
@@ -125,7 +126,7 @@ process-there m p s h = by (nat_lt (second_draw s / 2 ^ 48) m.remote)
     by false = h
 
 -- what is said of a ball that goes on
-sent_well : (m : Phold) (p : ℕ) (s : Holder) (e : Event Ball) → IsHolder s
+sent_well : (m : Phold) (p : Process) (s : Holder) (e : Event Ball) → IsHolder s
     → is_sound_ball m e ≡ true → e.to ≡ p → comes_again m s e ≡ true
     → IsSentBy p e (next_ball m p s e) × (is_sound_ball m (next_ball m p s e) ≡ true)
 sent_well m p s e w h t g =
@@ -144,7 +145,7 @@ sent_well m p s e w h t g =
         ≡ true
     sound time to g there = grind (arith, nat_tests, w.sends, m.before_end)
 
-pub phold_future : (m : Phold) (p : ℕ) (s : Holder) (e : Event Ball) → IsHolder s
+pub phold_future : (m : Phold) (p : Process) (s : Holder) (e : Event Ball) → IsHolder s
     → is_sound_ball m e ≡ true → e.to ≡ p
     → All (λ f. IsSentBy p e f × (is_sound_ball m f ≡ true)) (phold_step m p s e).1
 phold_future m p s e w h t = by (comes_again m s e) refl
@@ -157,7 +158,7 @@ phold_future m p s e w h t = by (comes_again m s e) refl
     by false g = All-nil (λ f. IsSentBy p e f × (is_sound_ball m f ≡ true))
 
 -- and it comes as far ahead as is asked
-pub phold_ahead : (m : Phold) (p : ℕ) (s : Holder) (e : Event Ball) → IsHolder s
+pub phold_ahead : (m : Phold) (p : Process) (s : Holder) (e : Event Ball) → IsHolder s
     → is_sound_ball m e ≡ true → e.to ≡ p
     → All (λ f. e.time + m.lookahead ≤ f.time) (phold_step m p s e).1
 phold_ahead m p s e w h t = by (comes_again m s e)

@@ -7,6 +7,7 @@ use Rattle.std.proofs.Common.{arith, subst, sym, ◌∙◌}
 use Rattle.std.proofs.lemmas.Bool.Decides.{nat_tests}
 use Rattle.std.proofs.lemmas.List.FromFn.{get_or-map-range_with_len, length-map-range_with_len}
 use Rattle.std.proofs.lemmas.Option.{get_or_from_slice_get, slice_get_within}
+use Rattle.rw_vt.specs.Words.{Count, Process}
 use Rattle.rw_vt.specs.declared.event.Event.{Event}
 use Rattle.rw_phold.specs.declared.phold.Phold.{Phold}
 use Rattle.rw_phold.specs.declared.phold.Holder.{Holder}
@@ -15,7 +16,7 @@ use Rattle.rw_phold.specs.Draws.{drawn, drawn_fits}
 use Rattle.rw_phold.specs.Balls.{IsHolder, is_sound_ball}
 
 -- process p as it starts: what it draws comes from the seed and its number
-abbrev pub first_holder : ℕ → ℕ → Holder
+abbrev pub first_holder : ℕ → Process → Holder
 first_holder seed p = record {
   random = drawn (drawn (bit_xor seed p));
   sum = 0;
@@ -38,7 +39,7 @@ first_ball m seed n = record {
 }
 
 -- so many balls as they first come
-abbrev pub first_balls : Phold → ℕ → ℕ → List (Event Ball)
+abbrev pub first_balls : Phold → Count → ℕ → List (Event Ball)
 first_balls m population seed = map (first_ball m seed) (range_with_len 0 population)
 
 -- element k of the values of f at 0 to n - 1

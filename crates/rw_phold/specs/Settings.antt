@@ -1,17 +1,18 @@
 -- The settings that there are.
-use Rattle.std.specs.Prelude.{◌≤◌, ℕ}
+use Rattle.std.specs.Prelude.{◌≤◌}
+use Rattle.rw_vt.specs.Words.{Count, Time}
 use Rattle.rw_vt.specs.Limits.{end_of_time}
 
 -- the most processes
-abbrev pub most_processes : ℕ
+abbrev pub most_processes : Count
 most_processes = 65536
 
 -- the most ticks of the lookahead, and of the spread
-abbrev pub most_ticks : ℕ
+abbrev pub most_ticks : Time
 most_ticks = 1048576
 
 -- each number of a setting is in its range
-abbrev pub IsSetting : ℕ → ℕ → ℕ → ℕ → Type 0
+abbrev pub IsSetting : Count → Time → Time → Time → Type 0
 IsSetting processes lookahead spread until =
     (1 ≤ processes) × (processes ≤ most_processes)
     × (1 ≤ lookahead) × (lookahead ≤ most_ticks)

@@ -2,12 +2,13 @@
 -- ranges, a step keeps a cache well formed, sends are valid, later, and as far ahead as is said, and
 -- bodies that compare as equal are the same. They stand in specs/ with their proofs since the
 -- implementation hands them to the traits as ghost members, which see no proofs/.
-use Rattle.std.specs.Prelude.{◌≡◌, ◌≤◌, ℕ, ◌+◌, ◌^◌, true, ◌&&◌, nat_lt, All}
+use Rattle.std.specs.Prelude.{◌≡◌, ◌≤◌, ◌+◌, ◌^◌, true, ◌&&◌, nat_lt, All}
 use Rattle.std.specs.declared.cmp.Ordering.TheVariants.{Equal}
 use Rattle.std.specs.Ordering.{nat_cmp, ordering_then}
 use Rattle.std.proofs.Common.{ap, arith, sym, true≢false}
 use Rattle.std.proofs.lemmas.Bool.Decides.{nat_tests}
 use Rattle.std.proofs.lemmas.List.Elements.{All-weaker}
+use Rattle.rw_vt.specs.Words.{Process}
 use Rattle.rw_vt.specs.declared.event.Event.{Event}
 use Rattle.rw_vt.specs.Valid.{IsInRange, IsSentBy}
 use Rattle.rw_photo.specs.declared.body.Body.{Body}
@@ -31,7 +32,7 @@ valid_ranges c e v =
       to = r.1;
     }
 
-pub step_keeps : (c : Config) (p : ℕ) (s : Cache) (e : Event Body) → IsWellFormed c p s
+pub step_keeps : (c : Config) (p : Process) (s : Cache) (e : Event Body) → IsWellFormed c p s
     → is_valid c e ≡ true → e.to ≡ p → IsWellFormed c p (step c p s e).0
 step_keeps c p s e w v at =
     let h : Happening = happening c p s e.time e.body in
@@ -46,7 +47,7 @@ step_keeps c p s e w v at =
       counters = added-counts s.counters h.counts;
     }
 
-pub step_future : (c : Config) (p : ℕ) (s : Cache) (e : Event Body) → IsWellFormed c p s
+pub step_future : (c : Config) (p : Process) (s : Cache) (e : Event Body) → IsWellFormed c p s
     → is_valid c e ≡ true → e.to ≡ p
     → All (λ f. IsSentBy p e f × (is_valid c f ≡ true)) (step c p s e).1
 step_future c p s e w v at =
@@ -55,7 +56,7 @@ step_future c p s e w v at =
     (step c p s e).1
     (event-fine c p s e w v at).follow
 
-pub step_ahead : (c : Config) (p : ℕ) (s : Cache) (e : Event Body) → IsWellFormed c p s
+pub step_ahead : (c : Config) (p : Process) (s : Cache) (e : Event Body) → IsWellFormed c p s
     → is_valid c e ≡ true → e.to ≡ p
     → All (λ f. e.time + lookahead_of c ≤ f.time) (step c p s e).1
 step_ahead c p s e w v at =

@@ -1,10 +1,11 @@
 -- What is proved of the whole, sentence by sentence: README's bold sentences are read from here. Each of the three is
 -- one closed statement. Below them stands what the calls say that carry them out.
-use Rattle.std.specs.Prelude.{◌≡◌, ◌+◌, ◌<◌, true, ℕ, List, Option}
+use Rattle.std.specs.Prelude.{◌≡◌, ◌+◌, ◌<◌, true, List, Option}
 use Rattle.std.specs.Io.KnownBytes.{Appends}
 use Rattle.rw_vt.specs.Words.{Process}
 use Rattle.rw_vt.specs.declared.event.Event.{Event}
 use Rattle.rw_vt.specs.System.{Setting, system_in}
+use Rattle.rw_trace.specs.Words.{Text}
 use Rattle.rw_output.specs.Sink.{AppendsBeginning}
 use Rattle.rw_photo.specs.declared.body.Body.{Body}
 use Rattle.rw_photo.specs.declared.config.Config.{Config}
@@ -58,18 +59,18 @@ AnySchedule = (k : Setting model.ghosts) (steps : List Step)
 -- A finished run in threads, by whatever plan, writes the report of the run on one thread, byte for byte
 abbrev pub ThreadsWriteTheReport : Type 0
 ThreadsWriteTheReport =
-    (plan : Plan) (c : Config) (bytes threads one : List ℕ) → IsTextOf (Warp plan) c bytes threads
+    (plan : Plan) (c : Config) (bytes threads one : Text) → IsTextOf (Warp plan) c bytes threads
     → IsTextOf Serial c bytes one → threads ≡ one
 
 -- What calls say
 
 -- a finished run of the trace in these bytes has written, between what the writer held before and what it holds after,
 -- the text of its mode
-abbrev pub HasWritten : Mode → Config → List ℕ → Option (List ℕ) → Option (List ℕ) → Type 0
+abbrev pub HasWritten : Mode → Config → Text → Option Text → Option Text → Type 0
 HasWritten mode c bytes before after =
-    (text : List ℕ) × IsTextOf mode c bytes text × Appends before after text
+    (text : Text) × IsTextOf mode c bytes text × Appends before after text
 
 -- what went out of a run that the writer cut off is a beginning of that text
-abbrev pub HasWrittenBeginning : Mode → Config → List ℕ → Option (List ℕ) → Option (List ℕ) → Type 0
+abbrev pub HasWrittenBeginning : Mode → Config → Text → Option Text → Option Text → Type 0
 HasWrittenBeginning mode c bytes before after =
-    (text : List ℕ) × IsTextOf mode c bytes text × AppendsBeginning before after text
+    (text : Text) × IsTextOf mode c bytes text × AppendsBeginning before after text

@@ -1,5 +1,5 @@
 -- From the bytes of a trace to the bytes of its report, or of its journal.
-use Rattle.std.specs.Prelude.{◌≡◌, ℕ, List, Ok, Err}
+use Rattle.std.specs.Prelude.{◌≡◌, List, Ok, Err}
 use Rattle.rw_trace.specs.declared.Row.{Row}
 use Rattle.rw_trace.specs.Trace.{trace_of}
 use Rattle.rw_trace.specs.Unread.{records_of}
@@ -20,11 +20,12 @@ use Rattle.rw_journal.specs.Journal.{journal_text}
 use Rattle.rw_ripqwarp.specs.declared.mode.Mode.{Mode}
 use Rattle.rw_ripqwarp.specs.declared.mode.Mode.TheVariants.{Serial, Warp, Journal}
 use Rattle.rw_trace.specs.Limits.{most_rows}
+use Rattle.rw_trace.specs.Words.{Text}
 
 -- the text is the journal of the trace in these bytes under these steps: the trace is accepted with these rows; the
 -- text tells what the steps answer, refused ones included, and to which world they lead from the one in which nothing
 -- is done
-pub record IsJournalOf (steps : List Step) (c : Config) (bytes text : List ℕ) : Type 0 where
+pub record IsJournalOf (steps : List Step) (c : Config) (bytes text : Text) : Type 0 where
   pub rows : List Row
   pub accepted : trace_of c.edges most_rows (records_of bytes) ≡ Ok rows
   pub told : text
@@ -33,26 +34,26 @@ pub record IsJournalOf (steps : List Step) (c : Config) (bytes text : List ℕ) 
 
 -- the text is what this mode makes of the trace in these bytes; rounds of workers make the very report of the one
 -- thread
-abbrev pub IsTextOf : Mode → Config → List ℕ → List ℕ → Type 0
+abbrev pub IsTextOf : Mode → Config → Text → Text → Type 0
 IsTextOf Serial c bytes text = IsReportOf c bytes text
 IsTextOf (Warp plan) c bytes text = IsReportOf c bytes text
 IsTextOf (Journal steps) c bytes text = IsJournalOf steps.items c bytes text
 
 -- the trace in these bytes is accepted, and one of these steps, when its turn comes, is to execute an event at such a
 -- cache
-pub record IsExhaustingBySteps (steps : List Step) (c : Config) (bytes : List ℕ) : Type 0 where
+pub record IsExhaustingBySteps (steps : List Step) (c : Config) (bytes : Text) : Type 0 where
   pub rows : List Row
   pub accepted : trace_of c.edges most_rows (records_of bytes) ≡ Ok rows
   pub met : MeetsAt (simulation c rows) (opening_world (simulation c rows)) is_exhausted steps
 
 -- the trace in these bytes is accepted
-pub record IsAccepted (c : Config) (bytes : List ℕ) : Type 0 where
+pub record IsAccepted (c : Config) (bytes : Text) : Type 0 where
   pub rows : List Row
   pub accepted : trace_of c.edges most_rows (records_of bytes) ≡ Ok rows
 
 -- the trace in these bytes is accepted, and in this mode comes to a cache that can take no further event; of rounds
 -- only the first is said, since a worker may come to such a cache in a past that is then undone
-abbrev pub IsExhausting : Mode → Config → List ℕ → Type 0
+abbrev pub IsExhausting : Mode → Config → Text → Type 0
 IsExhausting Serial c bytes = IsExhaustingInOrder c bytes
 IsExhausting (Warp plan) c bytes = IsAccepted c bytes
 IsExhausting (Journal steps) c bytes = IsExhaustingBySteps steps.items c bytes
@@ -80,7 +81,7 @@ HasGoodPlan mode = HasBadPlan mode → ⊥
 
 -- why a run of the trace in these bytes has no report or journal, or could not write it. The trace is tested before the
 -- plan, and want of memory may come anywhere
-abbrev pub IsRunFault : Mode → Config → List ℕ → SimFault → Type 0
+abbrev pub IsRunFault : Mode → Config → Text → SimFault → Type 0
 IsRunFault mode c bytes (sim.Trace f) = trace_of c.edges most_rows (records_of bytes) ≡ Err f
 IsRunFault mode c bytes sim.Plan = IsWarp mode × IsAccepted c bytes × HasBadPlan mode
 IsRunFault mode c bytes sim.Exhausted = IsExhausting mode c bytes × HasGoodPlan mode

@@ -1,6 +1,7 @@
 -- The configurations of a grid.
-use Rattle.std.specs.Prelude.{◌≡◌, ℕ, List, map}
+use Rattle.std.specs.Prelude.{◌≡◌, List, map}
 use Rattle.std.specs.List.{flat_map}
+use Rattle.rw_numbers.specs.Words.{Count, Size}
 use Rattle.rw_blocks.specs.State.{IsShape, shape_state}
 use Rattle.rw_photo.specs.Ranges.{IsConfig}
 use Rattle.rw_photo.specs.declared.config.Config.{Config}
@@ -12,7 +13,7 @@ use Rattle.rw_sweep.specs.declared.axes.Axes.{Axes}
 abbrev pub along : {A B : Type 0} → List A → (A → List B) → List B
 along xs made = flat_map made xs
 
-abbrev pub choice_of : Policy → ℕ → ℕ → ℕ → ℕ → Choice
+abbrev pub choice_of : Policy → Count → Size → Count → Count → Choice
 choice_of policy sections block edge_blocks origin_blocks =
     record {
       policy = policy;

@@ -1,5 +1,5 @@
 -- The parts of a sweep: some of its configurations, each line behind the place of its own.
-use Rattle.std.specs.Prelude.{◌≡◌, ℕ, ◌%◌, ◌==◌, Bool, List, ◌++◌, codes, decimal, Ok, Err, Option}
+use Rattle.std.specs.Prelude.{◌≡◌, ◌%◌, ◌==◌, Bool, List, ◌++◌, codes, decimal, Ok, Err, Option}
 use Rattle.std.specs.List.{AllZip, Contains, enumerate_from, filter, flat_map}
 use Rattle.std.specs.Io.KnownBytes.{Appends}
 use Rattle.rw_vt.specs.Words.{Count, Position}
@@ -9,6 +9,7 @@ use Rattle.rw_trace.specs.declared.Row.{Row}
 use Rattle.rw_trace.specs.Limits.{most_rows}
 use Rattle.rw_trace.specs.Trace.{trace_of}
 use Rattle.rw_trace.specs.Unread.{records_of}
+use Rattle.rw_trace.specs.Words.{Text}
 use Rattle.rw_output.specs.Sink.{AppendsBeginning}
 use Rattle.rw_output.specs.declared.sim_fault.SimFault.{SimFault}
 use Rattle.rw_output.specs.declared.sim_fault.SimFault.TheVariants as sim
@@ -22,25 +23,25 @@ use Rattle.rw_sweep.specs.Sweep.{AreLinesOfChoice}
 use Rattle.rw_sweep.specs.Table.{header_line}
 
 -- whether a place is in part `index` of so many: the places are dealt out in turn
-abbrev pub is_in_part : ℕ → Count → Position → Bool
+abbrev pub is_in_part : Position → Count → Position → Bool
 is_in_part index count place = place % count == index
 
 -- each of some values that is in the part, beside its place in the list
-abbrev pub dealt : {A : Type 0} → ℕ → Count → List A → List (Position × A)
+abbrev pub dealt : {A : Type 0} → Position → Count → List A → List (Position × A)
 dealt index count xs = filter (λ at. is_in_part index count at.0) (enumerate_from 0 xs)
 
 -- a line behind the place of its configuration
-abbrev pub placed_line : Position → List ℕ → List ℕ
+abbrev pub placed_line : Position → Text → Text
 placed_line place line = decimal place ++ codes "," ++ line
 
 -- the names of a part's columns
-abbrev pub part_header : List ℕ
+abbrev pub part_header : Text
 part_header = codes "place," ++ header_line
 
 -- the lines of a configuration, and its place
 pub record LinesAt : Type 0 where
   pub place : Position
-  pub lines : List (List ℕ)
+  pub lines : List Text
 
 -- the lines of the choice at this place
 pub record AreLinesOfPlaced (a : Axes) (rows : List Row) (at : Position × Choice)
@@ -51,7 +52,8 @@ pub record AreLinesOfPlaced (a : Axes) (rows : List Row) (at : Position × Choic
 -- the text is part `index` of so many of the table of the trace in these bytes over a grid: the trace is accepted with
 -- these rows, and behind the header stand the lines of each combination that is in the part, in their order, each line
 -- behind its place
-pub record IsPartSweepOf (a : Axes) (index : ℕ) (count : Count) (bytes text : List ℕ) : Type 0 where
+pub record IsPartSweepOf (a : Axes) (index : Position) (count : Count)
+    (bytes text : Text) : Type 0 where
   pub rows : List Row
   pub lines : List LinesAt
   pub accepted : trace_of a.edges most_rows (records_of bytes) ≡ Ok rows
@@ -59,15 +61,15 @@ pub record IsPartSweepOf (a : Axes) (index : ℕ) (count : Count) (bytes text : 
   pub told : text ≡ part_header ++ flat_map (λ ls. flat_map (placed_line ls.place) ls.lines) lines
 
 -- a finished sweep of a part has written, between what the writer held before and what it holds after, its table
-abbrev pub HasSweptPart : Axes → ℕ → Count → List ℕ → Option (List ℕ) → Option (List ℕ) → Type 0
+abbrev pub HasSweptPart : Axes → Position → Count → Text → Option Text → Option Text → Type 0
 HasSweptPart a index count bytes before after =
-    (text : List ℕ) × IsPartSweepOf a index count bytes text × Appends before after text
+    (text : Text) × IsPartSweepOf a index count bytes text × Appends before after text
 
 -- the text is a beginning of that part, which ends where the lines of a combination end: the combinations of the part
 -- are some first ones and the rest, and behind the header stand the lines of each of the first ones, in their order,
 -- each line behind its place
-pub record IsPartSweepOfFirst (a : Axes) (index : ℕ) (count : Count)
-    (bytes text : List ℕ) : Type 0 where
+pub record IsPartSweepOfFirst (a : Axes) (index : Position) (count : Count)
+    (bytes text : Text) : Type 0 where
   pub rows : List Row
   pub first : List (Position × Choice)
   pub rest : List (Position × Choice)
@@ -78,21 +80,20 @@ pub record IsPartSweepOfFirst (a : Axes) (index : ℕ) (count : Count)
   pub told : text ≡ part_header ++ flat_map (λ ls. flat_map (placed_line ls.place) ls.lines) lines
 
 -- a sweep of a part has written the header and the lines of its first combinations, whole, and nothing more
-abbrev pub HasSweptPartFirst : Axes → ℕ → Count → List ℕ → Option (List ℕ) → Option (List ℕ)
-    → Type 0
+abbrev pub HasSweptPartFirst : Axes → Position → Count → Text → Option Text → Option Text → Type 0
 HasSweptPartFirst a index count bytes before after =
-    (text : List ℕ) × IsPartSweepOfFirst a index count bytes text × Appends before after text
+    (text : Text) × IsPartSweepOfFirst a index count bytes text × Appends before after text
 
 -- what went out of a part that the writer cut off is a beginning of the header and the lines of its first combinations
-abbrev pub HasSweptPartBeginning : Axes → ℕ → Count → List ℕ → Option (List ℕ) → Option (List ℕ)
+abbrev pub HasSweptPartBeginning : Axes → Position → Count → Text → Option Text → Option Text
     → Type 0
 HasSweptPartBeginning a index count bytes before after =
-    (text : List ℕ) × IsPartSweepOfFirst a index count bytes text
-    × AppendsBeginning before after text
+    (text : Text) × IsPartSweepOfFirst a index count bytes text × AppendsBeginning before after text
 
 -- the trace in these bytes is accepted, and executing it in order of time under one of the combinations of the part
 -- comes to a cache that can take no further event
-pub record IsExhaustingPart (a : Axes) (index : ℕ) (count : Count) (bytes : List ℕ) : Type 0 where
+pub record IsExhaustingPart (a : Axes) (index : Position) (count : Count)
+    (bytes : Text) : Type 0 where
   pub rows : List Row
   pub at : Position × Choice
   pub config : Config
@@ -102,7 +103,7 @@ pub record IsExhaustingPart (a : Axes) (index : ℕ) (count : Count) (bytes : Li
   pub met : Meets (simulation config rows) end_of_time is_exhausted
 
 -- why a part has no table, or could not write it; want of memory may come anywhere
-abbrev pub IsPartSweepFault : Axes → ℕ → Count → List ℕ → SimFault → Type 0
+abbrev pub IsPartSweepFault : Axes → Position → Count → Text → SimFault → Type 0
 IsPartSweepFault a index count bytes (sim.Trace f) =
     trace_of a.edges most_rows (records_of bytes) ≡ Err f
 IsPartSweepFault a index count bytes sim.Exhausted = IsExhaustingPart a index count bytes

@@ -1,5 +1,5 @@
 -- The configurations of a grid, each beside its choice.
-use Rattle.std.specs.Prelude.{◌≡◌, ℕ, List, All, None, Some, map}
+use Rattle.std.specs.Prelude.{◌≡◌, List, All, None, Some, map}
 use Rattle.std.specs.List.{Contains}
 use Rattle.rw_sweep.specs.declared.axes.Axes.{Axes}
 use Rattle.rw_sweep.specs.declared.point.Point.{Point}
@@ -28,5 +28,5 @@ abbrev pub told_at : Position × Point → Point
 told_at at = record at.1 { place = Some at.0 }
 
 -- the configurations of a part, in order, told with their places
-abbrev pub points_of_part : ℕ → Count → List Point → List Point
+abbrev pub points_of_part : Position → Count → List Point → List Point
 points_of_part index count points = map told_at (dealt index count points)

@@ -16,6 +16,7 @@ use Rattle.rw_trace.specs.Laws.{IsRow}
 use Rattle.rw_trace.specs.Limits.{most_rows}
 use Rattle.rw_trace.specs.Trace.{trace_of}
 use Rattle.rw_trace.specs.Unread.{records_of}
+use Rattle.rw_trace.specs.Words.{Text}
 use Rattle.rw_photo.specs.Cache.{is_exhausted}
 use Rattle.rw_photo.specs.Simulation.{simulation}
 use Rattle.rw_sweep.specs.declared.axes.Axes.{Axes}
@@ -35,17 +36,17 @@ abbrev pub IsExhaustedAt : List Row → Point → Type 0
 IsExhaustedAt rows p = Meets (simulation p.config rows) end_of_time is_exhausted
 
 -- what stands before a line: the place of its configuration, where that is told
-abbrev pub before_line : Option Position → List ℕ
+abbrev pub before_line : Option Position → Text
 before_line None = []
 before_line (Some place) = decimal place ++ codes ","
 
 -- some lines as a text, each behind its place, where that is told
-abbrev pub text_of_lines : Option Position → List (List ℕ) → List ℕ
+abbrev pub text_of_lines : Option Position → List Text → Text
 text_of_lines place lines = flat_map (λ line. before_line place ++ line) lines
 
 -- the text is the lines of a configuration at work on these rows
-pub record IsTextOfPoint (rows : List Row) (p : Point) (text : List ℕ) : Type 0 where
-  pub lines : List (List ℕ)
+pub record IsTextOfPoint (rows : List Row) (p : Point) (text : Text) : Type 0 where
+  pub lines : List Text
   pub tell : AreLinesOf p.config p.choice rows lines
   pub told : text ≡ text_of_lines p.place lines
 
@@ -69,40 +70,40 @@ pub record AreSlots (rows : List Row) (points : List Point)
       → IfSome (slice_index_or slots i d) (IsResultOf rows (slice_index_or points i p))
 
 -- what a writer holds has grown by a text, or, where it did not take the whole, by a beginning of it
-abbrev pub Takes : Bool → Option (List ℕ) → Option (List ℕ) → List ℕ → Type 0
+abbrev pub Takes : Bool → Option Text → Option Text → Text → Type 0
 Takes whole before after text =
     MatchBool whole (Appends before after text) (AppendsBeginning before after text)
 
 -- a writer has taken the lines of a configuration, whole or not
 pub record HasTakenPoint (whole : Bool) (rows : List Row) (p : Point)
-    (before after : Option (List ℕ)) : Type 0 where
-  pub text : List ℕ
+    (before after : Option Text) : Type 0 where
+  pub text : Text
   pub tells : IsTextOfPoint rows p text
   pub taken : Takes whole before after text
 
 -- a writer has taken a header and behind it the lines of these configurations, in order, whole or not
-pub record HasTaken (whole : Bool) (rows : List Row) (points : List Point) (header : List ℕ)
-    (before after : Option (List ℕ)) : Type 0 where
-  pub texts : List (List ℕ)
+pub record HasTaken (whole : Bool) (rows : List Row) (points : List Point) (header : Text)
+    (before after : Option Text) : Type 0 where
+  pub texts : List Text
   pub each : AllZip (IsTextOfPoint rows) points texts
   pub taken : Takes whole before after (header ++ concat texts)
 
 -- the same, of the first ones of these configurations
-pub record HasTakenFirst (whole : Bool) (rows : List Row) (points : List Point) (header : List ℕ)
-    (before after : Option (List ℕ)) : Type 0 where
+pub record HasTakenFirst (whole : Bool) (rows : List Row) (points : List Point) (header : Text)
+    (before after : Option Text) : Type 0 where
   pub first : List Point
   pub rest : List Point
   pub parted : points ≡ first ++ rest
   pub taken : HasTaken whole rows first header before after
 
 -- the trace in these bytes is accepted, and so much holds of its rows
-pub record IsAcceptedWith (a : Axes) (bytes : List ℕ) (Holds : List Row → Type 0) : Type 0 where
+pub record IsAcceptedWith (a : Axes) (bytes : Text) (Holds : List Row → Type 0) : Type 0 where
   pub rows : List Row
   pub accepted : trace_of a.edges most_rows (records_of bytes) ≡ Ok rows
   pub holds : Holds rows
 
 -- why the lines of these configurations are not all out
-abbrev pub IsFaultOfPoints : Axes → List ℕ → List Point → SimFault → Type 0
+abbrev pub IsFaultOfPoints : Axes → Text → List Point → SimFault → Type 0
 IsFaultOfPoints a bytes points (sim.Trace f) = trace_of a.edges most_rows (records_of bytes) ≡ Err f
 IsFaultOfPoints a bytes points sim.Exhausted =
     IsAcceptedWith a bytes (λ rows. Any (IsExhaustedAt rows) points)

@@ -1,5 +1,6 @@
 -- A text that is read in two parts.
-use Rattle.std.specs.Prelude.{◌≡◌, ◌≢◌, ◌≤◌, ◌-◌, ℕ, List, ◌∷◌, All, Some, length, slice_get}
+use Rattle.std.specs.Prelude.{◌≡◌, ◌≢◌, ◌≤◌, ◌-◌, List, ◌∷◌, All, Some, length, slice_get}
+use Rattle.rw_numbers.specs.Words.{Count}
 use Rattle.rw_trace.specs.Words.{Text, Fields}
 use Rattle.rw_trace.specs.Trace.{version_of}
 use Rattle.rw_trace.specs.Laws.{WriteRows}
@@ -15,7 +16,8 @@ pub record IsCut (before behind : Text) : Type 0 where
   pub unmarked : slice_get behind 0 ≢ Some 0xEF
 
 -- the records are rows under the header that the first of some others is
-pub record AreRowsUnder (edges : ℕ) (headed records : List Fields) (rows : List Row) : Type 0 where
+pub record AreRowsUnder (edges : Count) (headed records : List Fields)
+    (rows : List Row) : Type 0 where
   pub head : Fields
   pub body : List Fields
   pub parts : headed ≡ head ∷ body

@@ -1,10 +1,6 @@
 -- What numbers are.
 use Rattle.std.specs.Prelude.{ℕ}
-pub use Rattle.rw_numbers.specs.Words.{Count, Position}
-
--- virtual time, in ticks
-abbrev pub Time : Type 0
-Time = ℕ
+pub use Rattle.rw_numbers.specs.Words.{Count, Position, Time}
 
 -- a process, counted from 0
 abbrev pub Process : Type 0
