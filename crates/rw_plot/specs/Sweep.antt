@@ -1,6 +1,7 @@
 -- What a sweep means: the numbers of its rows, or the first fault, from the list of its records.
 use Rattle.std.specs.Prelude.{◌↔◌, ◌≡◌, ℕ, ◌+◌, ◌^◌, ◌==◌, ◌&&◌, if◌then◌else◌, Bool, true, false, List, [], ◌∷◌, length, take, drop, slice_index, codes, Option, Some, None, Result, Ok, Err}
 use Rattle.csv.specs.Records.{field_at}
+use Rattle.rw_numbers.specs.Words.{Count, Position, Size}
 use Rattle.rw_trace.specs.Trace.{is_text_at, number_in, number_of}
 use Rattle.rw_trace.specs.Words.{Text, Fields}
 use Rattle.rw_plot.specs.declared.measure.Caches.{Caches}
@@ -14,11 +15,11 @@ abbrev pub OrPlotFault : Type 0 → Type 0
 OrPlotFault A = Result A PlotFault
 
 -- the most rows of a sweep
-abbrev pub most_lines : ℕ
+abbrev pub most_lines : Count
 most_lines = 2 ^ 20
 
 -- how many columns a sweep has
-abbrev pub sweep_width : ℕ
+abbrev pub sweep_width : Count
 sweep_width = 26
 
 -- whether the first columns have their names: those of the configuration
@@ -89,7 +90,7 @@ abbrev pub ◌>>=◌ : {A B : Type 0} → OrPlotFault A → (A → OrPlotFault B
 (Err e) >>= f = Err e
 
 -- the whole number at a column of record `row`
-unfoldable pub count_of_column : ℕ → ℕ → Fields → OrPlotFault ℕ
+unfoldable pub count_of_column : Position → Position → Fields → OrPlotFault Count
 count_of_column row column fields =
     or_plot_fault (fault.Number row column) (number_in (field_at fields column))
 
@@ -113,12 +114,12 @@ ratio_in None = None
 ratio_in (Some f) = ratio_of f
 
 -- the ratio at a column of record `row`
-unfoldable pub ratio_of_column : ℕ → ℕ → Fields → OrPlotFault ℕ
+unfoldable pub ratio_of_column : Position → Position → Fields → OrPlotFault ℕ
 ratio_of_column row column fields =
     or_plot_fault (fault.Number row column) (ratio_in (field_at fields column))
 
 -- the size of the flash of record `row`: over 0
-unfoldable pub flash_of : ℕ → Fields → OrPlotFault ℕ
+unfoldable pub flash_of : Position → Fields → OrPlotFault Size
 flash_of row fields =
     count_of_column row 23 fields
     >>= (λ n. if n == 0 then Err (fault.Number row 23) else Ok n)
@@ -132,7 +133,7 @@ caches_of_fields fields =
     else None
 
 -- the last of five whole numbers from a column on
-unfoldable pub five_counts : ℕ → ℕ → Fields → OrPlotFault ℕ
+unfoldable pub five_counts : Position → Position → Fields → OrPlotFault Count
 five_counts row column fields = do
   _ ← count_of_column row column fields
   _ ← count_of_column row (column + 1) fields
@@ -141,7 +142,7 @@ five_counts row column fields = do
   count_of_column row (column + 4) fields
 
 -- the numbers that a record writes, or its first fault: its length, then its columns from the left
-unfoldable pub sample_of : ℕ → Fields → OrPlotFault Sample
+unfoldable pub sample_of : Position → Fields → OrPlotFault Sample
 sample_of row fields =
     if length fields == sweep_width then (do
       sections ← count_of_column row 1 fields
@@ -185,7 +186,7 @@ sample_before false s (Ok ss) = Ok ss
 sample_before b s (Err e) = Err e
 
 -- the samples of these caches among some records, the first being row n, or the first fault; row `most` is one too many
-unfoldable pub samples_of : Caches → ℕ → ℕ → List Fields → OrPlotFault (List Sample)
+unfoldable pub samples_of : Caches → Count → Position → List Fields → OrPlotFault (List Sample)
 samples_of caches most n [] = Ok []
 samples_of caches most n (r ∷ rs) =
     if n == most then Err fault.TooManyRows
