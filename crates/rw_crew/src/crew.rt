@@ -1,7 +1,8 @@
-ghost use Rattle.std.specs.Prelude.{◌≡◌, ◌<◌, ℕ, All, IfOk, length, slice_index_or};
+ghost use Rattle.std.specs.Prelude.{◌≡◌, ◌<◌, All, IfOk, length, slice_index_or};
 ghost use Rattle.std.specs.List.{AllZip};
 ghost use Rattle.std.specs.Vec.{vec_capacity, vec_len};
 ghost use Rattle.std.specs.Arc.{arc_value};
+ghost use Rattle.rw_vt.specs.Words.{Position};
 ghost use Rattle.rw_crew.specs.Notes.{IsAsked, may_answer_with};
 ghost use Rattle.rw_crew.specs.declared.note.Note.TheVariants.{Done};
 
@@ -117,7 +118,7 @@ impl<'r, R: Wait, J: Job<T> + Drop, T: Drop> Hands<J, T> for Crew<'r, R, J, T> {
         requires takes { All (λ t. J.Takes job t) inputs.items }
         ensures job { IfOk result (λ r. r.0 ≡ job) }
         ensures count { IfOk result (λ r. length r.1.items ≡ length inputs.items) }
-        ensures each { IfOk result (λ r. (i : ℕ) (d : _) (e : _) → i < length inputs.items
+        ensures each { IfOk result (λ r. (i : Position) (d : _) (e : _) → i < length inputs.items
             → J.Gives job (slice_index_or inputs.items i d) (slice_index_or r.1.items i e)) }
     {
         let mut others = inputs;

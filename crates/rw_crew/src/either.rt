@@ -1,4 +1,5 @@
-ghost use Rattle.std.specs.Prelude.{◌≡◌, ◌<◌, ℕ, All, IfOk, length, map, slice_index_or};
+ghost use Rattle.std.specs.Prelude.{◌≡◌, ◌<◌, All, IfOk, length, map, slice_index_or};
+ghost use Rattle.rw_vt.specs.Words.{Position};
 ghost use Rattle.rw_crew.specs.declared.either.Either.TheVariants.{First, Second};
 ghost use Rattle.rw_crew.specs.Eithers.{IsOfFirst, IsOfSecond, either_gives, either_takes};
 
@@ -73,7 +74,7 @@ where
     requires takes { All (λ t. J.Takes job t) inputs.items }
     ensures job { IfOk result (λ r. r.0 ≡ job) }
     ensures count { IfOk result (λ r. length r.1.items ≡ length inputs.items) }
-    ensures each { IfOk result (λ r. (i : ℕ) (d : _) (e : _) → i < length inputs.items
+    ensures each { IfOk result (λ r. (i : Position) (d : _) (e : _) → i < length inputs.items
         → J.Gives job (slice_index_or inputs.items i d) (slice_index_or r.1.items i e)) }
 {
     let inputs = as_first(alloc, inputs)?;
@@ -131,7 +132,7 @@ where
     requires takes { All (λ t. K.Takes job t) inputs.items }
     ensures job { IfOk result (λ r. r.0 ≡ job) }
     ensures count { IfOk result (λ r. length r.1.items ≡ length inputs.items) }
-    ensures each { IfOk result (λ r. (i : ℕ) (d : _) (e : _) → i < length inputs.items
+    ensures each { IfOk result (λ r. (i : Position) (d : _) (e : _) → i < length inputs.items
         → K.Gives job (slice_index_or inputs.items i d) (slice_index_or r.1.items i e)) }
 {
     let inputs = as_second(alloc, inputs)?;

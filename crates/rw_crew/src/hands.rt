@@ -1,4 +1,5 @@
-ghost use Rattle.std.specs.Prelude.{◌≡◌, ◌<◌, ℕ, IfOk, All, length, slice_index_or};
+ghost use Rattle.std.specs.Prelude.{◌≡◌, ◌<◌, IfOk, All, length, slice_index_or};
+ghost use Rattle.rw_vt.specs.Words.{Position};
 
 use crate::halt::Halt;
 use crate::threads::Job;
@@ -17,6 +18,6 @@ pub trait Hands<J: Job<T>, T> {
         requires takes { All (λ t. J.Takes job t) inputs.items }
         ensures job { IfOk result (λ r. r.0 ≡ job) }
         ensures count { IfOk result (λ r. length r.1.items ≡ length inputs.items) }
-        ensures each { IfOk result (λ r. (i : ℕ) (d : _) (e : _) → i < length inputs.items
+        ensures each { IfOk result (λ r. (i : Position) (d : _) (e : _) → i < length inputs.items
             → J.Gives job (slice_index_or inputs.items i d) (slice_index_or r.1.items i e)) };
 }

@@ -1,4 +1,5 @@
-ghost use Rattle.std.specs.Prelude.{◌≡◌, ◌≢◌, ◌+◌, ◌*◌, ◌<◌, ◌≤◌, ◌∷◌, ℕ, [], None, IfOk, length, map, slice_get, slice_index_or};
+ghost use Rattle.std.specs.Prelude.{◌≡◌, ◌≢◌, ◌+◌, ◌*◌, ◌<◌, ◌≤◌, ◌∷◌, [], None, IfOk, length, map, slice_get, slice_index_or};
+ghost use Rattle.rw_vt.specs.Words.{Position};
 ghost use Rattle.rw_crew.specs.Shares.{of_shares};
 
 use rw_vt::{NoMemory, empty_lists};
@@ -9,7 +10,7 @@ use std::collections::VecDeque;
 pub fn deal_out<T: Drop>(alloc: Global, workers: u32, list: Vec<T>) -> Result<Vec<Vec<T>>, NoMemory>
     requires workers { 1 ≤ workers }
     ensures count { IfOk result (λ shares. length shares.items ≡ workers) }
-    ensures each { IfOk result (λ shares. (i place : ℕ) → i < workers
+    ensures each { IfOk result (λ shares. (i place : Position) → i < workers
         → slice_get (slice_index_or (map (λ h. h.items) shares.items) i []) place
         ≡ slice_get list.items (i + place * workers)) }
 {
@@ -30,10 +31,10 @@ pub fn join<T: Drop>(
     shares: VecDeque<VecDeque<T>>,
 ) -> Result<Vec<T>, NoMemory>
     requires some { 0 < length shares.items }
-    requires complete { (q : ℕ) → q < count
+    requires complete { (q : Position) → q < count
         → of_shares (length shares.items) (map (λ h. h.items) shares.items) q ≡ None → ⊥ }
     ensures count { IfOk result (λ all. length all.items ≡ count) }
-    ensures each { IfOk result (λ all. (q : ℕ) → q < count
+    ensures each { IfOk result (λ all. (q : Position) → q < count
         → slice_get all.items q
         ≡ of_shares (length shares.items) (map (λ h. h.items) shares.items) q) }
 {

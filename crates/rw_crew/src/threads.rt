@@ -1,5 +1,6 @@
-ghost use Rattle.std.specs.Prelude.{◌≡◌, ◌<◌, ℕ, IfOk, All, length, map, slice_index_or};
+ghost use Rattle.std.specs.Prelude.{◌≡◌, ◌<◌, IfOk, All, length, map, slice_index_or};
 ghost use Rattle.std.specs.Thread.{IsSend};
+ghost use Rattle.rw_vt.specs.Words.{Position};
 
 use crate::halt::Halt;
 use rw_vt::Refusal;
@@ -55,7 +56,7 @@ where
     R: Threads + Wait + Sync,
     requires takes { All (λ t. J.Takes job.now t) inputs.items }
     ensures count { IfOk result (λ done. length done.items ≡ length inputs.items) }
-    ensures each { IfOk result (λ done. (i : ℕ) (d : _) (e : _) → i < length inputs.items
+    ensures each { IfOk result (λ done. (i : Position) (d : _) (e : _) → i < length inputs.items
         → J.Gives job.now (slice_index_or inputs.items i d) (slice_index_or done.items i e)) }
 {
     let results = thread::scope(
@@ -64,7 +65,8 @@ where
         move |scope| -> Result<Vec<Result<T, Refusal>>, Halt>
             requires takes { All (λ t. J.Takes job.now t) inputs.items }
             ensures count { IfOk result (λ rs. length rs.items ≡ length inputs.items) }
-            ensures each { IfOk result (λ rs. (i : ℕ) (d : _) (e : _) → i < length inputs.items
+            ensures each { IfOk result (λ rs. (i : Position) (d : _) (e : _)
+                → i < length inputs.items
                 → IfOk (slice_index_or rs.items i e)
                 (λ done. J.Gives job.entry.now (slice_index_or inputs.items i d) done)) }
         {

@@ -1,5 +1,6 @@
-ghost use Rattle.std.specs.Prelude.{◌≡◌, ◌≢◌, ◌↔◌, ◌<◌, ◌≤◌, ◌++◌, ℕ};
+ghost use Rattle.std.specs.Prelude.{◌≡◌, ◌≢◌, ◌↔◌, ◌<◌, ◌≤◌, ◌++◌};
 ghost use Rattle.std.specs.Prelude.{All, Err, IfErr, IfOk, IsPermutation, length, slice_index_or};
+ghost use Rattle.rw_vt.specs.Words.{Position};
 ghost use Rattle.rw_vt.specs.System.{IsReady, system};
 ghost use Rattle.rw_worker.specs.Plans.{IsInRanges};
 ghost use Rattle.rw_rounds.specs.declared.stop.Stop.TheVariants.{BadPlan};
@@ -286,7 +287,7 @@ impl<'r, M: VtModel + Drop, R: Wait> Hands<RoundWork<M>, Worker<M>> for RunThrea
         requires takes { All (λ t. ⟦<RoundWork<M> as Job<Worker<M>>>⟧.Takes job t) inputs.items }
         ensures job { IfOk result (λ r. r.0 ≡ job) }
         ensures count { IfOk result (λ r. length r.1.items ≡ length inputs.items) }
-        ensures each { IfOk result (λ r. (i : ℕ) (d : _) (e : _) → i < length inputs.items
+        ensures each { IfOk result (λ r. (i : Position) (d : _) (e : _) → i < length inputs.items
             → ⟦<RoundWork<M> as Job<Worker<M>>>⟧.Gives job
             (slice_index_or inputs.items i d) (slice_index_or r.1.items i e)) }
     {
@@ -304,7 +305,7 @@ impl<'r, M: VtModel + Drop, R: Wait> Hands<Work<'r, M, R>, Share<M>> for RunThre
         requires takes { All (λ t. ⟦<Work<'r, M, R> as Job<Share<M>>>⟧.Takes job t) inputs.items }
         ensures job { IfOk result (λ r. r.0 ≡ job.entry) }
         ensures count { IfOk result (λ r. length r.1.items ≡ length inputs.items) }
-        ensures each { IfOk result (λ r. (i : ℕ) (d : _) (e : _) → i < length inputs.items
+        ensures each { IfOk result (λ r. (i : Position) (d : _) (e : _) → i < length inputs.items
             → ⟦<Work<'r, M, R> as Job<Share<M>>>⟧.Gives job.entry
             (slice_index_or inputs.items i d) (slice_index_or r.1.items i e)) }
     {

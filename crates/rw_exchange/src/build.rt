@@ -1,5 +1,6 @@
 //! The rings of an opening, before they are dealt to ports.
-ghost use Rattle.std.specs.Prelude.{◌≡◌, ◌≢◌, ◌<◌, ◌≤◌, ◌==◌, not, ℕ, [], None, length, map, is_some, All, IfOk, OnOk, IfSome, IfNone, vec_len};
+ghost use Rattle.std.specs.Prelude.{◌≡◌, ◌≢◌, ◌<◌, ◌≤◌, ◌==◌, not, [], None, length, map, is_some, All, IfOk, OnOk, IfSome, IfNone, vec_len};
+ghost use Rattle.rw_vt.specs.Words.{Worker};
 ghost use Rattle.rtrb.specs.Ring.{sent, received, known_free, IsPair, SameProducer, SameConsumer};
 ghost use Rattle.rw_exchange.specs.Ports.{items_of, IsRowGreeted};
 ghost use Rattle.rw_exchange.specs.Rings.{out_ring, in_ring, out_rings, in_table, out_sent, in_received, received_table, HasCapacity, KnowsFree, NothingSent, NothingReceived, NothingReceivedAtAll, AllButOwn, push_each, lists_with};
@@ -99,7 +100,7 @@ pub(crate) fn row<T: Drop, P: Protocol<T>, G: Greeting<T>>(
     greeting: &G,
 ) -> Result<Vec<Option<Producer<T, Global, P>>>, NoMemory>
     requires capacity { 1 ≤ capacity }
-    requires allowed { (to : ℕ) → IfSome (G.greeting greeting.now own to) (P.allows []) }
+    requires allowed { (to : Worker) → IfSome (G.greeting greeting.now own to) (P.allows []) }
     ensures length { IfOk result (λ r. vec_len r ≡ vec_len columns.old) }
     ensures rings { IfOk result (λ r. in_table columns.new.items
         ≡ push_each (in_table columns.old.items) (out_rings r.items)) }
@@ -109,11 +110,11 @@ pub(crate) fn row<T: Drop, P: Protocol<T>, G: Greeting<T>>(
         ≡ push_each (received_table columns.old.items) (map out_sent r.items)) }
     ensures first { IfOk result (λ r.
         IsRowGreeted own (G.greeting greeting.now own) (map out_sent r.items)) }
-    ensures free { IfOk result (λ r. ((to : ℕ) → G.greeting greeting.now own to ≡ None)
+    ensures free { IfOk result (λ r. ((to : Worker) → G.greeting greeting.now own to ≡ None)
         → All (KnowsFree capacity) r.items) }
-    ensures sent { IfOk result (λ r. ((to : ℕ) → G.greeting greeting.now own to ≡ None)
+    ensures sent { IfOk result (λ r. ((to : Worker) → G.greeting greeting.now own to ≡ None)
         → All NothingSent r.items) }
-    ensures received { IfOk result (λ r. ((to : ℕ) → G.greeting greeting.now own to ≡ None)
+    ensures received { IfOk result (λ r. ((to : Worker) → G.greeting greeting.now own to ≡ None)
         → NothingReceivedAtAll columns.old.items
         → NothingReceivedAtAll columns.new.items) }
 {

@@ -1,5 +1,6 @@
 //! The first items of rings.
-ghost use Rattle.std.specs.Prelude.{◌≡◌, ℕ, Option, None, IfOk};
+ghost use Rattle.std.specs.Prelude.{◌≡◌, Option, None, IfOk};
+ghost use Rattle.rw_vt.specs.Words.{Worker};
 
 use rw_vt::NoMemory;
 use std::alloc::Global;
@@ -7,7 +8,7 @@ use std::alloc::Global;
 /// What the first item of each ring of an opening is, which both its ends know from the start.
 pub trait Greeting<T> {
     /// The first item from a worker to another, in this order; `None` where none goes through at the opening.
-    ghost greeting: { Self → ℕ → ℕ → Option T };
+    ghost greeting: { Self → Worker → Worker → Option T };
 
     /// Makes it.
     ///

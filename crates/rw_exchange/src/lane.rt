@@ -1,5 +1,6 @@
 //! One end of a ring, or none: a worker has no ring to itself.
-ghost use Rattle.std.specs.Prelude.{◌≡◌, ℕ, ◌+◌, ◌≤◌, ◌<◌, [], ◌∷◌, ◌++◌, length, map, IsSome, IsOk, IfErr, OnErr, OnOk, IfSome, IfNone};
+ghost use Rattle.std.specs.Prelude.{◌≡◌, ◌+◌, ◌≤◌, ◌<◌, [], ◌∷◌, ◌++◌, length, map, IsSome, IsOk, IfErr, OnErr, OnOk, IfSome, IfNone};
+ghost use Rattle.rw_vt.specs.Words.{Count};
 ghost use Rattle.rw_exchange.specs.Rings.{out_ring, in_ring, in_rings, out_sent, out_free, in_received, HasCapacity};
 
 use rtrb::{Consumer, Producer, Protocol, PushError};
@@ -18,8 +19,8 @@ pub(crate) fn push<T: Drop, P: Protocol<T>>(
     ensures free { OnOk result (out_free lane.old ≤ out_free lane.new + 1) }
     ensures full { OnErr result ((out_free lane.old ≡ 0) × (out_free lane.new ≡ 0)) }
     ensures known { 0 < out_free lane.old → IsOk result }
-    ensures capacity { (n : ℕ) → HasCapacity n lane.old → HasCapacity n lane.new }
-    ensures succeeds { (n : ℕ)
+    ensures capacity { (n : Count) → HasCapacity n lane.old → HasCapacity n lane.new }
+    ensures succeeds { (n : Count)
         → HasCapacity n lane.old
         → length (out_sent lane.old) < n
         → IsOk result }

@@ -1,5 +1,6 @@
 //! The ports of an opening.
-ghost use Rattle.std.specs.Prelude.{◌≡◌, ◌≤◌, ℕ, [], None, map, All, IfOk, IfSome, vec_len};
+ghost use Rattle.std.specs.Prelude.{◌≡◌, ◌≤◌, [], None, map, All, IfOk, IfSome, vec_len};
+ghost use Rattle.rw_vt.specs.Words.{Worker};
 ghost use Rattle.rw_exchange.specs.Ports.{AreTablesGreeted, AreGreeted, IsNew, IsOpening, KnowsFreeToEach, NoneItself, StayAnOpening};
 ghost use Rattle.rw_exchange.specs.Rings.{out_table, in_table, sent_table, received_table, HasCapacity, KnowsFree, NothingSent, NothingReceivedAtAll, AreCrossed};
 
@@ -24,17 +25,18 @@ fn tables<T: Drop, P: Protocol<T>, G: Greeting<T>>(
     NoMemory,
 >
     requires capacity { 1 ≤ capacity }
-    requires allowed { (from to : ℕ) → IfSome (G.greeting greeting.now from to) (P.allows []) }
+    requires allowed { (from to : Worker) → IfSome (G.greeting greeting.now from to) (P.allows []) }
     ensures crossed { IfOk result (λ r.
         AreCrossed count count (out_table r.0.items) (in_table r.1.items)) }
     ensures capacity { IfOk result (λ r. All (λ v. All (HasCapacity capacity) v.items) r.0.items) }
     ensures first { IfOk result (λ r. AreTablesGreeted count count (G.greeting greeting.now)
         (sent_table r.0.items) (received_table r.1.items)) }
-    ensures free { IfOk result (λ r. ((from to : ℕ) → G.greeting greeting.now from to ≡ None)
+    ensures free { IfOk result (λ r. ((from to : Worker) → G.greeting greeting.now from to ≡ None)
         → All (λ v. All (KnowsFree capacity) v.items) r.0.items) }
-    ensures sent { IfOk result (λ r. ((from to : ℕ) → G.greeting greeting.now from to ≡ None)
+    ensures sent { IfOk result (λ r. ((from to : Worker) → G.greeting greeting.now from to ≡ None)
         → All (λ v. All NothingSent v.items) r.0.items) }
-    ensures received { IfOk result (λ r. ((from to : ℕ) → G.greeting greeting.now from to ≡ None)
+    ensures received { IfOk result (λ r.
+        ((from to : Worker) → G.greeting greeting.now from to ≡ None)
         → NothingReceivedAtAll r.1.items) }
 {
     let mut columns = empty_lists(alloc, count)?;
@@ -124,7 +126,7 @@ pub fn open_greeted<T: Drop, P: Protocol<T>, G: Greeting<T>>(
 ) -> Result<Vec<Port<T, P>>, NoMemory>
     requires workers { (1 ≤ workers) × (workers ≤ MAX_WORKERS) }
     requires capacity { (1 ≤ capacity) × (capacity ≤ MAX_CAPACITY) }
-    requires allowed { (from to : ℕ) → IfSome (G.greeting greeting.now from to) (P.allows []) }
+    requires allowed { (from to : Worker) → IfSome (G.greeting greeting.now from to) (P.allows []) }
     ensures count { IfOk result (λ ports. vec_len ports ≡ workers) }
     ensures opening { IfOk result (λ ports. IsOpening ports.items) }
     ensures stays { IfOk result (λ ports. StayAnOpening ports.items) }

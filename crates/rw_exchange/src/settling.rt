@@ -1,5 +1,6 @@
 //! What is left in the rings at the end.
-ghost use Rattle.std.specs.Prelude.{◌≡◌, ◌≢◌, ℕ, ◌<◌, [], ◌++◌, length, map, slice_index_or, All, IfOk, OnOk, vec_len};
+ghost use Rattle.std.specs.Prelude.{◌≡◌, ◌≢◌, ◌<◌, [], ◌++◌, length, map, slice_index_or, All, IfOk, OnOk, vec_len};
+ghost use Rattle.rw_vt.specs.Words.{Worker};
 ghost use Rattle.rtrb.specs.Fifo.{EachAllowed};
 ghost use Rattle.rtrb.specs.Ring.{sent, received, IsPair, SameConsumer};
 ghost use Rattle.rw_exchange.specs.Ports.{entry, IsOpening, outs_of, intos_of, IsLeftOf, IsLeftOfRow, IsLeftAllowed, IsRowAllowed, NoneToItself};
@@ -92,7 +93,7 @@ fn gather<T: Drop, P: Protocol<T>>(
     ensures allowed { IfOk result (λ l. IsRowAllowed P.allows (vec_len row) own
         (received_table columns.old.items)
         (map (λ v. v.items) l.items)) }
-    ensures others { OnOk result ((j : ℕ) → SameBut own
+    ensures others { OnOk result ((j : Worker) → SameBut own
         (slice_index_or (received_table columns.old.items) j [])
         (slice_index_or (received_table columns.new.items) j [])) }
 {

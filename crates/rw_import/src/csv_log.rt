@@ -1,8 +1,9 @@
 //! Logs of fields: CSV, with any byte between the fields.
 
-ghost use Rattle.std.specs.Prelude.{◌≡◌, ◌≢◌, ◌+◌, ◌<◌, ◌^◌, ◌==◌, ℕ, [], ◌∷◌, true, Ok, Err, None, IfOk, IfErr, MatchBool, OnOk, map, length};
+ghost use Rattle.std.specs.Prelude.{◌≡◌, ◌≢◌, ◌+◌, ◌<◌, ◌^◌, ◌==◌, [], ◌∷◌, true, Ok, Err, None, IfOk, IfErr, MatchBool, OnOk, map, length};
 ghost use Rattle.std.specs.List.{position, position_or_len};
 ghost use Rattle.csv.specs.Records.{fields_of};
+ghost use Rattle.rw_numbers.specs.Words.{Object};
 ghost use Rattle.rw_trace.specs.Limits.{most_rows};
 ghost use Rattle.rw_trace.specs.Trace.{trace_of};
 ghost use Rattle.rw_trace.specs.Unread.{Steady, records_of, unread};
@@ -265,7 +266,7 @@ fn judge(fields: &ByteRecord, terms: Terms) -> Result<Entry, Flaw>
     ensures judged { result
         ≡ entry_in_time terms.options.ticks terms.least terms.places.time
         (entry_of terms.places terms.edges (fields_of fields.now)) }
-    ensures keepable { (n : ℕ) → n < 2 ^ 64
+    ensures keepable { (n : Object) → n < 2 ^ 64
         → IsKeepable terms.edges terms.options terms.least (beside n result) }
 {
     let entry = read_fields(fields, terms.places, terms.edges)?;
@@ -286,7 +287,8 @@ fn add_named(
     text: &[u8],
     said: Result<Entry, Flaw>,
 ) -> Result<(), ImportFault>
-    requires timely { (n : ℕ) → n < 2 ^ 64 → IsTimely terms.options terms.least (beside n said) }
+    requires timely { (n : Object) → n < 2 ^ 64
+        → IsTimely terms.options terms.least (beside n said) }
     requires within { AreCountsOf row sheet.old.left_out }
     requires few { row + 1 < 2 ^ 64 }
     ensures texts { OnOk result

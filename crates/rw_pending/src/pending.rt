@@ -1,4 +1,5 @@
-ghost use Rattle.std.specs.Prelude.{◌≡◌, ◌+◌, ◌<◌, ◌≤◌, ◌++◌, ℕ, [], ◌∷◌, false, true, All, IfNone, IfOk, IfSome, IsNone, IsPermutation, IsSome, IsTrue, List, OnErr, OnOk, length, option_copied, take};
+ghost use Rattle.std.specs.Prelude.{◌≡◌, ◌+◌, ◌<◌, ◌≤◌, ◌++◌, [], ◌∷◌, false, true, All, IfNone, IfOk, IfSome, IsNone, IsPermutation, IsSome, IsTrue, List, OnErr, OnOk, length, option_copied, take};
+ghost use Rattle.rw_vt.specs.Words.{Count, Time};
 ghost use Rattle.rw_vt.specs.Order.{event_cmp, AtMost};
 ghost use Rattle.rw_vt.specs.declared.event.Event.{Event};
 ghost use Rattle.rw_pending.specs.Later.{IsLeastTime, IsLeft};
@@ -387,7 +388,7 @@ fn time_or<B: Copy>(event: &Option<Event<B>>, time: u64) -> u64
 fn put_all<B: Ord + Copy>(later: &mut Later<B>, events: &[Event<B>]) -> Result<(), AllocError>
     ensures added { OnOk result (IsPermutation (later.old ++ events.now) later.new) }
     ensures some { OnErr result
-        ((n : ℕ) × IsPermutation (later.old ++ take n events.now) later.new) }
+        ((n : Count) × IsPermutation (later.old ++ take n events.now) later.new) }
 {
     for event in events {
         later.put(*event)?;
@@ -404,7 +405,7 @@ fn move_sent<B: Ord + Copy>(
     ensures none { OnOk result ((now.new ≡ []) × (later.new ≡ [])) }
     ensures moved { OnOk result
         (IsPermutation (taken.old.items ++ (now.old ++ later.old)) taken.new.items) }
-    ensures around { (t : ℕ) (initial : List (Event B)) → AreAround t initial now.old later.old
+    ensures around { (t : Time) (initial : List (Event B)) → AreAround t initial now.old later.old
         → AreAround t initial now.new later.new }
 {
     now.move_to(taken)?;

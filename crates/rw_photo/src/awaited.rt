@@ -15,10 +15,11 @@ pub(crate) struct Awaited {
 }
 
 impl Model for Awaited {
-    ghost use Rattle.std.specs.Prelude.{List, ℕ};
+    ghost use Rattle.std.specs.Prelude.{List};
+    ghost use Rattle.rw_numbers.specs.Words.{Count, Object};
     ghost use Rattle.rw_places.specs.RowMap.{by_object};
 
-    ghost Value = { List (ℕ × ℕ) };
+    ghost Value = { List (Object × Count) };
 
     ghost view = { λ a. by_object a.counts.entries };
 }

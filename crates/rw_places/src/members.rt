@@ -1,5 +1,6 @@
 // Which objects belong to each block, and their bytes.
-ghost use Rattle.std.specs.Prelude.{◌≡◌, ◌<◌, ◌≤◌, ◌+◌, ◌^◌, ℕ, [], OnOk, OnErr, slice_get, IsTrue};
+ghost use Rattle.std.specs.Prelude.{◌≡◌, ◌<◌, ◌≤◌, ◌+◌, ◌^◌, [], OnOk, OnErr, slice_get, IsTrue};
+ghost use Rattle.rw_numbers.specs.Words.{Serial};
 ghost use Rattle.rw_places.specs.Members.{bytes_at, objects_at, objects_with, objects_without, GainsBytes, LosesBytes, ChangesObjects, SameBytes, SameObjects};
 
 use std::alloc::{AllocError, Global};
@@ -72,8 +73,8 @@ pub struct Members {
 impl Members {
     /// No block has any object.
     pub fn new(alloc: Global) -> Members
-        ensures bytes { (b : ℕ) → bytes_at result b ≡ 0 }
-        ensures objects { (b : ℕ) → objects_at result b ≡ [] }
+        ensures bytes { (b : Serial) → bytes_at result b ≡ 0 }
+        ensures objects { (b : Serial) → objects_at result b ≡ [] }
     {
         Members {
             alloc,

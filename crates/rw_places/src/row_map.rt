@@ -15,11 +15,12 @@ pub struct RowMap {
 }
 
 impl Model for RowMap {
-    ghost use Rattle.std.specs.Prelude.{List, ℕ};
+    ghost use Rattle.std.specs.Prelude.{List};
+    ghost use Rattle.rw_numbers.specs.Words.{Object};
     ghost use Rattle.rw_places.specs.declared.Place.{Place};
     ghost use Rattle.rw_places.specs.RowMap.{by_object};
 
-    ghost Value = { List (ℕ × Place) };
+    ghost Value = { List (Object × Place) };
 
     ghost view = { λ m. by_object m.rows.entries };
 }

@@ -24,10 +24,11 @@ pub struct Rows {
 }
 
 impl Model for Rows {
-    ghost use Rattle.std.specs.Prelude.{List, ℕ};
+    ghost use Rattle.std.specs.Prelude.{List};
+    ghost use Rattle.rw_numbers.specs.Words.{Object};
     ghost use Rattle.rw_places.specs.declared.Place.{Place};
 
-    ghost Value = { List (ℕ × Place) };
+    ghost Value = { List (Object × Place) };
 
     ghost use Rattle.rw_places.specs.Index.{IsIndexed};
 

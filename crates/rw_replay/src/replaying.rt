@@ -1,4 +1,5 @@
-ghost use Rattle.std.specs.Prelude.{◌≡◌, ℕ, List, Some, All, IfOk, IfErr, slice_get};
+ghost use Rattle.std.specs.Prelude.{◌≡◌, List, Some, All, IfOk, IfErr, slice_get};
+ghost use Rattle.rw_vt.specs.Words.{Process};
 ghost use Rattle.rw_photo.specs.Cache.{Cache, IsWellFormed, is_exhausted};
 ghost use Rattle.rw_photo.specs.Simulation.{simulation, starts_of};
 ghost use Rattle.rw_photo.specs.contracts.photo.PhotoVtModel.TheImpl as model;
@@ -102,7 +103,7 @@ pub fn last_states_and_tell<P: Progress>(
 pub fn starts(alloc: Global, photo: &Photo) -> Result<Vec<CacheState>, NoMemory>
     ensures states { IfOk result (λ states. states.items ≡ starts_of photo.now.config) }
     ensures well_formed { IfOk result (λ states.
-        (p : ℕ) (s : Cache) → slice_get states.items p ≡ Some s
+        (p : Process) (s : Cache) → slice_get states.items p ≡ Some s
         → IsWellFormed photo.now.config p s) }
 {
     let count = photo.processes();

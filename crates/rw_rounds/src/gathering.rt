@@ -1,5 +1,6 @@
 ghost use Rattle.std.specs.Prelude.{◌≡◌, ◌+◌, ◌<◌, ◌++◌, ℕ, List, [], All, None, IfOk, OnOk, length, map, vec_capacity};
 ghost use Rattle.std.specs.VecDeque.{deque_capacity};
+ghost use Rattle.rw_vt.specs.Words.{Position, Process};
 ghost use Rattle.rw_vt.specs.declared.event.Letter.{Letter};
 ghost use Rattle.rw_vt.specs.System.{flatten};
 ghost use Rattle.rw_exchange.specs.Ports.{entry, IsOpening, received_between, sent_between};
@@ -41,7 +42,7 @@ pub(crate) fn gather<M: VtModel>(
     requires seats { length workers.items ≡ board.seats }
     requires board { All (λ s. s.board ≡ board.board) (map (λ w. w.seat) workers.items) }
     requires some { 0 < length workers.items }
-    requires complete { (q : ℕ) → q < count
+    requires complete { (q : Process) → q < count
         → of_shares (length workers.items) (map (λ w. w.processes) workers.items) q ≡ None → ⊥ }
     ensures { IfOk result (λ r.
         IsGathered count workers.items r.processes.items r.letters.items r.floor) }
@@ -71,8 +72,8 @@ fn letters_left<B: Copy>(
     aside: Vec<Vec<Letter<B>>>,
 ) -> Result<Vec<Letter<B>>, NoMemory>
     requires opening { IsOpening ports.items }
-    ensures left { IfOk result (λ all. (left : ℕ → ℕ → List (Letter B))
-        × ((i k : ℕ) → i < length ports.items → k < length ports.items
+    ensures left { IfOk result (λ all. (left : Position → Position → List (Letter B))
+        × ((i k : Position) → i < length ports.items → k < length ports.items
         → received_between ports.items i k ++ left i k ≡ sent_between ports.items i k)
         × ((h : Letter B → ℕ) → weigh h all.items ≡ weigh_left (length ports.items) h left
         + weigh h (flatten (map (λ k. k.items) kept.items))

@@ -1,4 +1,5 @@
-ghost use Rattle.std.specs.Prelude.{◌≡◌, ◌≢◌, ◌+◌, ◌*◌, ◌%◌, ◌<◌, ◌≤◌, ◌==◌, ◌∷◌, ℕ, [], IfOk, All, filter, length, map, slice_get, slice_index_or};
+ghost use Rattle.std.specs.Prelude.{◌≡◌, ◌≢◌, ◌+◌, ◌*◌, ◌%◌, ◌<◌, ◌≤◌, ◌==◌, ◌∷◌, [], IfOk, All, filter, length, map, slice_get, slice_index_or};
+ghost use Rattle.rw_vt.specs.Words.{Position};
 ghost use Rattle.rw_exchange.specs.Ports.{IsNew, IsOpening, StayAnOpening};
 ghost use Rattle.rw_board.specs.Seats.{new_seat};
 ghost use Rattle.rw_worker.specs.Plans.{IsInRanges};
@@ -53,11 +54,11 @@ fn supplies<P: Drop, B: Copy>(
 ) -> Result<(Board, Supply<P, B>), NoMemory>
     requires { IsInRanges plan.now }
     ensures shares { IfOk result (λ r. (length r.1.shares.items ≡ plan.now.workers)
-        × ((i place : ℕ) → i < plan.now.workers
+        × ((i place : Position) → i < plan.now.workers
         → slice_get (slice_index_or (map (λ h. h.items) r.1.shares.items) i []) place
         ≡ slice_get processes.items (i + place * plan.now.workers))) }
     ensures inboxes { IfOk result (λ r. (length r.1.inboxes.items ≡ plan.now.workers)
-        × ((i : ℕ) → i < plan.now.workers
+        × ((i : Position) → i < plan.now.workers
         → slice_index_or (map (λ b. b.items) r.1.inboxes.items) i []
         ≡ filter (λ l. l.event.to % plan.now.workers == i) letters.items)) }
     ensures ports { IfOk result (λ r. (length r.1.ports.items ≡ plan.now.workers)
@@ -87,7 +88,7 @@ fn split_letters<B: Copy>(
 ) -> Result<Vec<Vec<Letter<B>>>, NoMemory>
     requires workers { 1 ≤ workers }
     ensures count { IfOk result (λ inboxes. length inboxes.items ≡ workers) }
-    ensures each { IfOk result (λ inboxes. (i : ℕ) → i < workers
+    ensures each { IfOk result (λ inboxes. (i : Position) → i < workers
         → slice_index_or (map (λ b. b.items) inboxes.items) i []
         ≡ filter (λ l. l.event.to % workers == i) letters.now) }
 {
@@ -110,7 +111,7 @@ fn make_workers<M: VtModel>(
     requires ports { length supply.ports.items ≡ plan.now.workers }
     requires seats { length supply.seats.items ≡ plan.now.workers }
     ensures count { IfOk result (λ workers. length workers.items ≡ plan.now.workers) }
-    ensures roles { IfOk result (λ workers. (i : ℕ) → i < plan.now.workers
+    ensures roles { IfOk result (λ workers. (i : Position) → i < plan.now.workers
         → slice_get (map (λ w. w.role) workers.items) i ≡ Some (role plan.now collected i)) }
     ensures processes { IfOk result (λ workers.
         map (λ w. w.processes) workers.items ≡ map (λ h. h.items) supply.shares.items) }

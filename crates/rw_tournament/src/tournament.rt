@@ -1,7 +1,8 @@
 // The least of the events at many places.
-ghost use Rattle.std.specs.Prelude.{◌≡◌, ◌≢◌, ◌<◌, ◌≤◌, ◌+◌, ◌*◌, ◌/◌, ◌%◌, ℕ, [], true, false, IfOk, IfSome, IfNone, Some, None, length, replicate, slice_index_or, slice_set};
+ghost use Rattle.std.specs.Prelude.{◌≡◌, ◌≢◌, ◌<◌, ◌≤◌, ◌+◌, ◌*◌, ◌/◌, ◌%◌, [], true, false, IfOk, IfSome, IfNone, Some, None, length, replicate, slice_index_or, slice_set};
 ghost use Rattle.std.specs.Option.{option_map};
 ghost use Rattle.std.specs.Ordering.{is_gt};
+ghost use Rattle.rw_vt.specs.Words.{Position};
 ghost use Rattle.rw_vt.specs.Order.{event_cmp, AtMost};
 ghost use Rattle.rw_vt.specs.declared.event.Event.{Event};
 ghost use Rattle.rw_tournament.specs.Tournament.{node_at, is_second_less, winner, IsPlayed};
@@ -76,10 +77,11 @@ impl<M: VtModel> Tournament<M> {
 
     /// The least event, with its place. Takes no memory.
     pub fn least(&self) -> Option<&Entry<M::Body>>
-        ensures none { IfNone result ((place : ℕ) → slice_index_or self.now place None ≡ None) }
+        ensures none { IfNone result
+            ((place : Position) → slice_index_or self.now place None ≡ None) }
         ensures there { IfSome result (λ e.
             slice_index_or self.now e.now.place None ≡ Some e.now.event) }
-        ensures least { IfSome result (λ e. (place : ℕ) (f : Event M.Body)
+        ensures least { IfSome result (λ e. (place : Position) (f : Event M.Body)
             → slice_index_or self.now place None ≡ Some f
             → AtMost (event_cmp M.Body.cmp) e.now.event f) }
     {
@@ -111,11 +113,11 @@ fn entry_of<B>(place: usize, event: Option<Event<B>>) -> Option<Entry<B>>
 fn replay<M: VtModel>(nodes: &mut [Option<Entry<M::Body>>], changed: usize)
     requires size { length nodes.old % 2 ≡ 0 }
     requires changed { changed < length nodes.old }
-    requires others { (k : ℕ) → 0 < k → 2 * k + 1 < length nodes.old → k ≢ changed / 2
+    requires others { (k : Position) → 0 < k → 2 * k + 1 < length nodes.old → k ≢ changed / 2
         → IsPlayed (event_cmp M.Body.cmp) nodes.old k }
-    ensures played { (k : ℕ) → 0 < k → 2 * k + 1 < length nodes.old
+    ensures played { (k : Position) → 0 < k → 2 * k + 1 < length nodes.old
         → IsPlayed (event_cmp M.Body.cmp) nodes.new k }
-    ensures same { (k : ℕ) → length nodes.old ≤ 2 * k
+    ensures same { (k : Position) → length nodes.old ≤ 2 * k
         → node_at nodes.new k ≡ node_at nodes.old k }
 {
     let mut node = changed;

@@ -1,4 +1,5 @@
-ghost use Rattle.std.specs.Prelude.{◌≡◌, ◌+◌, ◌≤◌, ℕ, true, All};
+ghost use Rattle.std.specs.Prelude.{◌≡◌, ◌+◌, ◌≤◌, true, All};
+ghost use Rattle.rw_vt.specs.Words.{Process, Time};
 ghost use Rattle.rw_vt.specs.declared.event.Event.{Event};
 
 use crate::event::Event;
@@ -10,7 +11,7 @@ use crate::model::Model;
 /// that each may go on so far without hearing of the others. One tick is a lookahead of every model.
 pub trait Lookahead: Model {
     /// The least time from an event to what it sends, in ticks.
-    ghost lookahead_of: { Self → ℕ };
+    ghost lookahead_of: { Self → Time };
 
     /// The least time from an event to what it sends, in ticks: 1 or more is of use. Takes no memory.
     fn lookahead(&self) -> u64
@@ -23,7 +24,7 @@ pub trait Lookahead: Model {
     }
 
     /// All that is sent is as far ahead.
-    ghost ahead: { (m : Self) (p : ℕ) (s : Self.State) (e : Event Self.Body)
+    ghost ahead: { (m : Self) (p : Process) (s : Self.State) (e : Event Self.Body)
         → Self.IsWellFormed m p s → Self.is_valid m e ≡ true → e.to ≡ p
         → All (λ f. e.time + lookahead_of m ≤ f.time) (Self.step m p s e).1 };
 }

@@ -1,6 +1,7 @@
-ghost use Rattle.std.specs.Prelude.{◌≡◌, ◌≤◌, ◌<◌, ℕ, Bool, true, List, ◌++◌, OnOk, IfOk, IsTrue, ◌↔◌, All};
+ghost use Rattle.std.specs.Prelude.{◌≡◌, ◌≤◌, ◌<◌, Bool, true, List, ◌++◌, OnOk, IfOk, IsTrue, ◌↔◌, All};
 ghost use Rattle.std.specs.declared.cmp.Ordering.TheVariants.{Equal};
 ghost use Rattle.std.specs.Cmp.{IsTotalOrder};
+ghost use Rattle.rw_vt.specs.Words.{Count, Process};
 ghost use Rattle.rw_vt.specs.Order.{event_cmp, AtMost};
 ghost use Rattle.rw_vt.specs.Valid.{IsInRange, IsSentBy};
 ghost use Rattle.rw_vt.specs.declared.event.Event.{Event};
@@ -12,10 +13,13 @@ use std::alloc::Global;
 /// Processes, numbered from 0, that execute events and can take them back by reverse computation (Carothers, Perumalla
 /// and Fujimoto 1999).
 ///
-/// Each implementation proves the five laws that optimistic execution rests on: an accepted `execute` is the model's
-/// `step`; every send is valid and strictly later (`future`); `reverse` gives back the very state (its clause `before`);
-/// well-formedness is kept (`keeps`) and bodies that compare as equal are the same (`same`); an undo record is no
-/// larger than its bound (`light`).
+/// Each implementation proves the five laws that optimistic execution rests on:
+///
+/// - an accepted `execute` is the model's `step`;
+/// - every send is valid and strictly later (`future`);
+/// - `reverse` gives back the very state (its clause `before`);
+/// - well-formedness is kept (`keeps`), and bodies that compare as equal are the same (`same`);
+/// - an undo record is no larger than its bound (`light`).
 pub trait Model {
     /// What one process keeps.
     type State: Drop;
@@ -27,28 +31,30 @@ pub trait Model {
     type Undo: Drop;
 
     /// How many processes there are.
-    ghost process_count: { Self → ℕ };
+    ghost process_count: { Self → Count };
 
     /// The events that may be handed to the process that they name.
     ghost is_valid: { Self → Event Self.Body → Bool };
 
     /// The states that process p may be in.
-    ghost IsWellFormed: { Self → ℕ → Self.State → Type 0 };
+    ghost IsWellFormed: { Self → Process → Self.State → Type 0 };
 
     /// The states that can take no further event.
     ghost is_exhausted: { Self → Self.State → Bool };
 
     /// The state of process p after an event, and what it sends, in order.
-    ghost step: { Self → ℕ → Self.State → Event Self.Body → Self.State × List (Event Self.Body) };
+    ghost step: { Self → Process → Self.State → Event Self.Body
+        → Self.State × List (Event Self.Body) };
 
     /// An undo record links the state of process p before an event, the event, and the state after it.
-    ghost Links: { Self → ℕ → Self.State → Event Self.Body → Self.Undo → Self.State → Type 0 };
+    ghost Links: { Self → Process → Self.State → Event Self.Body → Self.Undo → Self.State
+        → Type 0 };
 
     /// How many entries an undo record has.
-    ghost weight: { Self.Undo → ℕ };
+    ghost weight: { Self.Undo → Count };
 
     /// How many it may have, by the states before and after.
-    ghost weight_bound: { Self → ℕ → Self.State → Self.State → ℕ };
+    ghost weight_bound: { Self → Process → Self.State → Self.State → Count };
 
     /// How many processes there are. Takes no memory.
     fn processes(&self) -> u32
@@ -136,12 +142,12 @@ pub trait Model {
         → IsInRange (process_count m) e };
 
     /// A step keeps a state well formed.
-    ghost keeps: { (m : Self) (p : ℕ) (s : Self.State) (e : Event Self.Body)
+    ghost keeps: { (m : Self) (p : Process) (s : Self.State) (e : Event Self.Body)
         → IsWellFormed m p s → is_valid m e ≡ true → e.to ≡ p
         → IsWellFormed m p (step m p s e).0 };
 
     /// Each send is valid, comes from the process, and is strictly later.
-    ghost future: { (m : Self) (p : ℕ) (s : Self.State) (e : Event Self.Body)
+    ghost future: { (m : Self) (p : Process) (s : Self.State) (e : Event Self.Body)
         → IsWellFormed m p s → is_valid m e ≡ true → e.to ≡ p
         → All (λ f. IsSentBy p e f × (is_valid m f ≡ true)) (step m p s e).1 };
 
@@ -149,7 +155,7 @@ pub trait Model {
     ghost same: { (a b : Self.Body) → Self.Body.cmp a b ≡ Equal → a ≡ b };
 
     /// An undo record that links has no more entries than its bound.
-    ghost light: { (m : Self) (p : ℕ) (before after : Self.State) (e : Event Self.Body)
+    ghost light: { (m : Self) (p : Process) (before after : Self.State) (e : Event Self.Body)
         (u : Self.Undo) → Links m p before e u after
         → weight u ≤ weight_bound m p before after };
 }

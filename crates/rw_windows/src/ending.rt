@@ -1,4 +1,5 @@
 ghost use Rattle.std.specs.Prelude.{◌≡◌, ◌≤◌, ◌+◌, ◌∷◌, ◌++◌, ℕ, IfOk, List, OnOk, [], length, map};
+ghost use Rattle.rw_vt.specs.Words.{Time};
 ghost use Rattle.rw_vt.specs.declared.event.Event.{Event};
 ghost use Rattle.rw_vt.specs.Order.{weigh};
 ghost use Rattle.rw_vt.specs.System.{flatten};
@@ -23,13 +24,13 @@ pub(crate) fn gather<M: VtModel + Drop>(
     shares: Vec<Share<M>>,
 ) -> Result<Left<M>, NoMemory>
     requires some { 1 ≤ length shares.items }
-    requires ended { (end : ℕ) × (states : List M.State) × (events : List (Event M.Body))
+    requires ended { (end : Time) × (states : List M.State) × (events : List (Event M.Body))
         × (length states ≡ count)
         × HaveEnded M.Model M.Body.cmp model (length shares.items) end states events
         shares.items }
     ensures model { IfOk result (λ r. r.model ≡ model) }
     ensures left { IfOk result (λ r.
-        (end : ℕ) (states : List M.State) (events : List (Event M.Body))
+        (end : Time) (states : List M.State) (events : List (Event M.Body))
         → length states ≡ count
         → HaveEnded M.Model M.Body.cmp model (length shares.items) end states events
         shares.items

@@ -1,4 +1,5 @@
-ghost use Rattle.std.specs.Prelude.{◌≡◌, ◌≢◌, ◌≤◌, [], ℕ, IfOk, IfSome, OnOk, slice_set, true};
+ghost use Rattle.std.specs.Prelude.{◌≡◌, ◌≢◌, ◌≤◌, [], IfOk, IfSome, OnOk, slice_set, true};
+ghost use Rattle.rw_vt.specs.Words.{Position};
 ghost use Rattle.rw_exchange.specs.Ports.{IsOther, received_from};
 ghost use Rattle.rw_windows.specs.Batches.{last_reach};
 ghost use Rattle.rw_windows.specs.Working.{HandedOver, IsAtWork, SameWorker};
@@ -108,7 +109,7 @@ impl<M: VtModel> Worker<M> {
         ensures times { OnOk result ((self.new.until ≡ self.old.until)
             × (self.new.heard ≡ self.old.heard)) }
         ensures handed_over { OnOk result (HandedOver self.new) }
-        ensures others { OnOk result ((v : ℕ) → v ≢ from
+        ensures others { OnOk result ((v : Position) → v ≢ from
             → received_from self.new.port v ≡ received_from self.old.port v) }
         ensures reach { IfOk result (λ heard. IfSome heard (λ reach.
             reach ≤ last_reach (received_from self.new.port from))) }

@@ -1,4 +1,5 @@
-ghost use Rattle.std.specs.Prelude.{◌≡◌, ◌≢◌, ◌<◌, ◌≤◌, ◌+◌, ◌∷◌, ◌++◌, [], ℕ, true, false, if◌then◌else◌, length, map, OnOk, IfOk};
+ghost use Rattle.std.specs.Prelude.{◌≡◌, ◌≢◌, ◌<◌, ◌≤◌, ◌+◌, ◌∷◌, ◌++◌, [], true, false, if◌then◌else◌, length, map, OnOk, IfOk};
+ghost use Rattle.rw_vt.specs.Words.{Time};
 ghost use Rattle.rw_vt.specs.System.{rules};
 ghost use Rattle.rw_exchange.specs.Ports.{IsWide};
 ghost use Rattle.rw_worker.specs.Deeds.{IsFair};
@@ -308,7 +309,7 @@ impl<M: VtModel> Desk<M> {
     ) -> Result<bool, Refusal>
         requires ready { CanWork M.Model M.Body.cmp bench.now self.old }
         requires none { at_hand.old.items ≡ [] }
-        requires next { (bound : ℕ) × IsNext (rules M.Model M.Body.cmp bench.now.model.now) bound
+        requires next { (bound : Time) × IsNext (rules M.Model M.Body.cmp bench.now.model.now) bound
             self.old.processes.items place }
         ensures works { IfOk result (λ executed. DealsWithAll M.Model M.Body.cmp bench.now
             self.old self.new [] at_hand.new.items (if executed then 1 else 0)) }

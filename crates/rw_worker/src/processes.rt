@@ -1,5 +1,6 @@
 // The processes of a worker, with the least of what is next at them at hand.
-ghost use Rattle.std.specs.Prelude.{◌≡◌, ◌≢◌, ◌<◌, ◌+◌, ◌++◌, ℕ, [], true, OnOk, IfOk, IfSome, IfNone, Some, length, slice_get};
+ghost use Rattle.std.specs.Prelude.{◌≡◌, ◌≢◌, ◌<◌, ◌+◌, ◌++◌, [], true, OnOk, IfOk, IfSome, IfNone, Some, length, slice_get};
+ghost use Rattle.rw_vt.specs.Words.{Time};
 ghost use Rattle.rw_vt.specs.Order.{event_cmp};
 ghost use Rattle.rw_vt.specs.System.{rules};
 ghost use Rattle.rw_bag.specs.Bags.{IsNextOf};
@@ -138,7 +139,7 @@ impl<M: VtModel> Processes<M> {
             → slice_get self.old.items place ≡ Some l → l.process.pending ≢ [] }
         requires undoable { (l : LogicalProcess M M.State M.Body)
             → slice_get self.old.items place ≡ Some l
-            → (g : ℕ) × HasCollected (event_cmp M.Body.cmp) g l.process }
+            → (g : Time) × HasCollected (event_cmp M.Body.cmp) g l.process }
         ensures moved { IfOk result (λ executed.
             ChangesOne self.old.items self.new.items place (λ l z. Advances M.Model M.Body.cmp
             (way_of lazy) l z executed out.old.items out.new.items)) }
@@ -208,7 +209,7 @@ fn execute_or_undo<M: VtModel>(
 ) -> Result<(Lp<M>, bool), Refusal>
     requires model { model.now ≡ process.model }
     requires pending { process.process.pending ≢ [] }
-    requires undoable { (g : ℕ) × HasCollected (event_cmp M.Body.cmp) g process.process }
+    requires undoable { (g : Time) × HasCollected (event_cmp M.Body.cmp) g process.process }
     ensures same { IfOk result (λ r.
         (r.0.model ≡ process.model) × (r.0.number ≡ process.number)) }
     ensures moved { IfOk result (λ r.

@@ -1,4 +1,5 @@
-ghost use Rattle.std.specs.Prelude.{◌≡◌, ℕ, [], IfOk, slice_get, Some};
+ghost use Rattle.std.specs.Prelude.{◌≡◌, [], IfOk, slice_get, Some};
+ghost use Rattle.rw_vt.specs.Words.{Position};
 ghost use Rattle.rw_vt.specs.System.{rules};
 ghost use Rattle.rw_lp.specs.Calls.{LogicalProcess};
 ghost use Rattle.rw_lp.specs.Sound.{IsSoundOnceCollected, StartsWell};
@@ -212,9 +213,9 @@ impl<M: VtModel> Worker<M> {
 
 /// Each process starts well, and is sound wherever it has collected, as [`Lp::soundness`] says. Does nothing.
 fn soundness<M: VtModel>(processes: &[Lp<M>])
-    ensures starts { (place : ℕ) (l : LogicalProcess M M.State M.Body)
+    ensures starts { (place : Position) (l : LogicalProcess M M.State M.Body)
         → slice_get processes.now place ≡ Some l → StartsWell M.Model l }
-    ensures sound { (place : ℕ) (l : LogicalProcess M M.State M.Body)
+    ensures sound { (place : Position) (l : LogicalProcess M M.State M.Body)
         → slice_get processes.now place ≡ Some l → IsSoundOnceCollected M.Model M.Body.cmp l }
 {
     for process in processes {

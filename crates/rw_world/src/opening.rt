@@ -1,4 +1,5 @@
-ghost use Rattle.std.specs.Prelude.{◌≡◌, ◌<◌, ◌==◌, ◌∷◌, ◌++◌, ℕ, true, [], IfOk, IfErr, OnOk, All, filter, length, map, slice_index_or};
+ghost use Rattle.std.specs.Prelude.{◌≡◌, ◌<◌, ◌==◌, ◌∷◌, ◌++◌, true, [], IfOk, IfErr, OnOk, All, filter, length, map, slice_index_or};
+ghost use Rattle.rw_vt.specs.Words.{Process};
 ghost use Rattle.rw_vt.specs.Order.{event_cmp};
 ghost use Rattle.rw_vt.specs.System.{IsReady, map_from, system};
 ghost use Rattle.rw_vt.specs.declared.refusal.Refusal.TheVariants.{Memory};
@@ -68,7 +69,7 @@ fn by_destination<B: Copy>(
 ) -> Result<Vec<Vec<Event<B>>>, AllocError>
     requires inside { All (λ e. e.to < count) events.now }
     ensures len { IfOk result (λ v. length v.items ≡ count) }
-    ensures each { IfOk result (λ v. (q : ℕ) → q < count
+    ensures each { IfOk result (λ v. (q : Process) → q < count
         → slice_index_or (map (λ l. l.items) v.items) q []
         ≡ filter (λ e. e.to == q) events.now) }
 {

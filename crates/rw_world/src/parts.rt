@@ -1,5 +1,6 @@
-ghost use Rattle.std.specs.Prelude.{◌≡◌, ◌<◌, ◌≤◌, ℕ, true, List, IfOk, IfErr, OnOk, length, map, slice_get, slice_set, Some};
+ghost use Rattle.std.specs.Prelude.{◌≡◌, ◌<◌, ◌≤◌, true, List, IfOk, IfErr, OnOk, length, map, slice_get, slice_set, Some};
 ghost use Rattle.std.specs.List.{swap_remove};
+ghost use Rattle.rw_vt.specs.Words.{Process};
 ghost use Rattle.rw_vt.specs.Order.{event_cmp, Each};
 ghost use Rattle.rw_vt.specs.declared.refusal.Refusal.TheVariants.{Memory};
 ghost use Rattle.rw_lp.specs.Calls.{LogicalProcess};
@@ -146,7 +147,7 @@ impl<M: VtModel> Parts<M> {
         requires whole { IsWhole M.Model M.Body.cmp self.old }
         ensures whole { OnOk result (IsWhole M.Model M.Body.cmp self.new) }
         ensures run { OnOk result (AreOfOneRun self.old self.new) }
-        ensures none { OnOk result ((p : ℕ) → HasNothingProcessed p self.new) }
+        ensures none { OnOk result ((p : Process) → HasNothingProcessed p self.new) }
         ensures memory { IfErr result (λ e. e ≡ Memory) }
     {
         for number in 0..self.model.processes() {
@@ -182,7 +183,7 @@ impl<M: VtModel> Parts<M> {
 /// Each process commits what it did before `time`, in ticks: nothing that is pending or owed is earlier. Refused only as
 /// `Memory`; the processes are then only good for dropping.
 fn collect_all<M: VtModel>(processes: &mut Vec<Lp<M>>, time: u64) -> Result<(), Refusal>
-    requires quiet { (q : ℕ) (x : LogicalProcess M M.State M.Body)
+    requires quiet { (q : Process) (x : LogicalProcess M M.State M.Body)
         → slice_get processes.old.items q ≡ Some x
         → Each (event_cmp M.Body.cmp) (λ e. time ≤ e.time) x.process.pending
         × Each (event_cmp M.Body.cmp) (λ e. time ≤ e.time) x.process.debts }

@@ -1,4 +1,5 @@
-ghost use Rattle.std.specs.Prelude.{◌≡◌, ◌↔◌, ◌<◌, ◌≤◌, ◌^◌, ℕ, true, IfOk, IfErr, map, filter, nat_lt, slice_get, Some};
+ghost use Rattle.std.specs.Prelude.{◌≡◌, ◌↔◌, ◌<◌, ◌≤◌, ◌^◌, true, IfOk, IfErr, map, filter, nat_lt, slice_get, Some};
+ghost use Rattle.rw_vt.specs.Words.{Process, Time};
 ghost use Rattle.rw_vt.specs.Limits.{end_of_time};
 ghost use Rattle.rw_vt.specs.Order.{event_cmp};
 ghost use Rattle.rw_vt.specs.System.{state_after, journal_below, system, IsOutcome, IsReady};
@@ -138,7 +139,7 @@ impl<M: VtModel + Drop> World<M> {
     /// if there is none: global virtual time (Jefferson 1985). What is done before it stays done. Takes no memory.
     pub fn floor(&self) -> u64
         ensures least { result ≡ floor self.now.world }
-        ensures before { (t q : ℕ) → t ≤ result
+        ensures before { (t : Time) (q : Process) → t ≤ result
             → filter (λ e. nat_lt e.time t) (done_of self.now.world.processes q)
             ≡ journal_below (system_of M.Model M.Body.cmp self.now) t q }
     {
