@@ -7,7 +7,7 @@ use Rattle.std.specs.Option.{ok_or}
 use Rattle.std.specs.Str.{str_eq_ignore_ascii_case}
 use Rattle.csv.specs.Reading.{default_config, records, strip_bom}
 use Rattle.csv.specs.Records.{field_at}
-use Rattle.rw_numbers.specs.Words.{Count, Edge, Object, Position, Size, Time}
+use Rattle.rw_numbers.specs.Words.{Count, Object, Position, Size, Time}
 use Rattle.rw_trace.specs.Limits.{greatest_size}
 use Rattle.rw_trace.specs.Trace.{number_of}
 use Rattle.rw_trace.specs.Words.{Fields, Text}
@@ -27,7 +27,7 @@ use Rattle.rw_import.specs.declared.layout.Column.TheVariants.{At, Named}
 use Rattle.rw_import.specs.declared.layout.Places.{Places}
 use Rattle.rw_import.specs.declared.options.Options.{Options}
 use Rattle.rw_import.specs.Limits.{most_log_edges}
-use Rattle.rw_import.specs.Log.{IsRowsFault, LogTime, Saying, billion, first_time, in_time, kept_in, rows_for, told_apart}
+use Rattle.rw_import.specs.Log.{Edge, IsRowsFault, LogTime, Saying, billion, first_time, in_time, kept_in, rows_for, told_apart}
 
 infixl 10 ◌>>=◌
 abbrev pub ◌>>=◌ : {A B E : Type 0} → Result A E → (A → Result B E) → Result B E

@@ -3,7 +3,7 @@
 use Rattle.std.specs.Prelude.{◌≡◌, ◌+◌, ◌-◌, ◌*◌, ◌/◌, ◌%◌, ◌^◌, ◌++◌, ℕ, List, [], ◌∷◌, Bool, true, false, Result, Ok, Err, Option, Some, None, map, fold, min, count_by, bit_xor, length, nat_le, unwrap_or, if◌then◌else◌}
 use Rattle.std.specs.List.{AllPass, filter_map}
 use Rattle.std.specs.Result.{is_ok, result_ok}
-use Rattle.rw_numbers.specs.Words.{Count, Edge, Object, Position, Time}
+use Rattle.rw_numbers.specs.Words.{Count, Object, Position, Time}
 use Rattle.rw_trace.specs.Limits.{latest_time, most_rows}
 use Rattle.rw_trace.specs.declared.Row.{Row}
 use Rattle.rw_import.specs.declared.options.Dealing.{Dealing}
@@ -25,6 +25,10 @@ Said O = Entry × O
 -- what a row says, or what is first wrong with it
 abbrev pub Saying : Type 0 → Type 0
 Saying O = Result (Said O) Flaw
+
+-- an edge, counted from 0
+abbrev pub Edge : Type 0
+Edge = ℕ
 
 -- a time of a log, in billionths of its unit
 abbrev pub LogTime : Type 0

@@ -2,12 +2,12 @@
 use Rattle.std.specs.Prelude.{◌≡◌, ◌≤◌, ◌<◌, ◌+◌, ◌^◌, ◌++◌, ℕ, List, [], ◌∷◌, true, false, Result, Ok, Err, Option, Some, None, All, if◌then◌else◌, length, map, nat_le}
 use Rattle.std.specs.Global.{Vec}
 use Rattle.indexmap.specs.IndexSet.{IndexSet}
-use Rattle.rw_numbers.specs.Words.{Count, Edge, Object, Position, Time}
+use Rattle.rw_numbers.specs.Words.{Count, Object, Position, Time}
 use Rattle.rw_trace.specs.Laws.{IsRow}
 use Rattle.rw_trace.specs.Limits.{greatest_size, latest_time, most_rows}
 use Rattle.rw_trace.specs.Words.{Text}
 use Rattle.rw_import.specs.Csv.{number_among, objects_in, with_text}
-use Rattle.rw_import.specs.Log.{IsStrictlyKept, LogTime, Saying, fault_at, kept_in, left_out_of, row_for, rows_for, ticks_from}
+use Rattle.rw_import.specs.Log.{Edge, IsStrictlyKept, LogTime, Saying, fault_at, kept_in, left_out_of, row_for, rows_for, ticks_from}
 use Rattle.rw_import.specs.declared.options.Options.{Options}
 use Rattle.rw_import.specs.declared.fault.ImportFault.{ImportFault}
 use Rattle.rw_import.specs.declared.fault.ImportFault.TheVariants as fault

@@ -13,10 +13,6 @@ Position = ℕ
 abbrev pub Time : Type 0
 Time = ℕ
 
--- an edge, counted from 0
-abbrev pub Edge : Type 0
-Edge = ℕ
-
 -- an object, by its number
 abbrev pub Object : Type 0
 Object = ℕ

@@ -6,6 +6,7 @@ use Rattle.std.proofs.Common.{arith, ap}
 use Rattle.std.proofs.lemmas.Bool.Decides.{nat_tests}
 use Rattle.std.proofs.lemmas.List.Elements.{All-cons, All-nil}
 use Rattle.rw_vt.specs.Limits.{end_of_time}
+use Rattle.rw_vt.specs.Words.{Count, Process}
 use Rattle.rw_vt.specs.declared.event.Event.{Event}
 use Rattle.rw_vt.specs.Valid.{IsInRange, IsSentBy}
 use Rattle.rw_relay.specs.Parcels.{nat_cmp_same}
@@ -24,7 +25,7 @@ pub record IsSeen (s : Seen) : Type 0 where
   pub events : s.events < 2 ^ 64
 
 -- a message of process p to the bus
-abbrev pub note_of : Stop → ℕ → ℕ → ℕ → Event Note
+abbrev pub note_of : Stop → Process → ℕ → Count → Event Note
 note_of m p number people =
     record {
       time = m.due;
@@ -35,15 +36,15 @@ note_of m p number people =
     }
 
 -- whether the event is a passenger who comes to the stop in time
-abbrev pub is_in_time : Stop → ℕ → Event Note → Bool
+abbrev pub is_in_time : Stop → Process → Event Note → Bool
 is_in_time m p e = p == 0 && nat_lt e.time m.due
 
 -- how many have come after one more
-abbrev pub count_after : Seen → ℕ
+abbrev pub count_after : Seen → Count
 count_after s = (s.events + 1) % 2 ^ 64
 
 -- a passenger makes the stop call the bus, and tell it how many have come
-abbrev pub stop_step : Stop → ℕ → Seen → Event Note → Seen × List (Event Note)
+abbrev pub stop_step : Stop → Process → Seen → Event Note → Seen × List (Event Note)
 stop_step m p s e = (
   record { events = count_after s },
   if is_in_time m p e then note_of m p 0 1 ∷ note_of m p 1 (count_after s) ∷ [] else [],
@@ -58,19 +59,20 @@ stop_ranges m e h =
       to = grind (arith, nat_tests);
     }
 
-pub stop_keeps : (m : Stop) (p : ℕ) (s : Seen) (e : Event Note) → IsSeen s → is_sound_note e ≡ true
-    → e.to ≡ p → IsSeen (stop_step m p s e).0
+pub stop_keeps : (m : Stop) (p : Process) (s : Seen) (e : Event Note) → IsSeen s
+    → is_sound_note e ≡ true → e.to ≡ p → IsSeen (stop_step m p s e).0
 stop_keeps m p s e w h t = record { events = omega arith }
 
 -- what is said of a note that a passenger causes
-sent_well : (m : Stop) (p : ℕ) (e : Event Note) (number people : ℕ) → m.due < end_of_time
-    → number < 2 ^ 64 → people < 2 ^ 64 → is_in_time m p e ≡ true
+sent_well : (m : Stop) (p : Process) (e : Event Note) (number : ℕ) (people : Count)
+    → m.due < end_of_time → number < 2 ^ 64 → people < 2 ^ 64 → is_in_time m p e ≡ true
     → IsSentBy p e (note_of m p number people) × (is_sound_note (note_of m p number people) ≡ true)
 sent_well m p e number people due n k g =
     (record { source = refl; later = grind (arith, nat_tests) }, grind (arith, nat_tests))
 
-pub stop_future : (m : Stop) (p : ℕ) (s : Seen) (e : Event Note) → IsSeen s → is_sound_note e ≡ true
-    → e.to ≡ p → All (λ f. IsSentBy p e f × (is_sound_note f ≡ true)) (stop_step m p s e).1
+pub stop_future : (m : Stop) (p : Process) (s : Seen) (e : Event Note) → IsSeen s
+    → is_sound_note e ≡ true → e.to ≡ p
+    → All (λ f. IsSentBy p e f × (is_sound_note f ≡ true)) (stop_step m p s e).1
 stop_future m p s e w h t = by_case (is_in_time m p e) refl
   where
     by_case : (b : Bool) → is_in_time m p e ≡ b

@@ -7,6 +7,7 @@ use Rattle.std.proofs.lemmas.Bool.Decides.{nat_tests}
 use Rattle.std.proofs.lemmas.List.Elements.{All-cons, All-nil}
 use Rattle.std.proofs.lemmas.Cmp.{ranked, by_ranked}
 use Rattle.rw_vt.specs.Limits.{end_of_time}
+use Rattle.rw_vt.specs.Words.{Process}
 use Rattle.rw_vt.specs.declared.event.Event.{Event}
 use Rattle.rw_vt.specs.Valid.{IsInRange, IsSentBy}
 use Rattle.rw_relay.specs.declared.Relay.{Relay}
@@ -31,7 +32,7 @@ abbrev pub goes_on : Relay → Event Parcel → Bool
 goes_on m e = nat_lt 0 e.body.hops && nat_lt (e.time + m.delay) end_of_time
 
 -- the parcel that goes on, with a hop less
-abbrev pub passed_on : Relay → ℕ → Station → Event Parcel → Event Parcel
+abbrev pub passed_on : Relay → Process → Station → Event Parcel → Event Parcel
 passed_on m p s e =
     record {
       time = e.time + m.delay;
@@ -49,11 +50,11 @@ station_after m s e =
       sends = if goes_on m e then (s.sends + 1) % 2 ^ 64 else s.sends;
     }
 
-abbrev pub relay_step : Relay → ℕ → Station → Event Parcel → Station × List (Event Parcel)
+abbrev pub relay_step : Relay → Process → Station → Event Parcel → Station × List (Event Parcel)
 relay_step m p s e = (station_after m s e, if goes_on m e then passed_on m p s e ∷ [] else [])
 
 -- the track links the station before, the event and the station after
-pub record IsTrackOf (m : Relay) (p : ℕ) (before : Station) (e : Event Parcel) (t : Track)
+pub record IsTrackOf (m : Relay) (p : Process) (before : Station) (e : Event Parcel) (t : Track)
     (later : Station) : Type 0 where
   pub last : t.last ≡ before.last
   pub sent : t.sent ≡ goes_on m e
@@ -68,7 +69,7 @@ relay_ranges m e h =
       to = grind (arith, nat_tests);
     }
 
-pub relay_keeps : (m : Relay) (p : ℕ) (s : Station) (e : Event Parcel) → IsStation s
+pub relay_keeps : (m : Relay) (p : Process) (s : Station) (e : Event Parcel) → IsStation s
     → is_sound_event e ≡ true → e.to ≡ p → IsStation (relay_step m p s e).0
 relay_keeps m p s e w h t =
     record {
@@ -82,13 +83,13 @@ relay_keeps m p s e w h t =
     kept_sends false n l = l
 
 -- what is said of a parcel that goes on
-sent_well : (m : Relay) (p : ℕ) (s : Station) (e : Event Parcel) → 0 < m.delay → IsStation s
+sent_well : (m : Relay) (p : Process) (s : Station) (e : Event Parcel) → 0 < m.delay → IsStation s
     → is_sound_event e ≡ true → e.to ≡ p → goes_on m e ≡ true
     → IsSentBy p e (passed_on m p s e) × (is_sound_event (passed_on m p s e) ≡ true)
 sent_well m p s e pos w h t g =
     (record { source = refl; later = omega arith }, grind (arith, nat_tests, w.sends))
 
-pub relay_future : (m : Relay) (p : ℕ) (s : Station) (e : Event Parcel) → IsStation s
+pub relay_future : (m : Relay) (p : Process) (s : Station) (e : Event Parcel) → IsStation s
     → is_sound_event e ≡ true → e.to ≡ p
     → All (λ f. IsSentBy p e f × (is_sound_event f ≡ true)) (relay_step m p s e).1
 relay_future m p s e w h t = by_case (goes_on m e) refl

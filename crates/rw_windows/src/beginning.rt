@@ -1,5 +1,5 @@
 ghost use Rattle.std.specs.Prelude.{◌≡◌, ◌≤◌, ◌<◌, ◌%◌, ◌==◌, ◌+◌, ◌*◌, ◌∷◌, ◌≢◌, [], All, IfOk, filter, length, map, replicate, slice_get, slice_index_or};
-ghost use Rattle.rw_vt.specs.Words.{Position};
+ghost use Rattle.rw_vt.specs.Words.{Position, Worker};
 ghost use Rattle.rw_vt.specs.System.{IsReady};
 ghost use Rattle.rw_exchange.specs.Ports.{AreGreeted, IsOpening, NoneItself, StayAnOpening};
 ghost use Rattle.rw_windows.specs.Beginning.{HasNotBegun, greeting};
@@ -104,11 +104,11 @@ fn supplies<M: VtModel>(
 ) -> Result<Supply<M>, NoMemory>
     requires workers { (1 ≤ terms.workers) × (terms.workers ≤ 16) }
     ensures shares { IfOk result (λ s. (length s.shares.items ≡ terms.workers)
-        × ((i place : Position) → i < terms.workers
+        × ((i : Worker) (place : Position) → i < terms.workers
         → slice_get (slice_index_or (map (λ h. h.items) s.shares.items) i []) place
         ≡ slice_get states.items (i + place * terms.workers))) }
     ensures inboxes { IfOk result (λ s. (length s.inboxes.items ≡ terms.workers)
-        × ((i : Position) → i < terms.workers
+        × ((i : Worker) → i < terms.workers
         → slice_index_or (map (λ b. b.items) s.inboxes.items) i []
         ≡ filter (λ e. e.to % terms.workers == i) events.now)) }
     ensures ports { IfOk result (λ s. (length s.ports.items ≡ terms.workers)
@@ -165,7 +165,7 @@ fn deal_events<B: Copy>(
 ) -> Result<Vec<Vec<Event<B>>>, NoMemory>
     requires workers { 1 ≤ workers }
     ensures count { IfOk result (λ inboxes. length inboxes.items ≡ workers) }
-    ensures each { IfOk result (λ inboxes. (i : Position) → i < workers
+    ensures each { IfOk result (λ inboxes. (i : Worker) → i < workers
         → slice_index_or (map (λ b. b.items) inboxes.items) i []
         ≡ filter (λ e. e.to % workers == i) events.now) }
 {
@@ -209,7 +209,7 @@ fn make_shares<M: VtModel>(
     requires ports { length supply.ports.items ≡ terms.workers }
     requires bells { length supply.bells.items ≡ terms.workers }
     ensures count { IfOk result (λ ws. length ws.items ≡ terms.workers) }
-    ensures numbers { IfOk result (λ ws. (i : Position) (d : _) → i < terms.workers
+    ensures numbers { IfOk result (λ ws. (i : Worker) (d : _) → i < terms.workers
         → (slice_index_or ws.items i d).number ≡ i) }
     ensures states { IfOk result (λ ws.
         map (λ w. w.states) ws.items ≡ map (λ h. h.items) supply.shares.items) }
