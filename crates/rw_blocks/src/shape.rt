@@ -57,8 +57,8 @@ impl Shape {
         }
     }
 
-    /// The three numbers, as `new` takes them.
-    pub(crate) fn limits(&self) -> (u64, u64, u64)
+    /// The sections, the bytes of a block and the sealed device blocks, as `new` takes them. Takes no memory.
+    pub fn limits(&self) -> (u64, u64, u64)
         ensures shape { result ≡ (self.now.sections, self.now.block, self.now.blocks) }
         ensures in_range { IsShape result.0 result.1 result.2 }
     {

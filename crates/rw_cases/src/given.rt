@@ -7,7 +7,17 @@ pub struct Given<'a> {
     pub bytes: &'a [u8],
 }
 
-impl Source for Given<'_> {
+impl<'a> Source for Given<'a> {
+    type Reader = &'a [u8];
+
+    fn open(&mut self, path: &str) -> Result<&'a [u8], SourceFault> {
+        if path == "-" {
+            Ok(self.bytes)
+        } else {
+            Err(SourceFault::Read)
+        }
+    }
+
     fn bytes(&mut self, alloc: Global, path: &str) -> Result<Vec<u8>, SourceFault> {
         if path != "-" {
             return Err(SourceFault::Read);

@@ -3,8 +3,8 @@ use rw_console::{CommandFault, Out, Source, answer, read, write_line};
 use rw_options::program;
 use rw_progress::{Line, Measure, Progress};
 use rw_ripqwarp::{Mode, Plan, Traffic, schedule, simulate_and_tell};
-use rw_runs::{config, serial};
-use rw_studies::{Fault, import, join, plot, sweep};
+use rw_runs::{OUTLOOK, config};
+use rw_studies::{Fault, import, join, plot, serial, sweep};
 use std::alloc::Global;
 use std::io::Write;
 use std::sync::Wait;
@@ -68,11 +68,32 @@ fn attempt<S: Source, W: Write, E: Write, R: Threads + Wait + Clock + Sync>(
     err: &mut E,
     terminal: bool,
 ) -> Result<(), Fault> {
+    if let Some(fault) = not_taken(words) {
+        return Err(fault);
+    }
     let program = program(alloc)?;
     match program.try_get_matches_from(words) {
         Ok(matches) => carry_out(rt, alloc, &matches, source, out, err, terminal),
         Err(error) => Ok(answer(alloc, error, out)?),
     }
+}
+
+/// Why the words are refused that give `warp` or `journal` an option of runs in order of time on one thread, if they do.
+fn not_taken(words: &[String]) -> Option<Fault> {
+    let command = match words.get(1)?.as_str() {
+        "warp" => "warp",
+        "journal" => "journal",
+        _ => return None,
+    };
+    for word in words {
+        let name = word.as_str().split('=').next()?;
+        for option in OUTLOOK {
+            if name.strip_prefix("--") == Some(option) {
+                return Some(Fault::NotTaken { option, command });
+            }
+        }
+    }
+    None
 }
 
 /// Does what `clap` has understood.
@@ -89,7 +110,7 @@ fn carry_out<S: Source, W: Write, E: Write, R: Threads + Wait + Clock + Sync>(
         return Err(CommandFault::Plan.into());
     };
     match name {
-        "serial" => Ok(serial(rt, alloc, options, source, out, err, terminal)?),
+        "serial" => serial(rt, alloc, options, source, out, err, terminal),
         "import" => import(rt, alloc, options, source, out, err, terminal),
         "sweep" => sweep(rt, alloc, options, source, out, err, terminal),
         "join" => join(alloc, options, source, out),

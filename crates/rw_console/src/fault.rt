@@ -31,7 +31,7 @@ impl CommandFault {
             CommandFault::CommandLine(_) | CommandFault::Plan | CommandFault::Run(SimFault::Plan) =>
                 2,
             CommandFault::Run(SimFault::Trace(_)) => 3,
-            CommandFault::Source(SourceFault::Read) => 4,
+            CommandFault::Source(SourceFault::Read) | CommandFault::Run(SimFault::Read) => 4,
             CommandFault::Memory
             | CommandFault::Source(SourceFault::Memory)
             | CommandFault::Run(SimFault::Memory) => 5,

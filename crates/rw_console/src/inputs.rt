@@ -1,4 +1,5 @@
 // The program's files, and its standard input.
+use crate::reader::Reader;
 use crate::source::{Source, SourceFault};
 use std::alloc::Global;
 use std::fs;
@@ -13,6 +14,19 @@ pub struct Inputs<'a, R> {
 }
 
 impl<R: Files + Input + AllocGlobal> Source for Inputs<'_, R> {
+    type Reader = Reader<R::File, R::Reader>;
+
+    fn open(&mut self, path: &str) -> Result<Reader<R::File, R::Reader>, SourceFault> {
+        if path == "-" {
+            return Ok(Reader::Input(self.rt.reader()));
+        }
+        match fs::open(self.rt, path) {
+            Ok(file) => Ok(Reader::File(file)),
+            Err(error) if error.kind() == ErrorKind::OutOfMemory => Err(SourceFault::Memory),
+            Err(_) => Err(SourceFault::Read),
+        }
+    }
+
     fn bytes(&mut self, alloc: Global, path: &str) -> Result<Vec<u8>, SourceFault> {
         let read = if path == "-" {
             read_input(self.rt, alloc)

@@ -9,6 +9,7 @@ mod fault;
 mod files;
 mod inputs;
 mod lines;
+mod reader;
 mod source;
 
 pub use command_line::{answer, words};
@@ -16,5 +17,6 @@ pub use fault::CommandFault;
 pub use files::{read, write};
 pub use inputs::Inputs;
 pub use lines::write_line;
+pub use reader::Reader;
 pub use rw_output::{Out, SimFault};
 pub use source::{Source, SourceFault};

@@ -1,7 +1,14 @@
 use std::alloc::Global;
+use std::io::Read;
 
 /// Where the bytes of a trace come from.
 pub trait Source {
+    /// What gives the bytes at a path one after another.
+    type Reader: Read + Drop;
+
+    /// A reader of the bytes at a path, or of standard input where the path is `-`.
+    fn open(&mut self, path: &str) -> Result<Self::Reader, SourceFault>;
+
     /// All bytes at a path, or of standard input where the path is `-`.
     fn bytes(&mut self, alloc: Global, path: &str) -> Result<Vec<u8>, SourceFault>;
 }

@@ -11,7 +11,7 @@ use Rattle.rw_trace.specs.Trace.{trace_of}
 use Rattle.rw_trace.specs.Unread.{records_of}
 use Rattle.rw_trace.specs.Words.{Fields, Text}
 use Rattle.rw_trace.specs.declared.Row.{Row}
-use Rattle.rw_import.specs.Csv.{◌>>=◌, IsCsvFault, beside, columns_found, csv_rows, csv_said, csv_told, different, edges_named, edges_of, entry_of, field_in, has_header, is_same_text, log_records, number_among, objects_in, place_if, place_in, places_in, places_under, record_said, record_told, rows_under, said_at, time_column, with_text}
+use Rattle.rw_import.specs.Csv.{IsCsvFault, beside, columns_found, csv_rows, csv_said, csv_told, different, edges_named, edges_of, entry_of, field_in, has_header, is_same_text, log_records, number_among, objects_in, places_in, places_under, record_said, record_told, rows_under, said_at, time_column, with_text}
 use Rattle.rw_import.specs.Log.{IsRowsFault, Said, Saying, first_time, in_time, kept_in, rows_for, ticks_from, told_apart}
 use Rattle.rw_import.specs.Sheet.{AddsRow, AreCountsOf, IsKeepable, IsSheetOf, IsTextSheet, IsTimely, RefusesRow, entry_in_time, no_counts_yet, with_kept, numbered_by}
 use Rattle.rw_import.specs.Written.{WritesTrace}
@@ -20,12 +20,12 @@ use Rattle.rw_import.specs.declared.entry.LeftOut.{LeftOut}
 use Rattle.rw_import.specs.declared.fault.Flaw.{Flaw}
 use Rattle.rw_import.specs.declared.fault.ImportFault.{ImportFault}
 use Rattle.rw_import.specs.declared.fault.ImportFault.TheVariants as fault
-use Rattle.rw_import.specs.declared.fault.Part.TheVariants as part
 use Rattle.rw_import.specs.declared.layout.Column.{Column}
 use Rattle.rw_import.specs.declared.layout.Layout.{Layout}
 use Rattle.rw_import.specs.declared.layout.Places.{Places}
 use Rattle.rw_import.specs.declared.options.Options.{Options}
 use Rattle.rw_import.specs.declared.sheet.Sheet.{Sheet}
+use Rattle.rw_import.proofs.Columns.{edge-found}
 use Rattle.rw_import.proofs.Sheets.{row-refused, sheet-more, sheet-none}
 use Rattle.rw_import.proofs.Texts.{different-push, number-new, numbers-stay}
 
@@ -69,7 +69,7 @@ told-beside p edges ticks least fields judged e =
     in-time-beside ticks least p.time (field_in fields p.object) (entry_of p edges fields) ∙ ap (λ (r : Result Entry Flaw). beside (field_in fields p.object) r) (sym e)
 
 -- other numbers of the same objects make the same rows where they agree
-rows-renumber : {O : Type 0} (o : Options) (least : ℕ) (f g : O → ℕ) (place : ℕ) (ss : List (Said O)) → All (λ x. f x ≡ g x) (map (λ s. s.1) ss) → rows_for o least f place ss ≡ rows_for o least g place ss
+pub rows-renumber : {O : Type 0} (o : Options) (least : ℕ) (f g : O → ℕ) (place : ℕ) (ss : List (Said O)) → All (λ x. f x ≡ g x) (map (λ s. s.1) ss) → rows_for o least f place ss ≡ rows_for o least g place ss
 unfolding rows_for
 rows-renumber o least f g place [] h = refl
 rows-renumber o least f g place (s ∷ ss) h =
@@ -108,11 +108,11 @@ so-far-none p edges o least before texts sheet none rows counts = record {
 }
 
 -- the objects with one more row that is kept, or left out
-objects-kept : (done : List (Saying Text)) (e : Entry) (t : Text) → objects_in (done ++ Ok (e, t) ∷ []) ≡ objects_in done ++ t ∷ []
+pub objects-kept : (done : List (Saying Text)) (e : Entry) (t : Text) → objects_in (done ++ Ok (e, t) ∷ []) ≡ objects_in done ++ t ∷ []
 objects-kept done e t =
     ap (λ (ss : List (Said Text)). map (λ s. s.1) ss) (filter_map-append result_ok done (Ok (e, t) ∷ [])) ∙ map-append (λ (s : Said Text). s.1) (kept_in done) ((e, t) ∷ [])
 
-objects-left : (done : List (Saying Text)) (f : Flaw) → objects_in (done ++ Err f ∷ []) ≡ objects_in done
+pub objects-left : (done : List (Saying Text)) (f : Flaw) → objects_in (done ++ Err f ∷ []) ≡ objects_in done
 objects-left done f =
     ap (λ (ss : List (Said Text)). map (λ s. s.1) ss) (filter_map-append result_ok done (Err f ∷ []) ∙ append-nil (kept_in done))
 
@@ -234,33 +234,6 @@ pub told-whole : (l : Layout) (o : Options) (bytes : Text) (p : Places) (ahead :
     → least ≡ first_time (csv_said l o bytes) → map (record_told p edges o.ticks least) ahead ≡ csv_told l o bytes
 told-whole l o bytes p ahead edges least is rows all time = told-of l o bytes p ahead edges least (columns_found l (log_records l bytes)) is rows all time
 
--- a step that came out had a value before it
-bind-ok : {A B E : Type 0} (r : Result A E) (f : A → Result B E) (y : B) → (r >>= f) ≡ Ok y → (x : A) × (r ≡ Ok x) × (f x ≡ Ok y)
-bind-ok (Ok x) f y e = (x, refl, e)
-bind-ok (Err e) f y h = absurd (cc)
-
--- a column of edges that was asked for has a place
-edge-asked : (header : Fields) (column : Option Column) → place_if header part.Edge column ≡ Ok None → column ≡ None
-edge-asked header None e = refl
-edge-asked header (Some column) e =
-    let (n, _, both) = bind-ok (place_in header part.Edge column) (λ n. Ok (Some n)) None e in
-    absurd (cc both)
-
-edge-found : (header : Fields) (l : Layout) (p : Places) → places_in header l ≡ Ok p → p.edge ≡ None → l.edge ≡ None
-unfolding places_in
-edge-found header l p e none =
-    let (time, _, e1) = bind-ok (place_in header part.Time l.time) _ p e in
-    let (edge, is, e2) = bind-ok (place_if header part.Edge l.edge) _ p e1 in
-    let (object, _, e3) = bind-ok (place_in header part.Object l.object) _ p e2 in
-    let (size, _, e4) = bind-ok (place_in header part.Size l.size) _ p e3 in
-    let (kind, _, e5) = bind-ok (place_if header part.Kind l.kind) _ p e4 in
-    let same : edge ≡ p.edge = ap edge_of_result e5 in
-    edge-asked header l.edge (is ∙ ap (λ (x : Option ℕ). Ok x) (same ∙ none))
-  where
-    edge_of_result : Result Places ImportFault → Option ℕ
-    edge_of_result (Ok q) = q.edge
-    edge_of_result (Err f) = None
-
 pub edges-asked : (l : Layout) (o : Options) (records : List Fields) (p : Places) (edges : ℕ) → columns_found l records ≡ Ok p → edges ≡ edges_of l o → p.edge ≡ None → o.edges ≡ edges
 unfolding columns_found
 edges-asked l o records p edges is all none = by (has_header l) refl records is
@@ -280,13 +253,13 @@ rows-numbers o least number place [] = refl
 rows-numbers o least number place (s ∷ ss) = ap (λ (t : List ℕ). number s.1 ∷ t) (rows-numbers o least number (place + 1) ss)
 
 -- a log has no more edges than there may be
-edges-few : (column : Option Column) (edges : ℕ) → edges ≤ 256 → edges_named column edges ≤ 256
+pub edges-few : (column : Option Column) (edges : ℕ) → edges ≤ 256 → edges_named column edges ≤ 256
 edges-few None edges few = few
 edges-few (Some column) edges few = omega arith
 
 -- the text of what is collected is a trace of the log's rows
 pub csv-trace : (l : Layout) (o : Options) (bytes text : Text) (sheet : Sheet) (edges : ℕ) → edges ≡ edges_of l o → 1 ≤ o.edges → o.edges ≤ 256
-    → IsTextSheet edges o (first_time (csv_said l o bytes)) (csv_told l o bytes) sheet → WritesTrace text sheet.rows.items → trace_of (edges_of l o) most_rows (records_of text) ≡ Ok (csv_rows l o bytes)
+    → IsTextSheet edges o (first_time (csv_said l o bytes)) (csv_told l o bytes) sheet → WritesTrace most_rows text sheet.rows.items → trace_of (edges_of l o) most_rows (records_of text) ≡ Ok (csv_rows l o bytes)
 csv-trace l o bytes text sheet edges all some few k w =
     let small : edges ≤ 256 = subst (λ (n : ℕ). n ≤ 256) (sym all) (edges-few l.edge o.edges few) in
     subst (λ (n : ℕ). trace_of n most_rows (records_of text) ≡ Ok (csv_rows l o bytes)) all

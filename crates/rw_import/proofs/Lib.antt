@@ -1,5 +1,15 @@
 pub mod Collecting
+pub mod Columns
+pub mod CsvStreams
+pub mod CsvWritten
 pub mod Digits
+pub mod InMemory
+pub mod OracleOrder
+pub mod OracleStreams
+pub mod OracleWritten
+pub mod Pieces
 pub mod Reread
 pub mod Sheets
+pub mod Streams
 pub mod Texts
+pub mod Written

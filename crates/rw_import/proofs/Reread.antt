@@ -1,6 +1,6 @@
 -- What the lines of a trace are read as.
-use Rattle.std.proofs.Common.{◌≡◌, ◌≤◌, ◌<◌, ◌+◌, ◌^◌, ℕ, List, [], ◌∷◌, ◌++◌, length, map, Bool, true, false, Some, Ok, refl, arith, ◌∙◌, ap, append_assoc, nat_lt, nat_le, sym, take}
-use Rattle.std.specs.Prelude.{◌==◌, All, slice_index_or}
+use Rattle.std.proofs.Common.{◌≡◌, ◌≤◌, ◌<◌, ◌+◌, ◌^◌, ℕ, List, [], ◌∷◌, ◌++◌, length, map, Bool, true, false, Some, Ok, refl, arith, ◌∙◌, ap, append_assoc, nat_lt, nat_le, subst, sym, take}
+use Rattle.std.specs.Prelude.{◌==◌, All, Err, None, Option, codes, if◌then◌else◌, slice_index_or}
 use Rattle.std.specs.Fmt.{decimal}
 use Rattle.std.specs.List.{flat_map, list_any}
 use Rattle.std.proofs.lemmas.List.{flat_map_more, take_more}
@@ -13,19 +13,21 @@ use Rattle.csv.specs.Reading.{default_config, strip_bom}
 use Rattle.csv.specs.Records.{field_at}
 use Rattle.csv.specs.Writing.{default_writer, escaped, fields_text, is_blank, row_text}
 use Rattle.csv.specs.declared.parser.State.TheVariants as st
-use Rattle.csv.proofs.RoundTrip.{read-write-many}
+use Rattle.csv.proofs.RoundTrip.{read-write-many, read-write-one}
 use Rattle.rw_trace.specs.Laws.{IsRow}
-use Rattle.rw_trace.specs.Limits.{greatest_size, latest_time, most_rows}
-use Rattle.rw_trace.specs.Trace.{◌>>=◌, column_of, is_header, is_text_at, kind_at, number_of, or_fault, row_of, rows_of, trace_of, version_of, word_of}
+use Rattle.rw_trace.specs.Limits.{greatest_size, latest_time}
+use Rattle.rw_trace.specs.Trace.{◌>>=◌, column_of, is_header, is_text_at, kind_at, number_of, or_fault, row_before, row_of, rows_of, trace_of, version_of, word_of}
 use Rattle.rw_trace.specs.Unread.{records_of}
-use Rattle.rw_trace.specs.Words.{Fields, Text}
+use Rattle.rw_trace.specs.Words.{Fields, OrFault, Text}
 use Rattle.rw_trace.specs.declared.Kind.{Kind}
 use Rattle.rw_trace.specs.declared.Kind.TheVariants.{Get, Purge}
 use Rattle.rw_trace.specs.declared.Row.{Row}
 use Rattle.rw_trace.specs.declared.TraceFault.TheVariants as fault
 use Rattle.rw_trace.specs.Unread.{records_left}
+use Rattle.rw_trace.specs.declared.Version.{Version}
+use Rattle.rw_trace.specs.declared.Version.TheVariants.{First, Second}
 use Rattle.rw_import.specs.Lines.{trace_header, row_line, trace_lines}
-use Rattle.rw_import.specs.Written.{WritesTrace, BeginsWithHeader, has_purge, header_fields, is_purging}
+use Rattle.rw_import.specs.Written.{WritesTrace, BeginsWithHeader, NamesPurges, has_purge, header_fields, is_purging}
 use Rattle.rw_import.proofs.Digits.{decimal-digits, number-decimal}
 use Rattle.rw_trace.proofs.Records.{left-more, left-none}
 
@@ -155,43 +157,110 @@ row-back edges n t e o s k kinds small h get = by k kinds get
     by Get true need = rw (rt, early, re, known, ro, rs, some, few) refl
     by Purge true need = rw (rt, early, re, known, ro, rs, some, few) refl
 
--- where a row is a purge, the lines name the kinds
-abbrev NamesPurges : Bool → List Row → Type 0
-NamesPurges kinds rows = All (λ r. is_purging r.kind ≡ true → kinds ≡ true) rows
-
 -- the rows are read back under the header
-rows-back : (edges n : ℕ) (kinds : Bool) (rows : List Row) → edges < 2 ^ 32 → All (IsRow edges) rows → NamesPurges kinds rows → n + length rows ≤ most_rows
-    → (or_fault fault.Header (version_of (header_fields kinds)) >>= (λ version. rows_of version edges most_rows n (map (row_fields kinds) rows))) ≡ Ok rows
+rows-back : (edges most n : ℕ) (kinds : Bool) (rows : List Row) → edges < 2 ^ 32 → All (IsRow edges) rows → NamesPurges kinds rows → n + length rows ≤ most
+    → (or_fault fault.Header (version_of (header_fields kinds)) >>= (λ version. rows_of version edges most n (map (row_fields kinds) rows))) ≡ Ok rows
 unfolding version_of is_header is_text_at rows_of field_at
-rows-back edges n false [] small h names few = refl
-rows-back edges n true [] small h names few = refl
-rows-back edges n false (r ∷ rs) small h names few =
-    let other : (n == most_rows) ≡ false = grind (arith, common_steps) in
+rows-back edges most n false [] small h names few = refl
+rows-back edges most n true [] small h names few = refl
+rows-back edges most n false (r ∷ rs) small h names few =
+    let other : (n == most) ≡ false = grind (arith, common_steps) in
     let first = row-back edges n r.time r.edge r.object r.size r.kind false small (All-head (IsRow edges) r rs h) (All-head (λ x. is_purging x.kind ≡ true → false ≡ true) r rs names) in
-    let more = rows-back edges (n + 1) false rs small (All-tail (IsRow edges) r rs h) (All-tail (λ x. is_purging x.kind ≡ true → false ≡ true) r rs names) (omega arith) in
+    let more = rows-back edges most (n + 1) false rs small (All-tail (IsRow edges) r rs h) (All-tail (λ x. is_purging x.kind ≡ true → false ≡ true) r rs names) (omega arith) in
     rw (other, first, more) refl
-rows-back edges n true (r ∷ rs) small h names few =
-    let other : (n == most_rows) ≡ false = grind (arith, common_steps) in
+rows-back edges most n true (r ∷ rs) small h names few =
+    let other : (n == most) ≡ false = grind (arith, common_steps) in
     let first = row-back edges n r.time r.edge r.object r.size r.kind true small (All-head (IsRow edges) r rs h) (All-head (λ x. is_purging x.kind ≡ true → true ≡ true) r rs names) in
-    let more = rows-back edges (n + 1) true rs small (All-tail (IsRow edges) r rs h) (All-tail (λ x. is_purging x.kind ≡ true → true ≡ true) r rs names) (omega arith) in
+    let more = rows-back edges most (n + 1) true rs small (All-tail (IsRow edges) r rs h) (All-tail (λ x. is_purging x.kind ≡ true → true ≡ true) r rs names) (omega arith) in
     rw (other, first, more) refl
 
 -- where no row is a purge, none needs its kind named
-purges-named : (rows : List Row) → NamesPurges (has_purge rows) rows
+pub purges-named : (rows : List Row) → NamesPurges (has_purge rows) rows
 purges-named rows k d below purge = list_any_at (λ r. is_purging r.kind) rows k d below purge
 
 -- the lines of some rows are a trace of them
-pub lines-trace : (rows : List Row) (text : List ℕ) → text ≡ trace_lines (has_purge rows) rows → WritesTrace text rows
+pub lines-trace : (most : ℕ) (kinds : Bool) (rows : List Row) (text : List ℕ) → text ≡ trace_lines kinds rows → NamesPurges kinds rows → WritesTrace most text rows
 unfolding trace_of
-lines-trace rows text same edges small h few =
-    let kinds = has_purge rows in
+lines-trace most kinds rows text same names edges small h few =
     let recs : records_of text ≡ header_fields kinds ∷ map (row_fields kinds) rows =
     rw (same, records-first kinds rows) (ap (λ (t : List Fields). header_fields kinds ∷ t) (lines-read kinds rows (All-weaker (IsRow edges) Fits64 (λ r i. fits-row edges r small i) rows h))) in
-    rw recs (rows-back edges 0 kinds rows small h (purges-named rows) (omega arith))
+    rw recs (rows-back edges most 0 kinds rows small h names (omega arith))
 
 -- and begin with the header
-pub lines-header : (rows : List Row) (text : List ℕ) → text ≡ trace_lines (has_purge rows) rows → BeginsWithHeader (has_purge rows) text
-lines-header rows text same = (records_left default_config st.StartRecord (Some (flat_map (row_line (has_purge rows)) rows)), rw same (records-first (has_purge rows) rows))
+pub lines-header : (kinds : Bool) (rows : List Row) (text : List ℕ) → text ≡ trace_lines kinds rows → BeginsWithHeader kinds text
+lines-header kinds rows text same = (records_left default_config st.StartRecord (Some (flat_map (row_line kinds) rows)), rw same (records-first kinds rows))
+
+-- ---- a text that is cut off
+-- the line of a fault is a record of one field
+fault-text : codes "fault\n" ≡ row_text default_writer (codes "fault" ∷ [])
+unfolding fields_text is_blank escaped
+fault-text = refl
+
+fault-line : (tail : List ℕ) → next_record default_config st.StartRecord [] [] (codes "fault\n" ++ tail) ≡ Some (codes "fault" ∷ [], st.StartRecord, tail)
+fault-line tail =
+    let written : next_record default_config st.StartRecord [] [] (row_text default_writer (codes "fault" ∷ []) ++ tail) ≡ Some (codes "fault" ∷ [], st.StartRecord, tail) = read-write-one (codes "fault") tail in
+    subst (λ (t : List ℕ). next_record default_config st.StartRecord [] [] (t ++ tail) ≡ Some (codes "fault" ∷ [], st.StartRecord, tail)) (sym fault-text) written
+
+fault-read : records_left default_config st.StartRecord (Some (codes "fault\n")) ≡ (codes "fault" ∷ []) ∷ []
+fault-read =
+    left-more default_config st.StartRecord (codes "fault\n") _ (fault-line [])
+    ∙ ap (λ (t : List Fields). (codes "fault" ∷ []) ∷ t) none-left
+
+lines-before : (kinds : Bool) (rows : List Row) (tail : List ℕ) → All Fits64 rows
+    → records_left default_config st.StartRecord (Some (flat_map (row_line kinds) rows ++ tail)) ≡ map (row_fields kinds) rows ++ records_left default_config st.StartRecord (Some tail)
+lines-before kinds [] tail h = refl
+lines-before kinds (r ∷ rs) tail h =
+    ap (λ (t : List ℕ). records_left default_config st.StartRecord (Some t)) (append_assoc (row_line kinds r) (flat_map (row_line kinds) rs) tail)
+    ∙ left-more default_config st.StartRecord _ _ (line-read kinds r (flat_map (row_line kinds) rs ++ tail) (All-head Fits64 r rs h))
+    ∙ ap (λ (t : List Fields). row_fields kinds r ∷ t) (lines-before kinds rs tail (All-tail Fits64 r rs h))
+
+-- records of which the last is that of a fault are none of rows
+never : (version : Version) (edges most n : ℕ) (fs : List Fields) (rows : List Row) → rows_of version edges most n (fs ++ (codes "fault" ∷ []) ∷ []) ≡ Ok rows → ⊥
+unfolding rows_of row_of
+never version edges most n [] rows e = by (n == most) version refl e
+  where
+    by : (full : Bool) (v : Version) → (n == most) ≡ full
+        → (if n == most then Err fault.TooManyRows else (row_of v edges n (codes "fault" ∷ []) >>= (λ row. row_before row (rows_of v edges most (n + 1) [])))) ≡ Ok rows → ⊥
+    by true v is k = let no = rw is at k in cc no
+    by false First is k = let no = rw is at k in cc no
+    by false Second is k = let no = rw is at k in cc no
+never version edges most n (f ∷ fs) rows e = by (n == most) (row_of version edges n f) refl refl e (λ rs k. never version edges most (n + 1) fs rs k)
+  where
+    behind : (row : Row) (o : OrFault (List Row)) → row_before row o ≡ Ok rows → (rs : List Row) × (o ≡ Ok rs)
+    behind row (Ok rs) k = (rs, refl)
+    behind row (Err x) k = absurd (cc)
+
+    by : (full : Bool) (one : OrFault Row) → (n == most) ≡ full → row_of version edges n f ≡ one
+        → (if n == most then Err fault.TooManyRows else (row_of version edges n f >>= (λ row. row_before row (rows_of version edges most (n + 1) (fs ++ (codes "fault" ∷ []) ∷ []))))) ≡ Ok rows
+        → ((rs : List Row) → rows_of version edges most (n + 1) (fs ++ (codes "fault" ∷ []) ∷ []) ≡ Ok rs → ⊥) → ⊥
+    by true one is row k more = let no = rw is at k in cc no
+    by false (Err x) is row k more = let no = rw (is, row) at k in cc no
+    by false (Ok r) is row k more = let rest = behind r (rows_of version edges most (n + 1) (fs ++ (codes "fault" ∷ []) ∷ [])) (rw (is, row) at k) in more rest.0 rest.1
+
+-- lines of rows and that of a fault are no trace
+pub cut-no-trace : (kinds : Bool) (sent : List Row) (edges : ℕ) → edges < 2 ^ 32 → All (IsRow edges) sent
+    → (others most : ℕ) (rows : List Row) → trace_of others most (records_of (trace_lines kinds sent ++ codes "fault\n")) ≡ Ok rows → ⊥
+unfolding trace_of
+cut-no-trace kinds sent edges small fine others most rows e =
+    let flat = flat_map (row_line kinds) sent in
+    let fits = All-weaker (IsRow edges) Fits64 (λ r i. fits-row edges r small i) sent fine in
+    let text : trace_lines kinds sent ++ codes "fault\n" ≡ trace_header kinds ++ (flat ++ codes "fault\n") = append_assoc (trace_header kinds) flat (codes "fault\n") in
+    let first : records_of (trace_header kinds ++ (flat ++ codes "fault\n")) ≡ header_fields kinds ∷ records_left default_config st.StartRecord (Some (flat ++ codes "fault\n")) =
+    rw (no-mark kinds (flat ++ codes "fault\n")) (left-more default_config st.StartRecord _ _ (header-read kinds (flat ++ codes "fault\n"))) in
+    let body : records_left default_config st.StartRecord (Some (flat ++ codes "fault\n")) ≡ map (row_fields kinds) sent ++ (codes "fault" ∷ []) ∷ [] =
+    lines-before kinds sent (codes "fault\n") fits ∙ ap (λ (t : List Fields). map (row_fields kinds) sent ++ t) fault-read in
+    let all : records_of (trace_lines kinds sent ++ codes "fault\n") ≡ header_fields kinds ∷ (map (row_fields kinds) sent ++ (codes "fault" ∷ []) ∷ []) =
+    ap records_of text ∙ first ∙ ap (λ (t : List Fields). header_fields kinds ∷ t) body in
+    headed (version_of (header_fields kinds)) (rw all at e)
+  where
+    headed : (o : Option Version) → (or_fault fault.Header o >>= (λ version. rows_of version others most 0 (map (row_fields kinds) sent ++ (codes "fault" ∷ []) ∷ []))) ≡ Ok rows → ⊥
+    headed None k = cc k
+    headed (Some version) k = never version others most 0 (map (row_fields kinds) sent) rows k
+
+-- nor is a text of no bytes
+pub nothing-no-trace : (others most : ℕ) (rows : List Row) → trace_of others most (records_of []) ≡ Ok rows → ⊥
+unfolding trace_of strip_bom
+nothing-no-trace others most rows e = let no = rw none-left at e in cc no
 
 -- the lines with that of one more row
 pub lines-more : (kinds : Bool) (rows : List Row) (i : ℕ) (d : Row) (old new : Text) → i < length rows → old ≡ trace_lines kinds (take i rows) → new ≡ old ++ row_line kinds (slice_index_or rows i d)

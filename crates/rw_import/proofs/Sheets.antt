@@ -45,7 +45,7 @@ count-no : {X : Type 0} (p : X → Bool) (xs : List X) (x : X) → p x ≡ false
 count-no p xs x e = rw (fold_push (λ (a : ℕ) y. a + cond (p y) 1 0) 0 xs x, e) (omega arith)
 
 -- the counts with one more row left out
-left-push : {O : Type 0} (xs : List (Saying O)) (f : Flaw) → left_out_of (xs ++ Err f ∷ []) ≡ counts_with (left_out_of xs) f
+pub left-push : {O : Type 0} (xs : List (Saying O)) (f : Flaw) → left_out_of (xs ++ Err f ∷ []) ≡ counts_with (left_out_of xs) f
 left-push xs Length = rw (count-yes is_cut_off xs (Err Length) refl, count-no (is_flawed_in part.Time) xs (Err Length) refl, count-no (is_flawed_in part.Edge) xs (Err Length) refl, count-no (is_flawed_in part.Object) xs (Err Length) refl, count-no (is_flawed_in part.Size) xs (Err Length) refl, count-no (is_flawed_in part.Kind) xs (Err Length) refl) refl
 left-push xs (Column c part.Time) = let x = Err (Column c part.Time) in rw (count-no is_cut_off xs x refl, count-yes (is_flawed_in part.Time) xs x refl, count-no (is_flawed_in part.Edge) xs x refl, count-no (is_flawed_in part.Object) xs x refl, count-no (is_flawed_in part.Size) xs x refl, count-no (is_flawed_in part.Kind) xs x refl) refl
 left-push xs (Column c part.Edge) = let x = Err (Column c part.Edge) in rw (count-no is_cut_off xs x refl, count-no (is_flawed_in part.Time) xs x refl, count-yes (is_flawed_in part.Edge) xs x refl, count-no (is_flawed_in part.Object) xs x refl, count-no (is_flawed_in part.Size) xs x refl, count-no (is_flawed_in part.Kind) xs x refl) refl
@@ -54,7 +54,7 @@ left-push xs (Column c part.Size) = let x = Err (Column c part.Size) in rw (coun
 left-push xs (Column c part.Kind) = let x = Err (Column c part.Kind) in rw (count-no is_cut_off xs x refl, count-no (is_flawed_in part.Time) xs x refl, count-no (is_flawed_in part.Edge) xs x refl, count-no (is_flawed_in part.Object) xs x refl, count-no (is_flawed_in part.Size) xs x refl, count-yes (is_flawed_in part.Kind) xs x refl) refl
 
 -- the counts with one more row kept
-left-kept : {O : Type 0} (xs : List (Saying O)) (s : Said O) → left_out_of (xs ++ Ok s ∷ []) ≡ left_out_of xs
+pub left-kept : {O : Type 0} (xs : List (Saying O)) (s : Said O) → left_out_of (xs ++ Ok s ∷ []) ≡ left_out_of xs
 left-kept xs s = rw (count-no is_cut_off xs (Ok s) refl, count-no (is_flawed_in part.Time) xs (Ok s) refl, count-no (is_flawed_in part.Edge) xs (Ok s) refl, count-no (is_flawed_in part.Object) xs (Ok s) refl, count-no (is_flawed_in part.Size) xs (Ok s) refl, count-no (is_flawed_in part.Kind) xs (Ok s) refl) refl
 
 -- an edge that is dealt is one of those there are
@@ -71,7 +71,7 @@ edge-below edges o place object (Some e) some h = h
 edge-below edges o place object None some h = let below = dealt-below o.dealing o.edges place object some in omega arith
 
 -- a row that can be kept is in the ranges of a trace
-row-fine : (edges : ℕ) (o : Options) (least place : ℕ) (s : Said ℕ) → 1 ≤ o.edges → IsKeepable edges o least (Ok s) → IsRow edges (row_for o least place s.1 s.0)
+pub row-fine : (edges : ℕ) (o : Options) (least place : ℕ) (s : Said ℕ) → 1 ≤ o.edges → IsKeepable edges o least (Ok s) → IsRow edges (row_for o least place s.1 s.0)
 row-fine edges o least place s some h = record {
   time = h.5;
   edge = edge-below edges o place s.1 s.0.edge some h.0;
@@ -195,7 +195,7 @@ sheet-whole edges o bytes least sheet h k =
 
 -- its text is a trace of the log's rows
 pub sheet-trace : (o : Options) (bytes text : List ℕ) (sheet : Sheet) → 1 ≤ o.edges → o.edges ≤ 256 → IsSheetOf itself o.edges o (first_time (oracle_said bytes)) (oracle_told o bytes) sheet
-    → WritesTrace text sheet.rows.items → trace_of o.edges most_rows (records_of text) ≡ Ok (oracle_rows o bytes)
+    → WritesTrace most_rows text sheet.rows.items → trace_of o.edges most_rows (records_of text) ≡ Ok (oracle_rows o bytes)
 sheet-trace o bytes text sheet some few k w =
     w o.edges (omega arith) (k.ranges some) (omega (arith, k.count, k.few)) ∙ ap (λ (rs : List Row). Ok rs) k.rows
 

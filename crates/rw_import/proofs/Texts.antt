@@ -162,6 +162,17 @@ insert-items v vs = by (list_any (λ u. is_same_text v.items u.items) vs) refl
 
 pub ruleset item_rules = (place-items, insert-items)
 
+-- a text that is found in a set has its place there, and is no new one
+pub known-number : (t : Text) (vs : List (Vec ℕ)) (n : ℕ) → position (λ v. is_same_text t v.items) vs ≡ Some n → n ≡ position_or_len (is_same_text t) (map (λ v. v.items) vs)
+known-number t vs n e = by (nat_lt (position_or_len (λ v. is_same_text t v.items) vs) (length vs)) refl
+  where
+    by : (b : Bool) → nat_lt (position_or_len (λ v. is_same_text t v.items) vs) (length vs) ≡ b → n ≡ position_or_len (is_same_text t) (map (λ v. v.items) vs)
+    by true k = let same : position_or_len (λ v. is_same_text t v.items) vs ≡ n = cc (rw k at e) in sym same ∙ place-items t vs
+    by false k = let no = rw k at e in absurd (cc no)
+
+pub known-texts : (t : Text) (vs : List (Vec ℕ)) → list_any (λ v. is_same_text t v.items) vs ≡ true → map (λ v. v.items) vs ≡ with_text (map (λ v. v.items) vs) t
+known-texts t vs e = let found : list_any (is_same_text t) (map (λ v. v.items) vs) ≡ true = sym (any-items t vs) ∙ e in rw found refl
+
 -- ---- the fields of a record
 -- what is read at a place is the text that stands there
 pub field-stands : (fields : List Text) (n : ℕ) → field_in fields n ≡ slice_index_or fields n []

@@ -4,6 +4,11 @@ pub mod Written
 pub mod Log
 pub mod Oracle
 pub mod Csv
+pub mod Streamed
+pub mod OracleRows
 -- what private contracts say
 pub mod Lines
 pub mod Sheet
+pub mod Stream
+pub mod CsvStream
+pub mod OracleStream

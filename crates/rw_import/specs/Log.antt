@@ -177,3 +177,6 @@ IsRowsFault o said (fault.Row n c p) = IsFirstLeftOut o said (fault.Row n c p)
 IsRowsFault o said fault.Header = ⊥
 IsRowsFault o said (fault.NoColumn p) = ⊥
 IsRowsFault o said fault.Memory = ⊥
+IsRowsFault o said (fault.Order n) = ⊥
+IsRowsFault o said fault.Read = ⊥
+IsRowsFault o said fault.Output = ⊥

@@ -1,8 +1,8 @@
 -- What a text of rows is, in the words of `rw_trace`.
-use Rattle.std.specs.Prelude.{◌≡◌, ◌≤◌, ◌<◌, ◌^◌, ℕ, List, [], ◌∷◌, Bool, true, false, All, Ok, codes, length}
+use Rattle.std.specs.Prelude.{◌≡◌, ◌≤◌, ◌<◌, ◌^◌, List, [], ◌∷◌, Bool, true, false, All, Ok, codes, length}
 use Rattle.std.specs.List.{list_any}
 use Rattle.rw_trace.specs.Laws.{IsRow}
-use Rattle.rw_trace.specs.Limits.{most_rows}
+use Rattle.rw_numbers.specs.Words.{Count}
 use Rattle.rw_trace.specs.Trace.{trace_of}
 use Rattle.rw_trace.specs.Unread.{records_of}
 use Rattle.rw_trace.specs.Words.{Fields, Text}
@@ -25,13 +25,17 @@ header_fields false = codes "time" ∷ codes "edge" ∷ codes "object" ∷ codes
 header_fields true =
     codes "time" ∷ codes "edge" ∷ codes "object" ∷ codes "size" ∷ codes "kind" ∷ []
 
+-- where a row is a purge, the lines name the kinds
+abbrev pub NamesPurges : Bool → List Row → Type 0
+NamesPurges kinds rows = All (λ r. is_purging r.kind ≡ true → kinds ≡ true) rows
+
 -- a text begins with the header whose rows name their kinds, or do not
 abbrev pub BeginsWithHeader : Bool → Text → Type 0
 BeginsWithHeader kinds text =
     (body : List Fields) × (records_of text ≡ header_fields kinds ∷ body)
 
--- for any number of edges, a text is a trace of these rows where they are in the ranges of a trace
-abbrev pub WritesTrace : Text → List Row → Type 0
-WritesTrace text rows =
-    (edges : ℕ) → edges < 2 ^ 32 → All (IsRow edges) rows → length rows ≤ most_rows
-    → trace_of edges most_rows (records_of text) ≡ Ok rows
+-- for any number of edges, a text is a trace of these rows where they are in the ranges of a trace, and at most so many
+abbrev pub WritesTrace : Count → Text → List Row → Type 0
+WritesTrace most text rows =
+    (edges : Count) → edges < 2 ^ 32 → All (IsRow edges) rows → length rows ≤ most
+    → trace_of edges most (records_of text) ≡ Ok rows

@@ -1,18 +1,21 @@
 //! Logs of fields: CSV, with any byte between the fields.
 
-ghost use Rattle.std.specs.Prelude.{◌≡◌, ◌≢◌, ◌+◌, ◌<◌, ◌^◌, ◌==◌, [], ◌∷◌, true, Ok, Err, None, IfOk, IfErr, MatchBool, OnOk, map, length};
+ghost use Rattle.std.specs.Prelude.{◌≡◌, ◌≢◌, ◌⊎◌, ◌+◌, ◌<◌, ◌^◌, ◌==◌, [], Ok, Err, None, IfOk, IfErr, IfSome, MatchBool, OnOk, map, length, option_map};
 ghost use Rattle.std.specs.List.{position, position_or_len};
 ghost use Rattle.csv.specs.Records.{fields_of};
 ghost use Rattle.rw_numbers.specs.Words.{Object};
 ghost use Rattle.rw_trace.specs.Limits.{most_rows};
 ghost use Rattle.rw_trace.specs.Trace.{trace_of};
+ghost use Rattle.rw_trace.specs.Pieces.{Gives, GivesNone, MayRead, records_ahead};
 ghost use Rattle.rw_trace.specs.Unread.{Steady, records_of, unread};
-ghost use Rattle.rw_trace.specs.Words.{Text};
+ghost use Rattle.rw_trace.specs.Words.{Fields, Text};
 ghost use Rattle.rw_import.specs.Csv.{HaveOneNumberEach, IsCsvFault, beside, columns_found, csv_rows, csv_said, csv_told, edges_of, entry_of, has_header, is_named, is_named_if, is_same_text, log_records, objects_in, place_if, place_in, places_in, record_said, record_told, rows_under, with_text};
+ghost use Rattle.rw_import.specs.CsvStream.{FindsColumns};
+ghost use Rattle.rw_import.specs.Streamed.{IsOfLog};
 ghost use Rattle.rw_import.specs.Log.{IsRowsFault, IsStrictlyKept, earlier, first_time, kept_in, left_out_of};
 ghost use Rattle.rw_import.specs.Sheet.{AddsRow, AreCountsOf, IsKeepable, IsTextSheet, IsTimely, RefusesRow, entry_in_time, texts_in, with_kept};
 ghost use Rattle.rw_import.specs.Written.{BeginsWithHeader, has_purge};
-ghost use Rattle.rw_import.specs.declared.fault.ImportFault.TheVariants.{Memory};
+ghost use Rattle.rw_import.specs.declared.fault.ImportFault.TheVariants.{Memory, Output};
 
 use crate::csv_row::{field_of, read_fields};
 use crate::entry::{Entry, Imported};
@@ -25,8 +28,9 @@ use crate::sheet::{Sheet, add, blank_sheet, ticks_since};
 use csv::{ByteRecord, Reader, ReaderBuilder};
 use indexmap::IndexSet;
 use rw_progress::Progress;
-use rw_trace::{MAX_TIME, next_record};
+use rw_trace::{MAX_TIME, RowsFault, next_record, read_record};
 use std::alloc::Global;
+use std::io::Read;
 
 /// Whether a column is given by its name.
 fn is_named(column: &Column) -> bool
@@ -115,10 +119,10 @@ fn places_of(header: &ByteRecord, layout: &Layout) -> Result<Places, ImportFault
 }
 
 /// A reader of the records of a log.
-#[tactic(auto, unfolding(rw_trace::specs::Unread::unread))]
-fn open<'a>(alloc: Global, bytes: &'a [u8], layout: &Layout) -> Reader<&'a [u8]>
-    ensures steady { Steady result }
-    ensures all { unread result ≡ log_records layout.now bytes.now }
+pub fn open<R: Read>(alloc: Global, bytes: R, layout: &Layout) -> Reader<R>
+    ensures may { MayRead result }
+    ensures all { records_ahead R.remaining result
+        ≡ option_map (log_records layout.now) (R.remaining bytes) }
 {
     ReaderBuilder::new()
         .has_headers(false)
@@ -127,9 +131,55 @@ fn open<'a>(alloc: Global, bytes: &'a [u8], layout: &Layout) -> Reader<&'a [u8]>
         .from_reader(alloc, bytes)
 }
 
+/// Reads the next record into `fields`, and answers whether there was one.
+pub fn next_fields<R: Read>(
+    reader: &mut Reader<R>,
+    fields: &mut ByteRecord,
+) -> Result<bool, ImportFault>
+    requires { MayRead reader.old }
+    ensures may { MayRead reader.new }
+    ensures gives { IfOk result (λ found. MatchBool found
+        (Gives (records_ahead R.remaining reader.old) (fields_of fields.new)
+        (records_ahead R.remaining reader.new))
+        (GivesNone (records_ahead R.remaining reader.old))) }
+    ensures refused { IfErr result (λ e. (e ≡ ImportFault.Read) ⊎ (e ≡ Memory)) }
+{
+    match read_record(reader, fields) {
+        Ok(found) => Ok(found),
+        Err(RowsFault::Read) => Err(ImportFault::Read),
+        Err(_) => Err(ImportFault::Memory),
+    }
+}
+
 /// Where the columns stand, behind the header if there is one.
 #[tactic(auto, unfolding(crate::specs::Csv::columns_found, crate::specs::Csv::rows_under))]
-fn start(
+pub fn start<R: Read>(
+    reader: &mut Reader<R>,
+    fields: &mut ByteRecord,
+    layout: &Layout,
+) -> Result<Places, ImportFault>
+    requires may { MayRead reader.old }
+    requires blank { fields_of fields.old ≡ [] }
+    ensures may { MayRead reader.new }
+    ensures found { IfOk result (λ p. FindsColumns layout.now
+        (records_ahead R.remaining reader.old) p (records_ahead R.remaining reader.new)) }
+    ensures header { IfOk result (λ p.
+        (header : Fields) × (places_in header layout.now ≡ Ok p)) }
+    ensures fault { IfErr result (λ e. IsOfLog e
+        → IfSome (records_ahead R.remaining reader.old) (λ records.
+        columns_found layout.now records ≡ Err e)) }
+    ensures output { IfErr result (λ e. e ≢ Output) }
+{
+    if has_header(layout) {
+        if !next_fields(reader, fields)? {
+            return Err(ImportFault::Header);
+        }
+    }
+    places_of(fields, layout)
+}
+
+/// The same of a log in memory, which can always be read, so that nothing but memory can be wanting.
+fn start_in_memory(
     reader: &mut Reader<&[u8]>,
     fields: &mut ByteRecord,
     layout: &Layout,
@@ -142,12 +192,21 @@ fn start(
     ensures fault { IfErr result (λ e.
         e ≢ Memory → columns_found layout.now (unread reader.old) ≡ Err e) }
 {
-    if has_header(layout) {
-        if !next_record(reader, fields)? {
-            return Err(ImportFault::Header);
-        }
+    match start(reader, fields, layout) {
+        Ok(places) => Ok(places),
+        Err(fault) => Err(in_memory(fault)),
     }
-    places_of(fields, layout)
+}
+
+/// A fault of bytes in memory, which can always be read.
+fn in_memory(fault: ImportFault) -> ImportFault
+    ensures other { fault ≢ ImportFault.Read → result ≡ fault }
+    ensures read { fault ≡ ImportFault.Read → result ≡ Memory }
+{
+    match fault {
+        ImportFault::Read => ImportFault::Memory,
+        fault => fault,
+    }
 }
 
 /// The lesser of a time that may be there and that of a row.
@@ -201,23 +260,9 @@ fn first_of<P: Progress>(
 {
     let mut reader = open(alloc, bytes, layout);
     let mut fields = ByteRecord::new(alloc);
-    let places = start(&mut reader, &mut fields, layout)?;
+    let places = start_in_memory(&mut reader, &mut fields, layout)?;
     let mut reading = Reading::new(progress, 0);
     least_left(&mut reader, &mut fields, places, edges, &mut reading)
-}
-
-/// The number of a text among those so far and it.
-#[tactic(auto, using(crate::proofs::Texts::item_rules))]
-fn number_of(texts: &mut IndexSet<Vec<u8>>, text: Vec<u8>) -> Result<u64, ImportFault>
-    ensures number { IfOk result (λ n.
-        n ≡ position_or_len (is_same_text text.items) (texts_in texts.old)) }
-    ensures texts { OnOk result (texts_in texts.new ≡ with_text (texts_in texts.old) text.items) }
-    ensures refused { IfErr result (λ e. e ≡ Memory) }
-{
-    let Ok((number, _)) = texts.insert_full(text) else {
-        return Err(ImportFault::Memory);
-    };
-    Ok(number as u64)
 }
 
 /// The text of a field.
@@ -228,8 +273,25 @@ fn owned(alloc: Global, field: &[u8]) -> Result<Vec<u8>, ImportFault>
     Vec::from_slice(alloc, field).map_err(|_| ImportFault::Memory)
 }
 
+/// The number of a text among those so far and it. Takes memory only for a new text.
+#[tactic(auto, using(crate::proofs::Texts::item_rules))]
+fn number_of(alloc: Global, texts: &mut IndexSet<Vec<u8>>, text: &[u8]) -> Result<u64, ImportFault>
+    ensures number { IfOk result (λ n.
+        n ≡ position_or_len (is_same_text text.now) (texts_in texts.old)) }
+    ensures texts { OnOk result (texts_in texts.new ≡ with_text (texts_in texts.old) text.now) }
+    ensures refused { IfErr result (λ e. e ≡ Memory) }
+{
+    if let Some(known) = texts.get_index_of(text) {
+        return Ok(known as u64);
+    }
+    let Ok((number, _)) = texts.insert_full(owned(alloc, text)?) else {
+        return Err(ImportFault::Memory);
+    };
+    Ok(number as u64)
+}
+
 /// What a row says, its object by number, among the texts so far and its own if it is kept.
-fn numbered(
+pub fn numbered(
     alloc: Global,
     texts: &mut IndexSet<Vec<u8>>,
     text: &[u8],
@@ -243,7 +305,7 @@ fn numbered(
     ensures refused { IfErr result (λ e. e ≡ Memory) }
 {
     match said {
-        Ok(entry) => Ok(Ok((entry, number_of(texts, owned(alloc, text)?)?))),
+        Ok(entry) => Ok(Ok((entry, number_of(alloc, texts, text)?))),
         Err(flaw) => Ok(Err(flaw)),
     }
 }
@@ -359,7 +421,7 @@ fn collect<P: Progress>(
 {
     let mut reader = open(alloc, bytes, layout);
     let mut fields = ByteRecord::new(alloc);
-    let places = start(&mut reader, &mut fields, layout)?;
+    let places = start_in_memory(&mut reader, &mut fields, layout)?;
     let terms = Terms {
         places,
         edges,
@@ -379,7 +441,7 @@ fn collect<P: Progress>(
 }
 
 /// How many edges the trace of a log is for.
-fn edges_of(layout: &Layout, options: &Options) -> u32
+pub fn edges_of(layout: &Layout, options: &Options) -> u32
     ensures { result ≡ edges_of layout.now options.now }
 {
     match layout.edge {

@@ -76,9 +76,10 @@ fn in_billionths(units: Option<u64>, billionths: Option<u64>) -> Option<u128>
     }
 }
 
-/// The time that a field writes, in billionths of the log's unit.
+/// The time that a text writes, in billionths of the log's unit: a number of up to 20 digits and 64 bits, and perhaps a point and
+/// digits behind it, of which nine count. `None` where it writes none. Takes no memory.
 #[tactic(auto, unfolding(crate::specs::Csv::time_of))]
-fn time_of(text: &[u8]) -> Option<u128>
+pub fn time_of(text: &[u8]) -> Option<u128>
     ensures value { result ≡ time_of text.now }
     ensures short { IfSome result (λ t. t < 10 ^ 29) }
 {
@@ -157,7 +158,8 @@ fn kind_of_text(text: &[u8]) -> Option<Kind>
 
 /// The kind that a record names: a get where the log has no column of kinds.
 fn kind_of(fields: &ByteRecord, place: Option<u64>) -> Result<Kind, Flaw>
-    ensures { result ≡ kind_in (fields_of fields.now) place }
+    ensures value { result ≡ kind_in (fields_of fields.now) place }
+    ensures get { IfOk result (λ k. place ≡ None → k ≡ Kind.Get) }
 {
     let Some(place) = place else {
         return Ok(Kind::Get);
@@ -173,6 +175,7 @@ pub fn read_fields(fields: &ByteRecord, places: Places, edges: u32) -> Result<En
     ensures edge { IfOk result (λ e. MatchOption e.edge (places.edge ≡ None) (λ n. n < edges)) }
     ensures some { IfOk result (λ e. 1 ≤ e.size) }
     ensures few { IfOk result (λ e. e.size ≤ greatest_size) }
+    ensures get { IfOk result (λ e. places.kind ≡ None → e.kind ≡ Kind.Get) }
 {
     if !is_long_enough(fields, places) {
         return Err(Flaw::Length);

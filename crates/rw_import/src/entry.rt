@@ -20,7 +20,7 @@ pub struct Entry {
 pub struct LeftOut {
     /// A column was not there, or a record was cut off.
     pub length: u64,
-    /// The time could not be read, or is past the latest of a trace.
+    /// The time could not be read, is past the latest of a trace, or is before the epoch.
     pub time: u64,
     /// The edge was no number below 256.
     pub edge: u64,
@@ -30,6 +30,15 @@ pub struct LeftOut {
     pub size: u64,
     /// The kind was neither `get` nor `purge`.
     pub kind: u64,
+}
+
+/// What came of the rows of a log.
+#[derive(Clone, Copy)]
+pub struct Counts {
+    /// How many rows were kept.
+    pub kept: u64,
+    /// How many rows were left out.
+    pub left_out: LeftOut,
 }
 
 /// A log as a trace.

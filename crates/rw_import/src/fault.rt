@@ -58,6 +58,15 @@ pub enum ImportFault {
     /// A request for memory was refused.
     #[error("memory")]
     Memory,
+    /// The row is kept, and its time is before that of the kept row in front of it.
+    #[error("log: row {0}: order")]
+    Order(u64),
+    /// The reader of the log answered an error.
+    #[error("file: cannot read")]
+    Read,
+    /// The writer of the trace failed: what went out is a beginning of the text.
+    #[error("output")]
+    Output,
 }
 
 impl From<AllocError> for ImportFault {

@@ -30,6 +30,15 @@ pub struct Options {
     ghost few_edges: { edges ≤ most_log_edges },
 }
 
+/// How a log becomes a trace that is written as the log is read.
+#[derive(Clone, Copy)]
+pub struct Streaming {
+    /// How its rows become a trace's.
+    pub options: Options,
+    /// The log time that is tick 0, in billionths of the log's unit. `None`: that of the first row that says one.
+    pub epoch: Option<u128>,
+}
+
 /// The ticks of a unit of time, if none are asked for.
 pub const DEFAULT_TICKS: u64 = 1000;
 

@@ -22,16 +22,17 @@ use rw_trace::Kind;
 use std::alloc::Global;
 
 /// The bytes of a record.
-const PIECE: usize = 24;
+pub const PIECE: usize = 24;
 
 /// What a record says.
 #[tactic(auto, unfolding(crate::specs::Oracle::piece_said))]
-fn read_piece(piece: &[u8]) -> Result<(Entry, u64), Flaw>
+pub fn read_piece(piece: &[u8]) -> Result<(Entry, u64), Flaw>
     ensures said { result ≡ piece_said piece.now }
     ensures short { IfOk result (λ s. s.0.time < 10 ^ 29) }
     ensures edge { IfOk result (λ s. s.0.edge ≡ None) }
     ensures some { IfOk result (λ s. 1 ≤ s.0.size) }
     ensures few { IfOk result (λ s. s.0.size < 2 ^ 32) }
+    ensures get { IfOk result (λ s. s.0.kind ≡ Kind.Get) }
     ensures object { IfOk result (λ s. s.1 < 2 ^ 64) }
 {
     if piece.len() < PIECE {
@@ -135,7 +136,7 @@ fn collect<P: Progress>(
 
 /// The trace of what was collected.
 pub fn finish(alloc: Global, sheet: Sheet) -> Result<Imported, ImportFault>
-    ensures trace { IfOk result (λ i. WritesTrace i.text.items sheet.rows.items) }
+    ensures trace { IfOk result (λ i. WritesTrace most_rows i.text.items sheet.rows.items) }
     ensures header { IfOk result (λ i. BeginsWithHeader (has_purge sheet.rows.items) i.text.items) }
     ensures kept { IfOk result (λ i. i.kept ≡ length sheet.rows.items) }
     ensures left_out { IfOk result (λ i. i.left_out ≡ sheet.left_out) }

@@ -31,4 +31,9 @@ impl<'a, P: Progress> Reading<'a, P> {
             self.progress.reach(self.before.saturating_add(bytes));
         }
     }
+
+    /// Something is about to go out.
+    pub(crate) fn about_to_write(&mut self) {
+        self.progress.about_to_write();
+    }
 }

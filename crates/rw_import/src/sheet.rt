@@ -49,7 +49,7 @@ pub fn ticks_since(options: Options, least: u128, time: u128) -> u128
 }
 
 /// One more row left out, of the rows before row `row` and it.
-fn count(left_out: &mut LeftOut, flaw: Flaw, row: u64)
+pub fn count(left_out: &mut LeftOut, flaw: Flaw, row: u64)
     requires within { AreCountsOf row left_out.old }
     requires few { row + 1 < 2 ^ 64 }
     ensures counted { left_out.new ≡ counts_with left_out.old flaw }
@@ -66,7 +66,7 @@ fn count(left_out: &mut LeftOut, flaw: Flaw, row: u64)
 }
 
 /// The fault that names a row and what is wrong with it.
-fn fault_of(row: u64, flaw: Flaw) -> ImportFault
+pub fn fault_of(row: u64, flaw: Flaw) -> ImportFault
     ensures { result ≡ fault_at row flaw }
 {
     match flaw {
@@ -82,6 +82,20 @@ pub struct Sheet {
     pub left_out: LeftOut,
 }
 
+/// No row left out.
+pub fn no_counts() -> LeftOut
+    ensures { result ≡ no_counts_yet }
+{
+    LeftOut {
+        length: 0,
+        time: 0,
+        edge: 0,
+        object: 0,
+        size: 0,
+        kind: 0,
+    }
+}
+
 /// Nothing collected yet.
 pub fn blank_sheet(alloc: Global) -> Sheet
     ensures rows { result.rows.items ≡ [] }
@@ -89,19 +103,12 @@ pub fn blank_sheet(alloc: Global) -> Sheet
 {
     Sheet {
         rows: Vec::new(alloc),
-        left_out: LeftOut {
-            length: 0,
-            time: 0,
-            edge: 0,
-            object: 0,
-            size: 0,
-            kind: 0,
-        },
+        left_out: no_counts(),
     }
 }
 
 /// The trace's row of a kept row.
-fn row_of_entry(options: Options, least: u128, place: u64, object: u64, entry: Entry) -> Row
+pub fn row_of_entry(options: Options, least: u128, place: u64, object: u64, entry: Entry) -> Row
     requires short { entry.time < 10 ^ 29 }
     requires within { ticks_from options.ticks least entry.time ≤ latest_time }
     ensures { result ≡ row_for options least place object entry }

@@ -1,6 +1,7 @@
 //! The text of a trace.
 
 ghost use Rattle.std.specs.Prelude.{◌≡◌, ◌++◌, ◌∷◌, [], OnOk, IfOk};
+ghost use Rattle.rw_trace.specs.Limits.{most_rows};
 ghost use Rattle.rw_trace.specs.Trace.{word_of};
 ghost use Rattle.rw_import.specs.Lines.{trace_header, number_text, numbers_text, row_line, trace_lines};
 ghost use Rattle.rw_import.specs.Written.{BeginsWithHeader, WritesTrace, has_purge};
@@ -48,7 +49,7 @@ fn kind_end(kind: Kind) -> &'static [u8]
 
 /// Adds the line of a row.
 #[tactic(auto, unfolding(crate::specs::Lines::row_line))]
-fn push_row(text: &mut Vec<u8>, row: &Row, kinds: bool) -> Result<(), AllocError>
+pub fn push_row(text: &mut Vec<u8>, row: &Row, kinds: bool) -> Result<(), AllocError>
     ensures { OnOk result (text.new.items ≡ text.old.items ++ row_line kinds row.now) }
 {
     if !kinds {
@@ -60,7 +61,7 @@ fn push_row(text: &mut Vec<u8>, row: &Row, kinds: bool) -> Result<(), AllocError
 
 /// The line of a header.
 #[tactic(auto, unfolding(crate::specs::Lines::trace_header))]
-fn header(kinds: bool) -> &'static [u8]
+pub fn header(kinds: bool) -> &'static [u8]
     ensures { result.now ≡ trace_header kinds }
 {
     if kinds {
@@ -88,7 +89,7 @@ fn lines(alloc: Global, rows: &[Row], kinds: bool) -> Result<Vec<u8>, AllocError
 ///
 /// A request for memory was refused.
 pub fn write_trace(alloc: Global, rows: &[Row]) -> Result<Vec<u8>, AllocError>
-    ensures trace { IfOk result (λ text. WritesTrace text.items rows.now) }
+    ensures trace { IfOk result (λ text. WritesTrace most_rows text.items rows.now) }
     ensures header { IfOk result (λ text. BeginsWithHeader (has_purge rows.now) text.items) }
 {
     lines(alloc, rows, needs_kinds(rows))

@@ -1,7 +1,7 @@
-use crate::options::{DRAWING, GRID, LOG, PARTS, ROUNDS, SCHEDULE};
+use crate::options::{DRAWING, GRID, LOG, PARTS, ROUNDS, RUN, SCHEDULE};
 use clap::Command;
 use rw_arguments::{Entry, TRACE, program_of};
-use rw_runs::{CACHES, SERIAL};
+use rw_runs::{CACHES, SERIAL_ABOUT};
 use std::alloc::{AllocError, Global};
 
 /// The program with its commands, as `clap` knows it. The fault is memory that was refused.
@@ -11,7 +11,12 @@ pub fn program<'a>(alloc: Global) -> Result<Command<'a>, AllocError> {
 
 /// The commands, in the order of the help.
 const ENTRIES: [Entry; 7] = [
-    SERIAL,
+    Entry {
+        name: "serial",
+        about: SERIAL_ABOUT,
+        own: &RUN,
+        shared: &CACHES,
+    },
     Entry {
         name: "warp",
         about: "Runs a trace on several threads, ahead of time, and prints the report that serial prints",
@@ -44,7 +49,7 @@ const ENTRIES: [Entry; 7] = [
     },
     Entry {
         name: "plot",
-        about: "Draws what sweep printed, a line for each policy over the size of the flash, as SVG",
+        about: "Draws what sweep printed over the size of the flash, or a table over time, as SVG",
         own: &DRAWING,
         shared: &[],
     },

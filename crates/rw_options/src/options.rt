@@ -2,7 +2,7 @@
 use rw_arguments::{Argument, Given, QUIET, TRACE, TRACE_HELP, Value};
 use rw_import::MAX_TICKS;
 use rw_photo::Config;
-use rw_runs::{BACK, DOWN, EDGES, ORIGINS, UP};
+use rw_runs::{BACK, DOWN, EDGES, EVERY, ORIGINS, STREAM, UP, WARM_UP};
 use rw_sweep::MAX_CONFIGURATIONS;
 use rw_vt::END;
 
@@ -62,8 +62,45 @@ pub(crate) const ROUNDS: [Argument; 9] = [
     },
 ];
 
+/// The options of `serial` that say how a binary log is run.
+pub(crate) const RUN: [Argument; 9] = [
+    TRACE, QUIET, STREAM, EVERY, WARM_UP, FROM, TICKS, EDGE_BY, EPOCH,
+];
+
+/// In which format a trace is.
+const FROM: Argument = Argument {
+    name: "from",
+    value: Value::Word("FORMAT", &["trace", "oracle-general"]),
+    given: Given::Or("trace"),
+    help: "Its format: trace, or with --stream libCacheSim's binary oracle-general, read as import does",
+};
+
+/// How many ticks the binary log's unit of time has.
+const TICKS: Argument = Argument {
+    name: "ticks",
+    value: Value::Ticks(MAX_TICKS as i64),
+    given: Given::Maybe,
+    help: "With oracle-general: ticks in a second of the log, 1 to 1000000000; 1000 by default",
+};
+
+/// How the rows of a binary log are dealt out.
+const EDGE_BY: Argument = Argument {
+    name: "edge-by",
+    value: Value::Word("WHAT", &["row", "object"]),
+    given: Given::Maybe,
+    help: "With oracle-general: deal out row after row in turn, as by default, or each object to one edge",
+};
+
+/// When a binary log begins.
+const EPOCH: Argument = Argument {
+    name: "epoch",
+    value: Value::Text("TIME"),
+    given: Given::Maybe,
+    help: "With oracle-general: the log's time that is tick 0, else that of the first row that has one",
+};
+
 /// A log, how it is read, and how its rows become a trace's.
-pub(crate) const LOG: [Argument; 13] = [
+pub(crate) const LOG: [Argument; 15] = [
     Argument {
         name: "log",
         value: Value::File("LOG"),
@@ -136,11 +173,23 @@ pub(crate) const LOG: [Argument; 13] = [
         given: Given::Maybe,
         help: "Refuse the log at the first row that cannot be used, which else is left out and counted",
     },
+    Argument {
+        name: "stream",
+        value: Value::Flag,
+        given: Given::Maybe,
+        help: "Write the trace as the log is read: rows in order of time, as many as there are, in little memory",
+    },
+    Argument {
+        name: "epoch",
+        value: Value::Text("TIME"),
+        given: Given::Maybe,
+        help: "With --stream: the log's time that is tick 0, else that of the first row that has one",
+    },
     QUIET,
 ];
 
 /// What a sweep varies, as lists, and what all its runs have in common.
-pub(crate) const GRID: [Argument; 15] = [
+pub(crate) const GRID: [Argument; 22] = [
     Argument {
         name: "trace",
         value: Value::File("TRACE"),
@@ -196,6 +245,13 @@ pub(crate) const GRID: [Argument; 15] = [
         help: "Runs side by side, 1 to 64; by default as many as there are processors",
     },
     QUIET,
+    STREAM,
+    EVERY,
+    WARM_UP,
+    FROM,
+    TICKS,
+    EDGE_BY,
+    EPOCH,
     EDGES,
     ORIGINS,
     UP,
@@ -219,13 +275,13 @@ pub(crate) const PARTS: [Argument; 2] = [
     },
 ];
 
-/// What is drawn of a sweep.
-pub(crate) const DRAWING: [Argument; 3] = [
+/// What is drawn of a table.
+pub(crate) const DRAWING: [Argument; 4] = [
     Argument {
-        name: "sweep",
-        value: Value::File("SWEEP"),
+        name: "table",
+        value: Value::File("TABLE"),
         given: Given::Always,
-        help: "What sweep printed; - is standard input",
+        help: "What sweep printed, or serial or sweep with --every; - is standard input",
     },
     Argument {
         name: "of",
@@ -236,15 +292,22 @@ pub(crate) const DRAWING: [Argument; 3] = [
                 "byte_hit_ratio",
                 "flash_writes",
                 "backend_requests",
+                "backend_bytes",
             ],
         ),
         given: Given::Or("hit_ratio"),
-        help: "What is drawn over the size of the flash",
+        help: "What is drawn, over the size of the flash or over time; backend_bytes only over time",
     },
     Argument {
         name: "caches",
         value: Value::Word("CACHES", &["edges", "origins", "all"]),
-        given: Given::Or("all"),
-        help: "Of which caches",
+        given: Given::Maybe,
+        help: "Of which caches; by default all, and of serial over time a line for each of the three",
+    },
+    Argument {
+        name: "ticks-a-second",
+        value: Value::Count(MAX_TICKS as i64),
+        given: Given::Or("1000"),
+        help: "Ticks in a second of a table over time, 1 to 1000000000",
     },
 ];

@@ -1,7 +1,7 @@
 ghost use Rattle.std.specs.Prelude.{◌≡◌};
 ghost use Rattle.rw_output.specs.declared.sim_fault.SimFault.TheVariants.{Memory};
 
-use rw_trace::TraceFault;
+use rw_trace::{RowsFault, TraceFault};
 use rw_vt::{NoMemory, Refusal};
 
 /// Why a run has no text, each shown as one line.
@@ -10,6 +10,9 @@ pub enum SimFault {
     /// The trace was refused; never for want of memory, which is `Memory`.
     #[error("{0}")]
     Trace(TraceFault),
+    /// The reader that a trace comes from answered an error.
+    #[error("file: cannot read")]
+    Read,
     /// A request for memory was refused.
     #[error("memory")]
     Memory,
@@ -39,6 +42,19 @@ impl From<TraceFault> for SimFault {
         match fault {
             TraceFault::Memory => SimFault::Memory,
             fault => SimFault::Trace(fault),
+        }
+    }
+}
+
+impl From<RowsFault> for SimFault {
+    ghost from_gives = { λ fault sim. sim ≡ sim_rows_fault_of fault };
+
+    ghost use Rattle.rw_output.specs.Faults.{sim_rows_fault_of};
+
+    fn from(fault: RowsFault) -> SimFault {
+        match fault {
+            RowsFault::Trace(fault) => SimFault::from(fault),
+            RowsFault::Read => SimFault::Read,
         }
     }
 }

@@ -108,7 +108,9 @@ impl<B: Ord + Copy, S: Source<B>> Pending<B, S> {
     /// It costs a sort of them and of those that were sent before, which is linear where they are in order. After a refusal of
     /// memory some events are lost.
     pub fn put_back(&mut self, events: Vec<Event<B>>) -> Result<(), AllocError>
-        ensures { OnOk result (IsPermutation (self.old.events ++ events.items) self.new.events) }
+        ensures added { OnOk result
+            (IsPermutation (self.old.events ++ events.items) self.new.events) }
+        ensures time { OnOk result (self.new.time ≡ 0) }
     {
         let mut sent = events;
         move_sent(&mut self.now, &mut self.later, &mut sent)?;

@@ -89,6 +89,20 @@ impl Config {
     {
         self.origins
     }
+
+    /// The shape of each edge. Takes no memory.
+    pub fn edge_shape(&self) -> Shape
+        ensures { result ≡ self.now.edge_shape }
+    {
+        self.edge_shape
+    }
+
+    /// The shape of each origin. Takes no memory.
+    pub fn origin_shape(&self) -> Shape
+        ensures { result ≡ self.now.origin_shape }
+    {
+        self.origin_shape
+    }
 }
 
 /// Whether a delay is in its range.

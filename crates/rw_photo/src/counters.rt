@@ -161,8 +161,8 @@ impl Counters {
         *self = each_count!(self, wrapping_add, counted);
     }
 
-    /// Each count falls by what was counted, modulo 2^64: undoes [`Counters::add`].
-    pub(crate) fn take_off(&mut self, counted: &Counters)
+    /// Each count falls by what was counted, modulo 2^64: undoes [`Counters::add`]. Takes no memory.
+    pub fn take_off(&mut self, counted: &Counters)
         ensures { self.new ≡ difference_of self.old counted.now }
     {
         *self = each_count!(self, wrapping_sub, counted);

@@ -27,7 +27,7 @@ pub use config::{Config, every_limit};
 pub use counters::Counters;
 pub use ordered_requests::OrderedRequests;
 pub use photo::Photo;
-pub use rows::requests;
+pub use rows::{requests, requests_from};
 pub use rw_ripq::{Change, Levels, Policy, Shape, Trail};
 pub use rw_trace::{Kind, Row};
 pub use rw_vt::{Event, NoMemory, Refusal};

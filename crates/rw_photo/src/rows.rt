@@ -1,4 +1,4 @@
-ghost use Rattle.std.specs.Prelude.{◌≡◌, ℕ, true, All, IfOk};
+ghost use Rattle.std.specs.Prelude.{◌≡◌, ◌≤◌, ◌+◌, ◌-◌, ◌^◌, ℕ, true, All, IfOk, length};
 ghost use Rattle.rw_vt.specs.System.{map_from};
 ghost use Rattle.rw_trace.specs.Laws.{IsRow};
 ghost use Rattle.rw_photo.specs.Events.{body_of, event_of, is_valid};
@@ -21,9 +21,19 @@ pub fn requests(alloc: Global, rows: &[Row]) -> Result<Vec<Event<Body>>, NoMemor
     ensures valid { IfOk result (λ es. (c : Config)
         → All (IsRow c.edges) rows.now → All (λ e. is_valid c e ≡ true) es.items) }
 {
+    requests_from(alloc, 0, rows)
+}
+
+/// The requests and purges of a piece of a trace, of which the first row is row `first`; otherwise as [`requests`].
+pub fn requests_from(alloc: Global, first: u64, rows: &[Row]) -> Result<Vec<Event<Body>>, NoMemory>
+    requires { first + length rows.now ≤ 2 ^ 64 - 1 }
+    ensures events { IfOk result (λ es. es.items ≡ map_from first event_of rows.now) }
+    ensures valid { IfOk result (λ es. (c : Config)
+        → All (IsRow c.edges) rows.now → All (λ e. is_valid c e ≡ true) es.items) }
+{
     let mut events = Vec::with_capacity(alloc, rows.len())?;
-    for (number, row) in rows.iter().enumerate() {
-        events.push(event_of(number as u64, row))?;
+    for (index, row) in rows.iter().enumerate() {
+        events.push(event_of(first + index as u64, row))?;
     }
     Ok(events)
 }

@@ -1,3 +1,2 @@
 -- what public contracts say
 pub mod Escape
-pub mod Sweep

@@ -1,54 +1,86 @@
 //! The part of the picture in which the polylines stand: a grid, its labels, and the names of the axes.
 
 use crate::labels::{Pixels, Size, TickValue};
-use crate::measure::Measure;
 use crate::scale::{FlashAxis, Hundredths, ValueAxis};
-use crate::sweep::Sample;
+use crate::series::Extent;
+use crate::subject::Subject;
+use crate::time_axis::{MOST_LABELS, TimeAxis};
+use rw_tables::Sample;
+use std::fmt::Display;
 use std::io::{self, Write};
 
-/// The left end of the axis of the flash.
+/// The left end of the lower axis.
 pub(crate) const LEFT: Hundredths = 96_00;
 
 /// The upper end of the axis of the values.
 pub(crate) const TOP: Hundredths = 64_00;
 
-/// The length of the axis of the flash.
+/// The length of the lower axis.
 const WIDTH: Hundredths = 560_00;
 
 /// The length of the axis of the values.
 const HEIGHT: Hundredths = 420_00;
 
-/// The right end of the axis of the flash.
+/// The right end of the lower axis.
 const RIGHT: Hundredths = LEFT + WIDTH;
 
 /// The lower end of the axis of the values.
 const BOTTOM: Hundredths = TOP + HEIGHT;
 
+/// The lower axis.
+#[derive(Clone, Copy)]
+enum Across {
+    /// The size of the flash.
+    Flash(FlashAxis),
+    /// Time.
+    Time(TimeAxis),
+}
+
 /// The axes of a picture.
 #[derive(Clone, Copy)]
 pub(crate) struct Chart {
     /// What is drawn.
-    pub(crate) measure: Measure,
-    /// The axis of the flash.
-    pub(crate) flash: FlashAxis,
+    pub(crate) subject: Subject,
+    /// The lower axis.
+    across: Across,
     /// The axis of the values.
-    pub(crate) values: ValueAxis,
+    values: ValueAxis,
 }
 
 impl Chart {
+    /// The axes that hold all points.
+    pub(crate) fn new(extent: &Extent, subject: Subject) -> Chart {
+        let across = if subject.layout.is_over_time() {
+            let (first, past) = (extent.first_tick, extent.past_tick);
+            Across::Time(TimeAxis::new(first, past, subject.ticks_a_second(), WIDTH))
+        } else {
+            Across::Flash(FlashAxis::new(extent.least_flash, extent.most_flash))
+        };
+        Chart {
+            subject,
+            across,
+            values: ValueAxis::new(subject.unit(), extent.most),
+        }
+    }
+
     /// Where a point stands: from the left, and from the top.
     pub(crate) fn place(&self, point: &Sample) -> (Pixels, Pixels) {
-        let right = self.flash.place(point.flash_bytes, WIDTH);
-        let up = self
-            .values
-            .place(u128::from(self.measure.value(point)), HEIGHT);
+        let right = match (self.across, point.interval) {
+            (Across::Time(time), Some(interval)) => time.place(interval, WIDTH),
+            (Across::Flash(flash), _) => flash.place(point.figures.flash_bytes, WIDTH),
+            (Across::Time(_), None) => 0,
+        };
+        let up = self.values.place(self.subject.value(point), HEIGHT);
         (Pixels(LEFT.saturating_add(right)), from_bottom(up))
     }
 
     /// Writes the grid with its labels, and the names of the axes.
     pub(crate) fn write(&self, out: &mut Vec<u8>) -> io::Result<()> {
         self.write_value_ticks(out)?;
-        self.write_flash_ticks(out)?;
+        match self.across {
+            Across::Flash(flash) => write_flash_ticks(out, flash)?,
+            Across::Time(time) => write_time_ticks(out, time)?,
+        }
         self.write_names(out)
     }
 
@@ -70,7 +102,7 @@ impl Chart {
         let label_y = Pixels(y.0.saturating_add(4_00));
         let class = if tick == 0 { "axis" } else { "grid" };
         let label = TickValue {
-            unit: self.measure.unit(),
+            unit: self.subject.unit(),
             value,
         };
         write!(
@@ -80,45 +112,71 @@ impl Chart {
         )
     }
 
-    /// Writes a line of the grid and a label for each tick of the flash.
-    fn write_flash_ticks(&self, out: &mut Vec<u8>) -> io::Result<()> {
-        let step = self.flash.step();
-        for tick in 0..=8u32 {
-            let power = self.flash.low.saturating_add(step.saturating_mul(tick));
-            if power > self.flash.high {
-                break;
-            }
-            self.write_flash_tick(out, power)?;
-        }
-        Ok(())
-    }
-
-    /// Writes a line of the grid and the label of a power of two of the flash.
-    fn write_flash_tick(&self, out: &mut Vec<u8>, power: u32) -> io::Result<()> {
-        let top = Pixels(TOP);
-        let bottom = Pixels(BOTTOM);
-        let label_y = Pixels(BOTTOM + 20_00);
-        let x = Pixels(LEFT.saturating_add(self.flash.place_of_power(power, WIDTH)));
-        let label = Size(1u128.checked_shl(power).unwrap_or(0));
-        write!(
-            out,
-            "<line class=\"grid\" x1=\"{x}\" y1=\"{top}\" x2=\"{x}\" y2=\"{bottom}\"/>\
-             <text class=\"middle\" x=\"{x}\" y=\"{label_y}\">{label}</text>\n"
-        )
-    }
-
     /// Writes the names of the axes.
     fn write_names(&self, out: &mut Vec<u8>) -> io::Result<()> {
-        let name = self.measure.name();
-        let x = Pixels(LEFT + WIDTH / 2);
-        let y = Pixels(BOTTOM + 48_00);
+        match self.across {
+            Across::Flash(_) => write_name_below(out, "Flash (log scale)")?,
+            Across::Time(time) => write_name_below(out, time.unit)?,
+        }
+        let name = self.subject.name();
         let middle = Pixels(TOP + HEIGHT / 2);
         write!(
             out,
-            "<text class=\"middle name\" x=\"{x}\" y=\"{y}\">Flash (log scale)</text>\n\
-             <text class=\"middle name\" transform=\"translate(20 {middle}) rotate(-90)\">{name}</text>\n"
+            "<text class=\"middle name\" transform=\"translate(20 {middle}) rotate(-90)\">{name}</text>\n"
         )
     }
+}
+
+/// Writes the name of the lower axis.
+fn write_name_below<D: Display + Drop>(out: &mut Vec<u8>, name: D) -> io::Result<()> {
+    let x = Pixels(LEFT + WIDTH / 2);
+    let y = Pixels(BOTTOM + 48_00);
+    write!(
+        out,
+        "<text class=\"middle name\" x=\"{x}\" y=\"{y}\">{name}</text>\n"
+    )
+}
+
+/// Writes a line of the grid and a label for each tick of the flash.
+fn write_flash_ticks(out: &mut Vec<u8>, flash: FlashAxis) -> io::Result<()> {
+    let step = flash.step();
+    for tick in 0..=8u32 {
+        let power = flash.low.saturating_add(step.saturating_mul(tick));
+        if power > flash.high {
+            break;
+        }
+        let size = Size(1u128.checked_shl(power).unwrap_or(0));
+        write_tick_below(out, flash.place_of_power(power, WIDTH), size)?;
+    }
+    Ok(())
+}
+
+/// Writes a line of the grid and a label for each time that is labelled.
+fn write_time_ticks(out: &mut Vec<u8>, time: TimeAxis) -> io::Result<()> {
+    for place in 0..=MOST_LABELS {
+        let Some(label) = time.label(place) else {
+            break;
+        };
+        write_tick_below(out, time.place_of_label(label, WIDTH), time.text(label))?;
+    }
+    Ok(())
+}
+
+/// Writes a line of the grid and a label so far to the right on the lower axis.
+fn write_tick_below<D: Display + Drop>(
+    out: &mut Vec<u8>,
+    right: Hundredths,
+    label: D,
+) -> io::Result<()> {
+    let top = Pixels(TOP);
+    let bottom = Pixels(BOTTOM);
+    let label_y = Pixels(BOTTOM + 20_00);
+    let x = Pixels(LEFT.saturating_add(right));
+    write!(
+        out,
+        "<line class=\"grid\" x1=\"{x}\" y1=\"{top}\" x2=\"{x}\" y2=\"{bottom}\"/>\
+         <text class=\"middle\" x=\"{x}\" y=\"{label_y}\">{label}</text>\n"
+    )
 }
 
 /// How far from the top of the picture what is so far up on the axis of the values stands.

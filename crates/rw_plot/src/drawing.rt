@@ -1,12 +1,12 @@
 //! The picture as a whole.
 
 use crate::chart::Chart;
+use crate::dots::Dots;
 use crate::labels::{Pixels, PointValue, Size};
-use crate::legend::{MOST_ENTRIES, bottom_of, full_name, open_group, write_entry, write_rest};
-use crate::measure::{Caches, Measure};
-use crate::scale::{FlashAxis, ValueAxis};
-use crate::series::{AllSeries, Extent, Name, Varying};
-use crate::sweep::Sample;
+use crate::legend::{Legend, MOST_ENTRIES, bottom_of, open_group, write_rest};
+use crate::series::{AllSeries, Extent, Varying};
+use crate::subject::Subject;
+use rw_tables::{Configuration, Sample};
 use std::alloc::Global;
 use std::io::{self, Write};
 
@@ -50,28 +50,16 @@ text{fill:#eee}
 /// The least height of the picture, in hundredths of a pixel.
 const LEAST_HEIGHT: u32 = 560_00;
 
-/// The axes that hold all points.
-fn chart_of(all: &AllSeries, measure: Measure) -> Chart {
-    let extent = Extent::of(all, measure);
-    Chart {
-        measure,
-        flash: FlashAxis::new(extent.least_flash, extent.most_flash),
-        values: ValueAxis::new(measure.unit(), extent.most),
-    }
-}
-
 /// Writes the beginning of the picture: its size, its title and how it looks.
-fn write_head(out: &mut Vec<u8>, many: usize, measure: Measure, caches: Caches) -> io::Result<()> {
+fn write_head(out: &mut Vec<u8>, many: usize, subject: Subject) -> io::Result<()> {
     let height = Pixels(bottom_of(many).max(LEAST_HEIGHT));
-    let name = measure.name();
-    let whose = caches.name();
     write!(
         out,
         "<svg xmlns=\"http://www.w3.org/2000/svg\" viewBox=\"0 0 960 {height}\" role=\"img\">\
-         <title>{name} by flash size, {whose}</title>\n\
+         <title>{subject}</title>\n\
          {STYLE}\
          <rect class=\"paper\" width=\"960\" height=\"{height}\"/>\n\
-         <text class=\"head\" x=\"96\" y=\"36\">{name} by flash size, {whose}</text>\n"
+         <text class=\"head\" x=\"96\" y=\"36\">{subject}</text>\n"
     )
 }
 
@@ -91,51 +79,78 @@ fn write_line(out: &mut Vec<u8>, chart: &Chart, points: &[Sample]) -> io::Result
     Ok(())
 }
 
-/// Writes a point, with its numbers as its title.
-fn write_point(out: &mut Vec<u8>, chart: &Chart, title: &[u8], point: &Sample) -> io::Result<()> {
+/// Writes a point as a dot of this radius, with its numbers as its title.
+fn write_point(
+    out: &mut Vec<u8>,
+    chart: &Chart,
+    radius: &str,
+    title: &[u8],
+    point: &Sample,
+) -> io::Result<()> {
     let (x, y) = chart.place(point);
     write!(
         out,
-        "<circle class=\"dot\" cx=\"{x}\" cy=\"{y}\" r=\"3.5\"><title>"
+        "<circle class=\"dot\" cx=\"{x}\" cy=\"{y}\" r=\"{radius}\"><title>"
     )?;
     out.extend_from_slice(title)?;
-    write_numbers(out, chart.measure, point)
+    write_value(out, chart.subject, point)?;
+    write_where(out, point)?;
+    if let Some(configuration) = point.configuration {
+        write_configuration(out, configuration)?;
+    }
+    out.extend_from_slice(b"</title></circle>\n")?;
+    Ok(())
 }
 
-/// Writes the numbers of a point, and ends it.
-fn write_numbers(out: &mut Vec<u8>, measure: Measure, point: &Sample) -> io::Result<()> {
-    let what = measure.name();
+/// Writes the value of a point.
+fn write_value(out: &mut Vec<u8>, subject: Subject, point: &Sample) -> io::Result<()> {
+    let what = subject.name();
     let value = PointValue {
-        unit: measure.unit(),
-        value: measure.value(point),
+        unit: subject.unit(),
+        value: subject.value(point),
     };
-    let flash = point.flash_bytes;
+    write!(out, ": {what} {value}")
+}
+
+/// Writes the interval of a point, or the flash over which it stands.
+fn write_where(out: &mut Vec<u8>, point: &Sample) -> io::Result<()> {
+    if let Some(interval) = point.interval {
+        let from = interval.from;
+        let to = interval.to;
+        return write!(out, "; from tick {from} to {to}");
+    }
+    let flash = point.figures.flash_bytes;
     let size = Size(u128::from(flash));
-    let sections = point.sections;
-    let block = point.block;
-    let edge_blocks = point.edge_blocks;
-    let origin_blocks = point.origin_blocks;
+    write!(out, "; flash {size} ({flash} bytes)")
+}
+
+/// Writes the configuration of a point.
+fn write_configuration(out: &mut Vec<u8>, configuration: Configuration) -> io::Result<()> {
+    let sections = configuration.sections;
+    let block = configuration.block;
+    let edge_blocks = configuration.edge_blocks;
+    let origin_blocks = configuration.origin_blocks;
     write!(
         out,
-        ": {what} {value}; flash {size} ({flash} bytes); {sections} sections, blocks of {block} bytes, \
-         {edge_blocks} edge blocks, {origin_blocks} origin blocks</title></circle>\n"
+        "; {sections} sections, blocks of {block} bytes, \
+         {edge_blocks} edge blocks, {origin_blocks} origin blocks"
     )
 }
 
-/// Writes the polyline and the points of one name.
-fn write_series(
+/// Writes the points of one name.
+fn write_points(
     out: &mut Vec<u8>,
     chart: &Chart,
-    place: usize,
+    dots: Dots,
     title: &[u8],
     points: &[Sample],
 ) -> io::Result<()> {
-    open_group(out, place)?;
-    write_line(out, chart, points)?;
+    let Some(radius) = dots.radius() else {
+        return Ok(());
+    };
     for point in points {
-        write_point(out, chart, title, point)?;
+        write_point(out, chart, radius, title, point)?;
     }
-    out.extend_from_slice(b"</g>\n")?;
     Ok(())
 }
 
@@ -145,11 +160,14 @@ fn write_all_series(
     out: &mut Vec<u8>,
     all: &AllSeries,
     chart: &Chart,
-    varying: Varying,
+    legend: Legend,
 ) -> io::Result<()> {
     for (place, (name, points)) in all.iter().enumerate() {
-        let title = full_name(alloc, name, varying)?;
-        write_series(out, chart, place, title.as_slice(), points.as_slice())?;
+        let title = legend.full_name(alloc, name)?;
+        open_group(out, place)?;
+        write_line(out, chart, points.as_slice())?;
+        write_points(out, chart, legend.dots, title.as_slice(), points.as_slice())?;
+        out.extend_from_slice(b"</g>\n")?;
     }
     Ok(())
 }
@@ -159,15 +177,25 @@ fn write_legend(
     alloc: Global,
     out: &mut Vec<u8>,
     all: &AllSeries,
-    varying: Varying,
+    legend: Legend,
 ) -> io::Result<()> {
     for (place, name) in all.keys().enumerate() {
         if place >= MOST_ENTRIES {
             return write_rest(out, all.len().saturating_sub(MOST_ENTRIES));
         }
-        write_entry(alloc, out, place, name, varying)?;
+        legend.write_entry(alloc, out, place, name)?;
     }
     Ok(())
+}
+
+/// How the points of these polylines look: as dots of one size over the size of the flash, and over time so that they leave the
+/// line to be seen.
+fn dots_of(subject: Subject, most_points: usize) -> Dots {
+    if subject.layout.is_over_time() {
+        Dots::for_points(most_points)
+    } else {
+        Dots::Large
+    }
 }
 
 /// Writes the picture of some polylines.
@@ -175,27 +203,26 @@ fn write_picture(
     alloc: Global,
     out: &mut Vec<u8>,
     all: &AllSeries,
-    measure: Measure,
-    caches: Caches,
+    subject: Subject,
 ) -> io::Result<()> {
-    let chart = chart_of(all, measure);
-    let varying = Varying::among(all);
-    write_head(out, all.len(), measure, caches)?;
+    let extent = Extent::of(all, subject);
+    let chart = Chart::new(&extent, subject);
+    let legend = Legend {
+        layout: subject.layout,
+        varying: Varying::among(all),
+        dots: dots_of(subject, extent.most_points),
+    };
+    write_head(out, all.len(), subject)?;
     chart.write(out)?;
-    write_all_series(alloc, out, all, &chart, varying)?;
-    write_legend(alloc, out, all, varying)?;
+    write_all_series(alloc, out, all, &chart, legend)?;
+    write_legend(alloc, out, all, legend)?;
     out.extend_from_slice(b"</svg>\n")?;
     Ok(())
 }
 
 /// The picture of some polylines.
-pub(crate) fn draw(
-    alloc: Global,
-    all: &AllSeries,
-    measure: Measure,
-    caches: Caches,
-) -> io::Result<Vec<u8>> {
+pub(crate) fn draw(alloc: Global, all: &AllSeries, subject: Subject) -> io::Result<Vec<u8>> {
     let mut out = Vec::new(alloc);
-    write_picture(alloc, &mut out, all, measure, caches)?;
+    write_picture(alloc, &mut out, all, subject)?;
     Ok(out)
 }

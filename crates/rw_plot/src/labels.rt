@@ -1,7 +1,7 @@
 //! Numbers as they are written in the picture.
 
-use crate::measure::Unit;
 use crate::scale::Hundredths;
+use crate::subject::Unit;
 use std::fmt;
 
 /// A length in pixels, with two decimals.
@@ -48,7 +48,7 @@ impl fmt::Display for Size {
 
 /// A number with decimals, of which those behind the last that is not 0 are left out.
 #[derive(Clone, Copy)]
-struct Decimals {
+pub(crate) struct Decimals {
     /// The part before the point.
     whole: u128,
     /// The decimals as a number, below a million.
@@ -56,6 +56,31 @@ struct Decimals {
 }
 
 impl Decimals {
+    /// How often `unit` is in `value`, with six decimals, rounded down; 0 where `unit` is.
+    pub(crate) fn of(value: u128, unit: u128) -> Decimals {
+        let whole = value.checked_div(unit).unwrap_or(0);
+        let rest = value.checked_rem(unit).unwrap_or(0);
+        let millionths = rest.saturating_mul(1_000_000).checked_div(unit);
+        Decimals {
+            whole,
+            millionths: millionths.unwrap_or(0),
+        }
+    }
+
+    /// How many digits stand before the point.
+    pub(crate) fn whole_digits(self) -> u32 {
+        self.whole.checked_ilog10().unwrap_or(0).saturating_add(1)
+    }
+
+    /// How many characters stand behind those digits: the point and the decimals, if there are any.
+    pub(crate) fn characters_behind(self) -> u32 {
+        if self.millionths == 0 {
+            return 0;
+        }
+        let (_, digits) = self.rest();
+        u32::try_from(digits).unwrap_or(6).saturating_add(1)
+    }
+
     /// The decimals up to the last that is not 0 as a number, and how many they are.
     fn rest(self) -> (u128, usize) {
         let mut rest = self.millionths;
@@ -102,12 +127,7 @@ impl Count {
             }
             size = size.saturating_mul(1000);
         }
-        let size = size.max(1);
-        let decimals = Decimals {
-            whole: count / size,
-            millionths: (count % size).saturating_mul(1_000_000) / size,
-        };
-        (decimals, name)
+        (Decimals::of(count, size), name)
     }
 }
 
@@ -134,13 +154,11 @@ impl fmt::Display for TickValue {
             return f.write_str("0");
         }
         match self.unit {
-            Unit::Ratio => Decimals {
-                whole: value / 1_000_000,
-                millionths: value % 1_000_000,
-            }
-            .fmt(f),
+            Unit::Ratio => Decimals::of(value, 1_000_000).fmt(f),
             Unit::Bytes => Size(value).fmt(f),
             Unit::Count => Count(value).fmt(f),
+            Unit::Thousandths if value < 1_000_000 => Decimals::of(value, 1000).fmt(f),
+            Unit::Thousandths => Count(value / 1000).fmt(f),
         }
     }
 }
@@ -151,7 +169,7 @@ pub(crate) struct PointValue {
     /// In what it is counted.
     pub(crate) unit: Unit,
     /// The value.
-    pub(crate) value: u64,
+    pub(crate) value: u128,
 }
 
 impl fmt::Display for PointValue {
@@ -165,6 +183,7 @@ impl fmt::Display for PointValue {
             }
             Unit::Bytes => write!(f, "{value} bytes"),
             Unit::Count => value.fmt(f),
+            Unit::Thousandths => Decimals::of(value, 1000).fmt(f),
         }
     }
 }

@@ -1,9 +1,12 @@
 //! The names of the polylines, to the right of them.
 
+use crate::dots::Dots;
 use crate::escaping::{escape, readable};
 use crate::labels::{Pixels, Size};
 use crate::scale::Hundredths;
 use crate::series::{Name, Varying};
+use crate::subject::caches_name;
+use rw_tables::Layout;
 use std::alloc::Global;
 use std::io::{self, Write};
 
@@ -31,53 +34,135 @@ const POLICY_ROOM: u32 = 1_100;
 /// About how wide a line of the legend may be, in tenths of a pixel.
 const LABEL_ROOM: u32 = 2_250;
 
-/// A name as it may stand in the picture: its policy, and of the rest what varies. The policy is cut where it would be wider
-/// than `policy_room`, and the whole where it would be wider than `room`.
-fn shown(
-    alloc: Global,
-    name: &Name,
-    varying: Varying,
-    policy_room: u32,
-    room: u32,
-) -> io::Result<Vec<u8>> {
-    let text = label_text(alloc, name, varying, policy_room)?;
-    let readable = readable(alloc, text.as_slice(), room)?;
-    Ok(escape(alloc, readable.as_bytes())?)
+/// How polylines are named and look.
+#[derive(Clone, Copy)]
+pub(crate) struct Legend {
+    /// The table that they are of.
+    pub(crate) layout: Layout,
+    /// What of their names differs.
+    pub(crate) varying: Varying,
+    /// How their points look.
+    pub(crate) dots: Dots,
 }
 
-/// The whole name of a polyline.
-pub(crate) fn full_name(alloc: Global, name: &Name, varying: Varying) -> io::Result<Vec<u8>> {
-    shown(alloc, name, varying, u32::MAX, u32::MAX)
-}
-
-/// The name of a polyline as it stands in the legend.
-fn short_name(alloc: Global, name: &Name, varying: Varying) -> io::Result<Vec<u8>> {
-    let policy_room = if varying.sections || varying.blocks {
-        POLICY_ROOM
-    } else {
-        LABEL_ROOM
-    };
-    shown(alloc, name, varying, policy_room, LABEL_ROOM)
-}
-
-/// The text of a name, not escaped yet, its policy cut where it would be wider than `room`.
-fn label_text(alloc: Global, name: &Name, varying: Varying, room: u32) -> io::Result<Vec<u8>> {
-    let mut text = readable(alloc, name.policy.as_slice(), room)?.into_bytes();
-    write_varying(&mut text, name, varying)?;
-    Ok(text)
-}
-
-/// Writes of the rest of a name what varies.
-fn write_varying(text: &mut Vec<u8>, name: &Name, varying: Varying) -> io::Result<()> {
-    if varying.sections {
-        let sections = name.sections;
-        write!(text, ", {sections} sections")?;
+impl Legend {
+    /// A name as it may stand in the picture: its policy, and of the rest what varies; of a table of one configuration its
+    /// caches. The policy is cut where it would be wider than `policy_room`, and the whole where it would be wider than `room`.
+    fn shown(self, alloc: Global, name: &Name, policy_room: u32, room: u32) -> io::Result<Vec<u8>> {
+        let text = self.label_text(alloc, name, policy_room)?;
+        let readable = readable(alloc, text.as_slice(), room)?;
+        Ok(escape(alloc, readable.as_bytes())?)
     }
-    if varying.blocks {
-        let block = Size(u128::from(name.block));
-        write!(text, ", {block} blocks")?;
+
+    /// The whole name of a polyline.
+    pub(crate) fn full_name(self, alloc: Global, name: &Name) -> io::Result<Vec<u8>> {
+        self.shown(alloc, name, u32::MAX, u32::MAX)
     }
-    Ok(())
+
+    /// The name of a polyline as it stands in the legend.
+    fn short_name(self, alloc: Global, name: &Name) -> io::Result<Vec<u8>> {
+        let policy_room = if self.varying.is_any() {
+            POLICY_ROOM
+        } else {
+            LABEL_ROOM
+        };
+        self.shown(alloc, name, policy_room, LABEL_ROOM)
+    }
+
+    /// The text of a name, not escaped yet, its policy cut where it would be wider than `room`.
+    fn label_text(self, alloc: Global, name: &Name, room: u32) -> io::Result<Vec<u8>> {
+        match self.layout {
+            Layout::OverTime => Ok(Vec::from_slice(alloc, caches_name(name.caches).as_bytes())?),
+            Layout::Sweep | Layout::SweepOverTime => {
+                let mut text = readable(alloc, name.policy.as_slice(), room)?.into_bytes();
+                self.write_varying(&mut text, name)?;
+                Ok(text)
+            }
+        }
+    }
+
+    /// Writes of the rest of a name what varies.
+    fn write_varying(self, text: &mut Vec<u8>, name: &Name) -> io::Result<()> {
+        if self.varying.sections {
+            let sections = name.sections;
+            write!(text, ", {sections} sections")?;
+        }
+        if self.varying.blocks {
+            let block = Size(u128::from(name.block));
+            write!(text, ", {block} blocks")?;
+        }
+        self.write_varying_flash(text, name)
+    }
+
+    /// Writes of the sizes of flash in a name what varies.
+    fn write_varying_flash(self, text: &mut Vec<u8>, name: &Name) -> io::Result<()> {
+        let edge_blocks = name.edge_blocks;
+        let origin_blocks = name.origin_blocks;
+        match (self.varying.edge_blocks, self.varying.origin_blocks) {
+            (false, false) => Ok(()),
+            (true, false) => write!(text, ", {edge_blocks} edge blocks"),
+            (false, true) => write!(text, ", {origin_blocks} origin blocks"),
+            (true, true) => write!(text, ", {edge_blocks} edge, {origin_blocks} origin blocks"),
+        }
+    }
+
+    /// Writes a line of the legend.
+    pub(crate) fn write_entry(
+        self,
+        alloc: Global,
+        out: &mut Vec<u8>,
+        place: usize,
+        name: &Name,
+    ) -> io::Result<()> {
+        open_group(out, place)?;
+        self.write_title(alloc, out, name)?;
+        self.write_sample(out, height_of(place))?;
+        self.write_label(alloc, out, name)
+    }
+
+    /// Writes the whole name of a polyline as the title of its line in the legend.
+    fn write_title(self, alloc: Global, out: &mut Vec<u8>, name: &Name) -> io::Result<()> {
+        let title = self.full_name(alloc, name)?;
+        out.extend_from_slice(b"<title>")?;
+        out.extend_from_slice(title.as_slice())?;
+        out.extend_from_slice(b"</title>")?;
+        Ok(())
+    }
+
+    /// Writes how a polyline and its points look, and where its label begins.
+    fn write_sample(self, out: &mut Vec<u8>, height: Hundredths) -> io::Result<()> {
+        let y = Pixels(height);
+        let base = Pixels(height.saturating_add(4_00));
+        let from = Pixels(LEGEND_LEFT);
+        let to = Pixels(LEGEND_LEFT + 28_00);
+        let text_x = Pixels(LEGEND_LEFT + 36_00);
+        write!(
+            out,
+            "<polyline class=\"line\" points=\"{from},{y} {to},{y}\"/>"
+        )?;
+        self.write_dot(out, y)?;
+        write!(out, "<text x=\"{text_x}\" y=\"{base}\">")
+    }
+
+    /// Writes how the points of a polyline look.
+    fn write_dot(self, out: &mut Vec<u8>, y: Pixels) -> io::Result<()> {
+        let Some(radius) = self.dots.radius() else {
+            return Ok(());
+        };
+        let middle = Pixels(LEGEND_LEFT + 14_00);
+        write!(
+            out,
+            "<circle class=\"dot\" cx=\"{middle}\" cy=\"{y}\" r=\"{radius}\"/>"
+        )
+    }
+
+    /// Writes the name of a polyline as the label of its line in the legend.
+    fn write_label(self, alloc: Global, out: &mut Vec<u8>, name: &Name) -> io::Result<()> {
+        let label = self.short_name(alloc, name)?;
+        out.extend_from_slice(label.as_slice())?;
+        out.extend_from_slice(b"</text></g>\n")?;
+        Ok(())
+    }
 }
 
 /// Writes the beginning of the group of a polyline or of its line in the legend: its colour and dashes.
@@ -96,52 +181,6 @@ fn height_of(place: usize) -> Hundredths {
 /// How far down a legend of so many polylines reaches.
 pub(crate) fn bottom_of(many: usize) -> Hundredths {
     height_of(many).saturating_add(LEGEND_STEP)
-}
-
-/// Writes a line of the legend.
-pub(crate) fn write_entry(
-    alloc: Global,
-    out: &mut Vec<u8>,
-    place: usize,
-    name: &Name,
-    varying: Varying,
-) -> io::Result<()> {
-    open_group(out, place)?;
-    write_title(alloc, out, name, varying)?;
-    write_sample(out, height_of(place))?;
-    write_label(alloc, out, name, varying)
-}
-
-/// Writes the whole name of a polyline as the title of its line in the legend.
-fn write_title(alloc: Global, out: &mut Vec<u8>, name: &Name, varying: Varying) -> io::Result<()> {
-    let title = full_name(alloc, name, varying)?;
-    out.extend_from_slice(b"<title>")?;
-    out.extend_from_slice(title.as_slice())?;
-    Ok(())
-}
-
-/// Writes how a polyline and its points look, and where its label begins.
-fn write_sample(out: &mut Vec<u8>, height: Hundredths) -> io::Result<()> {
-    let y = Pixels(height);
-    let base = Pixels(height.saturating_add(4_00));
-    let from = Pixels(LEGEND_LEFT);
-    let middle = Pixels(LEGEND_LEFT + 14_00);
-    let to = Pixels(LEGEND_LEFT + 28_00);
-    let text_x = Pixels(LEGEND_LEFT + 36_00);
-    write!(
-        out,
-        "</title><polyline class=\"line\" points=\"{from},{y} {to},{y}\"/>\
-         <circle class=\"dot\" cx=\"{middle}\" cy=\"{y}\" r=\"3.5\"/>\
-         <text x=\"{text_x}\" y=\"{base}\">"
-    )
-}
-
-/// Writes the name of a polyline as the label of its line in the legend.
-fn write_label(alloc: Global, out: &mut Vec<u8>, name: &Name, varying: Varying) -> io::Result<()> {
-    let label = short_name(alloc, name, varying)?;
-    out.extend_from_slice(label.as_slice())?;
-    out.extend_from_slice(b"</text></g>\n")?;
-    Ok(())
 }
 
 /// Writes how many polylines the legend leaves out.

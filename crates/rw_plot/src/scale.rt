@@ -1,6 +1,6 @@
 //! Where values stand on the axes.
 
-use crate::measure::Unit;
+use crate::subject::Unit;
 
 /// Hundredths of a pixel.
 pub(crate) type Hundredths = u32;
@@ -117,7 +117,7 @@ fn byte_unit(most: u128) -> u128 {
 /// The least of 1, 2, 5, 10, 20, 50 .. times `unit` of which `MOST_TICKS` reach `most`.
 fn step_to(most: u128, unit: u128) -> u128 {
     let mut power = unit;
-    for _ in 0..20 {
+    for _ in 0..32 {
         for factor in [1u128, 2, 5] {
             let step = power.saturating_mul(factor);
             if step.saturating_mul(MOST_TICKS) >= most {
@@ -131,14 +131,15 @@ fn step_to(most: u128, unit: u128) -> u128 {
 
 impl ValueAxis {
     /// The axis that holds values to `most`.
-    pub(crate) fn new(unit: Unit, most: u64) -> ValueAxis {
+    pub(crate) fn new(unit: Unit, most: u128) -> ValueAxis {
         let most = match (most, unit) {
             (0, Unit::Ratio) => 1_000_000,
             (0, Unit::Bytes | Unit::Count) => 10,
-            (most, _) => u128::from(most),
+            (0, Unit::Thousandths) => 10_000,
+            (most, _) => most,
         };
         let least = match unit {
-            Unit::Ratio | Unit::Count => 1,
+            Unit::Ratio | Unit::Count | Unit::Thousandths => 1,
             Unit::Bytes => byte_unit(most),
         };
         let step = step_to(most, least);

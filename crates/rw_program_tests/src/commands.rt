@@ -50,6 +50,16 @@ struct Given {
 }
 
 impl Source for Given {
+    type Reader = &'static [u8];
+
+    fn open(&mut self, path: &str) -> Result<&'static [u8], SourceFault> {
+        if path == "-" {
+            Ok(self.trace)
+        } else {
+            Err(SourceFault::Read)
+        }
+    }
+
     fn bytes(&mut self, alloc: Global, path: &str) -> Result<Vec<u8>, SourceFault> {
         if path != "-" {
             return Err(SourceFault::Read);
@@ -177,6 +187,317 @@ fn a_list_that_is_none_is_told(rt: HostRuntime) {
     }
 }
 
+/// A log of two rows, of which the second is half a unit behind the first.
+const LOG: &[u8] = b"10,a,5\n10.5,b,6\n";
+
+/// Imports of it as it is read, each with its exit status, the bytes that are written and what is told of it.
+const STREAMED: [(&str, (u8, usize), &str); 7] = [
+    (
+        "ripqwarp import --stream --time 0 --object 1 --size 2 -",
+        (0, 40),
+        "import kept 2 left out: length 0 time 0 edge 0 object 0 size 0 kind 0\n",
+    ),
+    (
+        "ripqwarp import --stream --epoch 10.25 --time 0 --object 1 --size 2 -",
+        (0, 32),
+        "import kept 1 left out: length 0 time 1 edge 0 object 0 size 0 kind 0\n",
+    ),
+    (
+        "ripqwarp import --stream --strict --time 0 --object 1 --size 0 -",
+        (3, 0),
+        "log: row 1 column 0: size\n",
+    ),
+    (
+        "ripqwarp import --stream --epoch x --time 0 --object 1 --size 2 -",
+        (2, 0),
+        "error: --epoch: no time of a log\n",
+    ),
+    (
+        "ripqwarp import --epoch 10 --time 0 --object 1 --size 2 -",
+        (2, 0),
+        "error: --epoch: only with --stream\n",
+    ),
+    (
+        "ripqwarp import --stream nothing",
+        (4, 0),
+        "file: cannot read\n",
+    ),
+    (
+        "ripqwarp import --stream -",
+        (3, 0),
+        "log: no column time\n",
+    ),
+];
+
+#[test]
+fn a_log_is_imported_as_it_is_read(rt: HostRuntime) {
+    let alloc = rt.alloc();
+    for (words, answer, told) in &STREAMED {
+        assert!(rt;
+            is_answered(&rt, alloc, words, LOG, *answer, told),
+            "for {words}"
+        );
+    }
+}
+
+/// Two requests of 4 bytes each. Each misses at the edge, and 3 ticks later at the origin; its answer comes 13 ticks after that, and
+/// nothing is stored.
+const APART: &[u8] = b"time,edge,object,size\n5,0,7,4\n100,0,8,4\n";
+
+/// What is counted of them in each 50 ticks, up to the first mark at which nothing is left to do.
+const OVER_TIME: &[u8] =
+    b"from,to,caches,requests,hits,misses,coalesced,late,bypassed,inserted,evicted,reinserted,promoted,writes,splits,merges,hit_bytes,request_bytes,hit_ratio,byte_hit_ratio,flash_bytes,written_bytes,backend_requests,backend_bytes\n0,50,edges,1,0,1,0,1,0,0,0,0,0,0,0,0,0,4,0.000000,0.000000,10,0,0,0\n0,50,origins,1,0,1,0,0,0,0,0,0,0,0,0,0,0,4,0.000000,0.000000,20,0,1,4\n0,50,all,2,0,2,0,1,0,0,0,0,0,0,0,0,0,8,0.000000,0.000000,30,0,1,4\n50,100,edges,0,0,0,0,0,0,0,0,0,0,0,0,0,0,0,0.000000,0.000000,10,0,0,0\n50,100,origins,0,0,0,0,0,0,0,0,0,0,0,0,0,0,0,0.000000,0.000000,20,0,0,0\n50,100,all,0,0,0,0,0,0,0,0,0,0,0,0,0,0,0,0.000000,0.000000,30,0,0,0\n100,150,edges,1,0,1,0,1,0,0,0,0,0,0,0,0,0,4,0.000000,0.000000,10,0,0,0\n100,150,origins,1,0,1,0,0,0,0,0,0,0,0,0,0,0,4,0.000000,0.000000,20,0,1,4\n100,150,all,2,0,2,0,1,0,0,0,0,0,0,0,0,0,8,0.000000,0.000000,30,0,1,4\n";
+
+/// The same from tick 100 on.
+const LAST_ONE: &[u8] =
+    b"from,to,caches,requests,hits,misses,coalesced,late,bypassed,inserted,evicted,reinserted,promoted,writes,splits,merges,hit_bytes,request_bytes,hit_ratio,byte_hit_ratio,flash_bytes,written_bytes,backend_requests,backend_bytes\n100,150,edges,1,0,1,0,1,0,0,0,0,0,0,0,0,0,4,0.000000,0.000000,10,0,0,0\n100,150,origins,1,0,1,0,0,0,0,0,0,0,0,0,0,0,4,0.000000,0.000000,20,0,1,4\n100,150,all,2,0,2,0,1,0,0,0,0,0,0,0,0,0,8,0.000000,0.000000,30,0,1,4\n";
+
+/// What `text`, a command line, writes of a trace, if its exit status is 0.
+fn written<R: Threads + Wait + Clock + Sync>(
+    rt: &R,
+    alloc: Global,
+    text: &str,
+    trace: &'static [u8],
+) -> Option<Vec<u8>> {
+    let words = words_of(alloc, text).ok()?;
+    let mut out = Out::new(Vec::new(alloc));
+    let mut err = Vec::new(alloc);
+    let status = command(rt, alloc, words, &mut Given { trace }, &mut out, &mut err);
+    (status == 0).then_some(out.into_inner())
+}
+
+/// Whether two command lines write the same, each of its trace.
+fn write_the_same<R: Threads + Wait + Clock + Sync>(
+    rt: &R,
+    alloc: Global,
+    first: (&str, &'static [u8]),
+    second: (&str, &'static [u8]),
+) -> bool {
+    let one = written(rt, alloc, first.0, first.1);
+    let other = written(rt, alloc, second.0, second.1);
+    match (one, other) {
+        (Some(one), Some(other)) => one.as_slice() == other.as_slice(),
+        _ => false,
+    }
+}
+
+/// Runs of them that ask for a table, each with what it writes.
+const TABLES: [(&str, &[u8]); 4] = [
+    (
+        "ripqwarp serial - --policy off --block 10 --edge-blocks 1 --origin-blocks 2 --every 50",
+        OVER_TIME,
+    ),
+    (
+        "ripqwarp serial - --policy off --block 10 --edge-blocks 1 --origin-blocks 2 --every 50 --stream",
+        OVER_TIME,
+    ),
+    (
+        "ripqwarp serial - --policy off --block 10 --edge-blocks 1 --origin-blocks 2 --every 50 --warm-up 100",
+        LAST_ONE,
+    ),
+    (
+        "ripqwarp serial - --policy off --block 10 --edge-blocks 1 --origin-blocks 2 --every 50 --warm-up 100 --stream",
+        LAST_ONE,
+    ),
+];
+
+#[test]
+fn a_run_tells_of_each_interval(rt: HostRuntime) {
+    let alloc = rt.alloc();
+    for (words, table) in &TABLES {
+        let is_table = match written(&rt, alloc, words, APART) {
+            Some(text) => text.as_slice() == *table,
+            None => false,
+        };
+        assert!(rt; is_table, "for {words}");
+    }
+}
+
+// Nothing is stored, so what is counted from tick 50 on is the report of the second request alone.
+#[test]
+fn a_run_that_is_read_as_it_goes_leaves_the_same_report(rt: HostRuntime) {
+    let alloc = rt.alloc();
+    let second: &[u8] = b"time,edge,object,size\n100,0,8,4\n";
+    let report = ("ripqwarp serial - --policy off", APART);
+    let streamed = ("ripqwarp serial - --policy off --stream", APART);
+    assert!(rt; write_the_same(&rt, alloc, report, streamed));
+    let report = ("ripqwarp serial - --policy off", second);
+    let warm = ("ripqwarp serial - --policy off --warm-up 50", APART);
+    assert!(rt; write_the_same(&rt, alloc, report, warm));
+    let streamed = (
+        "ripqwarp serial - --policy off --warm-up 50 --stream",
+        APART,
+    );
+    assert!(rt; write_the_same(&rt, alloc, report, streamed));
+}
+
+/// Runs of rows out of order, and of commands that do not take these options, each with its exit status and what is told of it.
+const NOT_STREAMED: [(&str, u8, &str); 5] = [
+    ("ripqwarp serial - --stream", 3, "trace: row 1: order\n"),
+    (
+        "ripqwarp serial - --stream --every 50",
+        3,
+        "trace: row 1: order\n",
+    ),
+    ("ripqwarp serial nothing --stream", 4, "file: cannot read\n"),
+    (
+        "ripqwarp warp - --stream",
+        2,
+        "error: --stream: warp does not take it; serial and sweep do\n",
+    ),
+    (
+        "ripqwarp journal - --every=5",
+        2,
+        "error: --every: journal does not take it; serial and sweep do\n",
+    ),
+];
+
+#[test]
+fn faults_of_runs_that_are_read_as_they_go(rt: HostRuntime) {
+    let alloc = rt.alloc();
+    let late = b"time,edge,object,size\n100,0,7,4\n5,0,8,4\n9,1,8,4\n";
+    for (words, status, told) in &NOT_STREAMED {
+        assert!(rt;
+            is_answered(&rt, alloc, words, late, (*status, 0), told),
+            "for {words}"
+        );
+    }
+}
+
+/// A binary log of three records: the requests of [`APART`], and between them one of no size.
+const RECORDS: &[u8] = b"\x05\0\0\0\x07\0\0\0\0\0\0\0\x04\0\0\0\xff\xff\xff\xff\xff\xff\xff\xff\
+    \x32\0\0\0\x09\0\0\0\0\0\0\0\0\0\0\0\xff\xff\xff\xff\xff\xff\xff\xff\
+    \x64\0\0\0\x08\0\0\0\0\0\0\0\x04\0\0\0\xff\xff\xff\xff\xff\xff\xff\xff";
+
+/// Runs of a binary log, each with a run of the trace that it writes the same as.
+const OF_RECORDS: [(&str, &str); 4] = [
+    (
+        "ripqwarp serial - --policy off --stream --from oracle-general --ticks 1 --epoch 0",
+        "ripqwarp serial - --policy off",
+    ),
+    (
+        "ripqwarp serial - --policy lru --every 50 --stream --from oracle-general --ticks 1 --epoch 0",
+        "ripqwarp serial - --policy lru --every 50",
+    ),
+    (
+        "ripqwarp sweep - --policy off,lru --stream --from oracle-general --ticks 1 --epoch 0",
+        "ripqwarp sweep - --policy off,lru",
+    ),
+    (
+        "ripqwarp sweep - --warm-up 50 --stream --from oracle-general --ticks 1 --epoch 0 --edge-by object",
+        "ripqwarp sweep - --warm-up 50",
+    ),
+];
+
+#[test]
+fn a_binary_log_runs_as_its_trace_does(rt: HostRuntime) {
+    let alloc = rt.alloc();
+    for (log, trace) in &OF_RECORDS {
+        assert!(rt;
+            write_the_same(&rt, alloc, (*log, RECORDS), (*trace, APART)),
+            "for {log}"
+        );
+    }
+}
+
+/// What is told of runs of a binary log, each with its exit status.
+const OF_LOGS: [(&str, u8, &str); 8] = [
+    (
+        "ripqwarp sweep - --list --from oracle-general --policy lru --stream",
+        0,
+        "",
+    ),
+    (
+        "ripqwarp serial - --stream --from oracle-general --ticks 1000000000 --policy off",
+        0,
+        "serial kept 2 left out: length 0 time 0 edge 0 object 0 size 1 kind 0\n",
+    ),
+    (
+        "ripqwarp serial - --stream --from oracle-general --epoch 6 --policy off",
+        0,
+        "serial kept 1 left out: length 0 time 1 edge 0 object 0 size 1 kind 0\n",
+    ),
+    (
+        "ripqwarp sweep - --stream --from oracle-general --policy off",
+        0,
+        "sweep kept 2 left out: length 0 time 0 edge 0 object 0 size 1 kind 0\n",
+    ),
+    (
+        "ripqwarp serial - --from oracle-general",
+        2,
+        "error: --from oracle-general: only with --stream\n",
+    ),
+    (
+        "ripqwarp sweep - --ticks 5 --stream",
+        2,
+        "error: --ticks: only with --from oracle-general\n",
+    ),
+    (
+        "ripqwarp serial - --edge-by object",
+        2,
+        "error: --edge-by: only with --from oracle-general\n",
+    ),
+    (
+        "ripqwarp serial nothing --stream --from oracle-general",
+        4,
+        "file: cannot read\n",
+    ),
+];
+
+#[test]
+fn what_is_left_out_of_a_binary_log_is_told(rt: HostRuntime) {
+    let alloc = rt.alloc();
+    for (words, status, told) in &OF_LOGS {
+        let mut err = Vec::new(alloc);
+        let answered = ripqwarp(&rt, alloc, words, RECORDS, &mut err);
+        let is_ended = matches!(answered, Some((ended, _)) if ended == *status);
+        assert!(rt;
+            is_ended && err.as_slice() == told.as_bytes(),
+            "for {words}"
+        );
+    }
+}
+
+// The second record is before the first, and behind it stands one of no size: what is named is its number in the log.
+#[test]
+fn a_binary_log_out_of_order_is_told(rt: HostRuntime) {
+    let alloc = rt.alloc();
+    let turned: &[u8] = b"\x05\0\0\0\x07\0\0\0\0\0\0\0\x04\0\0\0\0\0\0\0\0\0\0\0\
+        \x05\0\0\0\x07\0\0\0\0\0\0\0\0\0\0\0\0\0\0\0\0\0\0\0\
+        \x04\0\0\0\x08\0\0\0\0\0\0\0\x04\0\0\0\0\0\0\0\0\0\0\0";
+    for words in [
+        "ripqwarp serial - --stream --from oracle-general --epoch 0",
+        "ripqwarp sweep - --stream --from oracle-general --epoch 0",
+    ] {
+        let told = "trace: row 2: order\n";
+        assert!(rt;
+            is_answered(&rt, alloc, words, turned, (3, 0), told),
+            "for {words}"
+        );
+    }
+}
+
+#[test]
+fn a_stream_shows_how_many_rows_are_read(rt: HostRuntime) -> Result<(), AllocError> {
+    let alloc = rt.alloc();
+    for (text, name) in [
+        ("ripqwarp serial - --policy off --stream", "serial"),
+        ("ripqwarp sweep - --policy off --stream", "sweep"),
+    ] {
+        let words = words_of(alloc, text)?;
+        let mut out = Out::new(Vec::new(alloc));
+        let mut err = Vec::new(alloc);
+        let source = &mut Given { trace: APART };
+        let status = command_at(&rt, alloc, words, source, &mut out, &mut err, true);
+        let shown = format!(in alloc; "\r\x1b[K{name} 0 rows read\r\x1b[K")?;
+        assert!(rt;
+            status == 0 && err.as_slice() == shown.as_bytes(),
+            "for {text}"
+        );
+    }
+    Ok(())
+}
+
 /// How many lines a text has.
 fn lines(text: &[u8]) -> usize {
     let mut count = 0_usize;
@@ -252,6 +573,69 @@ fn a_failing_standard_error_is_ignored(rt: HostRuntime) {
     for (words, fails_in, answer) in &IN_VAIN {
         let is_answered = is_answered_in_vain(&rt, alloc, words, *fails_in, *answer);
         assert!(rt; is_answered, "for {words}, in {fails_in}");
+    }
+}
+
+/// A part of a sweep over one combination.
+const PART: &[u8] =
+    b"place,policy,sections,block,edge_blocks,origin_blocks,caches,requests,hits,misses,coalesced,late,bypassed,inserted,evicted,reinserted,promoted,writes,splits,merges,hit_bytes,request_bytes,hit_ratio,byte_hit_ratio,flash_bytes,written_bytes,backend_requests\n\
+    0,lru,1,10,2,2,edges,1,0,1,0,1,0,0,0,0,0,0,0,0,0,4,0.000000,0.000000,20,0,0\n\
+    0,lru,1,10,2,2,origins,1,0,1,0,0,0,0,0,0,0,0,0,0,0,4,0.000000,0.000000,20,0,1\n\
+    0,lru,1,10,2,2,all,2,0,2,0,1,0,0,0,0,0,0,0,0,0,8,0.000000,0.000000,40,0,1\n";
+
+/// A command line of each command in each of its ways to write, and what it reads.
+const WRITING: [(&str, &[u8]); 18] = [
+    ("ripqwarp --help", b""),
+    ("ripqwarp warp --help", b""),
+    ("ripqwarp serial -", TRACE),
+    ("ripqwarp serial - --stream", TRACE),
+    ("ripqwarp serial - --every 5", TRACE),
+    ("ripqwarp serial - --stream --warm-up 5", TRACE),
+    ("ripqwarp serial - --stream --from oracle-general", RECORDS),
+    ("ripqwarp warp -", TRACE),
+    ("ripqwarp warp - --workers 1", TRACE),
+    ("ripqwarp journal - --schedule E0", TRACE),
+    ("ripqwarp import - --time 0 --object 1 --size 2", LOG),
+    (
+        "ripqwarp import - --stream --time 0 --object 1 --size 2",
+        LOG,
+    ),
+    ("ripqwarp import - --from oracle-general", RECORDS),
+    ("ripqwarp sweep - --policy off", TRACE),
+    ("ripqwarp sweep - --policy off --part 0/2 --every 5", TRACE),
+    ("ripqwarp sweep - --policy off --stream", TRACE),
+    ("ripqwarp sweep --list", b""),
+    ("ripqwarp join -", PART),
+];
+
+/// Whether a command line whose writer fails in so many writes has the exit status 8, and `output` on standard error alone.
+fn fails_to_write<R: Threads + Wait + Clock + Sync>(
+    rt: &R,
+    alloc: Global,
+    (words, given): (&str, &'static [u8]),
+    (fails_in, flush_fails): (u32, bool),
+) -> bool {
+    let Ok(words) = words_of(alloc, words) else {
+        return false;
+    };
+    let mut out = Out::new(Pipe::new(alloc, 1 << 20, fails_in, flush_fails));
+    let mut err = Vec::new(alloc);
+    let source = &mut Given { trace: given };
+    let status = command(rt, alloc, words, source, &mut out, &mut err);
+    status == 8 && err.as_slice() == b"output\n".as_slice()
+}
+
+// A full disk: no command may then end as if all were written.
+#[test]
+fn a_command_that_cannot_write_ends_with_8(rt: HostRuntime) {
+    let alloc = rt.alloc();
+    for (words, given) in &WRITING {
+        for how in [(0, false), (1 << 20, true)] {
+            assert!(rt;
+                fails_to_write(&rt, alloc, (*words, *given), how),
+                "for {words}"
+            );
+        }
     }
 }
 

@@ -26,3 +26,5 @@ mod reports;
 mod shown;
 #[cfg(test)]
 mod sweeps;
+#[cfg(test)]
+mod workers;

@@ -1,30 +1,48 @@
-// Pictures of sweeps: the fault of each text that is refused, and pieces of what is drawn.
+// Pictures of tables: the fault of each text that is refused, and pieces of what is drawn.
 use crate::shown::is_shown;
-use rw_plot::{Caches, Measure, escape, line_limit, plot};
+use rw_plot::{Caches, Drawing, Measure, PlotFault, escape, plot};
+use rw_tables::line_limit;
 use std::alloc::{AllocError, Global};
 
 /// The header of a sweep.
 const HEADER: &[u8] =
     b"policy,sections,block,edge_blocks,origin_blocks,caches,requests,hits,misses,coalesced,late,bypassed,inserted,evicted,reinserted,promoted,writes,splits,merges,hit_bytes,request_bytes,hit_ratio,byte_hit_ratio,flash_bytes,written_bytes,backend_requests\n";
 
-/// A body behind the header.
-fn behind_header(alloc: Global, body: &[u8]) -> Result<Vec<u8>, AllocError> {
-    let mut text = Vec::from_slice(alloc, HEADER)?;
+/// The header of a table of one configuration over time.
+const TIME_HEADER: &[u8] =
+    b"from,to,caches,requests,hits,misses,coalesced,late,bypassed,inserted,evicted,reinserted,promoted,writes,splits,merges,hit_bytes,request_bytes,hit_ratio,byte_hit_ratio,flash_bytes,written_bytes,backend_requests,backend_bytes\n";
+
+/// The header of a sweep's table over time.
+const SWEEP_TIME_HEADER: &[u8] =
+    b"policy,sections,block,edge_blocks,origin_blocks,from,to,caches,requests,hits,misses,coalesced,late,bypassed,inserted,evicted,reinserted,promoted,writes,splits,merges,hit_bytes,request_bytes,hit_ratio,byte_hit_ratio,flash_bytes,written_bytes,backend_requests,backend_bytes\n";
+
+/// A body behind a header.
+fn behind(alloc: Global, header: &[u8], body: &[u8]) -> Result<Vec<u8>, AllocError> {
+    let mut text = Vec::from_slice(alloc, header)?;
     text.extend_from_slice(body)?;
     Ok(text)
 }
 
+/// A drawing of a measure, of the caches that are drawn by default, at a thousand ticks a second.
+fn drawing_of(measure: Measure) -> Drawing {
+    Drawing {
+        measure,
+        caches: None,
+        ticks_a_second: 1000,
+    }
+}
+
 /// Whether a text is not drawn, with this line.
 fn is_refused(alloc: Global, text: &[u8], line: &str) -> bool {
-    matches!(plot(alloc, text, Measure::HitRatio, Caches::All), Err(fault) if is_shown(&fault, line))
+    matches!(plot(alloc, text, drawing_of(Measure::HitRatio)), Err(fault) if is_shown(&fault, line))
 }
 
-/// Whether a body behind the header is not drawn, with this line.
-fn is_body_refused(alloc: Global, body: &[u8], line: &str) -> bool {
-    matches!(behind_header(alloc, body), Ok(text) if is_refused(alloc, text.as_slice(), line))
+/// Whether a body behind a header is not drawn, with this line.
+fn is_body_refused(alloc: Global, header: &[u8], body: &[u8], line: &str) -> bool {
+    matches!(behind(alloc, header, body), Ok(text) if is_refused(alloc, text.as_slice(), line))
 }
 
-/// Bodies behind the header, each with the line of its fault.
+/// Bodies behind the header of a sweep, each with the line of its fault.
 const FAULTS: [(&[u8], &str); 10] = [
     (b"", "sweep: nothing to plot"),
     (b"a,8\n", "sweep: row 0: length"),
@@ -66,8 +84,88 @@ const FAULTS: [(&[u8], &str); 10] = [
 fn each_fault_has_its_line(rt: HostRuntime) {
     line_limit();
     for (body, line) in &FAULTS {
-        assert!(rt; is_body_refused(rt.alloc(), body, line), "for {line}");
+        assert!(rt;
+            is_body_refused(rt.alloc(), HEADER, body, line),
+            "for {line}"
+        );
     }
+}
+
+/// Bodies behind the header of a table of one configuration over time, each with the line of its fault.
+const TIME_FAULTS: [(&[u8], &str); 8] = [
+    (b"", "sweep: nothing to plot"),
+    (b"0,2000,all,10\n", "sweep: row 0: length"),
+    (
+        b"0,2000,all,10,6,4,1,0,0,3,0,0,0,2,0,0,600,1000,0.600000,0.600000,4096,2048,1,90\n9,9,all,10,6,4,1,0,0,3,0,0,0,2,0,0,600,1000,0.600000,0.600000,4096,2048,1,90\n",
+        "sweep: row 1 column 1: number",
+    ),
+    (
+        b"-1,2000,none,10,6,4,1,0,0,3,0,0,0,2,0,0,600,1000,0.600000,0.600000,4096,2048,1,90\n",
+        "sweep: row 0 column 0: number",
+    ),
+    (
+        b"0,2000,none,10,6,4,1,0,0,3,0,0,0,2,0,0,x,1000,0.600000,0.600000,4096,2048,1,90\n",
+        "sweep: row 0: caches",
+    ),
+    (
+        b"0,2000,all,10,6,4,1,0,0,3,0,0,0,2,0,0,x,1000,0.600000,0.600000,4096,2048,1,90\n",
+        "sweep: row 0 column 16: number",
+    ),
+    (
+        b"0,2000,all,10,6,4,1,0,0,3,0,0,0,2,0,0,600,1000,1.000001,0.600000,4096,2048,1,90\n",
+        "sweep: row 0 column 18: number",
+    ),
+    (
+        b"0,2000,all,10,6,4,1,0,0,3,0,0,0,2,0,0,600,1000,0.600000,0.600000,4096,2048,1,18446744073709551616\n",
+        "sweep: row 0 column 23: number",
+    ),
+];
+
+/// Bodies behind the header of a sweep's table over time, each with the line of its fault.
+const SWEEP_TIME_FAULTS: [(&[u8], &str); 5] = [
+    (
+        b"lru,8,1024,4,6,0,2000,edges,10,6,4,1,0,0,3,0,0,0,2,0,0,600,1000,0.600000,0.600000,4096,2048,0,0\n",
+        "sweep: nothing to plot",
+    ),
+    (
+        b"lru,8,1024,x,6,5,4,all,10,6,4,1,0,0,3,0,0,0,2,0,0,600,1000,0.600000,0.600000,4096,2048,0,0\n",
+        "sweep: row 0 column 3: number",
+    ),
+    (
+        b"lru,8,1024,4,6,5,4,all,10,6,4,1,0,0,3,0,0,0,2,0,0,600,1000,0.600000,0.600000,4096,2048,0,0\n",
+        "sweep: row 0 column 6: number",
+    ),
+    (
+        b"lru,8,1024,4,6,0,2000,all,10,6,4,1,0,0,3,0,0,0,2,0,0,600,1000,0.600000,0.60000,4096,2048,0,0\n",
+        "sweep: row 0 column 24: number",
+    ),
+    (
+        b"lru,8,1024,4,6,0,2000,all,10,6,4,1,0,0,3,0,0,0,2,0,0,600,1000,0.600000,0.600000,4096,2048,0,\n",
+        "sweep: row 0 column 28: number",
+    ),
+];
+
+#[test]
+fn each_fault_over_time_has_its_line(rt: HostRuntime) {
+    for (body, line) in &TIME_FAULTS {
+        assert!(rt;
+            is_body_refused(rt.alloc(), TIME_HEADER, body, line),
+            "for {line}"
+        );
+    }
+    for (body, line) in &SWEEP_TIME_FAULTS {
+        assert!(rt;
+            is_body_refused(rt.alloc(), SWEEP_TIME_HEADER, body, line),
+            "for {line}"
+        );
+    }
+}
+
+#[test]
+fn a_sweep_does_not_tell_the_bytes_of_the_backend(rt: HostRuntime) {
+    let answer = plot(rt.alloc(), HEADER, drawing_of(Measure::BackendBytes));
+    assert!(rt; matches!(answer, Err(PlotFault::NoBackendBytes)));
+    assert!(rt; is_shown(&PlotFault::NoBackendBytes, "sweep: no column backend_bytes"));
 }
 
 #[test]
@@ -77,16 +175,16 @@ fn another_header_is_refused(rt: HostRuntime) {
     assert!(rt; is_refused(alloc, b"policy,sections\n", "sweep: header"));
 }
 
-/// What is drawn of a body, as text.
-fn drawn(alloc: Global, body: &[u8], measure: Measure) -> Option<String> {
-    let text = behind_header(alloc, body).ok()?;
-    let picture = plot(alloc, text.as_slice(), measure, Caches::All).ok()?;
+/// What is drawn of a body behind a header, as text.
+fn drawn(alloc: Global, header: &[u8], body: &[u8], drawing: Drawing) -> Option<String> {
+    let text = behind(alloc, header, body).ok()?;
+    let picture = plot(alloc, text.as_slice(), drawing).ok()?;
     String::from_utf8(picture).ok()
 }
 
-/// Whether this piece is in what is drawn of a body.
-fn is_drawn(alloc: Global, body: &[u8], measure: Measure, piece: &str) -> bool {
-    matches!(drawn(alloc, body, measure), Some(picture) if picture.as_str().contains(piece))
+/// Whether this piece is in what is drawn of a body behind a header.
+fn is_drawn(alloc: Global, header: &[u8], body: &[u8], drawing: Drawing, piece: &str) -> bool {
+    matches!(drawn(alloc, header, body, drawing), Some(picture) if picture.as_str().contains(piece))
 }
 
 /// A point.
@@ -107,7 +205,123 @@ const PIECES: [(Measure, &str); 4] = [
 #[test]
 fn a_point_has_its_numbers(rt: HostRuntime) {
     for (measure, piece) in &PIECES {
-        assert!(rt; is_drawn(rt.alloc(), POINT, *measure, piece), "for {piece}");
+        assert!(rt;
+            is_drawn(rt.alloc(), HEADER, POINT, drawing_of(*measure), piece),
+            "for {piece}"
+        );
+    }
+}
+
+/// Two seconds of one configuration, at a thousand ticks a second.
+const SECONDS: &[u8] =
+    b"0,2000,edges,10,6,4,1,0,0,3,0,0,0,2,0,0,600,1000,0.600000,0.600000,4096,2048,0,0\n0,2000,origins,3,0,3,0,0,0,3,0,0,0,1,0,0,0,400,0.000000,0.000000,4096,1024,3,400\n0,2000,all,13,6,7,1,0,0,6,0,0,0,3,0,0,600,1400,0.461538,0.428571,8192,3072,3,400\n";
+
+/// What is drawn of them, by what is measured.
+const TIME_PIECES: [(Measure, &str); 8] = [
+    (Measure::HitRatio, "<title>Hit ratio over time</title>"),
+    (
+        Measure::HitRatio,
+        "edge caches: Hit ratio 0.600000; from tick 0 to 2000</title>",
+    ),
+    (Measure::HitRatio, ">origin caches</text>"),
+    (
+        Measure::ByteHitRatio,
+        "all caches: Byte hit ratio 0.428571;",
+    ),
+    (Measure::HitRatio, ">Time (seconds)</text>"),
+    (
+        Measure::FlashWrites,
+        "all caches: Bytes written to flash per second 1536 bytes;",
+    ),
+    (
+        Measure::BackendRequests,
+        "origin caches: Backend requests per second 1.5;",
+    ),
+    (
+        Measure::BackendBytes,
+        "all caches: Backend bytes per second 200 bytes;",
+    ),
+];
+
+#[test]
+fn intervals_have_their_rates(rt: HostRuntime) {
+    for (measure, piece) in &TIME_PIECES {
+        assert!(rt;
+            is_drawn(
+                rt.alloc(),
+                TIME_HEADER,
+                SECONDS,
+                drawing_of(*measure),
+                piece
+            ),
+            "for {piece}"
+        );
+    }
+}
+
+/// What is drawn of the flash of the edges alone, at so many ticks a second.
+fn edges_at(ticks_a_second: u32) -> Drawing {
+    Drawing {
+        measure: Measure::FlashWrites,
+        caches: Some(Caches::Edges),
+        ticks_a_second,
+    }
+}
+
+/// What is drawn of the flash of the edges, by the ticks of a second: of 2048 bytes in 2000 ticks.
+const EDGE_PIECES: [(u32, &str); 4] = [
+    (
+        1,
+        "<title>Bytes written to flash per second over time, edge caches</title>",
+    ),
+    (1, "edge caches: Bytes written to flash per second 1 bytes;"),
+    (1, ">Time (minutes)</text>"),
+    (
+        1_000_000_000,
+        "edge caches: Bytes written to flash per second 1024000000 bytes;",
+    ),
+];
+
+#[test]
+fn the_ticks_of_a_second_are_told(rt: HostRuntime) {
+    for (ticks_a_second, piece) in &EDGE_PIECES {
+        let drawing = edges_at(*ticks_a_second);
+        assert!(rt;
+            is_drawn(rt.alloc(), TIME_HEADER, SECONDS, drawing, piece),
+            "for {piece}"
+        );
+    }
+    assert!(rt;
+        !is_drawn(
+            rt.alloc(),
+            TIME_HEADER,
+            SECONDS,
+            edges_at(1),
+            "origin caches"
+        )
+    );
+}
+
+/// Two configurations of a sweep over a day, at a thousand ticks a second.
+const DAY: &[u8] =
+    b"lru,8,1024,4,6,0,86400000,all,10,6,4,1,0,0,3,0,0,0,2,0,0,600,1000,0.600000,0.600000,4096,2048,4,400\nlru,8,1024,8,6,0,86400000,all,10,7,3,1,0,0,3,0,0,0,2,0,0,700,1000,0.700000,0.700000,4096,2048,3,300\n";
+
+/// What is drawn of their hit ratios.
+const DAY_PIECES: [&str; 4] = [
+    "<title>Hit ratio over time, all caches</title>",
+    ">lru, 4 edge blocks</text>",
+    "lru, 8 edge blocks: Hit ratio 0.700000; from tick 0 to 86400000; 8 sections, blocks of 1024 bytes, 8 edge blocks, 6 origin blocks</title>",
+    ">Time (hours)</text>",
+];
+
+#[test]
+fn configurations_have_lines_of_their_own(rt: HostRuntime) {
+    for piece in &DAY_PIECES {
+        let drawing = drawing_of(Measure::HitRatio);
+        assert!(rt;
+            is_drawn(rt.alloc(), SWEEP_TIME_HEADER, DAY, drawing, piece),
+            "for {piece}"
+        );
     }
 }
 

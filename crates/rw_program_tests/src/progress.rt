@@ -25,7 +25,7 @@ impl Clock for Watch {
 }
 
 /// So much of a whole, the milliseconds spent, and how this is told of a run `a`.
-const TOLD: [(Measure, u64, u64, u64, &str); 6] = [
+const TOLD: [(Measure, u64, u64, u64, &str); 8] = [
     (Measure::Time, 0, 100, 500, "a 0%"),
     (Measure::Time, 7, 100, 500, "a 7%, 0:06 left"),
     (Measure::Time, 0, 0, 500, "a 100%"),
@@ -38,6 +38,8 @@ const TOLD: [(Measure, u64, u64, u64, &str); 6] = [
     ),
     (Measure::Pieces, 1, 3, 3661000, "a 1 of 3, 2:02:02 left"),
     (Measure::Pieces, 5, 3, 1000, "a 3 of 3"),
+    (Measure::BytesSoFar, 300, u64::MAX, 1000, "a 300 bytes read"),
+    (Measure::RowsSoFar, 0, u64::MAX, 1000, "a 0 rows read"),
 ];
 
 /// Whether so much of a whole is told so, after so many milliseconds.
@@ -66,8 +68,11 @@ fn tell<E: Write>(err: &mut E, shown: bool) {
     watch.millis.set(2000);
     line.reach(200);
     line.about_to_write();
+    line.reach(240);
+    watch.millis.set(2250);
     line.reach(250);
     line.reach(260);
+    line.reach(300);
 }
 
 /// Whether this is drawn of such a run.
@@ -77,11 +82,11 @@ fn is_drawn(alloc: Global, shown: bool, drawn: &[u8]) -> bool {
     err.as_slice() == drawn
 }
 
-// Not before a run begins, at once when it does, not within a quarter of a second, and at once where it was taken away.
+// Not before a run begins, at once when it does, not within a quarter of a second, and at once when it has come to its end.
 #[test]
 fn when_a_line_is_drawn(rt: HostRuntime) {
     let drawn =
-        b"\r\x1b[Kserial 0%\r\x1b[Kserial 50%, 0:01 left\r\x1b[K\r\x1b[Kserial 75%, 0:00 left\r\x1b[K";
+        b"\r\x1b[Kserial 0%\r\x1b[Kserial 50%, 0:01 left\r\x1b[K\r\x1b[Kserial 75%, 0:00 left\r\x1b[Kserial 100%\r\x1b[K";
     assert!(rt; is_drawn(rt.alloc(), true, drawn));
     assert!(rt; is_drawn(rt.alloc(), false, b""));
 }

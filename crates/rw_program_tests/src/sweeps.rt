@@ -4,7 +4,7 @@ use crate::pipe::{Pipe, holds};
 use rw_photo::{Levels, Policy};
 use rw_progress::{Progress, Silent};
 use rw_ripqwarp::{Out, SimFault};
-use rw_sweep::{Grid, GridFault, sweep};
+use rw_sweep::{Grid, GridFault, Outlook, Part, Sweeping, sweep, sweep_over_time, sweep_stream};
 use rw_trace::TraceFault;
 use std::alloc::Global;
 use std::thread::Threads;
@@ -208,4 +208,124 @@ fn a_writer_that_fails_holds_whole_lines(rt: HostRuntime) {
         let is_cut_off = is_cut_off(&rt, rt.alloc(), *workers, pipe, first_lines(*lines));
         assert!(rt; is_cut_off, "by {workers} in {fails_in}");
     }
+}
+
+/// What is counted in each 50 ticks where nothing is stored: a request in the first and in the third.
+const OVER_TIME: &[u8] =
+    b"policy,sections,block,edge_blocks,origin_blocks,from,to,caches,requests,hits,misses,coalesced,late,bypassed,inserted,evicted,reinserted,promoted,writes,splits,merges,hit_bytes,request_bytes,hit_ratio,byte_hit_ratio,flash_bytes,written_bytes,backend_requests,backend_bytes\noff,1,10,1,2,0,50,edges,1,0,1,0,1,0,0,0,0,0,0,0,0,0,4,0.000000,0.000000,10,0,0,0\noff,1,10,1,2,0,50,origins,1,0,1,0,0,0,0,0,0,0,0,0,0,0,4,0.000000,0.000000,20,0,1,4\noff,1,10,1,2,0,50,all,2,0,2,0,1,0,0,0,0,0,0,0,0,0,8,0.000000,0.000000,30,0,1,4\noff,1,10,1,2,50,100,edges,0,0,0,0,0,0,0,0,0,0,0,0,0,0,0,0.000000,0.000000,10,0,0,0\noff,1,10,1,2,50,100,origins,0,0,0,0,0,0,0,0,0,0,0,0,0,0,0,0.000000,0.000000,20,0,0,0\noff,1,10,1,2,50,100,all,0,0,0,0,0,0,0,0,0,0,0,0,0,0,0,0.000000,0.000000,30,0,0,0\noff,1,10,1,2,100,150,edges,1,0,1,0,1,0,0,0,0,0,0,0,0,0,4,0.000000,0.000000,10,0,0,0\noff,1,10,1,2,100,150,origins,1,0,1,0,0,0,0,0,0,0,0,0,0,0,4,0.000000,0.000000,20,0,1,4\noff,1,10,1,2,100,150,all,2,0,2,0,1,0,0,0,0,0,0,0,0,0,8,0.000000,0.000000,30,0,1,4\n";
+
+/// What is counted in all ticks, in one interval: the counts of the table.
+const IN_ONE: &[u8] =
+    b"policy,sections,block,edge_blocks,origin_blocks,from,to,caches,requests,hits,misses,coalesced,late,bypassed,inserted,evicted,reinserted,promoted,writes,splits,merges,hit_bytes,request_bytes,hit_ratio,byte_hit_ratio,flash_bytes,written_bytes,backend_requests,backend_bytes\noff,1,10,1,2,0,1000,edges,2,0,2,0,2,0,0,0,0,0,0,0,0,0,8,0.000000,0.000000,10,0,0,0\noff,1,10,1,2,0,1000,origins,2,0,2,0,0,0,0,0,0,0,0,0,0,0,8,0.000000,0.000000,20,0,2,8\noff,1,10,1,2,0,1000,all,4,0,4,0,2,0,0,0,0,0,0,0,0,0,16,0.000000,0.000000,30,0,2,8\n";
+
+/// What is counted from tick 50 on: the second request.
+const WARM: &[u8] =
+    b"policy,sections,block,edge_blocks,origin_blocks,caches,requests,hits,misses,coalesced,late,bypassed,inserted,evicted,reinserted,promoted,writes,splits,merges,hit_bytes,request_bytes,hit_ratio,byte_hit_ratio,flash_bytes,written_bytes,backend_requests\noff,1,10,1,2,edges,1,0,1,0,1,0,0,0,0,0,0,0,0,0,4,0.000000,0.000000,10,0,0\noff,1,10,1,2,origins,1,0,1,0,0,0,0,0,0,0,0,0,0,0,4,0.000000,0.000000,20,0,1\noff,1,10,1,2,all,2,0,2,0,1,0,0,0,0,0,0,0,0,0,8,0.000000,0.000000,30,0,1\n";
+
+/// What is counted under `lru`, at place 1, from tick 50 on, in intervals of 60 ticks: the second request, which the origin stores when
+/// it asks the backend, and then its fill, which the edge stores.
+const PART_OVER_TIME: &[u8] =
+    b"place,policy,sections,block,edge_blocks,origin_blocks,from,to,caches,requests,hits,misses,coalesced,late,bypassed,inserted,evicted,reinserted,promoted,writes,splits,merges,hit_bytes,request_bytes,hit_ratio,byte_hit_ratio,flash_bytes,written_bytes,backend_requests,backend_bytes\n1,lru,1,10,1,2,50,110,edges,1,0,1,0,0,0,0,0,0,0,0,0,0,0,4,0.000000,0.000000,10,0,0,0\n1,lru,1,10,1,2,50,110,origins,1,0,1,0,0,0,1,0,0,0,0,0,0,0,4,0.000000,0.000000,20,0,1,4\n1,lru,1,10,1,2,50,110,all,2,0,2,0,0,0,1,0,0,0,0,0,0,0,8,0.000000,0.000000,30,0,1,4\n1,lru,1,10,1,2,110,170,edges,0,0,0,0,1,0,1,0,0,0,0,0,0,0,0,0.000000,0.000000,10,0,0,0\n1,lru,1,10,1,2,110,170,origins,0,0,0,0,0,0,0,0,0,0,0,0,0,0,0,0.000000,0.000000,20,0,0,0\n1,lru,1,10,1,2,110,170,all,0,0,0,0,1,0,1,0,0,0,0,0,0,0,0,0.000000,0.000000,30,0,0,0\n";
+
+/// What a sweep of a trace writes, or why it does not; read as it is run, or not.
+fn text_of<R: Threads + Sync>(
+    rt: &R,
+    alloc: Global,
+    trace: &'static [u8],
+    sweeping: &Sweeping<'_>,
+    streamed: bool,
+) -> Result<Vec<u8>, SimFault> {
+    let mut out = Out::new(Vec::new(alloc));
+    if streamed {
+        sweep_stream(rt, alloc, trace, sweeping, &mut Silent, &mut out)?;
+    } else {
+        sweep_over_time(rt, alloc, trace, sweeping, &mut Silent, &mut out)?;
+    }
+    Ok(out.into_inner())
+}
+
+/// Whether this is written of two requests under so many policies, or under those of a part, read as they are run or not, by one
+/// worker and by two.
+fn is_written<R: Threads + Sync>(
+    rt: &R,
+    alloc: Global,
+    policies: usize,
+    part: Option<Part>,
+    outlook: Outlook,
+    text: &[u8],
+) -> bool {
+    let Some(grid) = grid_under(alloc, policies) else {
+        return false;
+    };
+    let mut is_written = true;
+    for (workers, streamed) in &[(1, false), (2, false), (1, true), (2, true), (64, true)] {
+        let sweeping = Sweeping {
+            grid: &grid,
+            part,
+            workers: *workers,
+            outlook,
+        };
+        is_written &= match text_of(rt, alloc, TRACE, &sweeping, *streamed) {
+            Ok(written) => written.as_slice() == text,
+            Err(_) => false,
+        };
+    }
+    is_written
+}
+
+/// What is told in intervals of so many ticks, from a tick on.
+fn outlook(warm_up: Option<u64>, every: Option<u64>) -> Outlook {
+    Outlook { warm_up, every }
+}
+
+#[test]
+fn a_stream_leaves_the_same_table(rt: HostRuntime) {
+    let alloc = rt.alloc();
+    assert!(rt; is_written(&rt, alloc, 3, None, outlook(None, None), TABLE));
+    assert!(rt; is_written(&rt, alloc, 0, None, outlook(None, None), first_lines(1)));
+}
+
+#[test]
+fn a_table_over_time_adds_up_to_the_table(rt: HostRuntime) {
+    let alloc = rt.alloc();
+    assert!(rt; is_written(&rt, alloc, 1, None, outlook(None, Some(50)), OVER_TIME));
+    assert!(rt; is_written(&rt, alloc, 1, None, outlook(None, Some(1000)), IN_ONE));
+}
+
+#[test]
+fn a_table_from_a_time_on_and_a_part_over_time(rt: HostRuntime) {
+    let alloc = rt.alloc();
+    assert!(rt; is_written(&rt, alloc, 1, None, outlook(Some(50), None), WARM));
+    let part = Part::new(1, 3);
+    let since = outlook(Some(50), Some(60));
+    assert!(rt; is_written(&rt, alloc, 3, part, since, PART_OVER_TIME));
+}
+
+/// Why a sweep of a trace under three policies that is read as it is run writes nothing, if it does not.
+fn stream_fault<R: Threads + Sync>(
+    rt: &R,
+    alloc: Global,
+    trace: &'static [u8],
+    outlook: Outlook,
+) -> Option<SimFault> {
+    let grid = grid_under(alloc, 3)?;
+    let sweeping = Sweeping {
+        grid: &grid,
+        part: None,
+        workers: 2,
+        outlook,
+    };
+    text_of(rt, alloc, trace, &sweeping, true).err()
+}
+
+#[test]
+fn faults_of_a_stream(rt: HostRuntime) {
+    let alloc = rt.alloc();
+    let late = b"time,edge,object,size\n100,0,7,4\n5,0,8,4\n9,1,8,4\n";
+    let fault = stream_fault(&rt, alloc, late, outlook(None, None));
+    assert!(rt; matches!(fault, Some(SimFault::Trace(TraceFault::Order(1)))));
+    let fault = stream_fault(&rt, alloc, b"time\n", outlook(None, None));
+    assert!(rt; matches!(fault, Some(SimFault::Trace(TraceFault::Header))));
+    let fault = stream_fault(&rt, alloc, TRACE, outlook(None, Some(0)));
+    assert!(rt; matches!(fault, Some(SimFault::Plan)));
 }

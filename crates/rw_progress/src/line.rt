@@ -10,7 +10,7 @@ const STAY: u64 = 250;
 
 /// A line of a terminal that shows how far a run has come.
 ///
-/// It is drawn when the run begins, at most four times a second from then on, and at once where it was taken away. It is taken
+/// It is drawn when the run begins, at most four times a second from then on, and when the run has come to its end. It is taken
 /// away before the run writes, and when the value is dropped. Each drawing is one write, of which what the writer does not take
 /// is let go, as is a failure: nothing is tried again, and no run fails by it. Where the clock fails nothing is drawn. Takes no
 /// memory.
@@ -27,8 +27,10 @@ pub struct Line<'a, E: Write, C: Clock> {
     length: u64,
     /// When it began.
     begun: Option<Instant>,
-    /// When the line was drawn that stands there now.
+    /// When it was drawn last.
     drawn: Option<Instant>,
+    /// Whether it stands there.
+    stands: bool,
 }
 
 impl<'a, E: Write, C: Clock> Line<'a, E, C> {
@@ -50,6 +52,7 @@ impl<'a, E: Write, C: Clock> Line<'a, E, C> {
             length: 0,
             begun: None,
             drawn: None,
+            stands: false,
         }
     }
 
@@ -62,9 +65,10 @@ impl<'a, E: Write, C: Clock> Line<'a, E, C> {
         }
     }
 
-    /// Whether the line is to be drawn anew.
-    fn is_due(&self, now: Instant) -> bool {
+    /// Whether the line is to be drawn anew where the run has come to `at`.
+    fn is_due(&self, at: u64, now: Instant) -> bool {
         match self.drawn {
+            Some(_) if at.saturating_sub(self.from) >= self.length => true,
             Some(drawn) => now.duration_since(drawn) >= Duration::from_millis(STAY),
             None => true,
         }
@@ -77,13 +81,14 @@ impl<'a, E: Write, C: Clock> Line<'a, E, C> {
         let standing = Standing::new(self.name, self.measure, done, self.length, spent);
         put(self.err, standing);
         self.drawn = Some(now);
+        self.stands = true;
     }
 
     /// Takes the line away, if one stands there.
     fn clear(&mut self) {
-        if self.drawn.is_some() {
+        if self.stands {
             put(self.err, "");
-            self.drawn = None;
+            self.stands = false;
         }
     }
 }
@@ -113,7 +118,7 @@ impl<E: Write, C: Clock> Progress for Line<'_, E, C> {
         let Some(now) = self.now() else {
             return;
         };
-        if self.is_due(now) {
+        if self.is_due(at, now) {
             self.draw(at, begun, now);
         }
     }
@@ -134,9 +139,10 @@ impl<E: Write, C: Clock> Drop for Line<'_, E, C> {
             from: _,
             length: _,
             begun: _,
-            drawn,
+            drawn: _,
+            stands,
         } = self;
-        if drawn.is_some() {
+        if stands {
             put(err, "");
         }
     }

@@ -1,9 +1,9 @@
 /// Who is told how far a long run has come, by the thread alone that called for the run.
 ///
-/// A run goes from one number to another: of a trace's ticks, of bytes, or of pieces of work. It is told seldom enough that
-/// reading a clock each time costs nothing to speak of.
+/// A run goes from one number to another: of a trace's ticks or rows, of bytes, or of pieces of work. It is told seldom enough
+/// that reading a clock each time costs nothing to speak of.
 pub trait Progress {
-    /// A run begins that goes from `from` to `to`.
+    /// A run begins that goes from `from` to `to`: to `u64::MAX` where it is not known how far.
     fn begin(&mut self, from: u64, to: u64);
 
     /// So far has the run come that began last.

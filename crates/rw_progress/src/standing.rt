@@ -11,12 +11,16 @@ pub enum Measure {
     Time,
     /// Bytes: `import 21561553 of 40332754 bytes read`.
     Bytes,
+    /// Bytes, where it is not known how many there are: `import 21561553 bytes read`.
+    BytesSoFar,
     /// Pieces of work: `sweep 1 of 3`.
     Pieces,
+    /// Rows of a trace, where it is not known how many there are: `serial 10000000 rows read`.
+    RowsSoFar,
 }
 
-/// How far a run has come, shown as the text of its line: behind what is done stands how long the rest takes if it goes as what
-/// went before did, as `M:SS` or `H:MM:SS`, where something is done and not all.
+/// How far a run has come, shown as the text of its line. Where it is known how much there is to do, and something is done and not
+/// all, what is done is followed by how long the rest takes if it goes as what went before did, as `M:SS` or `H:MM:SS`.
 #[derive(Clone, Copy)]
 pub struct Standing<'a> {
     name: &'a str,
@@ -54,7 +58,9 @@ impl Display for Standing<'_> {
         match self.measure {
             Measure::Time => write!(formatter, "{name} {}%", percent(done, of))?,
             Measure::Bytes => write!(formatter, "{name} {done} of {of} bytes read")?,
+            Measure::BytesSoFar => return write!(formatter, "{name} {done} bytes read"),
             Measure::Pieces => write!(formatter, "{name} {done} of {of}")?,
+            Measure::RowsSoFar => return write!(formatter, "{name} {done} rows read"),
         }
         match seconds_left(self.spent, done, of) {
             Some(seconds) => write!(formatter, ", {} left", Left { seconds }),

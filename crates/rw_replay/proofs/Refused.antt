@@ -21,6 +21,7 @@ pub replay-unwritten : (c : Config) (bytes : List ℕ) (f : SimFault) → IsRepl
 replay-unwritten c bytes (sim.Trace f) is = λ same. cc
 replay-unwritten c bytes sim.Memory is = λ same. cc
 replay-unwritten c bytes sim.Exhausted is = λ same. cc
+replay-unwritten c bytes sim.Read is = absurd is
 replay-unwritten c bytes sim.Plan is = absurd is
 replay-unwritten c bytes sim.Rounds is = absurd is
 replay-unwritten c bytes sim.NoThread is = absurd is
@@ -31,6 +32,7 @@ pub before-writing : (c : Config) (bytes : List ℕ) (f : SimFault) → IsReplay
 before-writing c bytes (sim.Trace f) is = is
 before-writing c bytes sim.Memory is = is
 before-writing c bytes sim.Exhausted is = is
+before-writing c bytes sim.Read is = is
 before-writing c bytes sim.Plan is = is
 before-writing c bytes sim.Rounds is = is
 before-writing c bytes sim.NoThread is = is

@@ -1,6 +1,7 @@
-ghost use Rattle.std.specs.Prelude.{◌≡◌, ◌+◌, ◌<◌, ◌++◌, length, codes, map, IfOk, OnOk, decimal};
+ghost use Rattle.std.specs.Prelude.{◌≡◌, ◌+◌, ◌<◌, ◌++◌, length, map, IfOk, OnOk, decimal};
 ghost use Rattle.rw_replay.specs.Report.{line, name_of, report_text};
 
+use crate::moments::counters_of;
 use itoa::Buffer;
 use rw_photo::{CacheState, Config, Counters, Photo};
 use rw_vt::{NoMemory, Outcome};
@@ -29,13 +30,24 @@ pub fn report_of_states(
     ensures { IfOk result (λ text.
         text.items ≡ report_text config.now (map (λ s. s.counters) states.now)) }
 {
+    let counters = counters_of(alloc, states)?;
+    report_of_counters(alloc, config, counters.as_slice())
+}
+
+/// The report of caches that have counted so much, the edges before the origins.
+pub fn report_of_counters(
+    alloc: Global,
+    config: &Config,
+    all: &[Counters],
+) -> Result<Vec<u8>, NoMemory>
+    ensures { IfOk result (λ text. text.items ≡ report_text config.now all.now) }
+{
     let mut text = Vec::new(alloc);
     let mut total = Counters::default();
-    for (process, state) in states.iter().enumerate() {
-        let counters = state.counters();
+    for (process, counters) in all.iter().enumerate() {
         write_name(&mut text, config, process as u64)?;
-        write_counters(&mut text, &counters)?;
-        total.add(&counters);
+        write_counters(&mut text, counters)?;
+        total.add(counters);
     }
     text.extend_from_slice(b"total")?;
     write_counters(&mut text, &total)?;

@@ -1,14 +1,19 @@
-ghost use Rattle.std.specs.Prelude.{◌≡◌, ◌≢◌, ◌↔◌, Err, IfOk, IfErr, OnOk};
-ghost use Rattle.rw_replay.specs.Replay.{IsReportOf, IsReplayFault, IsWritingFault, HasReported, HasBegunToReport};
+ghost use Rattle.std.specs.Prelude.{◌≡◌, ◌≢◌, ◌≤◌, ◌^◌, ◌↔◌, Err, IfOk, IfErr, OnOk};
+ghost use Rattle.std.specs.Io.KnownBytes.{Appends};
+ghost use Rattle.rw_output.specs.Sink.{AppendsBeginning};
+ghost use Rattle.rw_replay.specs.Replay.{HasBegunToReport, HasBegunToStream, HasBegunToTell, HasBegunToTellOfRows, HasReported, HasStreamed, HasTold, HasToldOfRows, IsReplayFault, IsReportOf, IsRowsTellingFault, IsRowsTextFault, IsStreamingFault, IsTellingFault, IsTextFault, IsWritingFault, TellsOfRows, TellsOfTrace};
 
+use crate::intervals::{Outlook, tell};
 use crate::replaying::last_states_and_tell;
 use crate::report_text::report_of_states;
+use crate::streaming::{record_rows, record_stream};
+use crate::telling::Telling;
 use rw_output::{Out, SimFault};
 use rw_photo::Config;
 use rw_progress::Progress;
-use rw_trace::read;
+use rw_trace::{MAX_STREAMED_ROWS, OrderedRows, RowSource, read};
 use std::alloc::Global;
-use std::io::Write;
+use std::io::{Read, Write};
 
 /// Runs a trace on one thread and writes its report. Tells `progress` how far it has come, as [`report_of_trace`] does.
 ///
@@ -61,4 +66,149 @@ pub fn report_of_trace<P: Progress>(
     let trace = read(alloc, bytes, config.edges())?;
     let states = last_states_and_tell(alloc, trace.as_slice(), config, progress)?;
     Ok(report_of_states(alloc, config, states.as_slice())?)
+}
+
+/// Runs a trace on one thread as [`replay`] does, and writes what `outlook` asks for. Tells `progress` how far it has come, as
+/// [`report_of_trace`] does.
+///
+/// # Errors
+///
+/// Those of [`replay`], and `Plan` exactly where a number of `outlook` is out of its range. But for `Output`, nothing was written
+/// then.
+pub fn replay_over_time<W: Write, P: Progress>(
+    alloc: Global,
+    bytes: &[u8],
+    config: &Config,
+    outlook: Outlook,
+    progress: &mut P,
+    out: &mut Out<W>,
+) -> Result<(), SimFault>
+    ensures told { OnOk result (HasTold config.now outlook bytes.now
+        (W.contents out.old.writer) (W.contents out.new.writer)) }
+    ensures fault { IfErr result (IsTellingFault config.now outlook bytes.now) }
+    ensures output { (result ≡ Err SimFault.Output) ↔ (out.new.failures ≢ out.old.failures) }
+    ensures cut_off { result ≡ Err SimFault.Output → HasBegunToTell config.now outlook bytes.now
+        (W.contents out.old.writer) (W.contents out.new.writer) }
+    ensures nothing { IfErr result (λ e. e ≢ SimFault.Output → out.new ≡ out.old) }
+{
+    let text = text_over_time(alloc, bytes, config, outlook, progress)?;
+    progress.about_to_write();
+    write_whole(text.as_slice(), out)
+}
+
+/// What `outlook` asks for of a run of a trace.
+fn text_over_time<P: Progress>(
+    alloc: Global,
+    bytes: &[u8],
+    config: &Config,
+    outlook: Outlook,
+    progress: &mut P,
+) -> Result<Vec<u8>, SimFault>
+    ensures text { IfOk result (λ text. TellsOfTrace config.now outlook bytes.now text.items) }
+    ensures fault { IfErr result (IsTextFault config.now outlook bytes.now) }
+{
+    let Some(marks) = outlook.marks() else {
+        return Err(SimFault::Plan);
+    };
+    let trace = read(alloc, bytes, config.edges())?;
+    let moments = record_rows(alloc, trace.as_slice(), config, marks, progress)?;
+    Ok(tell(alloc, config, outlook, moments.as_slice())?)
+}
+
+/// Runs a trace in order of time as it is read, and writes what `outlook` asks for. Tells `progress` how many rows are read.
+///
+/// # Errors
+///
+/// Those of [`replay_over_time`], where the trace's fault is the first in the order of reading, and `Order` where a row is before the
+/// one in front of it; and `Read` where the reader answers an error. But for `Output`, nothing was written then.
+pub fn replay_stream<R: Read + Drop, W: Write, P: Progress>(
+    alloc: Global,
+    bytes: R,
+    config: &Config,
+    outlook: Outlook,
+    progress: &mut P,
+    out: &mut Out<W>,
+) -> Result<(), SimFault>
+    ensures told { OnOk result (HasStreamed config.now outlook (R.remaining bytes)
+        (W.contents out.old.writer) (W.contents out.new.writer)) }
+    ensures fault { IfErr result (IsStreamingFault config.now outlook (R.remaining bytes)) }
+    ensures output { (result ≡ Err SimFault.Output) ↔ (out.new.failures ≢ out.old.failures) }
+    ensures cut_off { result ≡ Err SimFault.Output
+        → HasBegunToStream config.now outlook (R.remaining bytes)
+        (W.contents out.old.writer) (W.contents out.new.writer) }
+    ensures nothing { IfErr result (λ e. e ≢ SimFault.Output → out.new ≡ out.old) }
+{
+    let rows = OrderedRows::open(alloc, bytes, config.edges(), MAX_STREAMED_ROWS)?;
+    let mut telling = Telling::new(rows, progress);
+    replay_rows(alloc, &mut telling, config, outlook, out)
+}
+
+/// Runs rows in order of time as their source gives them, and writes what `outlook` asks for. Tells how many rows it has taken, of a
+/// number that is not known.
+///
+/// # Errors
+///
+/// Those of the source, `Exhausted` and `Memory` as in [`replay`], and `Plan` exactly where a number of `outlook` is out of its range:
+/// nothing was written then. `Output` exactly where the writer failed, and what went out is then a beginning of the text.
+pub fn replay_rows<S: RowSource, W: Write, P: Progress>(
+    alloc: Global,
+    rows: &mut Telling<'_, S, P>,
+    config: &Config,
+    outlook: Outlook,
+    out: &mut Out<W>,
+) -> Result<(), SimFault>
+    requires edges { (S.rest rows.old.source).edges ≡ config.now.edges }
+    requires begins { (S.rest rows.old.source).latest ≡ 0 }
+    requires few { (S.rest rows.old.source).most ≤ 2 ^ 63 }
+    ensures told { OnOk result (HasToldOfRows config.now outlook (S.rest rows.old.source).ahead
+        (W.contents out.old.writer) (W.contents out.new.writer)) }
+    ensures fault { IfErr result
+        (IsRowsTellingFault config.now outlook (S.rest rows.old.source).ahead) }
+    ensures output { (result ≡ Err SimFault.Output) ↔ (out.new.failures ≢ out.old.failures) }
+    ensures cut_off { result ≡ Err SimFault.Output
+        → HasBegunToTellOfRows config.now outlook (S.rest rows.old.source).ahead
+        (W.contents out.old.writer) (W.contents out.new.writer) }
+    ensures nothing { IfErr result (λ e. e ≢ SimFault.Output → out.new ≡ out.old) }
+{
+    rows.progress.begin(0, u64::MAX);
+    let text = text_of_rows(alloc, rows, config, outlook)?;
+    rows.progress.about_to_write();
+    write_whole(text.as_slice(), out)
+}
+
+/// What `outlook` asks for of a run of rows that a source gives.
+fn text_of_rows<S: RowSource>(
+    alloc: Global,
+    rows: &mut S,
+    config: &Config,
+    outlook: Outlook,
+) -> Result<Vec<u8>, SimFault>
+    requires edges { (S.rest rows.old).edges ≡ config.now.edges }
+    requires begins { (S.rest rows.old).latest ≡ 0 }
+    requires few { (S.rest rows.old).most ≤ 2 ^ 63 }
+    ensures text { IfOk result (λ text.
+        TellsOfRows config.now outlook (S.rest rows.old).ahead text.items) }
+    ensures fault { IfErr result (IsRowsTextFault config.now outlook (S.rest rows.old).ahead) }
+{
+    let Some(marks) = outlook.marks() else {
+        return Err(SimFault::Plan);
+    };
+    let moments = record_stream(alloc, rows, config, marks)?;
+    Ok(tell(alloc, config, outlook, moments.as_slice())?)
+}
+
+/// Writes a text whole, or answers `Output`.
+fn write_whole<W: Write>(text: &[u8], out: &mut Out<W>) -> Result<(), SimFault>
+    ensures whole { OnOk result
+        (Appends (W.contents out.old.writer) (W.contents out.new.writer) text.now) }
+    ensures beginning { AppendsBeginning (W.contents out.old.writer) (W.contents out.new.writer)
+        text.now }
+    ensures fault { IfErr result (λ e. e ≡ SimFault.Output) }
+    ensures output { (result ≡ Err SimFault.Output) ↔ (out.new.failures ≢ out.old.failures) }
+{
+    if out.write_text(text) {
+        Ok(())
+    } else {
+        Err(SimFault::Output)
+    }
 }

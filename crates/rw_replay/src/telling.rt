@@ -1,23 +1,38 @@
+ghost use Rattle.std.specs.Prelude.{◌≡◌};
+
 // Runs that tell how far they have come.
 use rw_photo::Body;
 use rw_progress::Progress;
 use rw_serial::Source;
-use rw_trace::Row;
+use rw_trace::{Row, RowSource, RowsFault};
 use rw_vt::Event;
 
-/// Of so many events one is told of, so that reading a clock each time costs nothing to speak of.
-const EVENTS: u64 = 256;
+/// Of so many events or rows one is told of, so that reading a clock each time costs nothing to speak of.
+const STEP: u64 = 256;
 
-/// A source that hands on what another one gives, and tells how far a run has come that takes its
-/// events in order: to the time of the event that it gives. Of 256 events it tells of one, the first.
+/// A source that hands on what another one gives, and tells how far a run has come that takes it in order: of events, to the time of
+/// the one that it gives; of rows, how many it gave before. Of 256 it tells of one, the first.
 #[derive(Drop)]
 pub struct Telling<'a, S, P> {
-    /// Whose events it hands on.
+    /// Whose events or rows it hands on.
     pub source: S,
     /// Who is told.
     pub progress: &'a mut P,
-    /// How many events it has given, modulo 2^64.
+    /// How many it has given, modulo 2^64.
     pub given: u64,
+}
+
+impl<'a, S, P> Telling<'a, S, P> {
+    /// A source that has given nothing so far.
+    pub fn new(source: S, progress: &'a mut P) -> Telling<'a, S, P>
+        ensures { result.source ≡ source }
+    {
+        Telling {
+            source,
+            progress,
+            given: 0,
+        }
+    }
 }
 
 impl<'a, S: Source<Body>, P: Progress> Source<Body> for Telling<'a, S, P> {
@@ -25,11 +40,24 @@ impl<'a, S: Source<Body>, P: Progress> Source<Body> for Telling<'a, S, P> {
 
     fn next(&mut self) -> Option<Event<Body>> {
         let event = self.source.next()?;
-        if self.given % EVENTS == 0 {
+        if self.given % STEP == 0 {
             self.progress.reach(event.time);
         }
         self.given = self.given.wrapping_add(1);
         Some(event)
+    }
+}
+
+impl<'a, S: RowSource, P: Progress> RowSource for Telling<'a, S, P> {
+    ghost rest = { λ t. S.rest t.source };
+
+    fn next_row(&mut self) -> Result<Option<Row>, RowsFault> {
+        let row = self.source.next_row()?;
+        if self.given % STEP == 0 {
+            self.progress.reach(self.given);
+        }
+        self.given = self.given.wrapping_add(1);
+        Ok(row)
     }
 }
 

@@ -24,6 +24,7 @@ beginning-fault mode c bytes sim.Plan is = absurd is
 beginning-fault mode c bytes sim.Exhausted is = absurd is
 beginning-fault mode c bytes sim.Rounds is = absurd is
 beginning-fault mode c bytes sim.NoThread is = absurd is
+beginning-fault mode c bytes sim.Read is = absurd is
 beginning-fault mode c bytes sim.Output is = absurd is
 
 -- why a run on one thread has no report is a fault of the run in that mode
@@ -34,6 +35,7 @@ replay-fault c bytes sim.Exhausted is = (is, λ bad. bad)
 replay-fault c bytes sim.Plan is = absurd is
 replay-fault c bytes sim.Rounds is = absurd is
 replay-fault c bytes sim.NoThread is = absurd is
+replay-fault c bytes sim.Read is = absurd is
 replay-fault c bytes sim.Output is = absurd is
 
 -- only a writer's failure is told as one
@@ -44,6 +46,7 @@ beginning-unwritten c bytes sim.Plan is = absurd is
 beginning-unwritten c bytes sim.Exhausted is = absurd is
 beginning-unwritten c bytes sim.Rounds is = absurd is
 beginning-unwritten c bytes sim.NoThread is = absurd is
+beginning-unwritten c bytes sim.Read is = absurd is
 beginning-unwritten c bytes sim.Output is = absurd is
 
 unwritten : (s : Stop) → sim_stop_of s ≢ sim.Output

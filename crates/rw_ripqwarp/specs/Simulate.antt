@@ -83,6 +83,7 @@ HasGoodPlan mode = HasBadPlan mode → ⊥
 -- plan, and want of memory may come anywhere
 abbrev pub IsRunFault : Mode → Config → Text → SimFault → Type 0
 IsRunFault mode c bytes (sim.Trace f) = trace_of c.edges most_rows (records_of bytes) ≡ Err f
+IsRunFault mode c bytes sim.Read = ⊥
 IsRunFault mode c bytes sim.Plan = IsWarp mode × IsAccepted c bytes × HasBadPlan mode
 IsRunFault mode c bytes sim.Exhausted = IsExhausting mode c bytes × HasGoodPlan mode
 IsRunFault mode c bytes sim.Rounds = IsWarp mode × IsAccepted c bytes × HasGoodPlan mode

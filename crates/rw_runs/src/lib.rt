@@ -8,9 +8,11 @@
 //! Worked examples: `rw_program_tests/src/commands.rt`, and the cases of `rw_cases`.
 
 mod caches;
+mod over_time;
 mod running;
 mod values;
 
 pub use caches::{BACK, CACHES, DOWN, EDGES, ORIGINS, POLICIES, UP};
-pub use running::{SERIAL, serial, serial_alone};
+pub use over_time::{EVERY, OUTLOOK, STREAM, WARM_UP, outlook};
+pub use running::{SERIAL_ABOUT, serial, serial_alone};
 pub use values::{config, policy};

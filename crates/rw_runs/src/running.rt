@@ -1,20 +1,24 @@
 // A trace on one thread.
 use crate::caches::CACHES;
+use crate::over_time::{EVERY, STREAM, WARM_UP, outlook};
 use crate::values::config;
 use clap::ArgMatches;
 use rw_arguments::{Entry, QUIET, TRACE, program_of};
 use rw_console::{CommandFault, Out, Source, answer, read};
 use rw_progress::{Line, Measure};
-use rw_replay::replay;
+use rw_replay::{replay, replay_over_time, replay_stream};
 use std::alloc::Global;
 use std::io::Write;
 use std::time::Clock;
 
+/// What the help says of the command that runs a trace on one thread.
+pub const SERIAL_ABOUT: &str = "Runs a trace on one thread and prints the counters of each cache";
+
 /// The command that runs a trace on one thread.
-pub const SERIAL: Entry = Entry {
+const SERIAL: Entry = Entry {
     name: "serial",
-    about: "Runs a trace on one thread and prints the counters of each cache",
-    own: &[TRACE, QUIET],
+    about: SERIAL_ABOUT,
+    own: &[TRACE, QUIET, STREAM, EVERY, WARM_UP],
     shared: &CACHES,
 };
 
@@ -61,8 +65,8 @@ fn attempt<S: Source, W: Write, E: Write, C: Clock>(
     }
 }
 
-/// Runs the trace that the options name on one thread, through the caches that they say, and writes the report. Where `err` may be
-/// a terminal, one line shows how far it has come, unless the options ask for quiet.
+/// Runs the trace that the options name on one thread, through the caches that they say, and writes the report, or a table over time
+/// where they ask for one. Where `err` may be a terminal, one line shows how far it has come, unless the options ask for quiet.
 ///
 /// # Errors
 ///
@@ -78,8 +82,19 @@ pub fn serial<S: Source, W: Write, E: Write, C: Clock>(
     terminal: bool,
 ) -> Result<(), CommandFault> {
     let shown = terminal && !options.get_flag("quiet");
-    let mut line = Line::new(err, clock, "serial", Measure::Time, shown);
     let config = config(options).ok_or(CommandFault::Plan)?;
+    let outlook = outlook(options);
+    if options.get_flag("stream") {
+        let mut line = Line::new(err, clock, "serial", Measure::RowsSoFar, shown);
+        let path = options.get_str("trace").ok_or(CommandFault::Plan)?;
+        let reader = source.open(path)?;
+        return Ok(replay_stream(alloc, reader, &config, outlook, &mut line, out)?);
+    }
+    let mut line = Line::new(err, clock, "serial", Measure::Time, shown);
     let bytes = read(alloc, options, "trace", source)?;
-    Ok(replay(alloc, bytes.as_slice(), &config, &mut line, out)?)
+    if outlook.is_plain() {
+        Ok(replay(alloc, bytes.as_slice(), &config, &mut line, out)?)
+    } else {
+        Ok(replay_over_time(alloc, bytes.as_slice(), &config, outlook, &mut line, out)?)
+    }
 }

@@ -5,3 +5,4 @@ pub mod Midrun
 pub mod Onward
 pub mod Permuted
 pub mod Sanity
+pub mod Until

@@ -17,14 +17,14 @@ use Rattle.rw_vt.proofs.Complete.{IsMidway, complete, below_more, Has-slice}
 use Rattle.rw_pending.proofs.Cited.{copies-IsPermutation}
 use Rattle.rw_serial.proofs.Lists.{at_list, as_family, there_below, get_map_from, map_from_same, map_from_set, copies_place, copies_joined_more, length-map_from}
 
-same_or_other : (p q : ℕ) → (p ≡ q) ⊎ (p ≢ q)
+pub same_or_other : (p q : ℕ) → (p ≡ q) ⊎ (p ≢ q)
 same_or_other p q = by_test (p == q) refl
   where
     by_test : (b : Bool) → (p == q) ≡ b → (p ≡ q) ⊎ (p ≢ q)
     by_test true h = inl (grind (arith, nat_tests))
     by_test false h = inr (λ e. grind (arith, nat_tests))
 
-none_at : {E : Type 0} (n q : ℕ) → at_list (replicate n (let e : List E = [] in e)) q ≡ []
+pub none_at : {E : Type 0} (n q : ℕ) → at_list (replicate n (let e : List E = [] in e)) q ≡ []
 none_at zero q = refl
 none_at (suc n) zero = refl
 none_at (suc n) (suc q) = none_at n q

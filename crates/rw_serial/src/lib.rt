@@ -14,9 +14,11 @@
 mod ledger;
 mod sorted;
 
-ghost use Rattle.std.specs.Prelude.{◌≡◌, ◌+◌, ◌<◌, ◌≤◌, ◌++◌, ℕ, false, true, [], ◌∷◌, List, IfNone, IfOk, IfErr, IfSome, OnOk, length, map, replicate, slice_get, slice_index_or, slice_set};
+ghost use Rattle.std.specs.Prelude.{◌≡◌, ◌+◌, ◌<◌, ◌≤◌, ◌++◌, ℕ, false, true, [], ◌∷◌, All, List, IfNone, IfOk, IfErr, IfSome, OnOk, length, map, replicate, slice_get, slice_index_or, slice_set};
 ghost use Rattle.rw_vt.specs.Limits.{end_of_time};
-ghost use Rattle.rw_vt.specs.Rest.{EndsAs};
+ghost use Rattle.rw_vt.specs.Moments.{HasReached};
+ghost use Rattle.rw_vt.specs.Rest.{EndsAs, IsRestOf};
+ghost use Rattle.rw_vt.specs.Words.{Time};
 ghost use Rattle.rw_vt.specs.System.{system, IsOutcome, IsReady, Meets};
 ghost use Rattle.rw_vt.specs.declared.event.Event.{Event};
 ghost use Rattle.rw_serial.specs.Counts.{events_below};
@@ -220,6 +222,61 @@ pub fn go_on<M: Model, S: Source<M::Body>>(
         pending.extend(&sent)?;
     }
     Ok(limit)
+}
+
+/// Goes on with a run to a time: executes the pending events of times below `until`, in ticks, and those of such times that are
+/// sent, in order, and no other.
+///
+/// `states` has the state of each process. Where a run had reached some time with these states and pending events, it has then
+/// reached `until`; so the states are those that the run has when all its events of times below `until` are executed. What is
+/// left goes on as the run, whatever more comes from outside, none of it before `until`.
+///
+/// It costs what [`last_states_from`] costs for the events that it executes. There are no journals and no undo records.
+///
+/// # Errors
+///
+/// [`Refusal::Exhausted`] only where some process, on the way to `until`, would execute an event in a state that can take no
+/// further one, and [`Refusal::Memory`] only where memory was refused. Nothing is said of `states` and `pending` then.
+pub fn run_until<M: Model, S: Source<M::Body>>(
+    alloc: Global,
+    model: &M,
+    states: &mut Vec<M::State>,
+    pending: &mut Pending<M::Body, S>,
+    until: u64,
+) -> Result<(), Refusal>
+    requires ready { IsReady M.Model model.now states.old.items pending.old.events }
+    ensures reached { OnOk result (HasReached
+        (system M.Model M.Body.cmp model.now states.old.items pending.old.events) until
+        states.new.items pending.new.events) }
+    ensures further { OnOk result ((starts : List M.State) (initial : List (Event M.Body))
+        (t : Time) → t ≤ until
+        → IsReady M.Model model.now starts initial
+        → HasReached (system M.Model M.Body.cmp model.now starts initial) t
+        states.old.items pending.old.events
+        → HasReached (system M.Model M.Body.cmp model.now starts initial) until
+        states.new.items pending.new.events) }
+    ensures rest { OnOk result (IsRestOf
+        (system M.Model M.Body.cmp model.now states.old.items pending.old.events) until
+        states.new.items pending.new.events) }
+    ensures ready { OnOk result
+        (IsReady M.Model model.now states.new.items pending.new.events) }
+    ensures late { OnOk result (All (λ e. until ≤ e.time) pending.new.events) }
+    ensures before { OnOk result (pending.old.time < until → pending.new.time < until) }
+    ensures exhausted { IfErr result (λ r.
+        r ≡ Refusal.Exhausted
+        → Meets (system M.Model M.Body.cmp model.now states.old.items pending.old.events)
+        until (M.is_exhausted model.now)) }
+{
+    let mut sent = Vec::new(alloc);
+    let mut next = None;
+    'events: loop {
+        pending.pop_before(until, &mut next)?;
+        let Some(event) = &next else {
+            return Ok(());
+        };
+        execute(alloc, model, states, event, &mut sent)?;
+        pending.extend(&sent)?;
+    }
 }
 
 /// Executes all events in order, from the states given, and enters each in `ledger`. Answers whether it had room for all; an

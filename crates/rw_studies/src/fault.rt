@@ -21,9 +21,28 @@ pub enum Fault {
     /// A delimiter is none.
     #[error("error: --delimiter: neither one ASCII character nor tab")]
     Delimiter,
+    /// The epoch is none.
+    #[error("error: --epoch: no time of a log")]
+    Epoch,
+    /// An option is given without another one.
+    #[error("error: --{option}: only with {with}")]
+    OnlyWith {
+        /// The option's name.
+        option: &'static str,
+        /// The other one.
+        with: &'static str,
+    },
     /// The part of a sweep is none.
     #[error("error: --part: not I/N with I below N; see ripqwarp sweep --help")]
     Part,
+    /// An option of other commands is given to one that does not take it.
+    #[error("error: --{option}: {command} does not take it; serial and sweep do")]
+    NotTaken {
+        /// The option's name.
+        option: &'static str,
+        /// The command's name.
+        command: &'static str,
+    },
     /// The lists have too many combinations.
     #[error("error: more than {0} combinations")]
     Combinations(u64),
@@ -45,13 +64,18 @@ impl Fault {
             Fault::Command(fault) => fault.status(),
             Fault::List(_)
             | Fault::Delimiter
+            | Fault::Epoch
+            | Fault::OnlyWith { .. }
             | Fault::Part
+            | Fault::NotTaken { .. }
             | Fault::Combinations(_)
             | Fault::Schedule(ScheduleFault::Word(_)) => 2,
             Fault::Schedule(ScheduleFault::Memory)
             | Fault::Import(ImportFault::Memory)
             | Fault::Plot(PlotFault::Memory)
             | Fault::Join(JoinFault::Memory) => 5,
+            Fault::Import(ImportFault::Read) => 4,
+            Fault::Import(ImportFault::Output) => 8,
             Fault::Import(_) | Fault::Plot(_) | Fault::Join(_) => 3,
         }
     }

@@ -2,19 +2,22 @@
 use crate::fault::Fault;
 use clap::ArgMatches;
 use rw_console::{CommandFault, Out, Source, read, write, write_line};
-use rw_import::{Column, Dealing, Imported, Layout, LeftOut, Options, import_csv, import_oracle};
+use rw_import::{
+    Column, Counts, Dealing, Layout, LeftOut, Options, Streaming, import_csv, import_oracle,
+    stream_csv, stream_oracle, time_of,
+};
 use rw_progress::{Line, Measure, Progress};
 use std::alloc::Global;
 use std::io::Write;
 use std::time::Clock;
 
-/// Reads the log that the options name, writes its trace, and tells what was left out of it. Where `err` may be a terminal, one line
-/// shows how far it has come, unless the options ask for quiet.
+/// Reads the log that the options name, writes its trace, and tells what was left out of it; as it reads the log, where they ask for
+/// that. Where `err` may be a terminal, one line shows how far it has come, unless the options ask for quiet.
 ///
 /// # Errors
 ///
-/// What the source answers, an [`ImportFault`](rw_import::ImportFault), a delimiter that is none, `Output` and `Memory`; and
-/// [`CommandFault::Plan`] where an option is missing or out of its range, which the command line rules out.
+/// What the source answers, an [`ImportFault`](rw_import::ImportFault), a delimiter or an epoch that is none, `Output` and `Memory`;
+/// and [`CommandFault::Plan`] where an option is missing or out of its range, which the command line rules out.
 pub fn import<S: Source, W: Write, E: Write, C: Clock>(
     clock: &C,
     alloc: Global,
@@ -25,22 +28,37 @@ pub fn import<S: Source, W: Write, E: Write, C: Clock>(
     terminal: bool,
 ) -> Result<(), Fault> {
     let shown = terminal && !options.get_flag("quiet");
-    let mut line = Line::new(err, clock, "import", Measure::Bytes, shown);
-    let imported = imported(alloc, options, source, &mut line);
+    let is_streamed = options.get_flag("stream");
+    let measure = if is_streamed {
+        Measure::BytesSoFar
+    } else {
+        Measure::Bytes
+    };
+    let mut line = Line::new(err, clock, "import", measure, shown);
+    let counts = if is_streamed {
+        streamed(alloc, options, source, &mut line, out)
+    } else {
+        imported(alloc, options, source, &mut line, out)
+    };
     drop(line);
-    let imported = imported?;
-    write(imported.text.as_slice(), out)?;
-    tell(&imported, err);
+    tell("import", counts?, err);
     Ok(())
 }
 
-/// The trace that the log makes which the options name.
-fn imported<S: Source, P: Progress>(
+/// Reads the log that the options name, and then writes its trace.
+fn imported<S: Source, W: Write, P: Progress>(
     alloc: Global,
     options: &ArgMatches<'_>,
     source: &mut S,
     progress: &mut P,
-) -> Result<Imported, Fault> {
+    out: &mut Out<W>,
+) -> Result<Counts, Fault> {
+    if options.get_str("epoch").is_some() {
+        return Err(Fault::OnlyWith {
+            option: "epoch",
+            with: "--stream",
+        });
+    }
     let reading = reading(options).ok_or(CommandFault::Plan)?;
     let layout = layout(alloc, options)?;
     let log = read(alloc, options, "log", source)?;
@@ -48,7 +66,44 @@ fn imported<S: Source, P: Progress>(
         Some("oracle-general") => import_oracle(alloc, log.as_slice(), &reading, progress),
         _ => import_csv(alloc, log.as_slice(), &layout, &reading, progress),
     };
-    Ok(imported?)
+    let imported = imported?;
+    progress.about_to_write();
+    write(imported.text.as_slice(), out)?;
+    Ok(Counts {
+        kept: imported.kept,
+        left_out: imported.left_out,
+    })
+}
+
+/// Writes the trace of the log that the options name as it reads the log.
+fn streamed<S: Source, W: Write, P: Progress>(
+    alloc: Global,
+    options: &ArgMatches<'_>,
+    source: &mut S,
+    progress: &mut P,
+    out: &mut Out<W>,
+) -> Result<Counts, Fault> {
+    let streaming = Streaming {
+        options: reading(options).ok_or(CommandFault::Plan)?,
+        epoch: epoch(options)?,
+    };
+    let layout = layout(alloc, options)?;
+    let path = options.get_str("log").ok_or(CommandFault::Plan)?;
+    let log = source.open(path)?;
+    progress.begin(0, u64::MAX);
+    let counts = match options.get_str("from") {
+        Some("oracle-general") => stream_oracle(alloc, log, &streaming, progress, out),
+        _ => stream_csv(alloc, log, &layout, &streaming, progress, out),
+    };
+    Ok(counts?)
+}
+
+/// The log time that is tick 0, in billionths of its unit, where the options name one.
+pub(crate) fn epoch(options: &ArgMatches<'_>) -> Result<Option<u128>, Fault> {
+    match options.get_str("epoch") {
+        Some(text) => Ok(Some(time_of(text.as_bytes()).ok_or(Fault::Epoch)?)),
+        None => Ok(None),
+    }
 }
 
 /// How rows become a trace's; None where an option is missing or out of its range, which the command line rules out.
@@ -103,8 +158,8 @@ fn column(alloc: Global, options: &ArgMatches<'_>, name: &str) -> Result<Option<
     Ok(Some(column))
 }
 
-/// Tells how many rows of a log the trace has, and how many were left out, by the reason; a writer that fails is let be.
-fn tell<E: Write>(imported: &Imported, err: &mut E) {
+/// Tells how many rows of a log a command kept, and how many were left out, by the reason; a writer that fails is let be.
+pub(crate) fn tell<E: Write>(command: &str, counts: Counts, err: &mut E) {
     let LeftOut {
         length,
         time,
@@ -112,12 +167,12 @@ fn tell<E: Write>(imported: &Imported, err: &mut E) {
         object,
         size,
         kind,
-    } = imported.left_out;
-    let kept = imported.kept;
+    } = counts.left_out;
+    let kept = counts.kept;
     write_line(
         err,
         format_args!(
-            "import kept {kept} left out: length {length} time {time} edge {edge} object {object} size {size} kind {kind}"
+            "{command} kept {kept} left out: length {length} time {time} edge {edge} object {object} size {size} kind {kind}"
         ),
     );
 }

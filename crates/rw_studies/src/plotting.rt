@@ -1,12 +1,12 @@
-// From a sweep to a picture.
+// From a table to a picture.
 use crate::fault::Fault;
 use clap::ArgMatches;
 use rw_console::{CommandFault, Out, Source, read, write};
-use rw_plot::{Caches, Measure};
+use rw_plot::{Caches, Drawing, Measure};
 use std::alloc::Global;
 use std::io::Write;
 
-/// Reads the sweep that the options name, and writes the picture that they ask for.
+/// Reads the table that the options name, and writes the picture that they ask for.
 ///
 /// # Errors
 ///
@@ -17,11 +17,19 @@ pub fn plot<S: Source, W: Write>(
     source: &mut S,
     out: &mut Out<W>,
 ) -> Result<(), Fault> {
-    let measure = measure(options).ok_or(CommandFault::Plan)?;
-    let caches = caches(options).ok_or(CommandFault::Plan)?;
-    let sweep = read(alloc, options, "sweep", source)?;
-    let picture = rw_plot::plot(alloc, sweep.as_slice(), measure, caches)?;
+    let drawing = drawing(options).ok_or(CommandFault::Plan)?;
+    let table = read(alloc, options, "table", source)?;
+    let picture = rw_plot::plot(alloc, table.as_slice(), drawing)?;
     Ok(write(picture.as_slice(), out)?)
+}
+
+/// What is asked for; None where an option has none of the values that the command line takes.
+fn drawing(options: &ArgMatches<'_>) -> Option<Drawing> {
+    Some(Drawing {
+        measure: measure(options)?,
+        caches: caches(options)?,
+        ticks_a_second: options.get_one("ticks-a-second")?,
+    })
 }
 
 /// What is drawn; None where it is none of the words that the command line takes.
@@ -31,16 +39,18 @@ fn measure(options: &ArgMatches<'_>) -> Option<Measure> {
         "byte_hit_ratio" => Some(Measure::ByteHitRatio),
         "flash_writes" => Some(Measure::FlashWrites),
         "backend_requests" => Some(Measure::BackendRequests),
+        "backend_bytes" => Some(Measure::BackendBytes),
         _ => None,
     }
 }
 
-/// Of which caches; None where it is none of the words that the command line takes.
-fn caches(options: &ArgMatches<'_>) -> Option<Caches> {
-    match options.get_str("caches")? {
-        "edges" => Some(Caches::Edges),
-        "origins" => Some(Caches::Origins),
-        "all" => Some(Caches::All),
-        _ => None,
+/// Of which caches, if the option is there; None where it is none of the words that the command line takes.
+fn caches(options: &ArgMatches<'_>) -> Option<Option<Caches>> {
+    match options.get_str("caches") {
+        None => Some(None),
+        Some("edges") => Some(Some(Caches::Edges)),
+        Some("origins") => Some(Some(Caches::Origins)),
+        Some("all") => Some(Some(Caches::All)),
+        Some(_) => None,
     }
 }

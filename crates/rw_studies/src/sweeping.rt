@@ -1,11 +1,18 @@
 // One trace through many configurations.
 use crate::fault::Fault;
+use crate::importing::tell;
+use crate::logs::{counts_of, names_log, open_log};
 use clap::ArgMatches;
 use rw_console::{CommandFault, Out, Source, read, write};
 use rw_options::{ListFault, numbers, policies};
 use rw_photo::Shape;
 use rw_progress::{Line, Measure, Progress};
-use rw_sweep::{Axes, Grid, GridFault, MAX_CONFIGURATIONS, MAX_WORKERS, Part, list, sweep_part};
+use rw_replay::Telling;
+use rw_runs::outlook;
+use rw_sweep::{
+    Axes, Grid, GridFault, MAX_CONFIGURATIONS, MAX_WORKERS, Part, Sweeping, list, sweep_over_time,
+    sweep_part, sweep_rows, sweep_stream,
+};
 use std::alloc::Global;
 use std::io::Write;
 use std::thread::{Threads, available_parallelism};
@@ -13,7 +20,8 @@ use std::time::Clock;
 
 /// Runs the trace that the options name through every combination of what they list, or through those of a part, and writes
 /// the table, the lines of each as they are done; or only lists them. Where `err` may be a terminal, one line shows how far it has come,
-/// unless the options ask for quiet.
+/// unless the options ask for quiet. Where they ask for it, the trace, or a log in the oracle-general format, is read as it is run, and
+/// then the table comes at the end; and what is told of each combination is over time, or from a time on.
 ///
 /// # Errors
 ///
@@ -32,9 +40,32 @@ pub fn sweep<S: Source, W: Write, E: Write, R: Threads + Clock + Sync>(
     if options.get_flag("list") {
         return write_list(alloc, &grid, part.unwrap_or(Part::whole()), out);
     }
+    let sweeping = Sweeping {
+        grid: &grid,
+        part,
+        workers: workers(rt, options),
+        outlook: outlook(options),
+    };
     let shown = terminal && !options.get_flag("quiet");
-    let mut line = Line::new(err, rt, "sweep", Measure::Pieces, shown);
-    run(rt, alloc, options, &grid, part, source, &mut line, out)
+    let measure = if options.get_flag("stream") {
+        Measure::RowsSoFar
+    } else {
+        Measure::Pieces
+    };
+    let is_log = names_log(options)?;
+    let mut line = Line::new(err, rt, "sweep", measure, shown);
+    if !is_log {
+        return run(rt, alloc, options, &sweeping, source, &mut line, out);
+    }
+    let log = open_log(alloc, options, grid.edges(), source)?;
+    let mut rows = Telling::new(log, &mut line);
+    let swept = sweep_rows(rt, alloc, &mut rows, &sweeping, out);
+    let counts = counts_of(&rows.source);
+    drop(rows);
+    drop(line);
+    swept?;
+    tell("sweep", counts, err);
+    Ok(())
 }
 
 /// Runs the trace through the grid, or through a part of it.
@@ -42,16 +73,40 @@ fn run<S: Source, P: Progress, W: Write, R: Threads + Sync>(
     rt: &R,
     alloc: Global,
     options: &ArgMatches<'_>,
-    grid: &Grid,
-    part: Option<Part>,
+    sweeping: &Sweeping<'_>,
     source: &mut S,
     progress: &mut P,
     out: &mut Out<W>,
 ) -> Result<(), Fault> {
-    let workers = workers(rt, options);
+    if options.get_flag("stream") {
+        let reader = open(options, source)?;
+        return Ok(sweep_stream(rt, alloc, reader, sweeping, progress, out)?);
+    }
     let trace = read(alloc, options, "trace", source)?;
-    let bytes = trace.as_slice();
-    let swept = match part {
+    if sweeping.outlook.is_plain() {
+        sweep_plainly(rt, alloc, trace.as_slice(), sweeping, progress, out)
+    } else {
+        Ok(sweep_over_time(rt, alloc, trace.as_slice(), sweeping, progress, out)?)
+    }
+}
+
+/// A reader of the trace that the options name.
+fn open<S: Source>(options: &ArgMatches<'_>, source: &mut S) -> Result<S::Reader, CommandFault> {
+    let path = options.get_str("trace").ok_or(CommandFault::Plan)?;
+    Ok(source.open(path)?)
+}
+
+/// Runs the trace through the grid, or through a part of it, and writes the lines of each combination as they are done.
+fn sweep_plainly<P: Progress, W: Write, R: Threads + Sync>(
+    rt: &R,
+    alloc: Global,
+    bytes: &[u8],
+    sweeping: &Sweeping<'_>,
+    progress: &mut P,
+    out: &mut Out<W>,
+) -> Result<(), Fault> {
+    let (grid, workers) = (sweeping.grid, sweeping.workers);
+    let swept = match sweeping.part {
         Some(part) => sweep_part(rt, alloc, bytes, grid, part, workers, progress, out),
         None => rw_sweep::sweep(rt, alloc, bytes, grid, workers, progress, out),
     };

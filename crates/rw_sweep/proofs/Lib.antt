@@ -1,12 +1,10 @@
--- lists, and slots that are filled
-pub mod Lists
+-- slots that are filled
 pub mod Slots
 -- the points of a grid
 pub mod Widened
 pub mod InRange
 -- the lines of a configuration
 pub mod Serial
-pub mod Totals
 pub mod ThreeLines
 pub mod WholeLines
 -- the table that they make
@@ -15,3 +13,10 @@ pub mod Tables
 -- the parts of a sweep
 pub mod Dealt
 pub mod Joining
+-- what is told under an outlook, and of a trace that is read as it is run
+pub mod Told
+pub mod Under
+pub mod Ahead
+pub mod Feeding
+pub mod Finishing
+pub mod Streamed

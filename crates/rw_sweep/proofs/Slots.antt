@@ -71,6 +71,7 @@ fault-of-sweep (Err (sim.Trace f)) a bytes points are h = h
 fault-of-sweep (Err sim.Exhausted) a bytes points are h = exhausting a bytes points are h
 fault-of-sweep (Err sim.Output) a bytes points are h = tt
 fault-of-sweep (Err sim.Memory) a bytes points are h = tt
+fault-of-sweep (Err sim.Read) a bytes points are h = h
 fault-of-sweep (Err sim.Rounds) a bytes points are h = h
 fault-of-sweep (Err sim.NoThread) a bytes points are h = h
 fault-of-sweep (Err sim.Plan) a bytes points are h = h

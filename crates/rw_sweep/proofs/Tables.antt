@@ -1,5 +1,6 @@
 -- The lines of configurations make the table of a grid, or of a part of it.
-use Rattle.std.proofs.Common.{◌≡◌, ℕ, ◌<◌, Bool, true, List, [], ◌∷◌, ◌++◌, length, map, take, drop, get_or, Option, None, Result, Ok, Err, refl, sym, ap, subst, ◌∙◌, All}
+use Rattle.std.proofs.Common.{◌≡◌, ℕ, ◌<◌, Bool, true, List, [], ◌∷◌, ◌++◌, length, map, take, drop, get_or, Option, None, Some, Result, Ok, Err, refl, sym, ap, subst, ◌∙◌, All}
+use Rattle.std.specs.Prelude.{IfSome}
 use Rattle.std.specs.Result.{IfErr}
 use Rattle.std.specs.List.{AllZip, Any, Contains, concat, flat_map}
 use Rattle.std.proofs.Math.Seq.{take-append_seam}
@@ -14,15 +15,17 @@ use Rattle.rw_output.specs.declared.sim_fault.SimFault.TheVariants as sim
 use Rattle.rw_photo.specs.declared.config.Config.{Config}
 use Rattle.rw_photo.specs.Cache.{is_exhausted}
 use Rattle.rw_photo.specs.Simulation.{simulation}
+use Rattle.rw_replay.specs.Intervals.{AreMarks}
 use Rattle.rw_sweep.specs.declared.axes.Axes.{Axes}
 use Rattle.rw_sweep.specs.declared.choice.Choice.{Choice}
 use Rattle.rw_sweep.specs.declared.point.Point.{Point}
 use Rattle.rw_sweep.specs.Grids.{combinations}
-use Rattle.rw_sweep.specs.Parts.{AreLinesOfPlaced, HasSweptPart, IsExhaustingPart, IsPartSweepFault, IsPartSweepOfFirst, LinesAt, dealt, is_in_part, part_header, placed_line}
-use Rattle.rw_sweep.specs.Points.{ArePoints, IsOfGrid, IsPoint, points_of_part, told_at}
+use Rattle.rw_sweep.specs.Parts.{AreLinesOfPlaced, HasSweptPart, IsExhaustingPart, IsPartSweepFault, IsPartSweepOfFirst, LinesAt, dealt, is_in_part, part_header, placed_line, text_of_lines}
+use Rattle.rw_sweep.specs.OverTime.{HasLines}
+use Rattle.rw_sweep.specs.Points.{ArePoints, IsOfGrid, IsPlain, IsPoint, points_of_part, told_at}
 use Rattle.rw_sweep.specs.Sweep.{AreLinesOfChoice, HasSwept, IsSweepOfFirst}
 use Rattle.rw_sweep.specs.Table.{header_line}
-use Rattle.rw_sweep.specs.Working.{HasTaken, HasTakenFirst, IsAcceptedWith, IsExhaustedAt, IsFaultOfPoints, IsTextOfPoint, Takes, text_of_lines}
+use Rattle.rw_sweep.specs.Working.{HasTaken, HasTakenFirst, IsAcceptedWith, IsExhaustedAt, IsFaultOfPoints, IsTextOfPoint, IsTextUnder, Takes}
 use Rattle.rw_sweep.proofs.Dealt.{all-dealt, filtered-map}
 
 -- the configurations of a grid are of it
@@ -49,6 +52,19 @@ part-of-grid a index count points own are is =
     (All-map (IsOfGrid a) told_at (dealt index count points)
     (All-weaker (λ at. IsOfGrid a at.1) (λ at. IsOfGrid a (told_at at)) (told-of-grid a) (dealt index count points) (all-dealt (IsOfGrid a) index count points (of-grid a points are))))
 
+plain-unmarked : (p : Point) → IsPlain p → IfSome p.outlook AreMarks
+plain-unmarked p is = subst (λ o. IfSome o AreMarks) (sym is.lines) tt
+
+-- nothing but their lines is asked of the configurations of a grid, and of a part of it
+pub unmarked : (a : Axes) (points : List Point) → ArePoints a points → All (λ p. IfSome p.outlook AreMarks) points
+unmarked a points are = All-weaker IsPlain (λ p. IfSome p.outlook AreMarks) plain-unmarked points are.plain
+
+pub part-unmarked : (a : Axes) (index count : ℕ) (points own : List Point) → ArePoints a points → own ≡ points_of_part index count points → All (λ p. IfSome p.outlook AreMarks) own
+part-unmarked a index count points own are is =
+    subst (All (λ p. IfSome p.outlook AreMarks)) (sym is)
+    (All-map (λ p. IfSome p.outlook AreMarks) told_at (dealt index count points)
+    (All-weaker (λ at. IsPlain at.1) (λ at. IfSome at.1.outlook AreMarks) (λ at. plain-unmarked at.1) (dealt index count points) (all-dealt IsPlain index count points are.plain)))
+
 untold : (lines : List (List ℕ)) → text_of_lines None lines ≡ concat lines
 untold [] = refl
 untold (x ∷ xs) = ap (λ t. x ++ t) (untold xs)
@@ -59,18 +75,20 @@ record WholeLines (a : Axes) (rows : List Row) (points : List Point) (texts : Li
   each : AllZip (AreLinesOfChoice a rows) (map (λ p. p.choice) points) lines
   told : concat texts ≡ flat_map concat lines
 
-whole-lines : (a : Axes) (rows : List Row) (points : List Point) (texts : List (List ℕ)) → All (IsPoint a) points → All (λ p. p.place ≡ None) points → AllZip (IsTextOfPoint rows) points texts
+whole-lines : (a : Axes) (rows : List Row) (points : List Point) (texts : List (List ℕ)) → All (IsPoint a) points → All IsPlain points → AllZip (IsTextOfPoint rows) points texts
     → WholeLines a rows points texts
 whole-lines a rows [] [] are none each = record { lines = []; each = tt; told = refl }
 whole-lines a rows [] (t ∷ ts) are none each = absurd each
 whole-lines a rows (p ∷ ps) [] are none each = absurd each
 whole-lines a rows (p ∷ ps) (t ∷ ts) are none each =
     let is = All-head (IsPoint a) p ps are in
-    let rest = whole-lines a rows ps ts (All-tail (IsPoint a) p ps are) (All-tail (λ q. q.place ≡ None) p ps none) each.1 in
-    let text : t ≡ concat each.0.lines = each.0.told ∙ (ap (λ o. text_of_lines o each.0.lines) (All-head (λ q. q.place ≡ None) p ps none) ∙ untold each.0.lines) in
+    let rest = whole-lines a rows ps ts (All-tail (IsPoint a) p ps are) (All-tail IsPlain p ps none) each.1 in
+    let plain = All-head IsPlain p ps none in
+    let here : HasLines p.config p.choice p.place rows t = subst (λ o. IsTextUnder o rows p t) plain.lines each.0 in
+    let text : t ≡ concat here.lines = here.told ∙ (ap (λ o. text_of_lines o here.lines) plain.unplaced ∙ untold here.lines) in
     record {
-      lines = each.0.lines ∷ rest.lines;
-      each = (record { config = p.config; config_is = is.config_is; tells = each.0.tell }, rest.each);
+      lines = here.lines ∷ rest.lines;
+      each = (record { config = p.config; config_is = is.config_is; tells = here.tell }, rest.each);
       told = λ i. text i ++ rest.told i;
     }
 
@@ -80,7 +98,7 @@ record TableOf (a : Axes) (rows : List Row) (first : List Choice) (whole : Bool)
   each : AllZip (AreLinesOfChoice a rows) first lines
   taken : Takes whole before after (header_line ++ flat_map concat lines)
 
-table-of-points : (a : Axes) (rows : List Row) (points : List Point) (header : List ℕ) (whole : Bool) (before after : Option (List ℕ)) → All (IsPoint a) points → All (λ p. p.place ≡ None) points
+table-of-points : (a : Axes) (rows : List Row) (points : List Point) (header : List ℕ) (whole : Bool) (before after : Option (List ℕ)) → All (IsPoint a) points → All IsPlain points
     → header ≡ header_line → HasTaken whole rows points header before after → TableOf a rows (map (λ p. p.choice) points) whole before after
 table-of-points a rows points header whole before after are unplaced is h =
     let all = whole-lines a rows points h.texts are unplaced h.each in
@@ -94,7 +112,7 @@ table-of-points a rows points header whole before after are unplaced is h =
 pub table-of : (a : Axes) (bytes : List ℕ) (points : List Point) (header : List ℕ) (before after : Option (List ℕ)) → ArePoints a points → header ≡ header_line
     → IsAcceptedWith a bytes (λ rows. HasTaken true rows points header before after) → HasSwept a bytes before after
 table-of a bytes points header before after are is h =
-    let all = table-of-points a h.rows points header true before after are.each are.unplaced is h.holds in (
+    let all = table-of-points a h.rows points header true before after are.each are.plain is h.holds in (
       header_line ++ flat_map concat all.lines,
       record {
         rows = h.rows;
@@ -107,7 +125,7 @@ table-of a bytes points header before after are is h =
     )
 
 -- what is said of each of a list is said of its first ones
-all-of-first : {A : Type 0} (P : A → Type 0) (xs ys : List A) → All P (xs ++ ys) → All P xs
+pub all-of-first : {A : Type 0} (P : A → Type 0) (xs ys : List A) → All P (xs ++ ys) → All P xs
 all-of-first P [] ys each = All-nil P
 all-of-first P (x ∷ xs) ys each = All-cons P x xs (All-head P x (xs ++ ys) each) (all-of-first P xs ys (All-tail P x (xs ++ ys) each))
 
@@ -119,9 +137,9 @@ first-of-table a bytes points header whole before after are is h =
     let chosen : Point → Choice = λ q. q.choice in
     let some = h.holds in
     let each : All (IsPoint a) (some.first ++ some.rest) = subst (All (IsPoint a)) some.parted are.each in
-    let unplaced : All (λ p. p.place ≡ None) (some.first ++ some.rest) = subst (All (λ p. p.place ≡ None)) some.parted are.unplaced in
+    let plain : All IsPlain (some.first ++ some.rest) = subst (All IsPlain) some.parted are.plain in
     let all = table-of-points a h.rows some.first header whole before after (all-of-first (IsPoint a) some.first some.rest each)
-    (all-of-first (λ p. p.place ≡ None) some.first some.rest unplaced) is some.taken in (
+    (all-of-first IsPlain some.first some.rest plain) is some.taken in (
       header_line ++ flat_map concat all.lines,
       record {
         rows = h.rows;
@@ -142,18 +160,20 @@ record PlacedLines (a : Axes) (rows : List Row) (ats : List (Position × Point))
   each : AllZip (AreLinesOfPlaced a rows) (map (λ at. (at.0, at.1.choice)) ats) lines
   told : concat texts ≡ flat_map (λ ls. flat_map (placed_line ls.place) ls.lines) lines
 
-placed-lines : (a : Axes) (rows : List Row) (ats : List (Position × Point)) (texts : List (List ℕ)) → All (λ at. IsPoint a at.1) ats → AllZip (IsTextOfPoint rows) (map told_at ats) texts
+placed-lines : (a : Axes) (rows : List Row) (ats : List (Position × Point)) (texts : List (List ℕ)) → All (λ at. IsPoint a at.1) ats → All (λ at. IsPlain at.1) ats → AllZip (IsTextOfPoint rows) (map told_at ats) texts
     → PlacedLines a rows ats texts
-placed-lines a rows [] [] are each = record { lines = []; each = tt; told = refl }
-placed-lines a rows [] (t ∷ ts) are each = absurd each
-placed-lines a rows (at ∷ ats) [] are each = absurd each
-placed-lines a rows (at ∷ ats) (t ∷ ts) are each =
+placed-lines a rows [] [] are plain each = record { lines = []; each = tt; told = refl }
+placed-lines a rows [] (t ∷ ts) are plain each = absurd each
+placed-lines a rows (at ∷ ats) [] are plain each = absurd each
+placed-lines a rows (at ∷ ats) (t ∷ ts) are plain each =
     let is = All-head (λ q. IsPoint a q.1) at ats are in
-    let rest = placed-lines a rows ats ts (All-tail (λ q. IsPoint a q.1) at ats are) each.1 in
+    let rest = placed-lines a rows ats ts (All-tail (λ q. IsPoint a q.1) at ats are) (All-tail (λ q. IsPlain q.1) at ats plain) each.1 in
+    let lines = All-head (λ q. IsPlain q.1) at ats plain in
+    let here : HasLines at.1.config at.1.choice (Some at.0) rows t = subst (λ o. IsTextUnder o rows (told_at at) t) lines.lines each.0 in
     record {
-      lines = record { place = at.0; lines = each.0.lines } ∷ rest.lines;
-      each = (record { place_is = refl; tell = record { config = at.1.config; config_is = is.config_is; tells = each.0.tell } }, rest.each);
-      told = λ i. each.0.told i ++ rest.told i;
+      lines = record { place = at.0; lines = here.lines } ∷ rest.lines;
+      each = (record { place_is = refl; tell = record { config = at.1.config; config_is = is.config_is; tells = here.tell } }, rest.each);
+      told = λ i. here.told i ++ rest.told i;
     }
 
 -- the part of these configurations, as a writer takes it
@@ -163,9 +183,9 @@ record PartOf (a : Axes) (rows : List Row) (ats : List (Position × Point)) (who
   taken : Takes whole before after (part_header ++ flat_map (λ ls. flat_map (placed_line ls.place) ls.lines) lines)
 
 part-of-points : (a : Axes) (rows : List Row) (ats : List (Position × Point)) (header : List ℕ) (whole : Bool) (before after : Option (List ℕ)) → All (λ at. IsPoint a at.1) ats
-    → header ≡ part_header → HasTaken whole rows (map told_at ats) header before after → PartOf a rows ats whole before after
-part-of-points a rows ats header whole before after are is h =
-    let all = placed-lines a rows ats h.texts are h.each in
+    → All (λ at. IsPlain at.1) ats → header ≡ part_header → HasTaken whole rows (map told_at ats) header before after → PartOf a rows ats whole before after
+part-of-points a rows ats header whole before after are plain is h =
+    let all = placed-lines a rows ats h.texts are plain h.each in
     record {
       lines = all.lines;
       each = all.each;
@@ -173,7 +193,7 @@ part-of-points a rows ats header whole before after are is h =
     }
 
 -- the choices of what is dealt out
-dealt-choices : (a : Axes) (index count : ℕ) (points : List Point) → ArePoints a points
+pub dealt-choices : (a : Axes) (index count : ℕ) (points : List Point) → ArePoints a points
     → map (λ at. (at.0, at.1.choice)) (dealt index count points) ≡ dealt index count (combinations a)
 dealt-choices a index count points are =
     let chosen : Point → Choice = λ q. q.choice in
@@ -185,7 +205,7 @@ pub part-of : (a : Axes) (bytes : List ℕ) (index count : ℕ) (points own : Li
     → IsAcceptedWith a bytes (λ rows. HasTaken true rows own header before after) → HasSweptPart a index count bytes before after
 part-of a bytes index count points own header before after are dealt_out is h =
     let taken : HasTaken true h.rows (points_of_part index count points) header before after = subst (λ ps. HasTaken true h.rows ps header before after) dealt_out h.holds in
-    let all = part-of-points a h.rows (dealt index count points) header true before after (all-dealt (IsPoint a) index count points are.each) is taken in (
+    let all = part-of-points a h.rows (dealt index count points) header true before after (all-dealt (IsPoint a) index count points are.each) (all-dealt IsPlain index count points are.plain) is taken in (
       part_header ++ flat_map (λ ls. flat_map (placed_line ls.place) ls.lines) all.lines,
       record {
         rows = h.rows;
@@ -216,7 +236,8 @@ first-of-part a bytes index count points own header whole before after are dealt
     let same : map told_at first ≡ some.first = first-made told_at ats some.first some.rest (sym dealt_out ∙ some.parted) in
     let each : All (λ at. IsPoint a at.1) (first ++ rest) = subst (All (λ at. IsPoint a at.1)) both (all-dealt (IsPoint a) index count points are.each) in
     let taken : HasTaken whole h.rows (map told_at first) header before after = subst (λ ps. HasTaken whole h.rows ps header before after) (sym same) some.taken in
-    let all = part-of-points a h.rows first header whole before after (all-of-first (λ at. IsPoint a at.1) first rest each) is taken in (
+    let plain : All (λ at. IsPlain at.1) (first ++ rest) = subst (All (λ at. IsPlain at.1)) both (all-dealt IsPlain index count points are.plain) in
+    let all = part-of-points a h.rows first header whole before after (all-of-first (λ at. IsPoint a at.1) first rest each) (all-of-first (λ at. IsPlain at.1) first rest plain) is taken in (
       part_header ++ flat_map (λ ls. flat_map (placed_line ls.place) ls.lines) all.lines,
       record {
         rows = h.rows;
@@ -265,6 +286,7 @@ fault-of-part (Err (sim.Trace f)) a bytes index count points own are is h = h
 fault-of-part (Err sim.Exhausted) a bytes index count points own are is h = exhausting-part a bytes index count points own are is h
 fault-of-part (Err sim.Output) a bytes index count points own are is h = tt
 fault-of-part (Err sim.Memory) a bytes index count points own are is h = tt
+fault-of-part (Err sim.Read) a bytes index count points own are is h = h
 fault-of-part (Err sim.Rounds) a bytes index count points own are is h = h
 fault-of-part (Err sim.NoThread) a bytes index count points own are is h = h
 fault-of-part (Err sim.Plan) a bytes index count points own are is h = h

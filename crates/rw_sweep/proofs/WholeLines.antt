@@ -10,13 +10,14 @@ use Rattle.rw_photo.specs.declared.counters.Counters.{Counters}
 use Rattle.rw_ripq.specs.declared.Policy.{Policy}
 use Rattle.rw_ripq.specs.declared.Policy.TheVariants.{Off, Lru, Slru}
 use Rattle.rw_trace.specs.declared.Row.{Row}
-use Rattle.rw_sweep.specs.declared.caches.Caches.{Caches}
-use Rattle.rw_sweep.specs.declared.caches.Caches.TheVariants as whose
+use Rattle.rw_replay.specs.declared.columns.Caches.{Caches}
+use Rattle.rw_replay.specs.declared.columns.Caches.TheVariants as whose
+use Rattle.rw_replay.specs.Columns.{caches_name, columns_of, counts_columns, counts_of, ratio_text, six_digits, those_of}
 use Rattle.rw_sweep.specs.declared.choice.Choice.{Choice}
 use Rattle.rw_sweep.specs.Joining.{IsLine, newline}
 use Rattle.rw_sweep.specs.Sweep.{AreLinesOf}
 use Rattle.rw_replay.specs.Report.{totals}
-use Rattle.rw_sweep.specs.Table.{backend_requests, caches_name, choice_columns, columns_of, counts_columns, counts_of, flash_bytes, line_with, policy_name, ratio_text, six_digits, sweep_line, those_of}
+use Rattle.rw_sweep.specs.Table.{backend_requests, choice_columns, flash_bytes, line_with, policy_name, sweep_line}
 
 -- the bytes of digits, letters, commas and points
 abbrev Plain : List ℕ → Type 0
@@ -87,35 +88,35 @@ ratio part whole = decimals (if whole == 0 then 0 else part * 1000000 / whole)
     decimals n =
         joined (decimal (n / 1000000) ++ codes ".") (six_digits n) (joined (decimal (n / 1000000)) (codes ".") (plain-decimal (n / 1000000)) (tested (codes ".") refl)) (six n)
 
-counts : (x : Choice) (k : Counters) (flash backend : ℕ) → Plain (counts_columns x k flash backend)
-counts x k flash backend =
+counts : (k : Counters) (flash written backend : ℕ) → Plain (counts_columns k flash written backend)
+counts k flash written backend =
     let first = columns_of (counts_of k) in
     let hits = ratio_text k.hits k.requests in
     let bytes = ratio_text k.hit_bytes k.request_bytes in
-    let last = columns_of (flash ∷ k.writes * x.block ∷ backend ∷ []) in
+    let last = columns_of (flash ∷ written ∷ backend ∷ []) in
     joined (first ++ codes "," ++ hits ++ codes "," ++ bytes) last
     (joined (first ++ codes "," ++ hits ++ codes ",") bytes
     (joined (first ++ codes "," ++ hits) (codes ",")
     (joined (first ++ codes ",") hits (joined first (codes ",") (columns (counts_of k)) comma) (ratio k.hits k.requests)) comma)
     (ratio k.hit_bytes k.request_bytes))
-    (columns (flash ∷ k.writes * x.block ∷ backend ∷ []))
+    (columns (flash ∷ written ∷ backend ∷ []))
 
 body_of : Config → Choice → Caches → Counters → ℕ → List ℕ
-body_of c x w k backend = choice_columns x ++ codes "," ++ caches_name w ++ counts_columns x k (flash_bytes c x w) backend
+body_of c x w k backend = choice_columns x ++ codes "," ++ caches_name w ++ counts_columns k (flash_bytes c x w) (k.writes * x.block) backend
 
 whole : (c : Config) (x : Choice) (w : Caches) (k : Counters) (backend : ℕ) → IsLine (line_with c x w k backend)
 unfolding body_of
 whole c x w k backend =
     let front = choice_columns x in
     let name = caches_name w in
-    let tail = counts_columns x k (flash_bytes c x w) backend in
+    let tail = counts_columns k (flash_bytes c x w) (k.writes * x.block) backend in
     let numbers = columns_of (x.sections ∷ x.block ∷ x.edge_blocks ∷ x.origin_blocks ∷ []) in
     let plain : Plain (body_of c x w k backend) =
     joined (front ++ codes "," ++ name) tail
     (joined (front ++ codes ",") name
     (joined front (codes ",") (joined (policy_name x.policy) numbers (name-of-policy x.policy) (columns (x.sections ∷ x.block ∷ x.edge_blocks ∷ x.origin_blocks ∷ []))) comma)
     (name-of-caches w))
-    (counts x k (flash_bytes c x w) backend) in
+    (counts k (flash_bytes c x w) (k.writes * x.block) backend) in
     record { body = body_of c x w k backend; ends = refl; one = All-weaker (λ b. 43 < b) (λ b. b ≡ newline → ⊥) (λ b l e. omega arith) (body_of c x w k backend) plain }
 
 line-is : (c : Config) (x : Choice) (ks : List Counters) (w : Caches) → IsLine (sweep_line c x ks w)

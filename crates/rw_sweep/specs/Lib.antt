@@ -3,8 +3,11 @@ pub mod Grids
 pub mod Table
 pub mod Sweep
 pub mod Parts
+pub mod OverTime
+pub mod Streams
 pub mod Joining
 pub mod Lists
 pub mod Points
 pub mod Widening
 pub mod Working
+pub mod Ongoing

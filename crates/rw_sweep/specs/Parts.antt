@@ -1,5 +1,5 @@
 -- The parts of a sweep: some of its configurations, each line behind the place of its own.
-use Rattle.std.specs.Prelude.{◌≡◌, ◌%◌, ◌==◌, Bool, List, ◌++◌, codes, decimal, Ok, Err, Option}
+use Rattle.std.specs.Prelude.{◌≡◌, ◌%◌, ◌==◌, Bool, List, [], ◌++◌, codes, decimal, Ok, Err, Option, None, Some}
 use Rattle.std.specs.List.{AllZip, Contains, enumerate_from, filter, flat_map}
 use Rattle.std.specs.Io.KnownBytes.{Appends}
 use Rattle.rw_vt.specs.Words.{Count, Position}
@@ -33,6 +33,15 @@ dealt index count xs = filter (λ at. is_in_part index count at.0) (enumerate_fr
 -- a line behind the place of its configuration
 abbrev pub placed_line : Position → Text → Text
 placed_line place line = decimal place ++ codes "," ++ line
+
+-- what stands before a line: the place of its configuration, where that is told
+abbrev pub before_line : Option Position → Text
+before_line None = []
+before_line (Some place) = decimal place ++ codes ","
+
+-- some lines as a text, each behind its place, where that is told
+abbrev pub text_of_lines : Option Position → List Text → Text
+text_of_lines place lines = flat_map (λ line. before_line place ++ line) lines
 
 -- the names of a part's columns
 abbrev pub part_header : Text

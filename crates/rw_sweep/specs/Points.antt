@@ -1,8 +1,10 @@
 -- The configurations of a grid, each beside its choice.
-use Rattle.std.specs.Prelude.{◌≡◌, List, All, None, Some, map}
+use Rattle.std.specs.Prelude.{◌≡◌, List, All, Option, None, Some, map}
 use Rattle.std.specs.List.{Contains}
 use Rattle.rw_sweep.specs.declared.axes.Axes.{Axes}
+use Rattle.rw_sweep.specs.declared.part.Part.{Part}
 use Rattle.rw_sweep.specs.declared.point.Point.{Point}
+use Rattle.rw_replay.specs.declared.intervals.Outlook.{Outlook}
 use Rattle.rw_vt.specs.Words.{Count, Position}
 use Rattle.rw_sweep.specs.Parts.{dealt}
 use Rattle.rw_sweep.specs.Grids.{IsConfigOf, IsInGridRanges, combinations}
@@ -12,11 +14,16 @@ pub record IsPoint (a : Axes) (p : Point) : Type 0 where
   pub in_range : IsInGridRanges a p.choice
   pub config_is : IsConfigOf a p.choice p.config
 
--- these are the combinations in order, each with its configuration, and told without their places
+-- its lines are told, and without its place
+pub record IsPlain (p : Point) : Type 0 where
+  pub unplaced : p.place ≡ None
+  pub lines : p.outlook ≡ None
+
+-- these are the combinations in order, each with its configuration, and told plainly
 pub record ArePoints (a : Axes) (points : List Point) : Type 0 where
   pub choices : map (λ p. p.choice) points ≡ combinations a
   pub each : All (IsPoint a) points
-  pub unplaced : All (λ p. p.place ≡ None) points
+  pub plain : All IsPlain points
 
 -- a configuration of the grid
 pub record IsOfGrid (a : Axes) (p : Point) : Type 0 where
@@ -30,3 +37,16 @@ told_at at = record at.1 { place = Some at.0 }
 -- the configurations of a part, in order, told with their places
 abbrev pub points_of_part : Position → Count → List Point → List Point
 points_of_part index count points = map told_at (dealt index count points)
+
+-- the configurations of a grid, or of a part of it, in order, the latter with their places
+abbrev pub chosen_points : Option Part → List Point → List Point
+chosen_points None points = points
+chosen_points (Some part) points = points_of_part part.index part.count points
+
+-- a configuration of which an outlook is told
+abbrev pub with_outlook : Outlook → Point → Point
+with_outlook o p = record p { outlook = Some o }
+
+-- the same configurations, of each of which an outlook is told
+abbrev pub points_under : Option Part → Outlook → List Point → List Point
+points_under part o points = map (with_outlook o) (chosen_points part points)

@@ -1,6 +1,6 @@
 -- What those who work on a sweep need and make.
-use Rattle.std.specs.Prelude.{◌≡◌, ◌<◌, ℕ, Bool, List, [], ◌++◌, codes, decimal, length, All, Option, Some, None, IfSome, Result, Ok, Err, MatchBool, MatchResult, slice_index_or}
-use Rattle.std.specs.List.{AllZip, Any, concat, flat_map}
+use Rattle.std.specs.Prelude.{◌≡◌, ◌<◌, ◌≤◌, ◌^◌, ℕ, Bool, List, ◌++◌, length, All, Option, Some, None, IfSome, Result, Ok, Err, MatchBool, MatchResult, slice_index_or}
+use Rattle.std.specs.List.{AllZip, Any, concat}
 use Rattle.std.specs.Io.KnownBytes.{Appends}
 use Rattle.std.specs.Global.{Vec}
 use Rattle.rw_vt.specs.declared.refusal.Refusal.{Refusal}
@@ -22,12 +22,15 @@ use Rattle.rw_photo.specs.Simulation.{simulation}
 use Rattle.rw_sweep.specs.declared.axes.Axes.{Axes}
 use Rattle.rw_sweep.specs.declared.point.Point.{Point}
 use Rattle.rw_sweep.specs.declared.entry.Entry.{Entry}
-use Rattle.rw_sweep.specs.Sweep.{AreLinesOf}
-use Rattle.rw_vt.specs.Words.{Position}
+use Rattle.rw_replay.specs.declared.intervals.Outlook.{Outlook}
+use Rattle.rw_replay.specs.Intervals.{AreMarks}
+use Rattle.rw_sweep.specs.OverTime.{HasLines, TellsOfChoice}
 
--- a configuration can run these rows, and its line can be written
+-- a configuration can run these rows, its line can be written, and what is asked of it can be told
 pub record CanRun (rows : List Row) (p : Point) : Type 0 where
   pub rows_in_range : All (IsRow p.config.edges) rows
+  pub few : length rows ≤ 2 ^ 63
+  pub marks : IfSome p.outlook AreMarks
   pub edge_shape : IsShape p.choice.sections p.choice.block p.choice.edge_blocks
   pub origin_shape : IsShape p.choice.sections p.choice.block p.choice.origin_blocks
 
@@ -35,20 +38,13 @@ pub record CanRun (rows : List Row) (p : Point) : Type 0 where
 abbrev pub IsExhaustedAt : List Row → Point → Type 0
 IsExhaustedAt rows p = Meets (simulation p.config rows) end_of_time is_exhausted
 
--- what stands before a line: the place of its configuration, where that is told
-abbrev pub before_line : Option Position → Text
-before_line None = []
-before_line (Some place) = decimal place ++ codes ","
+-- the text is what is told of a configuration at work on these rows: its lines, or what an outlook asks for
+abbrev pub IsTextUnder : Option Outlook → List Row → Point → Text → Type 0
+IsTextUnder None rows p text = HasLines p.config p.choice p.place rows text
+IsTextUnder (Some o) rows p text = TellsOfChoice p.config p.choice p.place o rows text
 
--- some lines as a text, each behind its place, where that is told
-abbrev pub text_of_lines : Option Position → List Text → Text
-text_of_lines place lines = flat_map (λ line. before_line place ++ line) lines
-
--- the text is the lines of a configuration at work on these rows
-pub record IsTextOfPoint (rows : List Row) (p : Point) (text : Text) : Type 0 where
-  pub lines : List Text
-  pub tell : AreLinesOf p.config p.choice rows lines
-  pub told : text ≡ text_of_lines p.place lines
+abbrev pub IsTextOfPoint : List Row → Point → Text → Type 0
+IsTextOfPoint rows p text = IsTextUnder p.outlook rows p text
 
 -- what became of a configuration: its lines, or why there are none
 abbrev pub IsResultOf : List Row → Point → Result (Vec ℕ) Refusal → Type 0

@@ -1,7 +1,7 @@
-ghost use Rattle.std.specs.Prelude.{◌≡◌, ◌*◌, ◌^◌, ◌-◌, ◌++◌, ◌<◌, ◌≤◌, ◌↔◌, min, map, length, All, [], None, Err, IsTrue, IsSome, IfOk, IfSome, OnOk};
+ghost use Rattle.std.specs.Prelude.{◌≡◌, ◌*◌, ◌^◌, ◌-◌, ◌++◌, ◌<◌, ◌≤◌, ◌↔◌, min, map, length, All, [], Err, IsTrue, IsSome, IfOk, IfSome, OnOk};
 ghost use Rattle.std.specs.List.{Any};
 ghost use Rattle.rw_sweep.specs.Grids.{IsConfigOf, IsInGridRanges, combinations};
-ghost use Rattle.rw_sweep.specs.Points.{ArePoints, IsPoint};
+ghost use Rattle.rw_sweep.specs.Points.{ArePoints, IsPlain, IsPoint};
 ghost use Rattle.rw_sweep.specs.Limits.{most_configurations};
 ghost use Rattle.rw_sweep.specs.Widening.{first_choice, widened, with_number};
 
@@ -165,7 +165,7 @@ fn config_of(axes: &Axes, choice: Choice) -> Option<Config>
 fn points(alloc: Global, axes: &Axes, choices: &[Choice]) -> Result<Vec<Point>, GridFault>
     ensures choices { IfOk result (λ points. map (λ p. p.choice) points.items ≡ choices.now) }
     ensures each { IfOk result (λ points. All (IsPoint axes.now) points.items) }
-    ensures unplaced { IfOk result (λ points. All (λ p. p.place ≡ None) points.items) }
+    ensures plain { IfOk result (λ points. All IsPlain points.items) }
     ensures in_range { OnOk result (All (IsInGridRanges axes.now) choices.now) }
     ensures out_of_range { result ≡ Err GridFault.OutOfRange
         → Any (λ x. IsInGridRanges axes.now x → ⊥) choices.now }
@@ -182,6 +182,7 @@ fn points(alloc: Global, axes: &Axes, choices: &[Choice]) -> Result<Vec<Point>, 
             place: None,
             choice: *choice,
             config,
+            outlook: None,
         };
         if points.push(point).is_err() {
             return Err(GridFault::Memory);
@@ -251,7 +252,7 @@ impl Grid {
     }
 
     /// How many edges each configuration has.
-    pub(crate) fn edges(&self) -> u32
+    pub fn edges(&self) -> u32
         ensures { result ≡ self.now.edges }
     {
         self.axes.edges

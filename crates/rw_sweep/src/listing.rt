@@ -2,7 +2,7 @@ ghost use Rattle.std.specs.Prelude.{◌≡◌, IfOk};
 ghost use Rattle.rw_sweep.specs.Lists.{list_of_part};
 
 use crate::grid::Grid;
-use crate::part::{Part, points_of_part};
+use crate::part::Part;
 use crate::table::{list_header, write_listed};
 use rw_photo::NoMemory;
 use std::alloc::Global;

@@ -1,11 +1,6 @@
-ghost use Rattle.std.specs.Prelude.{◌≡◌, ◌<◌, ◌↔◌, IsSome, IfOk, IfSome};
+ghost use Rattle.std.specs.Prelude.{◌≡◌, ◌<◌, ◌↔◌, IsSome, IfSome};
 ghost use Rattle.rw_sweep.specs.Joining.{PartsMakeTheSweep};
 ghost use Rattle.rw_sweep.specs.Parts.{is_in_part};
-ghost use Rattle.rw_sweep.specs.Points.{points_of_part};
-
-use crate::point::Point;
-use rw_photo::NoMemory;
-use std::alloc::Global;
 
 /// One of the parts of a sweep: the configurations whose place in the grid, from 0, is `index` modulo `count`.
 ///
@@ -45,27 +40,6 @@ impl Part {
     {
         place as u64 % u64::from(self.count) == u64::from(self.index)
     }
-}
-
-/// The configurations of a part, in order, told with their places.
-pub(crate) fn points_of_part(
-    alloc: Global,
-    points: &[Point],
-    part: Part,
-) -> Result<Vec<Point>, NoMemory>
-    ensures { IfOk result (λ own.
-        own.items ≡ points_of_part part.index part.count points.now) }
-{
-    let mut own = Vec::new(alloc);
-    for (place, point) in points.iter().enumerate() {
-        if part.has(place) {
-            own.push(Point {
-                place: Some(place as u64),
-                ..*point
-            })?;
-        }
-    }
-    Ok(own)
 }
 
 /// The lines of the parts of a sweep, put in the order of their places and without them, are those of the sweep, byte for byte, in

@@ -1,5 +1,6 @@
 use crate::choice::Choice;
 use rw_photo::Config;
+use rw_replay::Outlook;
 
 /// A choice and its configuration.
 #[derive(Clone, Copy)]
@@ -8,4 +9,6 @@ pub(crate) struct Point {
     pub(crate) place: Option<u64>,
     pub(crate) choice: Choice,
     pub(crate) config: Config,
+    /// What is told of it, where that is not its three lines of the whole run.
+    pub(crate) outlook: Option<Outlook>,
 }

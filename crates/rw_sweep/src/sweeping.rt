@@ -1,13 +1,15 @@
-ghost use Rattle.std.specs.Prelude.{◌≡◌, ◌≢◌, ◌<◌, ◌↔◌, ◌⊎◌, ◌++◌, true, false, Err, All, IfErr, OnOk};
+ghost use Rattle.std.specs.Prelude.{◌≡◌, ◌≢◌, ◌<◌, ◌↔◌, ◌⊎◌, ◌++◌, true, false, Err, All, IfErr, IfSome, OnOk};
 ghost use Rattle.rw_trace.specs.declared.TraceFault.{TraceFault};
+ghost use Rattle.rw_replay.specs.Intervals.{AreMarks};
 ghost use Rattle.rw_sweep.specs.Limits.{most_configurations, most_workers};
 ghost use Rattle.rw_sweep.specs.Parts.{HasSweptPart, HasSweptPartBeginning, HasSweptPartFirst, IsPartSweepFault};
 ghost use Rattle.rw_sweep.specs.Points.{IsOfGrid};
 ghost use Rattle.rw_sweep.specs.Sweep.{HasSwept, HasSweptBeginning, HasSweptFirst, IsSweepFault};
 ghost use Rattle.rw_sweep.specs.Working.{CanRun, HasTaken, HasTakenFirst, IsAcceptedWith, IsFaultOfPoints};
 
+use crate::chosen::points_of_part;
 use crate::grid::{Grid, MAX_CONFIGURATIONS};
-use crate::part::{Part, points_of_part};
+use crate::part::Part;
 use crate::point::Point;
 use crate::table::{header_text, part_header};
 use crate::waves::write_all;
@@ -119,7 +121,7 @@ pub fn sweep_part<W: Write, P: Progress, R: Threads + Sync>(
 }
 
 /// Reads a trace, and writes a header and what these configurations of a grid make of it.
-fn sweep_points<W: Write, P: Progress, R: Threads + Sync>(
+pub(crate) fn sweep_points<W: Write, P: Progress, R: Threads + Sync>(
     rt: &R,
     alloc: Global,
     bytes: &[u8],
@@ -130,7 +132,8 @@ fn sweep_points<W: Write, P: Progress, R: Threads + Sync>(
     progress: &mut P,
     out: &mut Out<W>,
 ) -> Result<(), SimFault>
-    requires { All (IsOfGrid grid.now) points.now }
+    requires of_grid { All (IsOfGrid grid.now) points.now }
+    requires marks { All (λ p. IfSome p.outlook AreMarks) points.now }
     ensures table { OnOk result (IsAcceptedWith grid.now bytes.now
         (λ rows. HasTaken true rows points.now header.now
         (W.contents out.old.writer) (W.contents out.new.writer))) }

@@ -301,6 +301,7 @@ wrong-complete version edges n fields (fault.Kind k) h =
 wrong-complete version edges n fields fault.Header h = absurd h
 wrong-complete version edges n fields fault.TooManyRows h = absurd h
 wrong-complete version edges n fields fault.Memory h = absurd h
+wrong-complete version edges n fields (fault.Order k) h = absurd h
 
 -- good rows, and then one that is wrong or one too many, are refused for it
 rows-wrong : (version : Version) (edges most n m : ℕ) (good : List (List (List ℕ))) (ws : List Row) (bad : List (List ℕ)) (rest : List (List (List ℕ))) (e : TraceFault)

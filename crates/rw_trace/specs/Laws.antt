@@ -103,6 +103,7 @@ IsWrong version edges n fields (fault.Kind k) =
 IsWrong version edges n fields fault.Header = ⊥
 IsWrong version edges n fields fault.TooManyRows = ⊥
 IsWrong version edges n fields fault.Memory = ⊥
+IsWrong version edges n fields (fault.Order k) = ⊥
 
 -- each record writes a row, in turn
 unfoldable pub WriteRows : Version → Count → List Fields → List Row → Type 0

@@ -6,6 +6,10 @@ use Rattle.rw_numbers.specs.Words.{Count, Size, Time}
 abbrev pub most_rows : Count
 most_rows = 2 ^ 24
 
+-- the most rows of a trace that is read as it is run
+abbrev pub most_streamed_rows : Count
+most_streamed_rows = 2 ^ 40
+
 -- the latest time of a row, in ticks
 abbrev pub latest_time : Time
 latest_time = 2 ^ 39

@@ -9,12 +9,14 @@
 //! Worked examples: `rw_cache_tests/src/traces.rt`.
 
 mod parts;
+mod pieces;
 mod reading;
+mod row_source;
 
 ghost use Rattle.std.specs.Prelude.{All, ◌≡◌, ◌≢◌, ◌≤◌, ◌∷◌, [], Ok, Err, Some, IfOk, IfNone, IfSome, length, IfErr, MatchBool, MatchResult, true};
 ghost use Rattle.csv.specs.Records.{fields_of};
 ghost use Rattle.rw_trace.specs.Laws.{IsFaultOf, IsFirstFault, IsNoTrace, IsNumber, IsRow, IsTrace, IsWrong, Lacks, LacksKind, WriteRows, Writes, WritesKind, WritesRow};
-ghost use Rattle.rw_trace.specs.Limits.{greatest_size, latest_time, most_digits, most_rows};
+ghost use Rattle.rw_trace.specs.Limits.{greatest_size, latest_time, most_digits, most_rows, most_streamed_rows};
 ghost use Rattle.rw_trace.specs.Trace.{column_of, is_header, is_text_at, kind_at, names_numbers, number_of, trace_of, version_of, width_of};
 ghost use Rattle.rw_trace.specs.Unread.{LacksHeader, Steady, records_of, unread};
 ghost use Rattle.rw_trace.specs.declared.TraceFault.TheVariants.{Header, Memory, Number};
@@ -22,7 +24,9 @@ ghost use Rattle.rw_trace.specs.declared.Version.TheVariants.{First, Second};
 
 use csv::{ByteRecord, Reader};
 pub use parts::read_in_parts;
+pub use pieces::{OrderedRows, RowsFault, read_record};
 pub use reading::{next_record, open_records};
+pub use row_source::{RowSource, next_piece};
 use std::alloc::{AllocError, Global};
 
 /// What a row of a trace says of its object.
@@ -88,6 +92,9 @@ pub enum TraceFault {
     /// The row's kind is neither `get` nor `purge`.
     #[error("trace: row {0}: kind")]
     Kind(u64),
+    /// The row's time is before that of the row in front of it. Only [`OrderedRows`] asks for order.
+    #[error("trace: row {0}: order")]
+    Order(u64),
 }
 
 impl From<AllocError> for TraceFault {
@@ -107,6 +114,9 @@ pub const MAX_SIZE: u64 = (1 << 32) - 1;
 /// The most rows that [`read`] takes: 2^24.
 pub const MAX_ROWS: u64 = 1 << 24;
 
+/// The most rows of a trace that is read as it is run: 2^40.
+pub const MAX_STREAMED_ROWS: u64 = 1 << 40;
+
 /// The most digits of a number.
 pub const MAX_DIGITS: usize = 20;
 
@@ -114,6 +124,7 @@ pub const MAX_DIGITS: usize = 20;
 /// does nothing.
 pub fn every_limit()
     ensures rows { MAX_ROWS ≡ most_rows }
+    ensures streamed { MAX_STREAMED_ROWS ≡ most_streamed_rows }
     ensures time { MAX_TIME ≡ latest_time }
     ensures size { MAX_SIZE ≡ greatest_size }
     ensures digits { MAX_DIGITS ≡ most_digits }

@@ -23,23 +23,23 @@ length-made : {A C : Type 0} (k : ℕ) (f : ℕ → A → C) (xs : List A) → l
 length-made k f [] = refl
 length-made k f (x ∷ xs) = ap suc (length-made (k + 1) f xs)
 
-made_twice : {A C D : Type 0} (k : ℕ) (f : ℕ → A → C) (g : ℕ → C → D) (xs : List A) → map_from k g (map_from k f xs) ≡ map_from k (λ q x. g q (f q x)) xs
+pub made_twice : {A C D : Type 0} (k : ℕ) (f : ℕ → A → C) (g : ℕ → C → D) (xs : List A) → map_from k g (map_from k f xs) ≡ map_from k (λ q x. g q (f q x)) xs
 made_twice k f g [] = refl
 made_twice k f g (x ∷ xs) = ap (λ l. g k (f k x) ∷ l) (made_twice (k + 1) f g xs)
 
 joined : {C : Type 0} {a b : C} {ys bs : List C} → a ≡ b → ys ≡ bs → (a ∷ ys) ≡ (b ∷ bs)
 joined p q = cc
 
-made_alike : {A C : Type 0} (k : ℕ) (f g : ℕ → A → C) (xs : List A) → ((q : ℕ) (x : A) → f q x ≡ g q x) → map_from k f xs ≡ map_from k g xs
+pub made_alike : {A C : Type 0} (k : ℕ) (f g : ℕ → A → C) (xs : List A) → ((q : ℕ) (x : A) → f q x ≡ g q x) → map_from k f xs ≡ map_from k g xs
 made_alike k f g [] h = refl
 made_alike k f g (x ∷ xs) h = joined (h k x) (made_alike (k + 1) f g xs h)
 
-made_itself : {A : Type 0} (k : ℕ) (f : ℕ → A → A) (xs : List A) → ((q : ℕ) (x : A) → f q x ≡ x) → xs ≡ map_from k f xs
+pub made_itself : {A : Type 0} (k : ℕ) (f : ℕ → A → A) (xs : List A) → ((q : ℕ) (x : A) → f q x ≡ x) → xs ≡ map_from k f xs
 made_itself k f [] h = refl
 made_itself k f (x ∷ xs) h = joined (sym (h k x)) (made_itself (k + 1) f xs h)
 
 -- what stands at i is made of what stood there
-made_of : {A C : Type 0} (k i : ℕ) (f : ℕ → A → C) (xs : List A) (c : C) → slice_get (map_from k f xs) i ≡ Some c → (x : A) × (slice_get xs i ≡ Some x) × (c ≡ f (k + i) x)
+pub made_of : {A C : Type 0} (k i : ℕ) (f : ℕ → A → C) (xs : List A) (c : C) → slice_get (map_from k f xs) i ≡ Some c → (x : A) × (slice_get xs i ≡ Some x) × (c ≡ f (k + i) x)
 made_of k i f [] c h = absurd (cc)
 made_of k zero f (x ∷ xs) c h = let is : c ≡ f k x = cc in let at : k ≡ k + 0 = omega arith in (x, refl, is ∙ ap (λ n. f n x) at)
 made_of k (suc i) f (x ∷ xs) c h = let r = made_of (k + 1) i f xs c h in let at : (k + 1) + i ≡ k + suc i = omega arith in (r.0, r.1, r.2 ∙ ap (λ n. f n r.0) at)
@@ -51,7 +51,7 @@ none_joined k f (x ∷ xs) h = ap (λ l. l ++ flatten (map_from (k + 1) f xs)) (
 
 module _ {A E : Type 0} {cmp : E → E → Ordering} (o : IsExactOrder cmp) where
   -- what stands in the joined lists stands in one of them
-  Has-joined : (k : ℕ) (f : ℕ → A → List E) (xs : List A) (e : E) → Has cmp (flatten (map_from k f xs)) e → (i : ℕ) × (x : A) × (slice_get xs i ≡ Some x) × Has cmp (f (k + i) x) e
+  pub Has-joined : (k : ℕ) (f : ℕ → A → List E) (xs : List A) (e : E) → Has cmp (flatten (map_from k f xs)) e → (i : ℕ) × (x : A) × (slice_get xs i ≡ Some x) × Has cmp (f (k + i) x) e
   Has-joined k f [] e h = absurd (omega arith)
   Has-joined k f (x ∷ xs) e h = elim (Has-append o e (f k x) (flatten (map_from (k + 1) f xs)) h) [
     | inl m ↦ let at : k ≡ k + 0 = omega arith in (0, x, refl, subst (λ n. Has cmp (f n x) e) at m)
@@ -78,7 +78,7 @@ all_at k t u n e = grind (arith, nat_tests)
 
 module _ {S B : Type 0} {y : Rules S B} {WellFormed : ℕ → S → Type 0} (law : AreLawful y WellFormed) where
   -- what is sent is later than an event that was executed, and valid
-  sent_by : (p : ℕ) (s : S) (xs : List (Event B)) (e : Event B) → WellFormed p s → Fits_at y p xs → Has y.order (sends_of (y.step p) s xs) e
+  pub sent_by : (p : ℕ) (s : S) (xs : List (Event B)) (e : Event B) → WellFormed p s → Fits_at y p xs → Has y.order (sends_of (y.step p) s xs) e
       → (x : Event B) × Has y.order xs x × (x.time < e.time) × (y.valid e ≡ true)
   sent_by p s [] e w f h = absurd (omega arith)
   sent_by p s (x ∷ xs) e w f h =
@@ -92,11 +92,11 @@ module _ {S B : Type 0} {y : Rules S B} {WellFormed : ℕ → S → Type 0} (law
       ]
 
 -- journals of events of times below t, all that are sent of such times, each at least an initial event
-record IsDoneBelow {S B : Type 0} (y : System S B) (t : ℕ) (J : ℕ → List (Event B)) : Type 0 where
-  story : IsStory y.rules J
-  early : (q : ℕ) (a : Event B) → Has y.rules.order (J q) a → a.time < t
-  exact : IsExactBelow y t J
-  after : (q : ℕ) (a : Event B) → Has y.rules.order (J q) a → (c : Event B) × Has y.rules.order y.initial c × AtMost y.rules.order c a
+pub record IsDoneBelow {S B : Type 0} (y : System S B) (t : ℕ) (J : ℕ → List (Event B)) : Type 0 where
+  pub story : IsStory y.rules J
+  pub early : (q : ℕ) (a : Event B) → Has y.rules.order (J q) a → a.time < t
+  pub exact : IsExactBelow y t J
+  pub after : (q : ℕ) (a : Event B) → Has y.rules.order (J q) a → (c : Event B) × Has y.rules.order y.initial c × AtMost y.rules.order c a
 
 module _ {S B : Type 0} (y : System S B) {WellFormed : ℕ → S → Type 0} (law : IsLawful y WellFormed) where
   done_none : IsDoneBelow y 0 (λ q. [])
@@ -170,7 +170,7 @@ module _ {S B : Type 0} (y : System S B) {WellFormed : ℕ → S → Type 0} (la
           let sent = same_sent y law J (λ p. slice y (all_sent y J) t p) t done.story.fit fit_slice (λ p a h. let k = (Has-slice y law (all_sent y J) t p a h).1 in omega arith) e (omega arith) in
           copies-append law.rules.exact e (J e.to) (slice y (all_sent y J) t e.to) ∙ counts e l ∙ sym sent
 
-  done_below : (t : ℕ) → IsDoneBelow y t (λ q. journal_below y t q)
+  pub done_below : (t : ℕ) → IsDoneBelow y t (λ q. journal_below y t q)
   unfolding journal_below
   done_below zero = done_none
   done_below (suc t) = done_next t (λ q. journal_below y t q) (done_below t)
@@ -182,7 +182,7 @@ abbrev pub states_by : {S B : Type 0} → System S B → (ℕ → List (Event B)
 states_by y J = map_from 0 (λ q s. state_after (y.rules.step q) s (J q)) y.starts
 
 -- what is left of a run midway
-abbrev left : {S B : Type 0} → System S B → (ℕ → List (Event B)) → List (Event B) → System S B
+abbrev pub left : {S B : Type 0} → System S B → (ℕ → List (Event B)) → List (Event B) → System S B
 left y J P = record y { starts = states_by y J; initial = P }
 
 module _ {S B : Type 0} (y : System S B) {WellFormed : ℕ → S → Type 0} (law : IsLawful y WellFormed) where
@@ -199,7 +199,7 @@ module _ {S B : Type 0} (y : System S B) {WellFormed : ℕ → S → Type 0} (la
           let is : s ≡ state_after (y.rules.step p) r.0 (J p) = subst (λ n. s ≡ state_after (y.rules.step n) r.0 (J n)) (zero-add p) r.2 in
           subst (WellFormed p) (sym is) (well_formed_after law.rules p r.0 (J p) (law.starts p r.0 r.1) (mid.story.fit p))
 
-  module _ (J : ℕ → List (Event B)) (P : List (Event B)) (mid : IsMidway y J P) (t : ℕ) (times : (e : Event B) → y.rules.valid e ≡ true → e.time < t) where
+  module _ (J : ℕ → List (Event B)) (P : List (Event B)) (mid : IsMidway y J P) (t : ℕ) (early : (q : ℕ) (a : Event B) → Has y.rules.order (J q) a → a.time < t) where
     done : IsDoneBelow (left y J P) t (λ q. journal_below (left y J P) t q)
     done = done_below (left y J P) (rest_lawful J P mid) t
 
@@ -212,7 +212,7 @@ module _ {S B : Type 0} (y : System S B) {WellFormed : ℕ → S → Type 0} (la
         (λ a b h k. let c = done.after q b k in at_most_chain law.rules.exact a c.0 b (mid.ahead q a c.0 h c.1) c.2)
 
     soon : (q : ℕ) (a : Event B) → Has y.rules.order (J q ++ journal_below (left y J P) t q) a → a.time < t
-    soon q a h = times a (fit q a h).1
+    soon q a h = elim (Has-append law.rules.exact a (J q) (journal_below (left y J P) t q) h) [ inl m ↦ early q a m | inr m ↦ done.early q a m ]
 
     exact : IsExactBelow y t (λ q. J q ++ journal_below (left y J P) t q)
     exact e l =
@@ -235,23 +235,27 @@ module _ {S B : Type 0} (y : System S B) {WellFormed : ℕ → S → Type 0} (la
           copies-append o e P (flatten (map_from 0 late (states_by y J))),
         )
 
-    -- the journals of a run are those midway, and then those of what is left
-    pub rest_follows : (q : ℕ) → J q ++ journal_below (left y J P) t q ≡ journal_below y t q
-    rest_follows q =
+    -- the journals of a run are those midway, where all of them is before t, and then those of what is left
+    pub rest_follows_at : (q : ℕ) → J q ++ journal_below (left y J P) t q ≡ journal_below y t q
+    rest_follows_at q =
         sym (before_all law.rules t (J q ++ journal_below (left y J P) t q) (up q) (soon q))
         ∙ agree_below y law (λ p. J p ++ journal_below (left y J P) t p) (record { fit = fit; up = up }) t exact t (omega arith) q
 
-    rest_states : map_from 0 (λ q s. state_after (y.rules.step q) s (journal_below (left y J P) t q)) (states_by y J) ≡ states_by y (λ q. journal_below y t q)
+    pub rest_states : map_from 0 (λ q s. state_after (y.rules.step q) s (journal_below (left y J P) t q)) (states_by y J) ≡ states_by y (λ q. journal_below y t q)
     rest_states =
         made_twice 0 (λ q s. state_after (y.rules.step q) s (J q)) (λ q s. state_after (y.rules.step q) s (journal_below (left y J P) t q)) y.starts
         ∙ made_alike 0 (λ q s. state_after (y.rules.step q) (state_after (y.rules.step q) s (J q)) (journal_below (left y J P) t q)) (λ q s. state_after (y.rules.step q) s (journal_below y t q)) y.starts
-        (λ q s. sym (after-append (y.rules.step q) s (J q) (journal_below (left y J P) t q)) ∙ ap (state_after (y.rules.step q) s) (rest_follows q))
+        (λ q s. sym (after-append (y.rules.step q) s (J q) (journal_below (left y J P) t q)) ∙ ap (state_after (y.rules.step q) s) (rest_follows_at q))
+
+  -- all valid events are before t
+  pub rest_follows : (J : ℕ → List (Event B)) (P : List (Event B)) → IsMidway y J P → (t : ℕ) → ((e : Event B) → y.rules.valid e ≡ true → e.time < t) → (q : ℕ) → J q ++ journal_below (left y J P) t q ≡ journal_below y t q
+  rest_follows J P mid t times q = rest_follows_at J P mid t (λ q a h. times a (mid.story.fit q a h).1) q
 
   -- the rest of a run midway ends as the run does
   pub rest_ends : (J : ℕ → List (Event B)) (P : List (Event B)) → IsMidway y J P → EndsAs (record y { starts = states_by y J; initial = P }) y
   rest_ends J P mid last h = (
     map_from 0 (λ q _. journal_below y end_of_time q) y.starts,
-    record { journals_are = refl; states_are = h.1.states_are ∙ rest_states J P mid end_of_time (λ e v. (law.inside e v).time) },
+    record { journals_are = refl; states_are = h.1.states_are ∙ rest_states J P mid end_of_time (λ q a h. (law.inside a (mid.story.fit q a h).1).time) },
   )
 
   -- valid events more from outside
@@ -301,7 +305,7 @@ module _ {S B : Type 0} (y : System S B) where
       ap (λ l. l ++ slice (record y { initial = [] }) (all_sent (record y { initial = [] }) J) t q) (none q)
       ∙ ap (λ l. slice (record y { initial = [] }) l t q) sent
 
-  none_done : (t q : ℕ) → journal_below (record y { initial = [] }) t q ≡ []
+  pub none_done : (t q : ℕ) → journal_below (record y { initial = [] }) t q ≡ []
   unfolding journal_below
   none_done zero q = refl
   none_done (suc t) q = none_next t (λ q. journal_below (record y { initial = [] }) t q) (λ q. none_done t q) q

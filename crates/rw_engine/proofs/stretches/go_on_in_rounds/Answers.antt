@@ -17,4 +17,4 @@ returns-clause-onward g c =
     (same_rest model order opened after after.world.collected left.states.items left.events.items c.in_ok-world.ensures.opened refl refl refl c.in_ok-world-2.ensures.system c.in_ok-model.ensures.rest)
     (c.in_ok-model.ensures.model ∙ same_model model order opened after c.in_ok-world.ensures.opened refl c.in_ok-world-2.ensures.system)
     c.in_ok-model.ensures.ready
-    c.in_ok-put_back.ensures
+    c.in_ok-put_back.ensures.added

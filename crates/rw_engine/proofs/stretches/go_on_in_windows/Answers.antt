@@ -15,4 +15,4 @@ returns-clause-onward g c =
     goes_by_rest model order laws c.in_ok-events.events.items c.take_ready.new.pending.events c.requires.ready c.in_ok-events.ensures.parts
     (late_from c.take_ready.new.pending.events c.least_time.result 1099511627776 c.unwrap_or-until.result c.least_time.ensures c.unwrap_or-until.ensures)
     (omega (arith, c.min-end.ensures))
-    left.rest is (subst (λ m. IsReady model m out.states.items out.events.items) (sym is) left.ready) c.in_ok-put_back.ensures
+    left.rest is (subst (λ m. IsReady model m out.states.items out.events.items) (sym is) left.ready) c.in_ok-put_back.ensures.added

@@ -3,8 +3,9 @@ use Rattle.std.proofs.Common.{◌∙◌, List, ap, sym}
 use Rattle.std.proofs.lemmas.Result.{IfOk-from_err, MatchResult-weaker, err_from_is_err_and}
 use Rattle.rw_trace.specs.Unread.{unread}
 use Rattle.rw_trace.specs.Words.{Fields}
-use Rattle.rw_import.specs.Csv.{columns_found, rows_under}
+use Rattle.rw_import.specs.Csv.{columns_found, log_records, rows_under}
 use Rattle.rw_import.specs.Log.{first_time}
+use Rattle.rw_import.proofs.InMemory.{known-steady}
 use Rattle.rw_import.proofs.Collecting.{said-whole}
 use Rattle.rw_import.proofs.csv_log.first_of.Goals as goal
 
@@ -14,15 +15,18 @@ returns-in_err-places-clause-least g c = IfOk-from_err c.from_residual.result _ 
 pub returns-in_err-places-clause-fault : goal.returns-in_err-places-clause-fault
 returns-in_err-places-clause-fault g c =
     let p = err_from_is_err_and c.from_residual.result c.from_residual.ensures.1 in
-    rw (p.1, p.2) (λ other. ap (λ (rs : List Fields). columns_found c.args.layout.now rs) (sym c.open-reader.ensures.all) ∙ c.in_err-places.ensures.fault other)
+    rw (p.1, p.2) (λ other. ap (λ (rs : List Fields). columns_found c.args.layout.now rs) (sym (known-steady c.open-reader.result (log_records c.args.layout.now c.args.bytes.now) c.open-reader.ensures.may c.open-reader.ensures.all).1) ∙ c.in_err-places.ensures.fault other)
 
 pub returns-clause-least : goal.returns-clause-least
 returns-clause-least g c =
-    let all = c.open-reader.ensures.all in
+    let all = (known-steady c.open-reader.result (log_records c.args.layout.now c.args.bytes.now) c.open-reader.ensures.may c.open-reader.ensures.all).1 in
     let places = ap (λ (rs : List Fields). columns_found c.args.layout.now rs) (sym all) ∙ c.in_ok-places.ensures.places in
     let rows = ap (λ (rs : List Fields). rows_under c.args.layout.now rs) (sym all) ∙ c.in_ok-places.ensures.rows in
-    let whole = said-whole c.args.layout.now c.args.options c.args.bytes.now c.in_ok-places.places (unread c.start.new.reader) c.args.edges places rows c.requires in
+    let whole = said-whole c.args.layout.now c.args.options c.args.bytes.now c.in_ok-places.places (unread c.start_in_memory.new.reader) c.args.edges places rows c.requires in
     MatchResult-weaker c.least_left.result c.least_left.ensures.least (λ t e. e ∙ ap first_time whole) (λ e p. p)
 
 pub returns-clause-fault : goal.returns-clause-fault
 returns-clause-fault g c = MatchResult-weaker c.least_left.result c.least_left.ensures.refused (λ t p. p) (λ e memory other. absurd (other memory))
+
+pub start_in_memory-requires-clause-steady : goal.start_in_memory-requires-clause-steady
+start_in_memory-requires-clause-steady g c = (known-steady c.open-reader.result (log_records c.args.layout.now c.args.bytes.now) c.open-reader.ensures.may c.open-reader.ensures.all).0

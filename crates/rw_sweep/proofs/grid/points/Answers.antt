@@ -6,7 +6,7 @@ use Rattle.rw_sweep.specs.declared.axes.Axes.{Axes}
 use Rattle.rw_sweep.specs.declared.choice.Choice.{Choice}
 use Rattle.rw_sweep.specs.declared.point.Point.{Point}
 use Rattle.rw_sweep.specs.Grids.{IsInGridRanges}
-use Rattle.rw_sweep.specs.Points.{IsPoint}
+use Rattle.rw_sweep.specs.Points.{IsPlain, IsPoint}
 use Rattle.rw_sweep.proofs.InRange.{choices-in-range}
 use Rattle.rw_sweep.proofs.grid.points.Goals as goal
 
@@ -17,7 +17,7 @@ loop-choice-preserved c =
     let choices : List Choice = c.args.choices.now in
     let points : List Point = c.loop-choice.points.items in
     let choice : Choice = c.choice-item.result in
-    let point : Point = record { place = None; choice = choice; config = c.in-Some.config } in
+    let point : Point = record { place = None; choice = choice; config = c.in-Some.config; outlook = None } in
     let good : is_ok c.push.result ≡ true = search rules in
     let pushed : c.push.new.self.items ≡ points ++ point ∷ [] = rw good at c.push.ensures.items in
     let is : IsPoint a point = record { in_range = c.in-Some.ensures.found.0 refl; config_is = c.in-Some.ensures.config } in
@@ -26,7 +26,7 @@ loop-choice-preserved c =
           ∙ (ap (λ xs. xs ++ choice ∷ []) c.loop-choice.invariant.choices
           ∙ (ap (λ x. take n choices ++ x ∷ []) c.choice-item.is ∙ sym (take_more choices n choice c.loop-choice-test.true))));
       each = All-same (IsPoint a) _ _ pushed (All-push (IsPoint a) points point c.loop-choice.invariant.each is);
-      unplaced = All-same (λ p. p.place ≡ None) _ _ pushed (All-push (λ p. p.place ≡ None) points point c.loop-choice.invariant.unplaced refl);
+      plain = All-same IsPlain _ _ pushed (All-push IsPlain points point c.loop-choice.invariant.plain (record { unplaced = refl; lines = refl }));
     }
 
 pub returns-clause-in_range : goal.returns-clause-in_range

@@ -1,10 +1,13 @@
 use Rattle.std.proofs.Common.{true, false}
 use Rattle.rw_sweep.proofs.Slots.{fault-of-sweep, lines-so, table-so}
-use Rattle.rw_sweep.proofs.Tables.{first-of-table, of-grid, table-of}
+use Rattle.rw_sweep.proofs.Tables.{first-of-table, of-grid, table-of, unmarked}
 use Rattle.rw_sweep.proofs.sweeping.sweep.Goals as goal
 
-pub sweep_points-requires-after_bounds : goal.sweep_points-requires-after_bounds
-sweep_points-requires-after_bounds g c κs within = of-grid c.args.grid.now c.points.result.now c.points.ensures
+pub sweep_points-requires-clause-of_grid : goal.sweep_points-requires-clause-of_grid
+sweep_points-requires-clause-of_grid g c κs within = of-grid c.args.grid.now c.points.result.now c.points.ensures
+
+pub sweep_points-requires-clause-marks : goal.sweep_points-requires-clause-marks
+sweep_points-requires-clause-marks g c κs within = unmarked c.args.grid.now c.points.result.now c.points.ensures
 
 pub returns-clause-table : goal.returns-clause-table
 returns-clause-table g c =

@@ -1,11 +1,15 @@
 use Rattle.std.proofs.Common.{◌∙◌, true, false}
 use Rattle.rw_sweep.proofs.Slots.{lines-so, table-so}
-use Rattle.rw_sweep.proofs.Tables.{fault-of-part, first-of-part, part-of, part-of-grid}
+use Rattle.rw_sweep.proofs.Tables.{fault-of-part, first-of-part, part-of, part-of-grid, part-unmarked}
 use Rattle.rw_sweep.proofs.sweeping.sweep_part.Goals as goal
 
-pub sweep_points-requires-after_bounds : goal.sweep_points-requires-after_bounds
-sweep_points-requires-after_bounds g c κs within =
+pub sweep_points-requires-clause-of_grid : goal.sweep_points-requires-clause-of_grid
+sweep_points-requires-clause-of_grid g c κs within =
     part-of-grid c.args.grid.now c.args.part.index c.args.part.count c.points.result.now c.as_slice.result.now c.points.ensures (c.as_slice.ensures.value ∙ c.in_ok-own.ensures)
+
+pub sweep_points-requires-clause-marks : goal.sweep_points-requires-clause-marks
+sweep_points-requires-clause-marks g c κs within =
+    part-unmarked c.args.grid.now c.args.part.index c.args.part.count c.points.result.now c.as_slice.result.now c.points.ensures (c.as_slice.ensures.value ∙ c.in_ok-own.ensures)
 
 pub returns-clause-table : goal.returns-clause-table
 returns-clause-table g c =

@@ -4,8 +4,8 @@ use Rattle.rw_pending.proofs.Moving.{put_in_again}
 use Rattle.rw_pending.proofs.Waiting.{around_start}
 use Rattle.rw_pending.proofs.pending.Pending.put_back.Goals as goal
 
-pub returns : goal.returns
-returns g c =
+pub returns-clause-added : goal.returns-clause-added
+returns-clause-added g c =
     let at = c.self.inside in
     let later = c.put_apart.new.later in
     subst (λ w. IsPermutation (w.events ++ c.args.events.items) (at.initial ++ (c.fill.new.self ++ later))) c.self.view_is

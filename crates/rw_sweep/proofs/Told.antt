@@ -1,0 +1,93 @@
+-- What is told of the moments of a run tells of the run.
+use Rattle.std.proofs.Common.{◌≡◌, ℕ, suc, ◌+◌, ◌-◌, ◌*◌, List, [], ◌∷◌, Option, Some, None, Result, Ok, Err, Bor, refl, sym, ap, subst, ◌∙◌, arith, length, map, get_or}
+use Rattle.std.specs.Prelude.{IfOk, slice_get, unwrap_or}
+use Rattle.std.specs.Option.{option_copied}
+use Rattle.std.specs.Global.{Vec}
+use Rattle.std.proofs.lemmas.Option.{unwrap_or-slice_get}
+use Rattle.rw_vt.specs.Limits.{end_of_time}
+use Rattle.rw_vt.specs.Moments.{waiting_at}
+use Rattle.rw_vt.specs.System.{IsReady, map_from}
+use Rattle.rw_trace.specs.declared.Row.{Row}
+use Rattle.rw_photo.specs.declared.config.Config.{Config}
+use Rattle.rw_photo.specs.contracts.photo.PhotoVtModel.TheImpl as model
+use Rattle.rw_photo.specs.Events.{event_of}
+use Rattle.rw_photo.specs.Simulation.{simulation, starts_of}
+use Rattle.rw_replay.specs.declared.intervals.Outlook.{Outlook}
+use Rattle.rw_replay.specs.declared.moments.Moment.{Moment}
+use Rattle.rw_replay.specs.History.{IsHistory}
+use Rattle.rw_photo.specs.declared.counters.Counters.{Counters}
+use Rattle.rw_replay.specs.Intervals.{counted_by_each, last_counters, last_moment}
+use Rattle.rw_replay.proofs.Adding.{add_up}
+use Rattle.rw_replay.proofs.Told.{last-counted, last_is, last_states}
+use Rattle.rw_sweep.specs.declared.choice.Choice.{Choice}
+use Rattle.rw_sweep.specs.OverTime.{HasLines, TellsOfChoice, counted_from, told_of_choice}
+use Rattle.rw_sweep.specs.Parts.{text_of_lines}
+use Rattle.rw_sweep.specs.Table.{sweep_lines}
+use Rattle.rw_vt.specs.Words.{Position}
+
+-- ---- the last moment
+
+last-in : (m : Moment) (ms : List Moment) (k : ℕ) → k ≡ length ms - 1 → get_or ms k m ≡ last_moment m ms
+last-in m [] k is = refl
+last-in m (n ∷ []) k is = let none : k ≡ 0 = omega (arith, is) in ap (λ i. get_or (n ∷ []) i m) none
+last-in m (n ∷ (o ∷ os)) k is =
+    let next : k ≡ suc (length os) = omega (arith, is) in
+    ap (λ i. get_or (n ∷ (o ∷ os)) i m) next ∙ last-in m (o ∷ os) (length os) (let same : length os ≡ length (o ∷ os) - 1 = omega arith in same)
+
+unwrapped : (o : Option (Bor Moment)) (d : Bor Moment) → (unwrap_or o d).now ≡ unwrap_or (option_copied o) d.now
+unwrapped None d = refl
+unwrapped (Some x) d = refl
+
+pub last-moment : (o : Option (Bor Moment)) (d r : Bor Moment) (ms : List Moment) → option_copied o ≡ slice_get ms (length ms - 1) → r ≡ unwrap_or o d → r.now ≡ last_moment d.now ms
+last-moment o d r ms got is =
+    ap (λ x. x.now) is ∙ unwrapped o d ∙ ap (λ x. unwrap_or x d.now) got ∙ unwrap_or-slice_get ms (length ms - 1) d.now ∙ last-in d.now ms (length ms - 1) refl
+
+-- what is counted since the first one
+pub counted-since : {E : Type 0} (r : Result (Vec Counters) E) (start : ℕ) (w : Option ℕ) (m last : Moment) (ms : List Moment) (ks ls : List Counters) → w ≡ Some start → last ≡ last_moment m ms → ks ≡ m.counters.items → ls ≡ last.counters.items
+    → IfOk r (λ v. v.items ≡ counted_by_each ks ls) → IfOk r (λ v. v.items ≡ counted_from w m ms)
+counted-since (Err e) start w m last ms ks ls warm is first second h = tt
+counted-since (Ok v) start w m last ms ks ls warm is first second h =
+    h ∙ (λ i. counted_by_each (first i) (second i)) ∙ ap (λ l. counted_by_each m.counters.items l) (ap (λ x. x.counters.items) is ∙ sym (last-counted m ms)) ∙ sym (ap (λ o. counted_from o m ms) warm)
+
+-- or at all
+pub counted-all : (w : Option ℕ) (m last : Moment) (ms : List Moment) (ls : List Counters) → w ≡ None → last ≡ last_moment m ms → ls ≡ last.counters.items → ls ≡ counted_from w m ms
+counted-all w m last ms ls cold is h = h ∙ ap (λ x. x.counters.items) is ∙ sym (last-counted m ms) ∙ sym (ap (λ o. counted_from o m ms) cold)
+
+-- a history by the marks of an outlook
+pub history-of : (c : Config) (rows : List Row) (start every : ℕ) (o : Outlook) (ms : List Moment) → start ≡ unwrap_or o.warm_up 0 → every ≡ unwrap_or o.every end_of_time → IsHistory (simulation c rows) start every ms
+    → IsHistory (simulation c rows) (unwrap_or o.warm_up 0) (unwrap_or o.every end_of_time) ms
+history-of c rows start every o ms first second h =
+    subst (λ t. IsHistory (simulation c rows) t (unwrap_or o.every end_of_time) ms) first (subst (λ t. IsHistory (simulation c rows) start t ms) second h)
+
+-- ---- what is told of the moments
+
+module _ (c : Config) (rows : List Row) (ready : IsReady model.ghosts (record { config = c }) (starts_of c) (map_from 0 event_of rows)) (x : Choice) (place : Option Position) where
+  -- the counters by the last moment are those of the outcome
+  lines-of-last : (start every : ℕ) (ms : List Moment) → IsHistory (simulation c rows) start every ms → (text : List ℕ)
+      → ((m : Moment) (later : List Moment) → ms ≡ m ∷ later → text ≡ text_of_lines place (sweep_lines c x (last_counters (m ∷ later)))) → HasLines c x place rows text
+  lines-of-last start every [] history text is = absurd (let count = history.count in omega (arith, count))
+  lines-of-last start every (m ∷ ms) history text is =
+      let count = history.count in
+      let many : length ms ≡ history.more = omega (arith, count) in
+      let last = last_is (simulation c rows) every start m ms history.moments in
+      let ended = subst (λ n. waiting_at (simulation c rows) (start + n * every) ≡ []) (sym many) history.ended in
+      let states = last_states c rows ready (start + length ms * every) last.states last.states_are ended in
+      record {
+        lines = sweep_lines c x (map (λ s. s.counters) last.states);
+        tell = record { journals = states.0; states = last.states; outcome = states.1; told = refl };
+        told = is m ms refl ∙ ap (λ ks. text_of_lines place (sweep_lines c x ks)) (last-counted m ms ∙ last.counted);
+      }
+
+  pub tells-of-choice : (o : Outlook) (ms : List Moment) (text : List ℕ) → IsHistory (simulation c rows) (unwrap_or o.warm_up 0) (unwrap_or o.every end_of_time) ms → text ≡ told_of_choice c x place o ms
+      → TellsOfChoice c x place o rows text
+  tells-of-choice o ms text history is =
+      record {
+        history = ms;
+        is = history;
+        told = is;
+        lines = λ no_warm_up no_every. lines-of-last (unwrap_or o.warm_up 0) (unwrap_or o.every end_of_time) ms history text (λ m later parts. is ∙ ap (told_of_choice c x place o) parts ∙ plain no_warm_up no_every m later);
+        add_up = add_up c ms;
+      }
+    where
+      plain : o.warm_up ≡ None → o.every ≡ None → (m : Moment) (later : List Moment) → told_of_choice c x place o (m ∷ later) ≡ text_of_lines place (sweep_lines c x (last_counters (m ∷ later)))
+      plain no_warm_up no_every m later = rw (no_warm_up, no_every) refl

@@ -1,0 +1,147 @@
+// Runs of configurations that take rows in as these are read.
+ghost use Rattle.std.specs.Prelude.{◌≡◌, ◌<◌, [], All, IfErr, IfOk, List, OnOk, map, unwrap_or};
+ghost use Rattle.std.specs.List.{Any};
+ghost use Rattle.rw_vt.specs.Limits.{end_of_time};
+ghost use Rattle.rw_vt.specs.System.{Meets};
+ghost use Rattle.rw_trace.specs.declared.Row.{Row};
+ghost use Rattle.rw_photo.specs.Cache.{is_exhausted};
+ghost use Rattle.rw_photo.specs.Simulation.{simulation};
+ghost use Rattle.rw_sweep.specs.Ongoing.{AreFed, HasNotEnded, HasTexts, IsFed, IsGoingOn, IsToTell, MayFinish, MayTake};
+ghost use Rattle.rw_sweep.specs.Working.{IsTextOfPoint};
+
+use crate::point::Point;
+use crate::telling::told_of_point;
+use rw_photo::NoMemory;
+use rw_replay::{Marks, Outlook, Recording};
+use rw_trace::Row;
+use rw_vt::Refusal;
+use std::alloc::Global;
+use std::mem::replace;
+use std::thread::{Threads, for_each_mut};
+
+/// A configuration whose run takes rows in as they are read.
+#[derive(Drop)]
+pub(crate) struct OngoingRun {
+    pub(crate) point: Point,
+    /// Where it stands, or why it has ended.
+    pub(crate) recording: Result<Recording, Refusal>,
+}
+
+/// A run of each configuration that has taken in no row, and is looked at at these marks.
+pub(crate) fn begin_all(
+    alloc: Global,
+    points: &[Point],
+    marks: Marks,
+) -> Result<Vec<OngoingRun>, NoMemory>
+    ensures points { IfOk result (λ runs. map (λ g. g.point) runs.items ≡ points.now) }
+    ensures going { IfOk result (λ runs. All (IsGoingOn
+        (record { start = marks.start; every = marks.every }) []) runs.items) }
+    ensures not_ended { IfOk result (λ runs. All HasNotEnded runs.items) }
+{
+    let mut runs = Vec::with_capacity(alloc, points.len())?;
+    for point in points {
+        let recording = Recording::new(alloc, &point.config, marks)?;
+        runs.push(OngoingRun {
+            point: *point,
+            recording: Ok(recording),
+        })?;
+    }
+    Ok(runs)
+}
+
+/// Feeds a piece to each run, side by side in at most so many threads; with one, none is started.
+pub(crate) fn feed_all<R: Threads + Sync>(
+    rt: &R,
+    alloc: Global,
+    runs: &mut [OngoingRun],
+    piece: &[Row],
+    workers: usize,
+)
+    requires workers { 0 < workers }
+    requires may { All (MayTake piece.now) runs.old }
+    ensures { AreFed piece.now runs.old runs.new }
+{
+    for_each_mut(rt, runs, workers, &|_index, run| feed(alloc, run, piece));
+}
+
+/// Feeds a piece to a run, which goes on to the time of its last row.
+fn feed(alloc: Global, run: &mut OngoingRun, piece: &[Row])
+    requires { MayTake piece.now run.old }
+    ensures { IsFed piece.now run.old run.new }
+{
+    let recording = replace(&mut run.recording, Err(Refusal::Memory));
+    run.recording = match recording {
+        Ok(recording) => recording.feed(alloc, piece),
+        Err(refusal) => Err(refusal),
+    };
+}
+
+/// Why the first of these runs has ended that has, if one has.
+pub(crate) fn first_refusal(runs: &[OngoingRun]) -> Result<(), Refusal>
+    ensures not_ended { OnOk result (All HasNotEnded runs.now) }
+    ensures ended { IfErr result (λ e. Any (λ g. g.recording ≡ Err e) runs.now) }
+{
+    for run in runs {
+        if let Err(refusal) = &run.recording {
+            return Err(*refusal);
+        }
+    }
+    Ok(())
+}
+
+/// A header, and behind it what an outlook asks for of each run, in order, once it has gone on to its end.
+pub(crate) fn text_of_runs(
+    alloc: Global,
+    runs: Vec<OngoingRun>,
+    outlook: Outlook,
+    header: &[u8],
+) -> Result<Vec<u8>, Refusal>
+    requires may_finish { All MayFinish runs.items }
+    requires to_tell { All (λ g. IsToTell outlook g.point) runs.items }
+    ensures told { IfOk result (λ text. (rows : List Row)
+        → All (IsGoingOn (record {
+          start = unwrap_or outlook.warm_up 0;
+          every = unwrap_or outlook.every end_of_time;
+        }) rows) runs.items
+        → HasTexts rows (map (λ g. g.point) runs.items) header.now text.items) }
+    ensures exhausted { IfErr result (λ e. e ≡ Refusal.Exhausted → (rows : List Row)
+        → All (IsGoingOn (record {
+          start = unwrap_or outlook.warm_up 0;
+          every = unwrap_or outlook.every end_of_time;
+        }) rows) runs.items
+        → Any (λ g. Meets (simulation g.point.config rows) end_of_time is_exhausted)
+        runs.items) }
+{
+    let mut text = Vec::from_slice(alloc, header)?;
+    for run in runs {
+        let lines = finish(alloc, run, outlook)?;
+        text.extend_from_slice(lines.as_slice())?;
+    }
+    Ok(text)
+}
+
+/// What an outlook asks for of a run, which goes on to its end.
+fn finish(alloc: Global, run: OngoingRun, outlook: Outlook) -> Result<Vec<u8>, Refusal>
+    requires may_finish { MayFinish run }
+    requires to_tell { IsToTell outlook run.point }
+    ensures told { IfOk result (λ text. (rows : List Row)
+        → IsGoingOn (record {
+          start = unwrap_or outlook.warm_up 0;
+          every = unwrap_or outlook.every end_of_time;
+        }) rows run
+        → IsTextOfPoint rows run.point text.items) }
+    ensures exhausted { IfErr result (λ e. e ≡ Refusal.Exhausted → (rows : List Row)
+        → IsGoingOn (record {
+          start = unwrap_or outlook.warm_up 0;
+          every = unwrap_or outlook.every end_of_time;
+        }) rows run
+        → Meets (simulation run.point.config rows) end_of_time is_exhausted) }
+{
+    let OngoingRun { point, recording } = run;
+    let Ok(recording) = recording else {
+        unreachable!()
+    };
+    let moments = recording.finish(alloc)?;
+    let text = told_of_point(alloc, &point, outlook, moments.as_slice())?;
+    Ok(text)
+}

@@ -1,0 +1,66 @@
+// What is told of a configuration, from the moments of its run.
+ghost use Rattle.std.specs.Prelude.{◌≡◌, ◌<◌, ◌^◌, IfOk};
+ghost use Rattle.rw_replay.specs.Intervals.{lines_of};
+ghost use Rattle.rw_sweep.specs.OverTime.{before_interval, counted_from, told_of_choice};
+
+use crate::point::Point;
+use crate::table::{lines, write_before_interval};
+use rw_photo::{Counters, NoMemory};
+use rw_replay::{Moment, Outlook, count_each, write_intervals};
+use std::alloc::Global;
+
+/// What an outlook asks to be told of a configuration, from the moments of its run: the lines of its intervals, or its three lines.
+///
+/// # Errors
+///
+/// `NoMemory` only where memory was refused.
+pub(crate) fn told_of_point(
+    alloc: Global,
+    point: &Point,
+    outlook: Outlook,
+    moments: &[Moment],
+) -> Result<Vec<u8>, NoMemory>
+    requires edge_blocks { point.now.choice.edge_blocks < 2 ^ 17 }
+    requires origin_blocks { point.now.choice.origin_blocks < 2 ^ 17 }
+    ensures { IfOk result (λ text. text.items ≡ told_of_choice point.now.config point.now.choice
+        point.now.place outlook moments.now) }
+{
+    let Some((first, later)) = moments.split_first() else {
+        return Ok(Vec::new(alloc));
+    };
+    match outlook.every {
+        Some(_) => interval_lines(alloc, point, moments),
+        None => {
+            let counted = counted_from(alloc, outlook.warm_up, first, later)?;
+            lines(alloc, point, counted.as_slice())
+        }
+    }
+}
+
+/// The lines of the intervals between some moments, each behind the place of the configuration, where that is told, and its choice.
+fn interval_lines(alloc: Global, point: &Point, moments: &[Moment]) -> Result<Vec<u8>, NoMemory>
+    ensures { IfOk result (λ text. text.items ≡ lines_of point.now.config
+        (before_interval point.now.place point.now.choice) moments.now) }
+{
+    let mut before = Vec::new(alloc);
+    write_before_interval(&mut before, point)?;
+    let mut text = Vec::new(alloc);
+    write_intervals(&mut text, &point.config, before.as_slice(), moments)?;
+    Ok(text)
+}
+
+/// What each cache has counted by the last moment; from the first one on, where the caches warm up till then.
+fn counted_from(
+    alloc: Global,
+    warm_up: Option<u64>,
+    first: &Moment,
+    later: &[Moment],
+) -> Result<Vec<Counters>, NoMemory>
+    ensures { IfOk result (λ counted. counted.items ≡ counted_from warm_up first.now later.now) }
+{
+    let last = later.last().unwrap_or(first);
+    match warm_up {
+        Some(_) => count_each(alloc, first.counters.as_slice(), last.counters.as_slice()),
+        None => Ok(Vec::from_slice(alloc, last.counters.as_slice())?),
+    }
+}

@@ -1,0 +1,3 @@
+-- what public contracts say
+pub mod Layouts
+pub mod Tables

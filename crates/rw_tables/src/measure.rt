@@ -1,0 +1,37 @@
+/// What is drawn of each row.
+#[derive(Clone, Copy)]
+pub enum Measure {
+    /// The share of requests that were hits: the column `hit_ratio`.
+    HitRatio,
+    /// The share of bytes that were hits: the column `byte_hit_ratio`.
+    ByteHitRatio,
+    /// The bytes that were written to flash: the column `written_bytes`; over time per second.
+    FlashWrites,
+    /// The requests that reached the backend: the column `backend_requests`; over time per second.
+    BackendRequests,
+    /// The bytes that were asked of the backend, per second: the column `backend_bytes`, which only a table over time has.
+    BackendBytes,
+}
+
+/// Of which caches a row tells, and which rows are drawn.
+#[derive(Clone, Copy, PartialEq, Eq, PartialOrd, Ord)]
+pub enum Caches {
+    /// The edge caches.
+    Edges,
+    /// The origin caches.
+    Origins,
+    /// All caches.
+    All,
+}
+
+/// What is asked for of a table.
+#[derive(Clone, Copy)]
+pub struct Drawing {
+    /// What is drawn of each row.
+    pub measure: Measure,
+    /// Of which caches the rows are that are drawn. `None`: in a table of one configuration over time those of all three kinds,
+    /// a line for each; in other tables those of `All`.
+    pub caches: Option<Caches>,
+    /// How many ticks of a table over time are a second, from 1 to 10^9; 0 is taken as 1. Of no use to a sweep's table.
+    pub ticks_a_second: u32,
+}
