@@ -393,6 +393,7 @@ where
     H: Hands<RoundWork<M>, Worker<M>> + Hands<Work<'r, M, R>, Share<M>>,
     requires ready { IsReady M.Model at.model at.states.items pending.old.events }
     requires plan { IsInRanges plan }
+    requires left { 1 ≤ left }
     ensures onward { IfOk result (λ r. GoesOn M.Model M.Body.cmp
         at.model at.states.items pending.old.events
         r.model r.states.items pending.new.events) }
@@ -562,6 +563,7 @@ where
     H: Hands<RoundWork<M>, Worker<M>>,
     requires ready { IsReady M.Model at.model at.states.items pending.old.events }
     requires plan { IsInRanges plan }
+    requires rounds { 1 ≤ rounds }
     ensures onward { IfOk result (λ r. GoesOn M.Model M.Body.cmp
         at.model at.states.items pending.old.events
         r.model r.states.items pending.new.events) }

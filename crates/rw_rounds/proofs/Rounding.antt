@@ -84,6 +84,10 @@ module _ {M S B U : Type 0} {model : Ghosts M S B U} {order : B → B → Orderi
   pub collects_up_to : (t : ℕ) → t ≤ least → apply (system_of model order (simulation_of z)) (world_of z) (Collect t) ≡ (record { processes = map (process.collect t) (world_of z).processes; letters = z.letters.items; collected = max z.collected t }, Done)
   collects_up_to t below = let test : nat_le t (floor (world_of z)) ≡ true = le-leb t (floor (world_of z)) (omega (arith, below, floor_after)) in rw test refl
 
+  -- and what is outstanding stays so
+  floor_stays_up_to : (t : ℕ) → t ≤ least → floor (apply (system_of model order (simulation_of z)) (world_of z) (Collect t)).0 ≡ floor (world_of z)
+  floor_stays_up_to t below = ap (λ a. floor a.0) (collects_up_to t below) ∙ ap (λ k. least_of_letters k z.letters.items) (least_collected t (2 ^ 40) (world_of z).processes)
+
   -- a round, with the collecting of what is before another time too, is as it should be
   pub rounded_until : (until : ℕ) (u v : SimState M S B) → u.simulation ≡ simulation_of x → u.plan ≡ plan → v.simulation ≡ with_world (simulation_of z) (apply (system_of model order (simulation_of z)) (world_of z) (Collect (min least until))).0 → v.plan ≡ plan → v.floor ≡ least → RoundedUntil until u v
   rounded_until until u v before plan_before after plan_after floor_is = record {
@@ -91,6 +95,8 @@ module _ {M S B U : Type 0} {model : Ghosts M S B U} {order : B → B → Orderi
     starts_are = ap (λ (s : Simulation M S B). s.starts) after ∙ ap (λ ss. ss.value.items) round.starts_are ∙ sym (ap (λ (s : Simulation M S B). s.starts) before);
     initial_are = ap (λ (s : Simulation M S B). s.initial) after ∙ ap (λ es. es.value.items) round.initial_are ∙ sym (ap (λ (s : Simulation M S B). s.initial) before);
     plan_is = plan_after ∙ sym plan_before;
+    below_floor = (let same : floor v.simulation.world ≡ floor (world_of z) = ap (λ (s : Simulation M S B). floor s.world) after ∙ floor_stays_up_to (min least until) (min-le_left least until) in omega (arith, floor_after));
+    no_earlier = (let same : floor u.simulation.world ≡ floor (world_of x) = ap (λ (s : Simulation M S B). floor s.world) before in let rises : floor (world_of x) ≤ least = floor_rises laws worlds.every_floor plan x z least ranges whole round in omega arith);
     collected =
         ap (λ (s : Simulation M S B). s.world.collected) after
         ∙ ap (λ a. a.0.collected) (collects_up_to (min least until) (min-le_left least until))

@@ -131,5 +131,8 @@ pub record RoundedUntil {M S B : Type 0} (until : Time) (x z : SimState M S B) :
   pub starts_are : z.simulation.starts ≡ x.simulation.starts
   pub initial_are : z.simulation.initial ≡ x.simulation.initial
   pub plan_is : z.plan ≡ x.plan
+  -- its floor is as in a round that commits all before it
+  pub below_floor : z.floor ≤ floor z.simulation.world
+  pub no_earlier : floor x.simulation.world ≤ z.floor
   pub collected : z.simulation.world.collected
       ≡ max x.simulation.world.collected (min z.floor until)

@@ -1,4 +1,5 @@
-ghost use Rattle.std.specs.Prelude.{◌≡◌, ◌≤◌, ◌↔◌, IfOk};
+ghost use Rattle.std.specs.Prelude.{◌≡◌, ◌≤◌, ◌↔◌, IfOk, max, min};
+ghost use Rattle.rw_world.specs.WorldState.{floor};
 ghost use Rattle.rw_worker.specs.Plans.{IsInRanges};
 ghost use Rattle.rw_rounds.specs.Stretches.{IsSameSystem};
 
@@ -25,8 +26,8 @@ pub struct Stretch<M: VtModel> {
 }
 
 /// Makes rounds, at least one and at most as many as `rounds` says, until their floor is `until` or later, or the pace would
-/// have one worker go on alone. Nothing is committed from the time `until` on, in ticks: so initial events of that time or
-/// later may still come from outside. `hands` does the work of each round; no thread is started here.
+/// have one worker go on alone. All before the last round's floor is committed, but nothing from the time `until` on, in ticks: so
+/// initial events of that time or later may still come from outside. `hands` does the work of each round; no thread is started here.
 ///
 /// Each round is by a plan within `plan`, as the pace says, which goes on from stretch to stretch. After each round whose floor is
 /// before `until`, `progress` is told up to which time all is final.
@@ -50,8 +51,13 @@ where
     H: Hands<RoundWork<M>, Worker<M>>,
     P: Progress,
     requires before { world.world.collected ≤ until }
+    requires rounds { 1 ≤ rounds }
     ensures system { IfOk result (λ s. IsSameSystem world s.world) }
     ensures before { IfOk result (λ s. s.world.world.collected ≤ until) }
+    ensures floor { IfOk result (λ s. s.floor ≤ floor s.world.world) }
+    ensures rises { IfOk result (λ s. floor world.world ≤ s.floor) }
+    ensures collected { IfOk result (λ s. s.world.world.collected
+        ≡ max world.world.collected (min s.floor until)) }
     ensures plan { (result ≡ Err Stop.BadPlan) ↔ (IsInRanges plan → ⊥) }
 {
     let mut reached = Reached {
@@ -59,19 +65,21 @@ where
         traffic: Traffic::default(),
     };
     let mut sim = Sim::open(world, plan)?;
-    for _round in 0..rounds {
+    let mut left = rounds;
+    'rounds: loop {
         let before = reached;
         sim = run_round_until(hands, alloc, sim.by(pace.plan(&plan)), until)?;
         reached = sim.reached();
-        if !may_go_on(&plan, until, &before, &reached, pace, progress) {
-            break;
+        left -= 1;
+        let goes_on = may_go_on(&plan, until, &before, &reached, pace, progress);
+        if left == 0 || !goes_on {
+            return Ok(Stretch {
+                world: sim.into_world(),
+                floor: reached.floor,
+                traffic: reached.traffic,
+            });
         }
     }
-    Ok(Stretch {
-        world: sim.into_world(),
-        floor: reached.floor,
-        traffic: reached.traffic,
-    })
 }
 
 /// Whether another round of a stretch may follow the one that took the run from `before` to `after`. Tells the pace and
