@@ -2,6 +2,7 @@
 ghost use Rattle.std.specs.Prelude.{◌≡◌, ◌≤◌, ◌<◌, length, All, IfOk, vec_len};
 ghost use Rattle.rw_vt.specs.Limits.{end_of_time};
 ghost use Rattle.rw_board.specs.Least.{least};
+ghost use Rattle.rw_board.specs.Limits.{most_seats};
 ghost use Rattle.rw_board.specs.Seats.{new_seat, after_note, after_reading, all_notes};
 
 use crate::rule::{Gather, LeastNoted, Note, OneSeat, Read, View};
@@ -84,13 +85,19 @@ impl Board {
 /// The most seats of a board.
 pub const MAX_SEATS: usize = 16;
 
+/// This constant is the limit that stands in `specs/Limits.antt`, which the contract of [`open`] cites. The call itself
+/// does nothing.
+pub fn every_limit()
+    ensures { MAX_SEATS ≡ most_seats }
+{}
+
 /// A board on which nothing is noted yet, and its `seats` seats, 1 to [`MAX_SEATS`] of them.
 ///
 /// # Errors
 ///
 /// [`NoMemory`] where memory was refused.
 pub fn open(alloc: Global, seats: usize) -> Result<(Board, Vec<Seat>), NoMemory>
-    requires seats { (1 ≤ seats) × (seats ≤ MAX_SEATS) }
+    requires seats { (1 ≤ seats) × (seats ≤ most_seats) }
     ensures board { IfOk result (λ opened. opened.0.seats ≡ seats) }
     ensures count { IfOk result (λ opened. vec_len opened.1 ≡ seats) }
     ensures new { IfOk result (λ opened. All (λ s. s ≡ new_seat opened.0.board) opened.1.items) }

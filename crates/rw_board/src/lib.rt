@@ -11,5 +11,5 @@
 mod board;
 mod rule;
 
-pub use board::{Board, MAX_SEATS, Seat, close, open};
+pub use board::{Board, MAX_SEATS, Seat, close, every_limit, open};
 pub use rw_vt::NoMemory;

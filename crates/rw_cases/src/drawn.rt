@@ -1,4 +1,4 @@
-//! Drawn runs: a trace and the options of its caches come from a seed, and it is run in rounds and on one thread.
+//! Drawn runs: a trace and the options of its caches come from a seed, and it is run by several workers and on one thread.
 use crate::run::Run;
 use crate::tally::Tally;
 use std::alloc::{AllocError, Global};
@@ -6,8 +6,8 @@ use std::sync::Wait;
 use std::thread::Threads;
 use std::time::Clock;
 
-/// How rounds are run: few letters at a time, many, with all held back but the next, and more workers than caches.
-const ROUNDS: [&str; 6] = [
+/// Plans for short traces: few events in a round, many, all held back but the next, and more workers than caches.
+const SHORT_PLANS: [&str; 6] = [
     "warp --workers 1 --turns 1 --batch 3",
     "warp --workers 2 --turns 2 --batch 1 --ring 1",
     "warp --workers 3 --window 1",
@@ -16,30 +16,90 @@ const ROUNDS: [&str; 6] = [
     "warp --workers 16 --batch 4096 --ring 1",
 ];
 
-/// Runs the trace of each of so many seeds in rounds, and counts the runs that agree with the run on one thread.
-pub fn compare<R: Threads + Wait + Clock + Sync>(
+/// Plans under which workers run ahead of one another in a long trace of sparse requests, and roll back.
+const SPARSE_PLANS: [&str; 4] = [
+    "warp --workers 2",
+    "warp --workers 2 --lazy",
+    "warp --workers 4 --turns 8 --batch 32 --ring 2",
+    "warp --workers 4 --lazy",
+];
+
+/// Plans under which workers go by windows through a long trace of dense requests.
+const DENSE_PLANS: [&str; 3] = ["warp --workers 2", "warp --workers 4", "warp --workers 8"];
+
+/// How many requests a trace has, and how they lie.
+#[derive(Clone, Copy)]
+enum Requests {
+    /// 40 to 119 requests at 1 to 4 edges, one in two ticks: most runs are too short for several workers.
+    Few,
+    /// 4000 requests at 4 edges, one in four ticks.
+    Sparse,
+    /// 16,000 requests at 32 edges, 512 in each tick.
+    Dense,
+}
+
+impl Requests {
+    /// The plans by which traces of this kind are run.
+    fn plans(self) -> &'static [&'static str] {
+        match self {
+            Requests::Few => &SHORT_PLANS,
+            Requests::Sparse => &SPARSE_PLANS,
+            Requests::Dense => &DENSE_PLANS,
+        }
+    }
+
+    /// Whether the workers did what such a trace is for: rolled back, or sent messages to one another with nothing rolled back.
+    fn are_tried_by(self, run: &Run) -> bool {
+        match self {
+            Requests::Few => true,
+            Requests::Sparse => run.traffic("undone") > 0,
+            Requests::Dense => run.traffic("undone") == 0 && run.traffic("ring") > 0,
+        }
+    }
+}
+
+/// Runs a short trace for each of so many seeds by several workers, and counts the runs that agree with the run on one thread.
+pub fn compare_short<R: Threads + Wait + Clock + Sync>(
     rt: &R,
     alloc: Global,
     seeds: u64,
 ) -> Result<Tally, AllocError> {
     let mut tally = Tally::default();
     for seed in 0..seeds {
-        compare_rounds(rt, alloc, &Drawn::of(alloc, seed)?, &mut tally)?;
+        compare(rt, alloc, seed, Requests::Few, &mut tally)?;
     }
     Ok(tally)
 }
 
-/// Runs a drawn trace in rounds of each kind, and counts the runs that agree with the run on one thread.
-fn compare_rounds<R: Threads + Wait + Clock + Sync>(
+/// Runs a long trace of sparse and one of dense requests for each of so many seeds by several workers, and counts the runs in which
+/// these rolled back, or went by windows, and that agree with the run on one thread.
+pub fn compare_long<R: Threads + Wait + Clock + Sync>(
     rt: &R,
     alloc: Global,
-    drawn: &Drawn,
+    seeds: u64,
+) -> Result<Tally, AllocError> {
+    let mut tally = Tally::default();
+    for seed in 0..seeds {
+        compare(rt, alloc, seed, Requests::Sparse, &mut tally)?;
+        compare(rt, alloc, seed, Requests::Dense, &mut tally)?;
+    }
+    Ok(tally)
+}
+
+/// Runs a drawn trace under each plan for its kind, and counts the runs that agree with the run on one thread.
+fn compare<R: Threads + Wait + Clock + Sync>(
+    rt: &R,
+    alloc: Global,
+    seed: u64,
+    requests: Requests,
     tally: &mut Tally,
 ) -> Result<(), AllocError> {
-    let serial = drawn.report(rt, alloc, "serial")?;
-    for rounds in ROUNDS {
-        let warp = drawn.report(rt, alloc, rounds)?;
-        tally.count(serial.is_some() && warp == serial);
+    let drawn = Drawn::of(alloc, seed, requests)?;
+    let serial = drawn.run(rt, alloc, "serial")?;
+    for plan in requests.plans() {
+        let warp = drawn.run(rt, alloc, plan)?;
+        let is_same = serial.status == 0 && warp.status == 0 && warp.out == serial.out;
+        tally.count(is_same && requests.are_tried_by(&warp));
     }
     Ok(())
 }
@@ -53,25 +113,28 @@ struct Drawn {
 
 impl Drawn {
     /// What a seed draws.
-    fn of(alloc: Global, seed: u64) -> Result<Drawn, AllocError> {
+    fn of(alloc: Global, seed: u64, requests: Requests) -> Result<Drawn, AllocError> {
         let mut dice = Dice { number: seed };
-        let edges = dice.draw(1, 4);
+        let edges = match requests {
+            Requests::Few => dice.draw(1, 4),
+            Requests::Sparse => 4,
+            Requests::Dense => 32,
+        };
         Ok(Drawn {
             caches: caches(alloc, &mut dice, edges)?,
-            trace: trace(alloc, &mut dice, edges)?,
+            trace: trace(alloc, &mut dice, edges, requests)?,
         })
     }
 
-    /// What the program writes on standard output under a command; None where it ends with a fault.
-    fn report<R: Threads + Wait + Clock + Sync>(
+    /// Runs the trace by a command.
+    fn run<R: Threads + Wait + Clock + Sync>(
         &self,
         rt: &R,
         alloc: Global,
         command: &str,
-    ) -> Result<Option<Vec<u8>>, AllocError> {
+    ) -> Result<Run, AllocError> {
         let words = self.words(alloc, command)?;
-        let run = Run::of(rt, alloc, words, self.trace.as_bytes());
-        Ok((run.status == 0).then_some(run.out))
+        Ok(Run::of(rt, alloc, words, self.trace.as_bytes()))
     }
 
     /// The program's words, its name first.
@@ -127,20 +190,58 @@ fn caches(alloc: Global, dice: &mut Dice, edges: u64) -> Result<String, AllocErr
 }
 
 /// Requests at these edges, close to one another, for few objects, some of which are too large for a block.
-fn trace(alloc: Global, dice: &mut Dice, edges: u64) -> Result<String, AllocError> {
+fn trace(
+    alloc: Global,
+    dice: &mut Dice,
+    edges: u64,
+    requests: Requests,
+) -> Result<String, AllocError> {
     let mut trace = String::from_str(alloc, "time,edge,object,size\n")?;
-    push_rows(dice, edges, &mut trace)?;
+    match requests {
+        Requests::Few => push_few(dice, edges, &mut trace)?,
+        Requests::Sparse => push_many(dice, edges, 4000, 1, 4, &mut trace)?,
+        Requests::Dense => push_many(dice, edges, 16_000, 512, 1, &mut trace)?,
+    }
     Ok(trace)
 }
 
-/// Adds these requests.
-fn push_rows(dice: &mut Dice, edges: u64, trace: &mut String) -> Result<(), AllocError> {
+/// Adds a few requests.
+fn push_few(dice: &mut Dice, edges: u64, trace: &mut String) -> Result<(), AllocError> {
     let objects = dice.draw(4, 24);
     let mut time = 0u64;
     for _ in 0..dice.draw(40, 80) {
         time = time.wrapping_add(dice.draw(0, 5));
-        let (edge, object, size) = (dice.draw(0, edges), dice.draw(0, objects), dice.draw(1, 10));
-        write!(trace, "{time},{edge},{object},{size}\n")?;
+        push_row(dice, edges, objects, time, trace)?;
     }
+    Ok(())
+}
+
+/// Adds so many requests, `together` of them at a time, and `ticks` from one time to the next.
+fn push_many(
+    dice: &mut Dice,
+    edges: u64,
+    count: u64,
+    together: u64,
+    ticks: u64,
+    trace: &mut String,
+) -> Result<(), AllocError> {
+    let objects = dice.draw(100, 400);
+    for row in 0..count {
+        let time = (row / together.max(1)).wrapping_mul(ticks);
+        push_row(dice, edges, objects, time, trace)?;
+    }
+    Ok(())
+}
+
+/// Adds a request at this time.
+fn push_row(
+    dice: &mut Dice,
+    edges: u64,
+    objects: u64,
+    time: u64,
+    trace: &mut String,
+) -> Result<(), AllocError> {
+    let (edge, object, size) = (dice.draw(0, edges), dice.draw(0, objects), dice.draw(1, 10));
+    write!(trace, "{time},{edge},{object},{size}\n")?;
     Ok(())
 }

@@ -3,8 +3,8 @@
 //! it writes and its exit status with what the case says. Prints each case that differs and how many agree; then how many of
 //! the command `serial` agree by the program that has no other.
 //!
-//! Then runs drawn traces through drawn caches in rounds, under several plans, and compares each report with that of the run
-//! on one thread. Prints how many agree.
+//! Then runs drawn traces through drawn caches by several workers, under several plans, and compares each report with that of the
+//! run on one thread: short ones, and long ones, in which workers roll back, or go by windows. Prints how many agree.
 //!
 //! A case is a line: its name, the program's words behind its name (`args`), the bytes of standard input (`stdin`), the
 //! whole of standard output (`stdout`), the exit status and, where it is pinned, standard error (`stderr`).
@@ -24,8 +24,11 @@ use std::thread::Threads;
 use std::time::Clock;
 use tally::Tally;
 
-/// How many traces are drawn.
-const SEEDS: u64 = 40;
+/// How many short traces are drawn.
+const SHORT: u64 = 40;
+
+/// How many long traces are drawn of sparse requests, and of dense ones.
+const LONG: u64 = 6;
 
 fn main(rt: HostRuntime) -> Result<()> {
     let alloc = rt.alloc();
@@ -37,8 +40,13 @@ fn main(rt: HostRuntime) -> Result<()> {
         "{} of serial alone agree, {} differ",
         alone.agree, alone.differ
     )?;
-    let drawn = drawn::compare(&rt, alloc, SEEDS)?;
-    println!(rt; "{} drawn runs agree, {} differ", drawn.agree, drawn.differ)?;
+    let short = drawn::compare_short(&rt, alloc, SHORT)?;
+    println!(rt; "{} drawn runs agree, {} differ", short.agree, short.differ)?;
+    let long = drawn::compare_long(&rt, alloc, LONG)?;
+    println!(rt;
+        "{} long drawn runs agree, {} differ",
+        long.agree, long.differ
+    )?;
     Ok(())
 }
 

@@ -45,4 +45,22 @@ impl Run {
             err,
         }
     }
+
+    /// What the line of a run by several workers says of its rollbacks or messages, by that line's word for it; 0 where it says
+    /// nothing.
+    pub fn traffic(&self, word: &str) -> u64 {
+        let Ok(line) = str::from_utf8(self.err.as_slice()) else {
+            return 0;
+        };
+        let mut words = line.trim_end().split(' ');
+        'words: while let Some(next) = words.next() {
+            if next == word {
+                return words
+                    .next()
+                    .and_then(|count| count.parse().ok())
+                    .unwrap_or(0);
+            }
+        }
+        0
+    }
 }

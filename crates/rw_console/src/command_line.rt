@@ -1,8 +1,10 @@
 // What the words of a program come to.
+ghost use Rattle.std.specs.Prelude.{◌≡◌, ◌≢◌, ◌↔◌, Err, IfErr};
+
 use crate::fault::CommandFault;
 use crate::files::write;
 use clap::error::ErrorKind;
-use rw_output::Out;
+use rw_output::{Out, SimFault};
 use std::alloc::Global;
 use std::io::Write;
 use std::rt::Env;
@@ -28,12 +30,18 @@ pub fn words<R: Env + AllocGlobal>(rt: &R, alloc: Global) -> Result<Vec<String>,
 ///
 /// # Errors
 ///
-/// [`CommandFault::CommandLine`] where the words are none of the program's, `Output` and `Memory`.
+/// [`CommandFault::CommandLine`] where the words are none of the program's, and `Memory`: nothing was written then. And `Output`,
+/// exactly where the writer fails.
 pub fn answer<W: Write>(
     alloc: Global,
     error: clap::Error,
     out: &mut Out<W>,
-) -> Result<(), CommandFault> {
+) -> Result<(), CommandFault>
+    ensures output { (result ≡ Err (CommandFault.Run SimFault.Output))
+        ↔ (out.new.failures ≢ out.old.failures) }
+    ensures nothing { IfErr result (λ e.
+        e ≢ CommandFault.Run SimFault.Output → out.new ≡ out.old) }
+{
     if error.kind() == ErrorKind::OutOfMemory {
         return Err(CommandFault::Memory);
     }

@@ -1,3 +1,7 @@
+ghost use Rattle.std.specs.Prelude.{◌≡◌};
+ghost use Rattle.rw_console.specs.Status.{status_of};
+ghost use Rattle.rw_console.specs.declared.fault.CommandFault.TheVariants as fault;
+
 use crate::lines::write_line;
 use crate::source::SourceFault;
 use rw_output::SimFault;
@@ -18,15 +22,17 @@ pub enum CommandFault {
     Memory,
     /// The bytes cannot be read.
     #[error("{0}")]
-    Source(#[from] SourceFault),
+    Source(SourceFault),
     /// The run has no report.
     #[error("{0}")]
-    Run(#[from] SimFault),
+    Run(SimFault),
 }
 
 impl CommandFault {
     /// The exit status that tells it. Takes no memory.
-    pub fn status(&self) -> u8 {
+    pub fn status(&self) -> u8
+        ensures { result ≡ status_of self.now }
+    {
         match self {
             CommandFault::CommandLine(_) | CommandFault::Plan | CommandFault::Run(SimFault::Plan) =>
                 2,
@@ -49,7 +55,25 @@ impl CommandFault {
 }
 
 impl From<AllocError> for CommandFault {
+    ghost from_gives = { λ _ f. f ≡ fault.Memory };
+
     fn from(_error: AllocError) -> CommandFault {
         CommandFault::Memory
+    }
+}
+
+impl From<SourceFault> for CommandFault {
+    ghost from_gives = { λ source f. f ≡ fault.Source source };
+
+    fn from(fault: SourceFault) -> CommandFault {
+        CommandFault::Source(fault)
+    }
+}
+
+impl From<SimFault> for CommandFault {
+    ghost from_gives = { λ run f. f ≡ fault.Run run };
+
+    fn from(fault: SimFault) -> CommandFault {
+        CommandFault::Run(fault)
     }
 }

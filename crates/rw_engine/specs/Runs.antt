@@ -16,6 +16,8 @@ use Rattle.rw_world.specs.WorldState.{opening_world}
 use Rattle.rw_world.specs.Steps.{answers, run}
 use Rattle.rw_world.specs.Calls.{MeetsAt, Simulation}
 use Rattle.rw_world.specs.Sound.{IsInOrder, Sound}
+use Rattle.rw_engine.specs.Alone.{HaveRoomFor}
+use Rattle.rw_engine.specs.Stretches.{MayStopInRounds}
 use Rattle.rw_engine.specs.declared.how.How.{How}
 use Rattle.rw_engine.specs.declared.how.How.TheVariants.{InOrder, InRounds, BySteps}
 use Rattle.rw_engine.specs.declared.how.Ran.{Ran}
@@ -42,14 +44,15 @@ pub record IsSteppedTo {M S B U : Type 0} (model : Ghosts M S B U) (order : B �
   pub sound : Sound (system model order m starts initial) x.world
   pub in_order : IsInOrder (system model order m starts initial) x.world
 
--- what a run is to come to: in order and in rounds the same states, in order with no round; by steps a world in order
--- of time
+-- what a run is to come to: in order and in rounds the same states, in order with no round, and by one worker only
+-- where its rounds have room for all events; by steps a world in order of time
 abbrev pub HasRun : {M S B U : Type 0} → Ghosts M S B U → (B → B → Ordering) → M → List S
     → List (Event B) → How → Ran M S B U → Type 0
 HasRun model order m starts initial InOrder (Finished states traffic) =
     AreLastStates (system model order m starts initial) states.items × (traffic ≡ no_traffic)
 HasRun model order m starts initial (InRounds plan) (Finished states traffic) =
     AreLastStates (system model order m starts initial) states.items
+    × (plan.workers ≡ 1 → HaveRoomFor plan (system model order m starts initial))
 HasRun model order m starts initial (BySteps steps) (Stepped x answered) =
     IsSteppedTo model order m starts initial steps.now x answered.items
 HasRun model order m starts initial _ _ = ⊥
@@ -59,22 +62,21 @@ abbrev pub IsByBadPlan : How → Type 0
 IsByBadPlan (InRounds plan) = IsInRanges plan → ⊥
 IsByBadPlan _ = ⊥
 
--- where a run comes to a state that can take no further event; of rounds nothing is said, since a worker may come to
--- such a state in a past that is then undone
-abbrev pub ComesToExhaustion : {S B : Type 0} → System S B → (S → Bool) → How → Type 0
-ComesToExhaustion y test InOrder = Meets y end_of_time test
-ComesToExhaustion y test (InRounds plan) = Unit {0}
-ComesToExhaustion y test (BySteps steps) = MeetsAt y (opening_world y) test steps.now
+-- what a run in order of time may stop for, where `test` says of a state that it can take no further event
+abbrev pub MayStopInOrder : {S B : Type 0} → System S B → (S → Bool) → Stop → Type 0
+MayStopInOrder y test stop.Memory = Unit {0}
+MayStopInOrder y test stop.Exhausted = Meets y end_of_time test
+MayStopInOrder y test _ = ⊥
 
--- what any way of running may stop for
-abbrev pub IsOfAnyRun : Stop → Type 0
-IsOfAnyRun stop.Memory = Unit {0}
-IsOfAnyRun stop.Exhausted = Unit {0}
-IsOfAnyRun _ = ⊥
+-- what a run by these steps may stop for
+abbrev pub MayStopBySteps : {S B : Type 0} → System S B → (S → Bool) → List Step → Stop → Type 0
+MayStopBySteps y test steps stop.Memory = Unit {0}
+MayStopBySteps y test steps stop.Exhausted = MeetsAt y (opening_world y) test steps
+MayStopBySteps y test steps _ = ⊥
 
 -- what this way of running may stop for: that rounds are used up, that there is no thread and that the plan is bad come
 -- in rounds alone
-abbrev pub MayStopFor : How → Stop → Type 0
-MayStopFor InOrder reason = IsOfAnyRun reason
-MayStopFor (InRounds plan) reason = Unit {0}
-MayStopFor (BySteps steps) reason = IsOfAnyRun reason
+abbrev pub MayStopFor : {S B : Type 0} → System S B → (S → Bool) → How → Stop → Type 0
+MayStopFor y test InOrder reason = MayStopInOrder y test reason
+MayStopFor y test (InRounds plan) reason = MayStopInRounds y test plan reason
+MayStopFor y test (BySteps steps) reason = MayStopBySteps y test steps.now reason

@@ -1,11 +1,11 @@
-ghost use Rattle.std.specs.Prelude.{◌≡◌, ◌<◌, ◌*◌, ◌↔◌, Err, IfErr, IfOk};
+ghost use Rattle.std.specs.Prelude.{◌≡◌, ◌*◌, ◌↔◌, Err, IfErr, IfOk, OnOk};
 ghost use Rattle.rw_vt.specs.Limits.{end_of_time};
 ghost use Rattle.rw_vt.specs.System.{IsReady, Meets, system};
 ghost use Rattle.rw_serial.specs.Counts.{events_below};
 ghost use Rattle.rw_worker.specs.Plans.{IsInRanges};
 ghost use Rattle.rw_rounds.specs.declared.stop.Stop.TheVariants.{BadPlan, RoundsUsed};
 ghost use Rattle.rw_engine.specs.Runs.{AreLastStates};
-ghost use Rattle.rw_engine.specs.Alone.{IsTrafficAlone, MayStopAlone, most_events};
+ghost use Rattle.rw_engine.specs.Alone.{HaveNoRoomFor, HaveRoomFor, IsTrafficAlone, MayStopAlone, most_events};
 
 use rw_rounds::{Plan, Stop, Traffic};
 use rw_serial::{Source, last_states_within, last_states_within_from};
@@ -20,7 +20,7 @@ use std::alloc::Global;
 /// # Errors
 ///
 /// `BadPlan` exactly where a field of the plan is out of its range; `RoundsUsed` only where there are more events than the
-/// rounds of the plan have room for; `Exhausted` only where some process, in order of time, would execute an event in a state
+/// rounds of the plan have room for, and then there is no result; `Exhausted` only where some process, in order of time, would execute an event in a state
 /// that can take no further one; `Memory` where memory was refused. Nothing is handed back then.
 pub fn run_alone<M: Model>(
     alloc: Global,
@@ -35,8 +35,10 @@ pub fn run_alone<M: Model>(
     ensures traffic { IfOk result (λ r. IsTrafficAlone plan (events_below
         (system M.Model M.Body.cmp model.now starts.items initial.items) end_of_time) r.1) }
     ensures plan { (result ≡ Err BadPlan) ↔ (IsInRanges plan → ⊥) }
-    ensures used_up { result ≡ Err RoundsUsed → most_events plan < events_below
-        (system M.Model M.Body.cmp model.now starts.items initial.items) end_of_time }
+    ensures room { OnOk result (HaveRoomFor plan
+        (system M.Model M.Body.cmp model.now starts.items initial.items)) }
+    ensures used_up { result ≡ Err RoundsUsed → HaveNoRoomFor plan
+        (system M.Model M.Body.cmp model.now starts.items initial.items) }
     ensures exhausted { result ≡ Err Stop.Exhausted
         → Meets (system M.Model M.Body.cmp model.now starts.items initial.items) end_of_time
         (M.is_exhausted model.now) }
@@ -68,8 +70,10 @@ pub fn run_alone_from<M: Model, S: Source<M::Body>>(
     ensures traffic { IfOk result (λ r. IsTrafficAlone plan (events_below
         (system M.Model M.Body.cmp model.now starts.items (S.left source)) end_of_time) r.1) }
     ensures plan { (result ≡ Err BadPlan) ↔ (IsInRanges plan → ⊥) }
-    ensures used_up { result ≡ Err RoundsUsed → most_events plan < events_below
-        (system M.Model M.Body.cmp model.now starts.items (S.left source)) end_of_time }
+    ensures room { OnOk result (HaveRoomFor plan
+        (system M.Model M.Body.cmp model.now starts.items (S.left source))) }
+    ensures used_up { result ≡ Err RoundsUsed → HaveNoRoomFor plan
+        (system M.Model M.Body.cmp model.now starts.items (S.left source)) }
     ensures exhausted { result ≡ Err Stop.Exhausted
         → Meets (system M.Model M.Body.cmp model.now starts.items (S.left source)) end_of_time
         (M.is_exhausted model.now) }

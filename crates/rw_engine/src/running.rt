@@ -1,10 +1,8 @@
 ghost use Rattle.std.specs.Prelude.{◌≡◌, ◌↔◌, Err, IfErr, IfOk};
-ghost use Rattle.rw_vt.specs.Limits.{end_of_time};
-ghost use Rattle.rw_vt.specs.System.{IsReady, Meets, system};
+ghost use Rattle.rw_vt.specs.System.{IsReady, system};
 ghost use Rattle.rw_worker.specs.Plans.{IsInRanges};
-ghost use Rattle.rw_world.specs.Calls.{MeetsAt};
-ghost use Rattle.rw_world.specs.WorldState.{opening_world};
-ghost use Rattle.rw_engine.specs.Runs.{IsByBadPlan, ComesToExhaustion, IsOfAnyRun, MayStopFor, HasRun};
+ghost use Rattle.rw_engine.specs.Runs.{HasRun, IsByBadPlan, MayStopBySteps, MayStopFor, MayStopInOrder};
+ghost use Rattle.rw_engine.specs.Stretches.{MayStopInRounds};
 
 use crate::how::{How, Ran};
 use crate::stretches::run_in_rounds;
@@ -25,7 +23,8 @@ use std::thread::Threads;
 ///
 /// `BadPlan` exactly where a field of the plan is out of its range; `Exhausted` only where a process was to execute an event
 /// in a state that can take no further one; `RoundsUsed` and `NoThread` only in rounds; `Memory` where memory was refused.
-/// Nothing is handed back then.
+/// Nothing is handed back then. In rounds of one worker `RoundsUsed` comes only where there are more events than the rounds
+/// have room for, and `NoThread` never.
 pub fn run_in<M, R>(
     rt: &R,
     alloc: Global,
@@ -44,10 +43,9 @@ where
     ensures ran { IfOk result
         (HasRun M.Model M.Body.cmp model starts.items initial.items how.entry) }
     ensures plan { (result ≡ Err Stop.BadPlan) ↔ IsByBadPlan how.entry }
-    ensures exhausted { result ≡ Err Stop.Exhausted
-        → ComesToExhaustion (system M.Model M.Body.cmp model starts.items initial.items)
-        (M.is_exhausted model) how.entry }
-    ensures only { IfErr result (MayStopFor how.entry) }
+    ensures stops { IfErr result (MayStopFor
+        (system M.Model M.Body.cmp model starts.items initial.items)
+        (M.is_exhausted model) how.entry) }
 {
     run_in_and_tell(rt, alloc, model, starts, initial, how, &mut Silent)
 }
@@ -74,10 +72,9 @@ where
     ensures ran { IfOk result
         (HasRun M.Model M.Body.cmp model starts.items initial.items how.entry) }
     ensures plan { (result ≡ Err Stop.BadPlan) ↔ IsByBadPlan how.entry }
-    ensures exhausted { result ≡ Err Stop.Exhausted
-        → ComesToExhaustion (system M.Model M.Body.cmp model starts.items initial.items)
-        (M.is_exhausted model) how.entry }
-    ensures only { IfErr result (MayStopFor how.entry) }
+    ensures stops { IfErr result (MayStopFor
+        (system M.Model M.Body.cmp model starts.items initial.items)
+        (M.is_exhausted model) how.entry) }
 {
     match how {
         How::InOrder => in_order(alloc, &model, starts, initial),
@@ -96,10 +93,9 @@ fn in_order<M: VtModel>(
     requires { IsReady M.Model model.now starts.items initial.items }
     ensures ran { IfOk result
         (HasRun M.Model M.Body.cmp model.now starts.items initial.items How.InOrder) }
-    ensures exhausted { result ≡ Err Stop.Exhausted
-        → Meets (system M.Model M.Body.cmp model.now starts.items initial.items) end_of_time
-        (M.is_exhausted model.now) }
-    ensures others { IfErr result IsOfAnyRun }
+    ensures stops { IfErr result (MayStopInOrder
+        (system M.Model M.Body.cmp model.now starts.items initial.items)
+        (M.is_exhausted model.now)) }
 {
     let states = last_states(alloc, model, starts, initial)?;
     Ok(Ran::Finished(states, Traffic::default()))
@@ -126,6 +122,9 @@ where
     ensures ran { IfOk result
         (HasRun M.Model M.Body.cmp model starts.items initial.items (How.InRounds plan)) }
     ensures plan { (result ≡ Err Stop.BadPlan) ↔ (IsInRanges plan → ⊥) }
+    ensures stops { IfErr result (MayStopInRounds
+        (system M.Model M.Body.cmp model starts.items initial.items)
+        (M.is_exhausted model) plan) }
 {
     let (states, traffic) = run_in_rounds(rt, alloc, model, starts, initial, plan, progress)?;
     Ok(Ran::Finished(states, traffic))
@@ -142,11 +141,9 @@ fn by_steps<M: VtModel + Drop>(
     requires { IsReady M.Model model starts.items initial.items }
     ensures ran { IfOk result
         (HasRun M.Model M.Body.cmp model starts.items initial.items (How.BySteps steps.entry)) }
-    ensures exhausted { result ≡ Err Stop.Exhausted
-        → MeetsAt (system M.Model M.Body.cmp model starts.items initial.items)
-        (opening_world (system M.Model M.Body.cmp model starts.items initial.items))
-        (M.is_exhausted model) steps.now }
-    ensures others { IfErr result IsOfAnyRun }
+    ensures stops { IfErr result (MayStopBySteps
+        (system M.Model M.Body.cmp model starts.items initial.items)
+        (M.is_exhausted model) steps.now) }
 {
     let world = World::open(alloc, model, starts, initial)?;
     let (world, answers) = world.run_steps(alloc, steps)?;

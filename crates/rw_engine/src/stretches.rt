@@ -1,11 +1,12 @@
 ghost use Rattle.std.specs.Prelude.{◌≡◌, ◌≢◌, ◌↔◌, ◌<◌, ◌≤◌, ◌++◌};
-ghost use Rattle.std.specs.Prelude.{All, Err, IfErr, IfOk, IsPermutation, length, slice_index_or};
+ghost use Rattle.std.specs.Prelude.{All, Err, IfErr, IfOk, OnOk, IsPermutation, length, slice_index_or};
 ghost use Rattle.rw_vt.specs.Words.{Position};
 ghost use Rattle.rw_vt.specs.System.{IsReady, system};
 ghost use Rattle.rw_worker.specs.Plans.{IsInRanges};
 ghost use Rattle.rw_rounds.specs.declared.stop.Stop.TheVariants.{BadPlan};
 ghost use Rattle.rw_windows.specs.Working.{IsAhead};
 ghost use Rattle.rw_engine.specs.Runs.{AreLastStates};
+ghost use Rattle.rw_engine.specs.Alone.{HaveRoomFor};
 ghost use Rattle.rw_engine.specs.Stretches.{GoesOn, MayStopInRounds};
 
 use crate::alone::{events_of_round, run_alone_from, traffic_of};
@@ -54,7 +55,11 @@ where
     ensures states { IfOk result (λ r. AreLastStates
         (system M.Model M.Body.cmp model starts.items initial.items) r.0.items) }
     ensures plan { (result ≡ Err BadPlan) ↔ (IsInRanges plan → ⊥) }
-    ensures stops { IfErr result (MayStopInRounds plan) }
+    ensures room { plan.workers ≡ 1 → OnOk result (HaveRoomFor plan
+        (system M.Model M.Body.cmp model starts.items initial.items)) }
+    ensures stops { IfErr result (MayStopInRounds
+        (system M.Model M.Body.cmp model starts.items initial.items)
+        (M.is_exhausted model) plan) }
 {
     if !plan.is_valid() {
         return Err(Stop::BadPlan);
@@ -81,7 +86,7 @@ where
 /// # Errors
 ///
 /// `BadPlan` exactly where a field of the plan is out of its range; else `Memory`, `Exhausted`, `RoundsUsed` or `NoThread`.
-/// Nothing is handed back then.
+/// Nothing is handed back then. One worker stops as [`run_alone_from`](crate::run_alone_from) does, and so never for `NoThread`.
 pub fn run_in_rounds_from<M, S, P, R>(
     rt: &R,
     alloc: Global,
@@ -103,7 +108,11 @@ where
     ensures states { IfOk result (λ r. AreLastStates
         (system M.Model M.Body.cmp model starts.items (S.left source)) r.0.items) }
     ensures plan { (result ≡ Err BadPlan) ↔ (IsInRanges plan → ⊥) }
-    ensures stops { IfErr result (MayStopInRounds plan) }
+    ensures room { plan.workers ≡ 1 → OnOk result (HaveRoomFor plan
+        (system M.Model M.Body.cmp model starts.items (S.left source))) }
+    ensures stops { IfErr result (MayStopInRounds
+        (system M.Model M.Body.cmp model starts.items (S.left source))
+        (M.is_exhausted model) plan) }
 {
     if plan.workers == 1 {
         return run_alone_from(alloc, &model, starts, source, plan);

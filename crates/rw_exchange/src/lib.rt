@@ -23,7 +23,7 @@ mod settling;
 
 pub use greeting::Greeting;
 pub use left::Left;
-pub use opening::{MAX_CAPACITY, MAX_WORKERS, open, open_greeted};
+pub use opening::{MAX_CAPACITY, MAX_WORKERS, every_limit, open, open_greeted};
 pub use port::Port;
 pub use rtrb::{AnyItems, Protocol};
 pub use rw_vt::{Letter, NoMemory};

@@ -1,6 +1,7 @@
 //! The ports of an opening.
 ghost use Rattle.std.specs.Prelude.{◌≡◌, ◌≤◌, [], None, map, All, IfOk, IfSome, vec_len};
 ghost use Rattle.rw_vt.specs.Words.{Worker};
+ghost use Rattle.rw_exchange.specs.Limits.{most_ports, most_slots};
 ghost use Rattle.rw_exchange.specs.Ports.{AreTablesGreeted, AreGreeted, IsNew, IsOpening, KnowsFreeToEach, NoneItself, StayAnOpening};
 ghost use Rattle.rw_exchange.specs.Rings.{out_table, in_table, sent_table, received_table, HasCapacity, KnowsFree, NothingSent, NothingReceivedAtAll, AreCrossed};
 
@@ -82,6 +83,13 @@ pub const MAX_WORKERS: usize = 16;
 /// The most slots of a ring.
 pub const MAX_CAPACITY: usize = 4096;
 
+/// Each of these constants is the limit that stands in `specs/Limits.antt`, which the contracts cite. The call itself does
+/// nothing.
+pub fn every_limit()
+    ensures workers { MAX_WORKERS ≡ most_ports }
+    ensures capacity { MAX_CAPACITY ≡ most_slots }
+{}
+
 /// One port for each of `workers` workers, 1 to [`MAX_WORKERS`] of them, in order, with a ring of `capacity` slots, 1
 /// to [`MAX_CAPACITY`], for each ordered pair of different workers. Each port knows that all slots of its rings are
 /// free. All memory of the rings is taken here. The caller says what the letters are, `T`, and the protocol of the rings,
@@ -95,8 +103,8 @@ pub fn open<T: Drop, P: Protocol<T>>(
     workers: usize,
     capacity: usize,
 ) -> Result<Vec<Port<T, P>>, NoMemory>
-    requires workers { (1 ≤ workers) × (workers ≤ MAX_WORKERS) }
-    requires capacity { (1 ≤ capacity) × (capacity ≤ MAX_CAPACITY) }
+    requires workers { (1 ≤ workers) × (workers ≤ most_ports) }
+    requires capacity { (1 ≤ capacity) × (capacity ≤ most_slots) }
     ensures count { IfOk result (λ ports. vec_len ports ≡ workers) }
     ensures opening { IfOk result (λ ports. IsOpening ports.items) }
     ensures stays { IfOk result (λ ports. StayAnOpening ports.items) }
@@ -124,8 +132,8 @@ pub fn open_greeted<T: Drop, P: Protocol<T>, G: Greeting<T>>(
     capacity: usize,
     greeting: &G,
 ) -> Result<Vec<Port<T, P>>, NoMemory>
-    requires workers { (1 ≤ workers) × (workers ≤ MAX_WORKERS) }
-    requires capacity { (1 ≤ capacity) × (capacity ≤ MAX_CAPACITY) }
+    requires workers { (1 ≤ workers) × (workers ≤ most_ports) }
+    requires capacity { (1 ≤ capacity) × (capacity ≤ most_slots) }
     requires allowed { (from to : Worker) → IfSome (G.greeting greeting.now from to) (P.allows []) }
     ensures count { IfOk result (λ ports. vec_len ports ≡ workers) }
     ensures opening { IfOk result (λ ports. IsOpening ports.items) }

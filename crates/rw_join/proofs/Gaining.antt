@@ -1,5 +1,5 @@
 -- Slots that gain lines.
-use Rattle.std.proofs.Common.{◌≡◌, ℕ, ◌+◌, ◌<◌, ◌≤◌, ◌==◌, ◌⊎◌, inl, inr, Bool, cond, List, [], ◌∷◌, ◌++◌, length, map, get_or, set, refl, sym, ap, subst, ◌∙◌, arith, All, append_assoc, append-nil, length-append, eq-eqb}
+use Rattle.std.proofs.Common.{◌≡◌, ℕ, ◌+◌, ◌<◌, ◌≤◌, ◌==◌, ◌⊎◌, inl, inr, Bool, cond, List, [], ◌∷◌, ◌++◌, length, map, get_or, set, refl, sym, ap, subst, ◌∙◌, arith, max, All, append_assoc, append-nil, length-append, eq-eqb}
 use Rattle.std.specs.List.{concat, filter}
 use Rattle.std.proofs.lemmas.Bool.{cases_eq, cases_lt, ne_eqb}
 use Rattle.std.proofs.lemmas.List.{map-append, get_or_append_left, get_or-set_same, get_or-set_other, length-set}
@@ -7,7 +7,8 @@ use Rattle.std.proofs.lemmas.List.Elements.{All-append, All-cons, All-head, All-
 use Rattle.rw_vt.specs.Words.{Position}
 use Rattle.rw_sweep.specs.Joining.{PlacedLine, lines_of_place}
 use Rattle.rw_join.specs.declared.slots.Slot.{Slot}
-use Rattle.rw_join.specs.Slots.{AreSlotsOf, HaveGained, IsSlotOf}
+use Rattle.rw_join.specs.Faults.{places_of}
+use Rattle.rw_join.specs.Slots.{AreSlotsOf, HaveGained, HaveGrown, IsSlotOf, OfHeld}
 
 pub lines-append : (xs ys : List PlacedLine) (k : Position) → lines_of_place (xs ++ ys) k ≡ lines_of_place xs k ++ lines_of_place ys k
 lines-append xs ys k =
@@ -57,16 +58,16 @@ empty-more slots slot none nothing ls are =
           let empty : lines_of_place ls k ≡ [] = none-above n k ls are.within last in
           subst (IsSlotOf (lines_of_place ls k)) (sym is) (record { many = none ∙ ap length (sym empty); told = nothing ∙ ap concat (sym empty) })
     ] in
-    subst (λ all. AreSlotsOf all (slots ++ slot ∷ [])) (sym same) (record { within = within; each = λ k d l. at k d l (cases_lt k n) })
+    subst (λ all. AreSlotsOf all (slots ++ slot ∷ [])) (sym same) (record { within = within; few = are.few; each = λ k d l. at k d l (cases_lt k n) })
   where
     get_or-push : (xs : List Slot) (x d : Slot) → get_or (xs ++ x ∷ []) (length xs) d ≡ x
     get_or-push [] x d = refl
     get_or-push (y ∷ ys) x d = get_or-push ys x d
 
 -- a line more in the slot of its place
-pub line-more : (slots : List Slot) (place : Position) (line : List ℕ) (old new : Slot) → place < length slots → old ≡ get_or slots place old → new.count ≡ old.count + 1
+pub line-more : (slots : List Slot) (place : Position) (line : List ℕ) (old new : Slot) → place < length slots → old ≡ get_or slots place old → old.count < 3 → new.count ≡ old.count + 1
     → new.text.items ≡ old.text.items ++ line → HaveGained (record { place = place; line = line } ∷ []) slots (set slots place new)
-line-more slots place line old new inside is many told ls are =
+line-more slots place line old new inside is small many told ls are =
     let one : PlacedLine = record { place = place; line = line } in
     let as_long : length (set slots place new) ≡ length slots = length-set slots place new in
     let at : (k : Position) (d : Slot) → k < length slots → (k ≡ place) ⊎ (k ≡ place → ⊥) → IsSlotOf (lines_of_place (ls ++ one ∷ []) k) (get_or (set slots place new) k d) =
@@ -86,8 +87,41 @@ line-more slots place line old new inside is many told ls are =
           subst (λ t. IsSlotOf t (get_or (set slots place new) k d)) (sym lines)
           (subst (IsSlotOf (lines_of_place ls k)) (sym (get_or-set_other slots place k new d other)) (are.each k d l))
     ] in
+    let count : (k : Position) → (k ≡ place) ⊎ (k ≡ place → ⊥) → length (lines_of_place (ls ++ one ∷ []) k) ≤ 3 =
+    λ k which. elim which [
+      | inl here ↦
+          let was : IsSlotOf (lines_of_place ls place) old = subst (IsSlotOf (lines_of_place ls place)) (sym is) (are.each place old inside) in
+          let lines : lines_of_place (ls ++ one ∷ []) place ≡ lines_of_place ls place ++ line ∷ [] = lines-append ls (one ∷ []) place ∙ ap (λ t. lines_of_place ls place ++ t) (one-here place line) in
+          let more : length (lines_of_place (ls ++ one ∷ []) place) ≡ length (lines_of_place ls place) + 1 = ap length lines ∙ length-append (lines_of_place ls place) (line ∷ []) in
+          subst (λ j. length (lines_of_place (ls ++ one ∷ []) j) ≤ 3) (sym here) (omega (arith, was.many, more, small))
+      | inr other ↦
+          let lines : lines_of_place (ls ++ one ∷ []) k ≡ lines_of_place ls k =
+          lines-append ls (one ∷ []) k ∙ (ap (λ t. lines_of_place ls k ++ t) (one-elsewhere place k line (λ e. other (sym e))) ∙ append-nil (lines_of_place ls k)) in
+          subst (λ t. length t ≤ 3) (sym lines) (are.few k)
+    ] in
     record {
+      few = λ k. count k (cases_eq k place);
       within = All-append (λ l. l.place < length (set slots place new)) ls (one ∷ []) (subst (λ n. All (λ l. l.place < n) ls) (sym as_long) are.within)
           (All-cons (λ l. l.place < length (set slots place new)) one [] (subst (λ n. place < n) (sym as_long) inside) (All-nil (λ l. l.place < length (set slots place new))));
       each = λ k d l. at k d (subst (λ n. k < n) as_long l) (cases_eq k place);
     }
+
+-- a slot of three lines holds three
+pub three-held : (old slots : List Slot) (place : Position) (slot : Slot) → HaveGained [] old slots → place < length slots → slot ≡ get_or slots place slot → 3 ≤ slot.count
+    → OfHeld old (λ ls. length (lines_of_place ls place) ≡ 3)
+three-held old slots place slot gained inside is three ls are =
+    let now : AreSlotsOf ls slots = subst (λ all. AreSlotsOf all slots) (append-nil ls) (gained ls are) in
+    let was : IsSlotOf (lines_of_place ls place) slot = subst (IsSlotOf (lines_of_place ls place)) (sym is) (now.each place slot inside) in
+    omega (arith, was.many, now.few place, three)
+
+pub places-append : (xs ys : List PlacedLine) → places_of (xs ++ ys) ≡ max (places_of xs) (places_of ys)
+places-append [] ys = omega arith
+places-append (x ∷ xs) ys = omega (arith, places-append xs ys)
+
+-- slots for nothing more
+pub grown-nothing : (slots : List Slot) → HaveGrown [] slots slots
+grown-nothing slots = omega arith
+
+-- slots for some lines, and then for others
+pub grown-then : (xs ys : List PlacedLine) (one two three : List Slot) → HaveGrown xs one two → HaveGrown ys two three → HaveGrown (xs ++ ys) one three
+grown-then xs ys one two three first second = omega (arith, first, second, places-append xs ys)

@@ -1,44 +1,66 @@
 -- Lines that are read one after another, and parts.
-use Rattle.std.proofs.Common.{◌≡◌, ℕ, suc, ◌+◌, ◌<◌, List, [], ◌∷◌, ◌++◌, length, map, get_or, Option, None, Some, Bor, Result, Ok, Err, take, refl, sym, ap, subst, ◌∙◌, arith, All, append_assoc, append-nil, length-append}
-use Rattle.std.specs.Prelude.{IfOk, IfSome, MatchOption, OnOk, decimal}
+use Rattle.std.proofs.Common.{◌≡◌, ℕ, suc, ◌+◌, ◌<◌, ◌≤◌, List, [], ◌∷◌, ◌++◌, length, map, min, get_or, Option, None, Some, Bor, Result, Ok, Err, take, refl, sym, ap, subst, ◌∙◌, arith, All, append_assoc, append-nil, length-append}
+use Rattle.std.specs.Prelude.{◌≢◌, IfOk, IfSome, MatchOption, OnOk, codes, decimal}
 use Rattle.std.specs.Global.{Vec}
 use Rattle.std.specs.List.{AllZip, concat, flat_map, range_with_len}
 use Rattle.std.proofs.lemmas.Grind.{flat_map-append}
-use Rattle.std.proofs.lemmas.List.Elements.{All-append, All-cons, All-nil}
-use Rattle.std.proofs.lemmas.List.{map-append, take_more}
+use Rattle.std.proofs.lemmas.List.Elements.{All-append, All-cons, All-head, All-nil, All-tail, All-weaker}
+use Rattle.std.proofs.lemmas.List.{append_cancel_left, map-append, take_more}
 use Rattle.rw_vt.specs.Words.{Count, Position}
-use Rattle.rw_sweep.specs.Joining.{PlacedLine, lines_of_all, lines_of_place}
+use Rattle.rw_sweep.specs.Joining.{IsLine, PlacedLine, lines_of_all, lines_of_place, newline}
 use Rattle.rw_sweep.specs.Parts.{part_header, placed_line}
 use Rattle.rw_sweep.specs.Table.{header_line}
+use Rattle.rw_sweep.proofs.WholeLines.{digits-decimal}
 use Rattle.rw_join.specs.declared.join_fault.JoinFault.{JoinFault}
 use Rattle.rw_join.specs.declared.slots.Slot.{Slot}
+use Rattle.rw_join.specs.Faults.{places_of}
 use Rattle.rw_join.specs.Join.{HasJoined}
 use Rattle.rw_join.specs.Lines.{IsPartWith, IsPartLine}
-use Rattle.rw_join.specs.Slots.{AreSlotsOf, HasReadPart, HasReadTo, HaveGained, HaveRead}
-use Rattle.rw_join.proofs.Gaining.{concat-more, gained-nothing, gained-then}
+use Rattle.rw_join.specs.Slots.{AreSlotsOf, HasReadPart, HasReadRows, HasReadTo, HaveGained, HaveGrown, HaveRead}
+use Rattle.rw_join.proofs.Gaining.{concat-more, gained-nothing, gained-then, grown-nothing, grown-then, places-append}
 
 text_of : List PlacedLine → List ℕ
 text_of ls = flat_map (λ l. placed_line l.place l.line) ls
 
 -- nothing has been read yet
-pub read-none : (text : List ℕ) (slots : List Slot) → HasReadTo text text slots slots
-read-none text slots = record { own = []; told = refl; lines = All-nil IsPartLine; gained = gained-nothing slots }
+pub read-none : (text : List ℕ) (slots : List Slot) → HasReadRows text text slots slots 0
+read-none text slots = (record { own = []; told = refl; lines = All-nil IsPartLine; gained = gained-nothing slots; grown = grown-nothing slots }, refl)
+
+-- no text has more lines than bytes
+rows-below : (own : List PlacedLine) → length own ≤ length (text_of own)
+unfolding text_of
+rows-below [] = omega arith
+rows-below (x ∷ xs) =
+    let p : List ℕ = placed_line x.place x.line in
+    let comma : List ℕ = 44 ∷ [] in
+    let one : length comma ≡ 1 = refl in
+    let some : 1 ≤ length p = omega (arith, length-append (decimal x.place ++ comma) x.line, length-append (decimal x.place) comma, one) in
+    omega (arith, rows-below xs, length-append p (text_of xs), some)
 
 -- a line more
-pub read-more : (text rest after : List ℕ) (place : Position) (line : List ℕ) (old mid new : List Slot) → HasReadTo text rest old mid → rest ≡ placed_line place line ++ after → IsPartLine (record { place = place; line = line })
-    → HaveGained (record { place = place; line = line } ∷ []) mid new → HasReadTo text after old new
+pub read-more : (text rest after : List ℕ) (place : Position) (line : List ℕ) (old mid new : List Slot) (n m : ℕ) → HasReadRows text rest old mid n → rest ≡ placed_line place line ++ after
+    → IsPartLine (record { place = place; line = line }) → HaveGained (record { place = place; line = line } ∷ []) mid new → HaveGrown (record { place = place; line = line } ∷ []) mid new
+    → m ≡ min (n + 1) 18446744073709551615 → length text ≤ 18446744073709551615 → HasReadRows text after old new m
 unfolding text_of
-read-more text rest after place line old mid new so_far is whole more =
+read-more text rest after place line old mid new n m (so_far, rows) is whole more grown next short =
     let one : PlacedLine = record { place = place; line = line } in
     let p : List ℕ = placed_line place line in
-    let all : text_of (so_far.own ++ one ∷ []) ≡ text_of so_far.own ++ p =
+    let own : List PlacedLine = so_far.own ++ one ∷ [] in
+    let all : text_of own ≡ text_of so_far.own ++ p =
     flat_map-append (λ l. placed_line l.place l.line) so_far.own (one ∷ []) ∙ ap (λ t. text_of so_far.own ++ t) (append-nil p) in
-    record {
-      own = so_far.own ++ one ∷ [];
-      told = so_far.told ∙ (ap (λ t. text_of so_far.own ++ t) is ∙ (sym (append_assoc (text_of so_far.own) p after) ∙ ap (λ t. t ++ after) (sym all)));
-      lines = All-append IsPartLine so_far.own (one ∷ []) so_far.lines (All-cons IsPartLine one [] whole (All-nil IsPartLine));
-      gained = gained-then so_far.own (one ∷ []) old mid new so_far.gained more;
-    }
+    let told : text ≡ text_of own ++ after = so_far.told ∙ (ap (λ t. text_of so_far.own ++ t) is ∙ (sym (append_assoc (text_of so_far.own) p after) ∙ ap (λ t. t ++ after) (sym all))) in
+    let long : length own ≡ length so_far.own + 1 = length-append so_far.own (one ∷ []) in
+    let bytes : length text ≡ length (text_of own) + length after = ap length told ∙ length-append (text_of own) after in
+    let many : m ≡ length own = omega (arith, next, rows, long, bytes, short, rows-below own) in (
+      record {
+        own = own;
+        told = told;
+        lines = All-append IsPartLine so_far.own (one ∷ []) so_far.lines (All-cons IsPartLine one [] whole (All-nil IsPartLine));
+        gained = gained-then so_far.own (one ∷ []) old mid new so_far.gained more;
+        grown = grown-then so_far.own (one ∷ []) old mid new so_far.grown grown;
+      },
+      many,
+    )
 
 -- a part whose lines have been read
 pub part-read : {E : Type 0} (r : Result (Unit {0}) E) (text lines : List ℕ) (old new : List Slot) → text ≡ part_header ++ lines → OnOk r (HasReadTo lines [] old new) → OnOk r (HasReadPart text old new)
@@ -49,11 +71,12 @@ part-read (Ok u) text lines old new is h =
       own = h.own;
       is = record { told = is ∙ ap (λ t. part_header ++ t) (h.told ∙ append-nil (text_of h.own)); lines = h.lines };
       gained = h.gained;
+      grown = h.grown;
     }
 
 -- no part has been read yet
 pub none-read : HaveRead [] []
-none-read = record { parts = []; have = tt; hold = record { within = All-nil (λ l. l.place < 0); each = λ place d l. absurd (omega arith) } }
+none-read = record { parts = []; have = tt; hold = record { within = All-nil (λ l. l.place < 0); few = λ place. omega arith; each = λ place d l. absurd (omega arith) }; many = refl }
 
 have-more : (texts : List (List ℕ)) (parts : List (List PlacedLine)) (text : List ℕ) (own : List PlacedLine) → AllZip IsPartWith texts parts → IsPartWith text own
     → AllZip IsPartWith (texts ++ text ∷ []) (parts ++ own ∷ [])
@@ -71,6 +94,7 @@ one-read texts text old new so_far more =
       parts = so_far.parts ++ more.own ∷ [];
       have = have-more texts so_far.parts text more.own so_far.have more.is;
       hold = subst (λ ls. AreSlotsOf ls new) all (more.gained (lines_of_all so_far.parts) so_far.hold);
+      many = omega (arith, so_far.many, more.grown, places-append (lines_of_all so_far.parts) more.own, ap places_of all);
     }
 
 texts-of : (f : ℕ → List (List ℕ)) (m : ℕ) (slots : List Slot) → ((i : ℕ) (d : Slot) → i < length slots → (get_or slots i d).text.items ≡ concat (f (m + i)))
@@ -105,10 +129,30 @@ joined texts slots asked (Ok text) read many three told =
       many,
     )
 
--- what stands behind some bytes, by what `strip_prefix` says
-pub begins : (s p : List ℕ) (r : Option (Bor (List ℕ))) → MatchOption r ((rest : List ℕ) → s ≡ p ++ rest → ⊥) (λ x. s ≡ p ++ x.now) → IfSome r (λ rest. s ≡ p ++ rest.now)
-begins s p None h = tt
-begins s p (Some x) h = h
+-- what stands behind the header, if that is there
+pub behind-both : (r : Option (Bor (List ℕ))) (text mid header : List ℕ) → text ≡ codes "place," ++ mid → header ≡ header_line → MatchOption r ((rest : List ℕ) → mid ≢ header ++ rest) (λ rest. mid ≡ header ++ rest.now)
+    → MatchOption r ((rest : List ℕ) → text ≢ part_header ++ rest) (λ rest. text ≡ part_header ++ rest.now)
+behind-both None text mid header is named none =
+    λ rest e. none rest (append_cancel_left (codes "place,") mid (header ++ rest) (sym is ∙ (e ∙ (append_assoc (codes "place,") header_line rest ∙ ap (λ h. codes "place," ++ (h ++ rest)) (sym named)))))
+behind-both (Some x) text mid header is named some = is ∙ (ap (λ t. codes "place," ++ t) (some ∙ ap (λ h. h ++ x.now) named) ∙ sym (append_assoc (codes "place,") header_line x.now))
+
+-- a line without its first bytes, none of which ends it
+line-from : (xs line : List ℕ) → All (λ b. b ≢ newline) xs → IsLine (xs ++ line) → IsLine line
+line-from [] line none whole = whole
+line-from (x ∷ xs) line none whole = line-from xs line (All-tail (λ b. b ≢ newline) x xs none) (by whole.body whole.ends whole.one)
+  where
+    by : (body : List ℕ) → x ∷ (xs ++ line) ≡ body ++ newline ∷ [] → All (λ b. b ≢ newline) body → IsLine (xs ++ line)
+    by [] ends one = let here : x ≡ newline = cc in absurd (All-head (λ b. b ≢ newline) x xs none here)
+    by (b ∷ bs) ends one = let rest : xs ++ line ≡ bs ++ newline ∷ [] = cc in record { body = bs; ends = rest; one = All-tail (λ b. b ≢ newline) b bs one }
+
+-- a line without its place
+pub line-behind : (place : Position) (line own : List ℕ) → IsLine line → line ≡ decimal place ++ codes "," ++ own → IsLine own
+line-behind place line own whole is =
+    let digits : All (λ b. b ≢ newline) (decimal place) = All-weaker (λ b. 47 < b) (λ b. b ≢ newline) (λ b l e. omega arith) (decimal place) (digits-decimal place) in
+    let not_comma : 44 ≢ newline = λ e. omega arith in
+    let front : All (λ b. b ≢ newline) (decimal place ++ codes ",") =
+    All-append (λ b. b ≢ newline) (decimal place) (codes ",") digits (All-cons (λ b. b ≢ newline) 44 [] not_comma (All-nil (λ b. b ≢ newline))) in
+    line-from (decimal place ++ codes ",") own front (subst IsLine is whole)
 
 -- the text of a slot more
 pub told-more : (slots : List Slot) (n : ℕ) (slot : Slot) (text new : List ℕ) → n < length slots → slot ≡ get_or slots n slot

@@ -5,45 +5,35 @@ use Rattle.std.specs.List.{AllZip, flat_map}
 use Rattle.std.proofs.lemmas.Bool.{cases_order}
 use Rattle.std.proofs.lemmas.Fmt.{decimal_injective}
 use Rattle.std.proofs.lemmas.List.{append_cancel_left}
-use Rattle.std.proofs.lemmas.List.Elements.{All-cons, All-head, All-nil, All-tail, All-weaker}
+use Rattle.std.proofs.lemmas.List.Elements.{All-head, All-tail, All-weaker}
 use Rattle.rw_vt.specs.Words.{Position}
 use Rattle.rw_sweep.specs.Grids.{combinations}
-use Rattle.rw_sweep.specs.Joining.{MakeTheSweep, PlacedLine, in_order_of_place, lines_of_all, lines_of_place, newline, part_with}
+use Rattle.rw_sweep.specs.Joining.{IsLine, MakeTheSweep, PlacedLine, in_order_of_place, lines_of_all, lines_of_place, newline, part_with}
 use Rattle.rw_sweep.specs.Limits.{most_configurations}
 use Rattle.rw_sweep.specs.Parts.{part_header, placed_line}
 use Rattle.rw_sweep.specs.Sweep.{IsSweepOf}
 use Rattle.rw_sweep.proofs.Joining.{parts-make-the-sweep}
-use Rattle.rw_sweep.proofs.WholeLines.{digits-decimal}
 use Rattle.rw_join.specs.Join.{JoinOfPartsIsTheSweep}
 use Rattle.rw_join.specs.Lines.{IsPartWith, IsPartLine}
+use Rattle.rw_join.proofs.Cuts.{back-of, first-at, front-of, no-comma}
 use Rattle.rw_join.proofs.Gaining.{none-above}
-
--- the first of a byte tells what stands before it and behind it
-record Same (xs ys us vs : List ℕ) : Type 0 where
-  front : xs ≡ ys
-  back : us ≡ vs
-
-first-at : (c : ℕ) (xs ys us vs : List ℕ) → All (λ b. b ≡ c → ⊥) xs → All (λ b. b ≡ c → ⊥) ys → xs ++ c ∷ us ≡ ys ++ c ∷ vs → Same xs ys us vs
-first-at c [] [] us vs p q same = record { front = refl; back = cc }
-first-at c [] (y ∷ ys) us vs p q same = let here : y ≡ c = cc in absurd (All-head (λ b. b ≡ c → ⊥) y ys q here)
-first-at c (x ∷ xs) [] us vs p q same = let here : x ≡ c = cc in absurd (All-head (λ b. b ≡ c → ⊥) x xs p here)
-first-at c (x ∷ xs) (y ∷ ys) us vs p q same =
-    let tail : xs ++ c ∷ us ≡ ys ++ c ∷ vs = cc in
-    let head : x ≡ y = cc in
-    let rest = first-at c xs ys us vs (All-tail (λ b. b ≡ c → ⊥) x xs p) (All-tail (λ b. b ≡ c → ⊥) y ys q) tail in
-    record { front = λ i. head i ∷ rest.front i; back = rest.back }
-
-no-comma : (n : ℕ) → All (λ b. b ≡ 44 → ⊥) (decimal n)
-no-comma n = All-weaker (λ b. 47 < b) (λ b. b ≡ 44 → ⊥) (λ b l e. omega arith) (decimal n) (digits-decimal n)
 
 taken-apart : (p : Position) (l r : List ℕ) → placed_line p l ++ r ≡ decimal p ++ 44 ∷ (l ++ r)
 taken-apart p l r = append_assoc (decimal p ++ codes ",") l r ∙ append_assoc (decimal p) (codes ",") (l ++ r)
+
+-- a line, and a place that a configuration can have
+record IsPlaced (l : PlacedLine) : Type 0 where
+  whole : IsLine l.line
+  place : l.place < most_configurations
+
+placed-part : (ls : List PlacedLine) → All IsPartLine ls → All IsPlaced ls
+placed-part ls all = All-weaker IsPartLine IsPlaced (λ l is. record { whole = is.whole; place = is.place }) ls all
 
 record SameLine (x y : PlacedLine) (r s : List ℕ) : Type 0 where
   line : x ≡ y
   rest : r ≡ s
 
-one-line : (x y : PlacedLine) (r s : List ℕ) → IsPartLine x → IsPartLine y → placed_line x.place x.line ++ r ≡ placed_line y.place y.line ++ s → SameLine x y r s
+one-line : (x y : PlacedLine) (r s : List ℕ) → IsPlaced x → IsPlaced y → placed_line x.place x.line ++ r ≡ placed_line y.place y.line ++ s → SameLine x y r s
 one-line x y r s a b same =
     let numbers = first-at 44 (decimal x.place) (decimal y.place) (x.line ++ r) (y.line ++ s) (no-comma x.place) (no-comma y.place) (sym (taken-apart x.place x.line r) ∙ (same ∙ taken-apart y.place y.line s)) in
     let place : x.place ≡ y.place = decimal_injective x.place y.place (below x.place a.place) (below y.place b.place) numbers.front in
@@ -65,27 +55,18 @@ some p l r none =
     let more : length (44 ∷ (l ++ r)) ≡ suc (length (l ++ r)) = refl in
     omega (arith, long, more, length-append (decimal p) (44 ∷ (l ++ r)))
 
-same-lines : (xs ys : List PlacedLine) → All IsPartLine xs → All IsPartLine ys → text_of xs ≡ text_of ys → xs ≡ ys
+same-lines : (xs ys : List PlacedLine) → All IsPlaced xs → All IsPlaced ys → text_of xs ≡ text_of ys → xs ≡ ys
 unfolding text_of
 same-lines [] [] a b same = refl
 same-lines [] (y ∷ ys) a b same = absurd (some y.place y.line (text_of ys) (sym same))
 same-lines (x ∷ xs) [] a b same = absurd (some x.place x.line (text_of xs) same)
 same-lines (x ∷ xs) (y ∷ ys) a b same =
-    let one = one-line x y (text_of xs) (text_of ys) (All-head IsPartLine x xs a) (All-head IsPartLine y ys b) same in
-    let rest = same-lines xs ys (All-tail IsPartLine x xs a) (All-tail IsPartLine y ys b) one.rest in
+    let one = one-line x y (text_of xs) (text_of ys) (All-head IsPlaced x xs a) (All-head IsPlaced y ys b) same in
+    let rest = same-lines xs ys (All-tail IsPlaced x xs a) (All-tail IsPlaced y ys b) one.rest in
     λ i. one.line i ∷ rest i
 
-module _ {X : Type 0} (P : X → Type 0) where
-  front-of : (xs ys : List X) → All P (xs ++ ys) → All P xs
-  front-of [] ys all = All-nil P
-  front-of (x ∷ xs) ys all = All-cons P x xs (All-head P x (xs ++ ys) all) (front-of xs ys (All-tail P x (xs ++ ys) all))
-
-  back-of : (xs ys : List X) → All P (xs ++ ys) → All P ys
-  back-of [] ys all = all
-  back-of (x ∷ xs) ys all = back-of xs ys (All-tail P x (xs ++ ys) all)
-
 -- two readings of the same texts
-same-parts : (texts : List (List ℕ)) (ps qs : List (List PlacedLine)) → AllZip IsPartWith texts ps → AllZip (λ text ls. text ≡ part_with ls) texts qs → All IsPartLine (lines_of_all qs) → ps ≡ qs
+same-parts : (texts : List (List ℕ)) (ps qs : List (List PlacedLine)) → AllZip IsPartWith texts ps → AllZip (λ text ls. text ≡ part_with ls) texts qs → All IsPlaced (lines_of_all qs) → ps ≡ qs
 unfolding text_of
 same-parts [] [] [] a b placed = refl
 same-parts [] (p ∷ ps) qs a b placed = absurd a
@@ -94,8 +75,8 @@ same-parts (t ∷ ts) [] qs a b placed = absurd a
 same-parts (t ∷ ts) (p ∷ ps) [] a b placed = absurd b
 same-parts (t ∷ ts) (p ∷ ps) (q ∷ qs) a b placed =
     let texts : text_of p ≡ text_of q = append_cancel_left part_header (text_of p) (text_of q) (sym a.0.told ∙ b.0) in
-    let one = same-lines p q a.0.lines (front-of IsPartLine q (lines_of_all qs) placed) texts in
-    let rest = same-parts ts ps qs a.1 b.1 (back-of IsPartLine q (lines_of_all qs) placed) in
+    let one = same-lines p q (placed-part p a.0.lines) (front-of IsPlaced q (lines_of_all qs) placed) texts in
+    let rest = same-parts ts ps qs a.1 b.1 (back-of IsPlaced q (lines_of_all qs) placed) in
     λ i. one i ∷ rest i
 
 -- as many places, by the same lines
@@ -114,7 +95,7 @@ pub join-of-parts : JoinOfPartsIsTheSweep
 join-of-parts a bytes parts indices texts count text many once each few joined =
     let made : MakeTheSweep a bytes texts = parts-make-the-sweep a bytes parts indices texts many once each in
     let n : ℕ = length (combinations a) in
-    let placed : All IsPartLine (lines_of_all made.parts) = λ k d l. record { whole = made.whole k d l; place = (let here = made.within k d l in omega (arith, here, few)) } in
+    let placed : All IsPlaced (lines_of_all made.parts) = λ k d l. record { whole = made.whole k d l; place = (let here = made.within k d l in omega (arith, here, few)) } in
     let same = same-parts texts joined.parts made.parts joined.have made.have placed in
     let lines : lines_of_all joined.parts ≡ lines_of_all made.parts = ap lines_of_all same in
     let within : All (λ l. l.place < count) (lines_of_all made.parts) = subst (All (λ l. l.place < count)) lines joined.within in

@@ -1,3 +1,4 @@
 pub mod Lines
 pub mod Join
+pub mod Faults
 pub mod Slots

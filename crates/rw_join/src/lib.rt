@@ -7,11 +7,13 @@
 //!
 //! Worked examples: `rw_program_tests/src/joins.rt`.
 
-ghost use Rattle.std.specs.Prelude.{◌≡◌, IfOk, map};
+ghost use Rattle.std.specs.Prelude.{◌≡◌, ◌≢◌, IfErr, IfOk, map};
+ghost use Rattle.rw_join.specs.Faults.{IsJoinFaultOf};
 ghost use Rattle.rw_join.specs.Join.{HasJoined, JoinOfPartsIsTheSweep};
 
 mod columns;
 mod join_fault;
+mod places;
 mod reading;
 mod slots;
 
@@ -25,13 +27,21 @@ use std::alloc::Global;
 ///
 /// # Errors
 ///
-/// The first of what is wrong with the parts, one after another: `Header`, or in a part's first faulty line `CutOff`, `Length` or
-/// `Number`, or `Twice` where a line is one too many for its place. Then, from place 0 on, `Missing` and `Lines` for the first place
-/// that has no lines, or fewer than three; `Beyond` where there are more places than are asked for. `Memory` where a request for
-/// memory was refused; nothing is said of the parts then.
+/// The first of what is wrong with the parts, which are read one after another, each line by line. Of the first part that is wrong
+/// this is `Header`, where it does not begin with the header of a part, or else it is of its first faulty line: `CutOff` where the
+/// line has no end, or else `Length` where it has not as many fields as the header, or else `Number` for its first field that is none
+/// of its column, or else `Twice` where three lines of its place were read before it.
+///
+/// Only where all parts are right it is of the places. Where there are fewer than are asked for, it is `Missing` for the first place
+/// that has no line; where there are more, `Beyond`; and else `Missing` or `Lines` for the first place that has not three lines, by
+/// whether it has any.
+///
+/// `Memory` where a request for memory was refused; nothing is said of the parts then.
 pub fn join(alloc: Global, texts: &[Vec<u8>], count: Option<u64>) -> Result<Vec<u8>, JoinFault>
-    ensures { IfOk result (λ text.
+    ensures joined { IfOk result (λ text.
         HasJoined (map (λ part. part.items) texts.now) count text.items) }
+    ensures fault { IfErr result (λ e. e ≢ JoinFault.Memory
+        → IsJoinFaultOf (map (λ part. part.items) texts.now) count e) }
 {
     let slots = read_all(alloc, texts)?;
     check_count(slots.as_slice(), count)?;

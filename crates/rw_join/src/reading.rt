@@ -1,22 +1,23 @@
-ghost use Rattle.std.specs.Prelude.{◌≡◌, ◌+◌, ◌<◌, ◌≤◌, ◌++◌, ◌∷◌, [], ℕ, List, codes, decimal, IfOk, IfSome, OnOk, length, map};
-ghost use Rattle.std.specs.Bool.{OnTrue};
+ghost use Rattle.std.specs.Prelude.{◌≡◌, ◌≢◌, ◌+◌, ◌<◌, ◌≤◌, ◌++◌, ◌∷◌, [], ℕ, List, All, IfErr, IfOk, IfSome, MatchOption, OnOk, length, map};
 ghost use Rattle.rw_sweep.specs.Parts.{part_header, placed_line};
-ghost use Rattle.rw_sweep.specs.Joining.{IsLine};
-ghost use Rattle.rw_sweep.specs.Limits.{most_configurations};
-ghost use Rattle.rw_join.specs.Slots.{HasReadPart, HasReadTo, HaveRead};
+ghost use Rattle.rw_sweep.specs.Joining.{IsLine, newline};
+ghost use Rattle.rw_join.specs.Faults.{HasFaultyLine, IsFaultOfPart, IsFirstFaultyPart, IsWrongLine};
+ghost use Rattle.rw_join.specs.Lines.{IsPartLine};
+ghost use Rattle.rw_join.specs.Slots.{HasReadPart, HasReadTo, HaveRead, OfHeld};
 
 use crate::columns::{COLUMNS, columns, first_misfit};
 use crate::join_fault::JoinFault;
+use crate::places::place;
 use crate::slots::{Slot, add};
-use itoa::Buffer;
-use rw_sweep::{MAX_CONFIGURATIONS, header_text};
-use rw_trace::number;
+use rw_sweep::header_text;
 use std::alloc::Global;
 
 /// The lines of these parts, each in the slot of its place.
 pub(crate) fn read_all(alloc: Global, texts: &[Vec<u8>]) -> Result<Vec<Slot>, JoinFault>
-    ensures { IfOk result (λ slots.
+    ensures read { IfOk result (λ slots.
         HaveRead (map (λ part. part.items) texts.now) slots.items) }
+    ensures fault { IfErr result (λ e. e ≢ JoinFault.Memory
+        → IsFirstFaultyPart (map (λ part. part.items) texts.now) e) }
 {
     let mut slots = Vec::new(alloc);
     for (file, text) in texts.iter().enumerate() {
@@ -27,7 +28,9 @@ pub(crate) fn read_all(alloc: Global, texts: &[Vec<u8>]) -> Result<Vec<Slot>, Jo
 
 /// Puts the lines of a part into the slots of their places.
 fn read_part(alloc: Global, slots: &mut Vec<Slot>, file: u64, text: &[u8]) -> Result<(), JoinFault>
-    ensures { OnOk result (HasReadPart text.now slots.old.items slots.new.items) }
+    ensures read { OnOk result (HasReadPart text.now slots.old.items slots.new.items) }
+    ensures fault { IfErr result (λ e. e ≢ JoinFault.Memory
+        → OfHeld slots.old.items (λ before. IsFaultOfPart file before text.now e)) }
 {
     let Some(lines) = behind_header(text) else {
         return Err(JoinFault::Header(file));
@@ -37,14 +40,16 @@ fn read_part(alloc: Global, slots: &mut Vec<Slot>, file: u64, text: &[u8]) -> Re
 
 /// What stands behind the header of a part, if it begins with that.
 fn behind_header(text: &[u8]) -> Option<&[u8]>
-    ensures { IfSome result (λ rest. text.now ≡ part_header ++ rest.now) }
+    ensures { MatchOption result ((rest : List ℕ) → text.now ≢ part_header ++ rest)
+        (λ rest. text.now ≡ part_header ++ rest.now) }
 {
     behind(behind(text, b"place,")?, header_text())
 }
 
 /// What stands behind these bytes, if a text begins with them.
 fn behind<'a>(text: &'a [u8], first: &[u8]) -> Option<&'a [u8]>
-    ensures { IfSome result (λ rest. text.now ≡ first.now ++ rest.now) }
+    ensures { MatchOption result ((rest : List ℕ) → text.now ≢ first.now ++ rest)
+        (λ rest. text.now ≡ first.now ++ rest.now) }
 {
     text.strip_prefix(first)
 }
@@ -56,7 +61,9 @@ fn read_lines(
     file: u64,
     lines: &[u8],
 ) -> Result<(), JoinFault>
-    ensures { OnOk result (HasReadTo lines.now [] slots.old.items slots.new.items) }
+    ensures read { OnOk result (HasReadTo lines.now [] slots.old.items slots.new.items) }
+    ensures fault { IfErr result (λ e. e ≢ JoinFault.Memory
+        → OfHeld slots.old.items (λ before. HasFaultyLine file before lines.now e)) }
 {
     let mut rest = lines;
     let mut row = 0u64;
@@ -73,54 +80,51 @@ fn read_lines(
 fn next(file: u64, row: u64, text: &[u8]) -> Result<(u64, &[u8], &[u8]), JoinFault>
     ensures told { IfOk result (λ r.
         text.now ≡ placed_line r.0 r.1.now ++ r.2.now) }
-    ensures place { IfOk result (λ r. r.0 < most_configurations) }
-    ensures line { IfOk result (λ r. IsLine r.1.now) }
+    ensures right { IfOk result (λ r. IsPartLine (record { place = r.0; line = r.1.now })) }
+    ensures fault { IfErr result (λ e. text.now ≢ [] → IsWrongLine file row text.now e) }
 {
-    let Some((line, _)) = first_line(text) else {
+    let Some((line, after)) = first_line(text) else {
         return Err(JoinFault::CutOff(file));
     };
-    if columns(line) != COLUMNS {
+    let (place, own) = placed(file, row, line)?;
+    Ok((place, own, after))
+}
+
+/// The place of a line, and what stands behind it.
+fn placed(file: u64, row: u64, line: &[u8]) -> Result<(u64, &[u8]), JoinFault>
+    requires { IsLine line.now }
+    ensures told { IfOk result (λ r. line.now ≡ placed_line r.0 r.1.now) }
+    ensures right { IfOk result (λ r. IsPartLine (record { place = r.0; line = r.1.now })) }
+    ensures fault { IfErr result (λ e.
+        (after : List ℕ) → IsWrongLine file row (line.now ++ after) e) }
+{
+    let body = without_end(line);
+    if columns(body) != COLUMNS {
         return Err(JoinFault::Length(file, row));
     }
-    if let Some(column) = first_misfit(line) {
-        return Err(JoinFault::Number(file, row, column));
+    match first_misfit(body) {
+        Some(column) => Err(JoinFault::Number(file, row, column)),
+        None => match place(line) {
+            Some((place, own)) => Ok((place, own)),
+            None => Err(JoinFault::Number(file, row, 0)),
+        },
     }
-    let Some((place, behind)) = place(text) else {
-        return Err(JoinFault::Number(file, row, 0));
-    };
-    match first_line(behind) {
-        Some((own, after)) => Ok((place, own, after)),
-        None => Err(JoinFault::CutOff(file)),
-    }
+}
+
+/// A line without its end.
+fn without_end(line: &[u8]) -> &[u8]
+    requires { IsLine line.now }
+    ensures told { line.now ≡ result.now ++ newline ∷ [] }
+    ensures one { All (λ b. b ≢ newline) result.now }
+{
+    &line[..line.len() - 1]
 }
 
 /// The first line of a text, and what stands behind it, if that line has an end.
 fn first_line(text: &[u8]) -> Option<(&[u8], &[u8])>
     ensures told { IfSome result (λ r. text.now ≡ r.0.now ++ r.1.now) }
-    ensures line { IfSome result (λ r. IsLine r.0.now) }
+    ensures line { MatchOption result (All (λ b. b ≢ newline) text.now) (λ r. IsLine r.0.now) }
 {
     let end = text.iter().position(|byte| *byte == b'\n')?;
     Some(text.split_at(end + 1))
-}
-
-/// The place before the first comma, as a table writes it, and what stands behind that comma; None where there is none.
-fn place(text: &[u8]) -> Option<(u64, &[u8])>
-    ensures told { IfSome result (λ r. text.now ≡ decimal r.0 ++ codes "," ++ r.1.now) }
-    ensures place { IfSome result (λ r. r.0 < most_configurations) }
-{
-    let comma = text.iter().position(|byte| *byte == b',')?;
-    let (field, rest) = text.split_at(comma);
-    let place = number(field)?;
-    if place >= MAX_CONFIGURATIONS || !is_written(field, place) {
-        return None;
-    }
-    Some((place, behind(rest, b",")?))
-}
-
-/// Whether a field is a number as a table writes it.
-fn is_written(field: &[u8], number: u64) -> bool
-    ensures { OnTrue result (field.now ≡ decimal number) }
-{
-    let mut digits = Buffer::new();
-    digits.format(number).as_bytes() == field
 }

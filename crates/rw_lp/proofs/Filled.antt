@@ -5,15 +5,15 @@ use Rattle.std.proofs.lemmas.List.{drop-append-le}
 use Rattle.std.proofs.Math.ListN.{set, length-drop}
 use Rattle.std.proofs.Math.Seq.{drop-append-add}
 use Rattle.std.specs.Global.{Vec}
-use Rattle.rw_lp.specs.declared.runs.TheConstants.{RUN}
+use Rattle.rw_lp.specs.Limits.{longest_run}
 use Rattle.rw_lp.specs.Runs.{values_of, AreFilled, IsWithinFront, IsLeftAfter}
 
 module _ {T : Type 0} where
-  pub filled_push : (runs : List (Vec T)) (run : Vec T) → AreFilled runs → 0 < length run.items → length run.items ≤ RUN → AreFilled (runs ++ run ∷ [])
+  pub filled_push : (runs : List (Vec T)) (run : Vec T) → AreFilled runs → 0 < length run.items → length run.items ≤ longest_run → AreFilled (runs ++ run ∷ [])
   filled_push [] run h some most = (some, most, tt)
   filled_push (r ∷ rs) run h some most = (h.0, h.1, filled_push rs run h.2 some most)
 
-  pub filled_last : (runs : List (Vec T)) (run : Vec T) → AreFilled (runs ++ run ∷ []) → AreFilled runs × (0 < length run.items) × (length run.items ≤ RUN)
+  pub filled_last : (runs : List (Vec T)) (run : Vec T) → AreFilled (runs ++ run ∷ []) → AreFilled runs × (0 < length run.items) × (length run.items ≤ longest_run)
   filled_last [] run h = (tt, h.0, h.1)
   filled_last (r ∷ rs) run h = let k = filled_last rs run h.2 in ((h.0, h.1, k.0), k.1, k.2)
 
@@ -49,7 +49,7 @@ module _ {T : Type 0} where
       let now : less.items ≡ drop m r.items = gone ∙ ap (λ (v : Vec T). drop m v.items) is in
       let size : length less.items ≡ length (drop m r.items) = ap length now in
       let short = length-drop m r.items in
-      let most : length r.items ≤ RUN = filled.1 in (
+      let most : length r.items ≤ longest_run = filled.1 in (
         (omega arith, omega arith, filled.2),
         λ behind.
             ap (λ l. (l ++ values_of rs) ++ behind) now

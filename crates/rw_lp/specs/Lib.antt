@@ -6,6 +6,7 @@ pub mod PendingAgain
 pub mod Calls
 pub mod Arrival
 pub mod Cut
+pub mod Limits
 pub mod Runs
 pub mod Sends
 pub mod HeldBack

@@ -27,6 +27,7 @@ pub use held::Held;
 pub use least::least_of_processes;
 pub use lp::Lp;
 pub use places::put_back;
+pub use runs::every_limit;
 pub use rw_vt::{Event, Letter, Model, Refusal};
 
 /// Each step of a sound process that started well keeps it sound. It changes what is done and pending, less what is owed,

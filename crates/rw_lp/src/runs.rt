@@ -1,4 +1,5 @@
 ghost use Rattle.std.specs.Prelude.{◌≡◌, ◌≤◌, ◌++◌, ◌∷◌, [], List, OnOk, MatchOption, length, drop};
+ghost use Rattle.rw_lp.specs.Limits.{longest_run};
 ghost use Rattle.rw_lp.specs.Runs.{AreFilled, AreRuns, IsLeftAfter, IsWithinFront, values_of};
 
 use std::alloc::{AllocError, Global};
@@ -8,6 +9,12 @@ use std::mem;
 
 /// The most values of one run.
 pub const RUN: usize = 64;
+
+/// `RUN`, the most values of a run, is the limit that stands in `specs/Limits.antt`, which the definitions cite. The call
+/// itself does nothing.
+pub fn every_limit()
+    ensures { RUN ≡ longest_run }
+{}
 
 /// A stack of values in runs of at most [`RUN`]. Values can also be dropped from its front. A run that is full
 /// stays where it is while the stack grows.

@@ -7,7 +7,8 @@ use crate::desk::Line::{Ahead, Gives, Refuses, Settled, Shows};
 use crate::desk::{Desk, Line};
 use rw_lp::StepFault;
 use rw_photo::{Body, Config, Counters, Photo, Policy, Shape};
-use rw_vt::{END, Event, Letter, Model, execute_and_reverse};
+use rw_ripqwarp::execute_and_reverse;
+use rw_vt::{END, Event, Letter, Model};
 use std::alloc::Global;
 use std::test::Fail;
 

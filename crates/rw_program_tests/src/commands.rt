@@ -583,8 +583,18 @@ const PART: &[u8] =
     0,lru,1,10,2,2,origins,1,0,1,0,0,0,0,0,0,0,0,0,0,0,4,0.000000,0.000000,20,0,1\n\
     0,lru,1,10,2,2,all,2,0,2,0,1,0,0,0,0,0,0,0,0,0,8,0.000000,0.000000,40,0,1\n";
 
+/// The table of a sweep over two combinations.
+const TABLE: &[u8] =
+    b"policy,sections,block,edge_blocks,origin_blocks,caches,requests,hits,misses,coalesced,late,bypassed,inserted,evicted,reinserted,promoted,writes,splits,merges,hit_bytes,request_bytes,hit_ratio,byte_hit_ratio,flash_bytes,written_bytes,backend_requests\n\
+    lru,1,10,2,2,edges,1,0,1,0,1,0,0,0,0,0,0,0,0,0,4,0.000000,0.000000,20,0,0\n\
+    lru,1,10,2,2,origins,1,0,1,0,0,0,0,0,0,0,0,0,0,0,4,0.000000,0.000000,20,0,1\n\
+    lru,1,10,2,2,all,2,0,2,0,1,0,0,0,0,0,0,0,0,0,8,0.000000,0.000000,40,0,1\n\
+    lru,1,10,4,2,edges,1,0,1,0,1,0,0,0,0,0,0,0,0,0,4,0.000000,0.000000,40,0,0\n\
+    lru,1,10,4,2,origins,1,0,1,0,0,0,0,0,0,0,0,0,0,0,4,0.000000,0.000000,20,0,1\n\
+    lru,1,10,4,2,all,2,0,2,0,1,0,0,0,0,0,0,0,0,0,8,0.000000,0.000000,60,0,1\n";
+
 /// A command line of each command in each of its ways to write, and what it reads.
-const WRITING: [(&str, &[u8]); 18] = [
+const WRITING: [(&str, &[u8]); 19] = [
     ("ripqwarp --help", b""),
     ("ripqwarp warp --help", b""),
     ("ripqwarp serial -", TRACE),
@@ -606,6 +616,7 @@ const WRITING: [(&str, &[u8]); 18] = [
     ("ripqwarp sweep - --policy off --stream", TRACE),
     ("ripqwarp sweep --list", b""),
     ("ripqwarp join -", PART),
+    ("ripqwarp plot -", TABLE),
 ];
 
 /// Whether a command line whose writer fails in so many writes has the exit status 8, and `output` on standard error alone.

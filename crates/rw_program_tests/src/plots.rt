@@ -1,7 +1,6 @@
 // Pictures of tables: the fault of each text that is refused, and pieces of what is drawn.
 use crate::shown::is_shown;
 use rw_plot::{Caches, Drawing, Measure, PlotFault, escape, plot};
-use rw_tables::line_limit;
 use std::alloc::{AllocError, Global};
 
 /// The header of a sweep.
@@ -82,7 +81,6 @@ const FAULTS: [(&[u8], &str); 10] = [
 
 #[test]
 fn each_fault_has_its_line(rt: HostRuntime) {
-    line_limit();
     for (body, line) in &FAULTS {
         assert!(rt;
             is_body_refused(rt.alloc(), HEADER, body, line),

@@ -2,7 +2,7 @@
 use crate::pipe::{Hiccup, Pipe, holds};
 use rw_photo::{Config, Policy, Shape};
 use rw_ripqwarp::{
-    Mode, Out, Plan, SimFault, Traffic, any_schedule, every_reverse, one_report, schedule, simulate,
+    Mode, Out, Plan, SimFault, Traffic, any_schedule, one_report, schedule, simulate,
 };
 use rw_trace::TraceFault;
 use std::alloc::Global;
@@ -212,7 +212,6 @@ fn a_plan_out_of_range_is_refused_after_the_trace(rt: HostRuntime) {
 
 #[test]
 fn what_is_proved_of_the_whole_is_stated(_rt: HostRuntime) {
-    every_reverse();
     any_schedule();
     one_report();
 }
@@ -225,5 +224,6 @@ fn the_limits_are_stated(_rt: HostRuntime) {
     rw_ripq::every_limit();
     rw_photo::every_limit();
     rw_import::every_limit();
+    rw_tables::every_limit();
     rw_sweep::every_limit();
 }

@@ -18,6 +18,8 @@ enum Density {
     Dense,
     /// 8000 requests at 32 edges, 512 in each tick.
     Denser,
+    /// 120,000 requests at 200 edges, 512 in each tick.
+    Long,
 }
 
 impl Density {
@@ -26,6 +28,7 @@ impl Density {
         match self {
             Density::Sparse | Density::Dense => 4000,
             Density::Denser => 8000,
+            Density::Long => 120_000,
         }
     }
 
@@ -34,6 +37,7 @@ impl Density {
         match self {
             Density::Sparse => 4,
             Density::Dense | Density::Denser => 32,
+            Density::Long => 200,
         }
     }
 
@@ -43,6 +47,7 @@ impl Density {
             Density::Sparse => (row.saturating_mul(4), drawn % 4),
             Density::Dense => (row / 64, drawn % 32),
             Density::Denser => (row / 512, drawn % 32),
+            Density::Long => (row / 512, drawn % 200),
         }
     }
 }
@@ -122,6 +127,7 @@ fn dense_requests_go_through_windows(rt: HostRuntime) {
         (Density::Dense, 4),
         (Density::Denser, 12),
         (Density::Denser, 16),
+        (Density::Long, 4),
     ] {
         let traffic = did(&rt, rt.alloc(), density, plan(workers, false));
         let is_so =

@@ -4,11 +4,8 @@ use Rattle.std.specs.Prelude.{◌≢◌}
 use Rattle.rw_output.specs.declared.sim_fault.SimFault.{SimFault}
 use Rattle.rw_output.specs.declared.sim_fault.SimFault.TheVariants as sim
 use Rattle.rw_photo.specs.declared.config.Config.{Config}
-use Rattle.rw_worker.specs.declared.plan.Plan.{Plan}
 use Rattle.rw_rounds.specs.declared.stop.Stop.{Stop}
 use Rattle.rw_rounds.specs.declared.stop.Stop.TheVariants as stop
-use Rattle.rw_engine.specs.Alone.{MayStopAlone}
-use Rattle.rw_engine.specs.Stretches.{MayStopInRounds}
 use Rattle.rw_replay.specs.Beginning.{IsBeginningFault}
 use Rattle.rw_replay.specs.Replay.{IsReplayFault}
 use Rattle.rw_ripqwarp.specs.declared.mode.Mode.{Mode}
@@ -58,11 +55,3 @@ unwritten stop.NoThread = λ same. cc
 
 pub stop-unwritten : (s : Stop) (f : SimFault) → f ≡ sim_stop_of s → f ≢ sim.Output
 stop-unwritten s f is = subst (λ g. g ≢ sim.Output) (sym is) (unwritten s)
-
--- what one worker stops for, rounds may stop for
-pub alone-stops : (plan : Plan) (s : Stop) → MayStopAlone plan s → MayStopInRounds plan s
-alone-stops plan stop.Memory may = tt
-alone-stops plan stop.Exhausted may = may
-alone-stops plan stop.RoundsUsed may = may
-alone-stops plan stop.BadPlan may = may
-alone-stops plan stop.NoThread may = absurd may

@@ -1,7 +1,6 @@
 -- What the engine's run comes to in each mode.
 use Rattle.std.proofs.Common.{◌≡◌, ℕ, ◌+◌, List, Vec, refl, sym, ◌∙◌, ap, subst, length, map}
 use Rattle.std.proofs.lemmas.List.FromFn.{length-map-range_with_len}
-use Rattle.std.specs.Prelude.{◌↔◌}
 use Rattle.std.specs.declared.alloc.Global.{Global}
 use Rattle.rw_vt.specs.declared.event.Event.{Event}
 use Rattle.rw_vt.specs.System.{IsOutcome, Meets, System, system}
@@ -19,13 +18,16 @@ use Rattle.rw_world.specs.Steps.{answers, run}
 use Rattle.rw_world.specs.Calls.{MeetsAt, Simulation}
 use Rattle.rw_vt.specs.Limits.{end_of_time}
 use Rattle.rw_worker.specs.Plans.{IsInRanges}
+use Rattle.rw_worker.specs.declared.plan.Plan.{Plan}
 use Rattle.rw_worker.specs.declared.traffic.Traffic.{Traffic}
 use Rattle.rw_rounds.specs.declared.stop.Stop.{Stop}
 use Rattle.rw_rounds.specs.declared.stop.Stop.TheVariants as stop
 use Rattle.rw_engine.specs.declared.how.How.{How}
 use Rattle.rw_engine.specs.declared.how.How.TheVariants.{InOrder, InRounds, BySteps}
 use Rattle.rw_engine.specs.declared.how.Ran.TheVariants.{Finished, Stepped}
-use Rattle.rw_engine.specs.Runs.{AreLastStates, ComesToExhaustion, HasRun, IsByBadPlan, IsOfAnyRun, IsSteppedTo, MayStopFor, no_traffic}
+use Rattle.rw_engine.specs.Alone.{HaveRoomFor}
+use Rattle.rw_engine.specs.Runs.{AreLastStates, HasRun, IsByBadPlan, IsSteppedTo, MayStopFor, no_traffic}
+use Rattle.rw_engine.specs.Stretches.{MayStopInRounds}
 use Rattle.rw_replay.specs.Report.{report_text}
 use Rattle.rw_replay.specs.Beginning.{IsBeginningOf}
 use Rattle.rw_replay.specs.Replay.{IsReportOf}
@@ -34,7 +36,8 @@ use Rattle.rw_ripqwarp.specs.declared.mode.Mode.{Mode}
 use Rattle.rw_ripqwarp.specs.declared.mode.Mode.TheVariants.{Serial, Warp, Journal}
 use Rattle.rw_ripqwarp.specs.Faults.{sim_stop_of}
 use Rattle.rw_journal.specs.Journal.{journal_text}
-use Rattle.rw_ripqwarp.specs.Simulate.{HasBadPlan, HasGoodPlan, IsExhausting, IsJournalOf, IsRunFault, IsTextOf, IsWarp, IsWayOf}
+use Rattle.rw_ripqwarp.specs.Simulate.{HasGoodPlan, FitsRounds, IsJournalOf, IsRunFault, IsTextOf, IsWarp, IsWayOf}
+use Rattle.rw_ripqwarp.proofs.Stopping.{stops-in-rounds}
 
 -- the caches at work
 abbrev pub caches : Photo → List Cache → List (Event Body) → System Cache Body
@@ -46,7 +49,7 @@ caches m starts initial = system model.ghosts order.ghosts.cmp m starts initial
 pub last-states : (m : Photo) (starts : List Cache) (initial : List (Event Body)) (way : How) (states : Vec Cache Global) (traffic : Traffic)
     → HasRun model.ghosts order.ghosts.cmp m starts initial way (Finished states traffic) → AreLastStates (caches m starts initial) states.items
 last-states m starts initial InOrder states traffic ran = ran.0
-last-states m starts initial (InRounds plan) states traffic ran = ran
+last-states m starts initial (InRounds plan) states traffic ran = ran.0
 last-states m starts initial (BySteps steps) states traffic ran = absurd ran
 
 -- there is one for each cache
@@ -132,55 +135,51 @@ good (Warp plan) (InRounds same) by never = λ bad. never (subst (λ p. IsInRang
 good (Warp plan) (BySteps steps) by never = absurd by
 good (Journal steps) way by never = λ bad. bad
 
-bad-plan : (mode : Mode) (way : How) → IsWayOf mode way → IsByBadPlan way → IsWarp mode × HasBadPlan mode
-bad-plan mode InOrder by bad = absurd bad
-bad-plan Serial (InRounds plan) by bad = absurd by
-bad-plan (Warp plan) (InRounds same) by bad = (tt, subst (λ p. IsInRanges p → ⊥) by bad)
-bad-plan (Journal steps) (InRounds plan) by bad = absurd by
-bad-plan mode (BySteps steps) by bad = absurd bad
-
--- for what comes in rounds alone
-warps : (mode : Mode) (way : How) (s : Stop) → IsWayOf mode way → MayStopFor way s → (IsOfAnyRun s → ⊥) → IsWarp mode
-warps mode InOrder s by may never = absurd (never may)
-warps Serial (InRounds plan) s by may never = absurd by
-warps (Warp plan) (InRounds same) s by may never = tt
-warps (Journal steps) (InRounds plan) s by may never = absurd by
-warps mode (BySteps steps) s by may never = absurd (never may)
-
--- at a cache that can take no further event
-exhausts : (c : Config) (m : Photo) (bytes : List ℕ) (starts : List Cache) (initial : List (Event Body)) (mode : Mode) (way : How) → m.config ≡ c
-    → IsBeginningOf c bytes starts initial → IsWayOf mode way → ComesToExhaustion (caches m starts initial) is_exhausted way → IsExhausting mode c bytes
-exhausts c m bytes starts initial Serial InOrder config b by comes =
-    record { rows = b.rows; accepted = b.accepted; met = subst (λ (y : System Cache Body). Meets y end_of_time is_exhausted) (simulates c m bytes starts initial config b) comes }
-exhausts c m bytes starts initial Serial (InRounds plan) config b by comes = absurd by
-exhausts c m bytes starts initial Serial (BySteps steps) config b by comes = absurd by
-exhausts c m bytes starts initial (Warp plan) way config b by comes = record { rows = b.rows; accepted = b.accepted }
-exhausts c m bytes starts initial (Journal steps) InOrder config b by comes = absurd by
-exhausts c m bytes starts initial (Journal steps) (InRounds plan) config b by comes = absurd by
-exhausts c m bytes starts initial (Journal steps) (BySteps same) config b by comes =
-    record {
-      rows = b.rows;
-      accepted = b.accepted;
-      met = subst (λ (y : System Cache Body). MeetsAt y (opening_world y) is_exhausted steps.items) (simulates c m bytes starts initial config b)
-          (subst (λ ss. MeetsAt (caches m starts initial) (opening_world (caches m starts initial)) is_exhausted ss) by comes);
-    }
+-- rounds of one worker have room for what they have run
+pub roomy : (c : Config) (m : Photo) (bytes : List ℕ) (starts : List Cache) (initial : List (Event Body)) (mode : Mode) (way : How) (states : Vec Cache Global) (traffic : Traffic)
+    → m.config ≡ c → IsBeginningOf c bytes starts initial → IsWayOf mode way → HasRun model.ghosts order.ghosts.cmp m starts initial way (Finished states traffic) → FitsRounds mode c bytes
+roomy c m bytes starts initial Serial way states traffic config b by ran = tt
+roomy c m bytes starts initial (Warp plan) InOrder states traffic config b by ran = absurd by
+roomy c m bytes starts initial (Warp plan) (InRounds same) states traffic config b by ran = λ one.
+    let room = subst (λ (p : Plan). p.workers ≡ 1 → HaveRoomFor p (caches m starts initial)) by ran.1 in
+    record { rows = b.rows; accepted = b.accepted; room = subst (λ (y : System Cache Body). HaveRoomFor plan y) (simulates c m bytes starts initial config b) (room one) }
+roomy c m bytes starts initial (Warp plan) (BySteps steps) states traffic config b by ran = absurd by
+roomy c m bytes starts initial (Journal steps) way states traffic config b by ran = tt
 
 -- each stop is a fault of the run, that of the plan exactly where the plan is bad
 stops : (c : Config) (m : Photo) (bytes : List ℕ) (starts : List Cache) (initial : List (Event Body)) (mode : Mode) (way : How) (s : Stop) → m.config ≡ c
-    → IsBeginningOf c bytes starts initial → IsWayOf mode way → MayStopFor way s → (s ≡ stop.BadPlan) ↔ IsByBadPlan way
-    → (s ≡ stop.Exhausted → ComesToExhaustion (caches m starts initial) is_exhausted way) → IsRunFault mode c bytes (sim_stop_of s)
-stops c m bytes starts initial mode way stop.Memory config b by may plan comes = tt
-stops c m bytes starts initial mode way stop.Exhausted config b by may plan comes =
-    (exhausts c m bytes starts initial mode way config b by (comes refl), good mode way by (λ bad. let same = plan.1 bad in cc))
-stops c m bytes starts initial mode way stop.RoundsUsed config b by may plan comes =
-    (warps mode way stop.RoundsUsed by may (λ none. none), record { rows = b.rows; accepted = b.accepted }, good mode way by (λ bad. let same = plan.1 bad in cc))
-stops c m bytes starts initial mode way stop.BadPlan config b by may plan comes =
-    let bad = bad-plan mode way by (plan.0 refl) in (bad.0, record { rows = b.rows; accepted = b.accepted }, bad.1)
-stops c m bytes starts initial mode way stop.NoThread config b by may plan comes =
-    (warps mode way stop.NoThread by may (λ none. none), record { rows = b.rows; accepted = b.accepted }, good mode way by (λ bad. let same = plan.1 bad in cc))
+    → IsBeginningOf c bytes starts initial → IsWayOf mode way → MayStopFor (caches m starts initial) is_exhausted way s → IsRunFault mode c bytes (sim_stop_of s)
+stops c m bytes starts initial Serial InOrder stop.Memory config b by may = tt
+stops c m bytes starts initial Serial InOrder stop.Exhausted config b by may =
+    (record { rows = b.rows; accepted = b.accepted; met = subst (λ (y : System Cache Body). Meets y end_of_time is_exhausted) (simulates c m bytes starts initial config b) may }, λ bad. bad)
+stops c m bytes starts initial Serial InOrder stop.RoundsUsed config b by may = absurd may
+stops c m bytes starts initial Serial InOrder stop.BadPlan config b by may = absurd may
+stops c m bytes starts initial Serial InOrder stop.NoThread config b by may = absurd may
+stops c m bytes starts initial Serial (InRounds plan) s config b by may = absurd by
+stops c m bytes starts initial Serial (BySteps steps) s config b by may = absurd by
+stops c m bytes starts initial (Warp plan) InOrder s config b by may = absurd by
+stops c m bytes starts initial (Warp plan) (InRounds same) s config b by may =
+    stops-in-rounds c bytes b.rows b.accepted plan s
+    (subst (λ (y : System Cache Body). MayStopInRounds y is_exhausted plan s) (simulates c m bytes starts initial config b)
+    (subst (λ (p : Plan). MayStopInRounds (caches m starts initial) is_exhausted p s) by may))
+stops c m bytes starts initial (Warp plan) (BySteps steps) s config b by may = absurd by
+stops c m bytes starts initial (Journal steps) InOrder s config b by may = absurd by
+stops c m bytes starts initial (Journal steps) (InRounds plan) s config b by may = absurd by
+stops c m bytes starts initial (Journal steps) (BySteps same) stop.Memory config b by may = tt
+stops c m bytes starts initial (Journal steps) (BySteps same) stop.Exhausted config b by may = (
+  record {
+    rows = b.rows;
+    accepted = b.accepted;
+    met = subst (λ (y : System Cache Body). MeetsAt y (opening_world y) is_exhausted steps.items) (simulates c m bytes starts initial config b)
+        (subst (λ ss. MeetsAt (caches m starts initial) (opening_world (caches m starts initial)) is_exhausted ss) by may);
+  },
+  λ bad. bad,
+)
+stops c m bytes starts initial (Journal steps) (BySteps same) stop.RoundsUsed config b by may = absurd may
+stops c m bytes starts initial (Journal steps) (BySteps same) stop.BadPlan config b by may = absurd may
+stops c m bytes starts initial (Journal steps) (BySteps same) stop.NoThread config b by may = absurd may
 
 pub stop-is-fault : (c : Config) (m : Photo) (bytes : List ℕ) (starts : List Cache) (initial : List (Event Body)) (mode : Mode) (way : How) (s : Stop) (f : SimFault)
-    → m.config ≡ c → IsBeginningOf c bytes starts initial → IsWayOf mode way → MayStopFor way s → (s ≡ stop.BadPlan) ↔ IsByBadPlan way
-    → (s ≡ stop.Exhausted → ComesToExhaustion (caches m starts initial) is_exhausted way) → f ≡ sim_stop_of s → IsRunFault mode c bytes f
-stop-is-fault c m bytes starts initial mode way s f config b by may plan comes is =
-    subst (IsRunFault mode c bytes) (sym is) (stops c m bytes starts initial mode way s config b by may plan comes)
+    → m.config ≡ c → IsBeginningOf c bytes starts initial → IsWayOf mode way → MayStopFor (caches m starts initial) is_exhausted way s → f ≡ sim_stop_of s → IsRunFault mode c bytes f
+stop-is-fault c m bytes starts initial mode way s f config b by may is =
+    subst (IsRunFault mode c bytes) (sym is) (stops c m bytes starts initial mode way s config b by may)

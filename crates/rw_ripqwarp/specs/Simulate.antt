@@ -1,5 +1,5 @@
 -- From the bytes of a trace to the bytes of its report, or of its journal.
-use Rattle.std.specs.Prelude.{◌≡◌, List, Ok, Err}
+use Rattle.std.specs.Prelude.{◌≡◌, ◌≢◌, List, Ok, Err}
 use Rattle.rw_trace.specs.declared.Row.{Row}
 use Rattle.rw_trace.specs.Trace.{trace_of}
 use Rattle.rw_trace.specs.Unread.{records_of}
@@ -13,6 +13,8 @@ use Rattle.rw_world.specs.WorldState.{opening_world}
 use Rattle.rw_world.specs.Steps.{answers, run}
 use Rattle.rw_world.specs.Calls.{MeetsAt}
 use Rattle.rw_worker.specs.Plans.{IsInRanges}
+use Rattle.rw_worker.specs.declared.plan.Plan.{Plan}
+use Rattle.rw_engine.specs.Alone.{HaveNoRoomFor, HaveRoomFor}
 use Rattle.rw_engine.specs.declared.how.How.{How}
 use Rattle.rw_engine.specs.declared.how.How.TheVariants.{InOrder, InRounds, BySteps}
 use Rattle.rw_replay.specs.Replay.{IsReportOf, IsExhaustingInOrder}
@@ -51,12 +53,44 @@ pub record IsAccepted (c : Config) (bytes : Text) : Type 0 where
   pub rows : List Row
   pub accepted : trace_of c.edges most_rows (records_of bytes) ≡ Ok rows
 
--- the trace in these bytes is accepted, and in this mode comes to a cache that can take no further event; of rounds
--- only the first is said, since a worker may come to such a cache in a past that is then undone
+-- the trace in these bytes is accepted, and in this mode comes to a cache that can take no further event: rounds of one
+-- worker as executing it in order of time does. Of rounds of several only the first is said, since a worker may come to
+-- such a cache in a past that is then undone
 abbrev pub IsExhausting : Mode → Config → Text → Type 0
 IsExhausting Serial c bytes = IsExhaustingInOrder c bytes
-IsExhausting (Warp plan) c bytes = IsAccepted c bytes
+IsExhausting (Warp plan) c bytes =
+    IsAccepted c bytes × (plan.workers ≡ 1 → IsExhaustingInOrder c bytes)
 IsExhausting (Journal steps) c bytes = IsExhaustingBySteps steps.items c bytes
+
+-- the trace in these bytes is accepted, and its run has more events than the rounds of this plan have room for, where
+-- each has one worker
+pub record HasMoreEvents (plan : Plan) (c : Config) (bytes : Text) : Type 0 where
+  pub rows : List Row
+  pub accepted : trace_of c.edges most_rows (records_of bytes) ≡ Ok rows
+  pub more : HaveNoRoomFor plan (simulation c rows)
+
+-- the trace in these bytes is accepted, and such rounds have room for all events of its run
+pub record IsWithinRounds (plan : Plan) (c : Config) (bytes : Text) : Type 0 where
+  pub rows : List Row
+  pub accepted : trace_of c.edges most_rows (records_of bytes) ≡ Ok rows
+  pub room : HaveRoomFor plan (simulation c rows)
+
+-- the trace in these bytes is accepted, and in this mode the rounds may be used up: those of one worker have no room
+-- for its run. Of several workers only the first is said
+abbrev pub UsesUpRounds : Mode → Config → Text → Type 0
+UsesUpRounds (Warp plan) c bytes =
+    IsAccepted c bytes × (plan.workers ≡ 1 → HasMoreEvents plan c bytes)
+UsesUpRounds _ c bytes = ⊥
+
+-- where this mode is of rounds of one worker, they have room for the run of the trace in these bytes
+abbrev pub FitsRounds : Mode → Config → Text → Type 0
+FitsRounds (Warp plan) c bytes = plan.workers ≡ 1 → IsWithinRounds plan c bytes
+FitsRounds _ c bytes = Unit {0}
+
+-- a run in this mode goes on in more threads than one
+abbrev pub HasThreads : Mode → Type 0
+HasThreads (Warp plan) = plan.workers ≢ 1
+HasThreads _ = ⊥
 
 -- the way in which the engine runs a trace in this mode
 abbrev pub IsWayOf : Mode → How → Type 0
@@ -86,7 +120,7 @@ IsRunFault mode c bytes (sim.Trace f) = trace_of c.edges most_rows (records_of b
 IsRunFault mode c bytes sim.Read = ⊥
 IsRunFault mode c bytes sim.Plan = IsWarp mode × IsAccepted c bytes × HasBadPlan mode
 IsRunFault mode c bytes sim.Exhausted = IsExhausting mode c bytes × HasGoodPlan mode
-IsRunFault mode c bytes sim.Rounds = IsWarp mode × IsAccepted c bytes × HasGoodPlan mode
-IsRunFault mode c bytes sim.NoThread = IsWarp mode × IsAccepted c bytes × HasGoodPlan mode
+IsRunFault mode c bytes sim.Rounds = UsesUpRounds mode c bytes × HasGoodPlan mode
+IsRunFault mode c bytes sim.NoThread = HasThreads mode × IsAccepted c bytes × HasGoodPlan mode
 IsRunFault mode c bytes sim.Output = HasGoodPlan mode
 IsRunFault mode c bytes sim.Memory = Unit {0}

@@ -1,9 +1,9 @@
 #![tactic(auto)]
 //! The program as a library: from the bytes of a trace to the bytes of a report, or of a journal under a schedule.
 //!
-//! What is proved of the whole stands in `specs/Headline.antt`, a closed statement for each sentence; [`every_reverse`],
-//! [`any_schedule`] and [`one_report`] carry them, and [`simulate`] does what they speak of: on one thread by
-//! [`rw_replay::report_of_trace`], else by the engine, [`rw_engine::run_in`].
+//! [`simulate`] runs a trace in any mode: on one thread by [`rw_replay::report_of_trace`], else by the engine. Three calls carry what is
+//! proved of the whole: [`execute_and_reverse`], that rollback is exact; [`any_schedule`], that what is committed is what executing
+//! in order would have done; and `simulate`, whose clause `report` says that a run in threads writes the report of the run on one.
 //!
 //! Worked examples: `rw_program_tests/src/reports.rt`, and the cases of `rw_cases`.
 
@@ -12,7 +12,7 @@ mod mode;
 mod rounds;
 mod simulation;
 
-pub use headline::{any_schedule, every_reverse, one_report};
+pub use headline::{any_schedule, execute_and_reverse, one_report};
 pub use mode::Mode;
 pub use rounds::why_it_stopped;
 pub use rw_engine::{Answer, Plan, Step, Traffic, World};

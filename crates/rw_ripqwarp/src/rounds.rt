@@ -1,12 +1,14 @@
 ghost use Rattle.std.specs.Prelude.{◌≡◌, ◌≢◌, ◌≤◌, ◌+◌, ◌++◌, All, IfOk, IfErr, OnOk, length};
+ghost use Rattle.rw_photo.specs.Cache.{is_exhausted};
 ghost use Rattle.rw_photo.specs.Simulation.{simulation};
 ghost use Rattle.rw_trace.specs.Laws.{IsRow};
 ghost use Rattle.rw_trace.specs.Limits.{most_rows};
+ghost use Rattle.rw_engine.specs.Alone.{HaveRoomFor};
 ghost use Rattle.rw_engine.specs.Runs.{AreLastStates};
 ghost use Rattle.rw_engine.specs.Stretches.{MayStopInRounds};
 ghost use Rattle.rw_ripqwarp.specs.Faults.{sim_stop_of};
 ghost use Rattle.rw_replay.specs.Replay.{IsReportOf};
-ghost use Rattle.rw_ripqwarp.specs.Simulate.{HasGoodPlan, IsRunFault};
+ghost use Rattle.rw_ripqwarp.specs.Simulate.{HasGoodPlan, FitsRounds, IsRunFault};
 
 use crate::mode::Mode;
 use rw_engine::{
@@ -33,6 +35,7 @@ pub(crate) fn rounds_text<P: Progress, R: Threads + Wait + Sync>(
 ) -> Result<(Vec<u8>, Traffic), SimFault>
     ensures text { IfOk result (λ r. IsReportOf config.now bytes.now r.0.items) }
     ensures in_range { OnOk result (HasGoodPlan (Mode.Warp plan)) }
+    ensures room { OnOk result (FitsRounds (Mode.Warp plan) config.now bytes.now) }
     ensures fault { IfErr result (IsRunFault (Mode.Warp plan) config.now bytes.now) }
     ensures unwritten { IfErr result (λ e. e ≢ SimFault.Output) }
 {
@@ -104,7 +107,10 @@ fn run_rows_in_rounds<P: Progress, R: Threads + Wait + Sync>(
     ensures outcome { IfOk result (λ r.
         AreLastStates (simulation config.now (rows.now ++ others.now)) r.0.items) }
     ensures in_range { OnOk result (HasGoodPlan (Mode.Warp plan)) }
-    ensures stops { IfErr result (MayStopInRounds plan) }
+    ensures room { plan.workers ≡ 1
+        → OnOk result (HaveRoomFor plan (simulation config.now (rows.now ++ others.now))) }
+    ensures stops { IfErr result (MayStopInRounds
+        (simulation config.now (rows.now ++ others.now)) is_exhausted plan) }
 {
     let photo = Photo::new(*config);
     let alone = goes_alone(config, &plan);

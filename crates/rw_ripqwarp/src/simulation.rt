@@ -2,7 +2,7 @@ ghost use Rattle.std.specs.Prelude.{◌≡◌, ◌≢◌, ◌↔◌, Err, IfOk, 
 ghost use Rattle.std.specs.Io.KnownBytes.{Appends};
 ghost use Rattle.rw_output.specs.Sink.{AppendsBeginning};
 ghost use Rattle.rw_engine.specs.Runs.{no_traffic};
-ghost use Rattle.rw_ripqwarp.specs.Simulate.{IsTextOf, IsWarp, HasGoodPlan, IsRunFault};
+ghost use Rattle.rw_ripqwarp.specs.Simulate.{HasGoodPlan, FitsRounds, IsRunFault, IsTextOf, IsWarp};
 ghost use Rattle.rw_ripqwarp.specs.Headline.{HasWritten, HasWrittenBeginning};
 
 use crate::mode::Mode;
@@ -26,7 +26,8 @@ use std::thread::Threads;
 ///
 /// The text is made whole, then written by a loop over `write`, then flushed. `Output` is answered exactly where the
 /// writer failed in the call, and what went out is then a beginning of the text; with any other fault nothing was written.
-/// The trace is tested before the plan.
+/// The trace is tested before the plan. One worker starts no thread, and its rounds are used up only where the trace's run has
+/// more events than they have room for.
 pub fn simulate<W: Write, R: Threads + Wait + Sync>(
     rt: &R,
     alloc: Global,
@@ -39,6 +40,7 @@ pub fn simulate<W: Write, R: Threads + Wait + Sync>(
         (W.contents out.old.writer) (W.contents out.new.writer)) }
     ensures still { IfOk result (λ traffic. (IsWarp mode → ⊥) → traffic ≡ no_traffic) }
     ensures in_range { OnOk result (HasGoodPlan mode) }
+    ensures room { OnOk result (FitsRounds mode config.now bytes.now) }
     ensures fault { IfErr result (IsRunFault mode config.now bytes.now) }
     ensures output { (result ≡ Err SimFault.Output) ↔ (out.new.failures ≢ out.old.failures) }
     ensures cut_off { result ≡ Err SimFault.Output
@@ -64,6 +66,7 @@ pub fn simulate_and_tell<W: Write, P: Progress, R: Threads + Wait + Sync>(
         (W.contents out.old.writer) (W.contents out.new.writer)) }
     ensures still { IfOk result (λ traffic. (IsWarp mode → ⊥) → traffic ≡ no_traffic) }
     ensures in_range { OnOk result (HasGoodPlan mode) }
+    ensures room { OnOk result (FitsRounds mode config.now bytes.now) }
     ensures fault { IfErr result (IsRunFault mode config.now bytes.now) }
     ensures output { (result ≡ Err SimFault.Output) ↔ (out.new.failures ≢ out.old.failures) }
     ensures cut_off { result ≡ Err SimFault.Output
@@ -92,6 +95,7 @@ fn text_of<P: Progress, R: Threads + Wait + Sync>(
     ensures text { IfOk result (λ r. IsTextOf mode config.now bytes.now r.0.items) }
     ensures still { IfOk result (λ r. (IsWarp mode → ⊥) → r.1 ≡ no_traffic) }
     ensures in_range { OnOk result (HasGoodPlan mode) }
+    ensures room { OnOk result (FitsRounds mode config.now bytes.now) }
     ensures fault { IfErr result (IsRunFault mode config.now bytes.now) }
     ensures unwritten { IfErr result (λ e. e ≢ SimFault.Output) }
 {
@@ -117,6 +121,7 @@ fn engine_text<P: Progress, R: Threads + Wait + Sync>(
     ensures text { IfOk result (λ r. IsTextOf mode config.now bytes.now r.0.items) }
     ensures still { IfOk result (λ r. (IsWarp mode → ⊥) → r.1 ≡ no_traffic) }
     ensures in_range { OnOk result (HasGoodPlan mode) }
+    ensures room { OnOk result (FitsRounds mode config.now bytes.now) }
     ensures fault { IfErr result (IsRunFault mode config.now bytes.now) }
     ensures unwritten { IfErr result (λ e. e ≢ SimFault.Output) }
 {

@@ -3,11 +3,12 @@ ghost use Rattle.std.specs.Prelude.{◌≡◌};
 
 use rw_relay::parcels::{beginning, parcel, station};
 use rw_relay::{Parcel, Relay};
+use rw_rounds::none_set_aside;
 use rw_vt::{END, Event};
 use rw_world::Answer::{Done, Refused};
 use rw_world::{
     Answer, Step, StepFault, World, draw, every_exchange, every_floor, every_schedule,
-    every_sound_world, every_step, every_way,
+    every_sound_world, every_step,
 };
 use std::alloc::Global;
 use std::process::Abort;
@@ -174,5 +175,5 @@ fn the_laws_are_stated_of_the_relay(_rt: HostRuntime) {
     every_schedule::<Relay>();
     every_floor::<Relay>();
     every_exchange::<Relay>();
-    every_way::<Relay>();
+    none_set_aside::<Relay>();
 }

@@ -356,3 +356,10 @@ fn three_threads_lose_nothing(rt: HostRuntime) -> Result<(), Fail> {
     assert!(rt; none_is_lost(&rt, rt.alloc())?);
     Ok(())
 }
+
+#[test]
+fn the_limits_are_stated(_rt: HostRuntime) {
+    rw_exchange::every_limit();
+    rw_board::every_limit();
+    rw_lp::every_limit();
+}

@@ -3,3 +3,4 @@ pub mod Stops
 pub mod Setting
 pub mod Gathering
 pub mod Stretches
+pub mod Laws

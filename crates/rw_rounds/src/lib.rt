@@ -10,6 +10,8 @@
 //!
 //! Worked examples: `rw_round_tests/src/relay_rounds.rt` and `photo_rounds.rt`.
 
+ghost use Rattle.rw_rounds.specs.Laws.{NoneIsSetAside};
+
 mod gathering;
 mod pace;
 mod round;
@@ -31,3 +33,10 @@ pub use rw_world::World;
 pub use sim::Sim;
 pub use stop::Stop;
 pub use stretch::{Stretch, run_stretch};
+
+/// Whatever the workers of a round do, none of them sets a letter aside: after the round each letter is taken up by a process,
+/// or it was left in a ring or kept, and then it is in transit in the world. This is a law of the definitions, for every
+/// model; the call itself does nothing.
+pub fn none_set_aside<M: Model>()
+    ensures { NoneIsSetAside M.Model M.Body.cmp }
+{}

@@ -5,6 +5,8 @@
 //! Of what `clap` has understood, [`config`] makes the caches of a run. The ranges of numbers are the limits of the crates that they
 //! go to.
 //!
+//! What a command has written that answers Ok is `specs/Written.antt`; with any fault but the writer's it has written nothing.
+//!
 //! Worked examples: `rw_program_tests/src/commands.rt`, and the cases of `rw_cases`.
 
 mod caches;

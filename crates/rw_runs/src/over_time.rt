@@ -1,4 +1,7 @@
-// The options that say how a trace is read, and what is told of its run.
+// The options that say how a trace is read and what is reported of its run.
+ghost use Rattle.std.specs.Prelude.{◌≡◌, None, codes};
+ghost use Rattle.rw_runs.specs.Written.{HasNoValue};
+
 use clap::ArgMatches;
 use rw_arguments::{Argument, Given, Value};
 use rw_replay::Outlook;
@@ -9,7 +12,7 @@ pub const STREAM: Argument = Argument {
     name: "stream",
     value: Value::Flag,
     given: Given::Maybe,
-    help: "Read the trace as it is run: rows in order of time, as many as there are, in little memory",
+    help: "Read the trace as it runs, in little memory; its rows must be in order of time",
 };
 
 /// How long the intervals of a table are.
@@ -17,22 +20,25 @@ pub const EVERY: Argument = Argument {
     name: "every",
     value: Value::Ticks(END as i64),
     given: Given::Maybe,
-    help: "Print a table over time instead, as CSV: what was counted in each interval of so many ticks",
+    help: "Print a CSV table over time instead: what was counted in each interval of this many ticks",
 };
 
-/// From when on what is counted is told.
+/// When counting starts.
 pub const WARM_UP: Argument = Argument {
     name: "warm-up",
     value: Value::Ticks(END as i64),
     given: Given::Maybe,
-    help: "Tell only what is counted from this tick on, when the caches are warm",
+    help: "Count only from this tick on, when the caches are warm",
 };
 
 /// The names of these options.
 pub const OUTLOOK: [&str; 3] = ["stream", "every", "warm-up"];
 
-/// What the options ask to be told of a run.
-pub fn outlook(options: &ArgMatches<'_>) -> Outlook {
+/// What the options ask to be reported of a run.
+pub fn outlook(options: &ArgMatches<'_>) -> Outlook
+    ensures warm_up { HasNoValue options.now (codes "warm-up") → result.warm_up ≡ None }
+    ensures every { HasNoValue options.now (codes "every") → result.every ≡ None }
+{
     Outlook {
         warm_up: options.get_one("warm-up"),
         every: options.get_one("every"),

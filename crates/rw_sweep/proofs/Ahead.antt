@@ -29,6 +29,25 @@ come-all None b ps qs h k = tt
 come-all (Some all) None ps qs h k = absurd h
 come-all (Some all) (Some rest) ps qs h k = h ∙ ap (rows_before ps) k ∙ before-ok ps qs
 
+-- what comes first of some rows that come first
+pub come-part : (a c : Ahead) (ps qs : List Row) → ComeFirst a (ps ++ qs) c → (b : Ahead) × ComeFirst a ps b
+come-part None c ps qs h = (None, tt)
+come-part (Some all) None ps qs h = absurd h
+come-part (Some all) (Some rest) ps qs h = (Some (rows_before qs rest), h ∙ before-both ps qs rest)
+
+-- what comes first of all rows
+pub come-of-all : (a : Ahead) (ps qs : List Row) → AreAll a (ps ++ qs) → (b : Ahead) × ComeFirst a ps b
+come-of-all None ps qs h = (None, tt)
+come-of-all (Some all) ps qs h = (Some (Ok qs), h ∙ sym (before-ok ps qs))
+
+pub rise-first : (t : ℕ) (ps qs : List Row) → RiseFrom t (ps ++ qs) → RiseFrom t ps
+rise-first t [] qs h = tt
+rise-first t (p ∷ ps) qs h = (h.0, rise-first p.time ps qs h.1)
+
+pub rise-behind : (t : ℕ) (ps qs : List Row) → RiseFrom t (ps ++ qs) → RiseFrom (last_time t ps) qs
+rise-behind t [] qs h = h
+rise-behind t (p ∷ ps) qs h = rise-behind p.time ps qs h.1
+
 pub rise-more : (t : ℕ) (ps qs : List Row) → RiseFrom t ps → RiseFrom (last_time t ps) qs → RiseFrom t (ps ++ qs)
 rise-more t [] qs h k = k
 rise-more t (p ∷ ps) qs h k = (h.0, rise-more p.time ps qs h.1 k)

@@ -1,10 +1,10 @@
 -- Runs that take rows in as these are read: what holds between two pieces, and what they come to.
-use Rattle.std.proofs.Common.{◌≡◌, ℕ, zero, suc, ◌+◌, ◌^◌, ◌<◌, ◌≤◌, ◌⊎◌, inl, inr, List, [], ◌∷◌, ◌++◌, Result, Ok, Err, refl, sym, ap, subst, ◌∙◌, arith, length, map, get_or, All, append-nil, length-append, take, drop, take_all}
+use Rattle.std.proofs.Common.{◌≡◌, ℕ, zero, suc, ◌+◌, ◌-◌, ◌^◌, ◌<◌, ◌≤◌, ◌⊎◌, inl, inr, List, [], ◌∷◌, ◌++◌, Result, Ok, Err, refl, sym, ap, subst, ◌∙◌, arith, length, map, get_or, All, append-nil, length-append, take, drop, take_all}
 use Rattle.std.specs.Prelude.{MatchResult, ⊤}
 use Rattle.std.specs.Result.{IfErr, IfOk, IsErrAnd}
 use Rattle.std.specs.List.{AllZip, Any}
 use Rattle.std.proofs.lemmas.Bool.{cases_lt}
-use Rattle.std.proofs.lemmas.List.{drop_all, get_or-map, length-map}
+use Rattle.std.proofs.lemmas.List.{append_assoc, drop_all, get_or-map, length-map}
 use Rattle.std.proofs.lemmas.List.Elements.{All-append, All-cons, All-head, All-nil, All-tail}
 use Rattle.rw_vt.specs.System.{Meets}
 use Rattle.rw_vt.specs.declared.refusal.Refusal.{Refusal}
@@ -25,8 +25,8 @@ use Rattle.rw_replay.specs.History.{IsRecordingOf, RecordingState}
 use Rattle.rw_replay.specs.Streams.{IsExhaustingFirst}
 use Rattle.rw_sweep.specs.declared.point.Point.{Point}
 use Rattle.rw_sweep.specs.declared.ongoing.OngoingRun.{OngoingRun}
-use Rattle.rw_sweep.specs.Ongoing.{AreFed, HasNotEnded, HasTakenIn, HaveTakenAll, IsExhaustedBy, IsFaultOfRuns, IsFed, IsGoingOn, MarksAt, MayTake, TakesPiece}
-use Rattle.rw_sweep.proofs.Ahead.{come-all, come-more, come-none, last-more, rise-more}
+use Rattle.rw_sweep.specs.Ongoing.{AreFed, HasNotEnded, HasTakenIn, HasTakenPiece, HaveTakenAll, IsExhaustedBy, IsFaultOfRuns, IsFed, IsGoingOn, IsStanding, MarksAt, MayTake, TakesPiece}
+use Rattle.rw_sweep.proofs.Ahead.{come-all, come-more, come-none, come-of-all, come-part, last-more, rise-behind, rise-first, rise-more}
 
 -- what is written back of a list that is as long as it was
 pub written-back : {A : Type 0} (n : ℕ) (new old : List A) → length new ≡ length old → n ≡ length old → take n (new ++ drop (length new) old) ≡ new
@@ -49,30 +49,135 @@ pub record AreBetween (at : MarksAt) (points : List Point) (edges : ℕ) (ahead 
 pub begun : (at : MarksAt) (p : Point) (r : RecordingState) → r.run.config ≡ p.config → (r.start ≡ at.start) × (r.every ≡ at.every) → r.run.time ≡ 0 → IsRecordingOf [] r → HasTakenIn at [] p r
 begun at p r config marks time none = record { config = config; start = marks.0; every = marks.1; time = time; recording = none }
 
--- a run that took a piece in, or ended on the way
-pub fed-by : (piece : List Row) (g : OngoingRun) (r : RecordingState) (s : Result RecordingState Refusal) → g.recording ≡ Ok r → IfOk s (λ t. t.run.config ≡ r.run.config) → IfOk s (λ t. (t.start ≡ r.start) × (t.every ≡ r.every))
+-- a recording that took a piece in, or ended on the way
+pub taken-by : (piece : List Row) (r : RecordingState) (s : Result RecordingState Refusal) → IfOk s (λ t. t.run.config ≡ r.run.config) → IfOk s (λ t. (t.start ≡ r.start) × (t.every ≡ r.every))
     → IfOk s (λ t. t.run.time ≡ last_time r.run.time piece) → IfOk s (λ t. (before : List Row) → IsRecordingOf before r → IsRecordingOf (before ++ piece) t)
     → IfErr s (λ e. e ≡ Exhausted → (before : List Row) → IsRecordingOf before r → Meets (simulation r.run.config (before ++ piece)) (last_time r.run.time piece) is_exhausted)
-    → IsFed piece g (record { point = g.point; recording = s })
-fed-by piece g r s is config marks time fed exhausted = record { point = refl; fed = λ at rows going. by s at rows (taken at rows going) config marks time fed exhausted }
-  where
-    taken : (at : MarksAt) (rows : List Row) → IsGoingOn at rows g → HasTakenIn at rows g.point r
-    taken at rows going = subst (λ x. MatchResult x (HasTakenIn at rows g.point) (λ e. e ≡ Exhausted → IsExhaustedBy rows g.point)) is going
+    → HasTakenPiece piece r s
+taken-by piece r (Ok t) config marks time fed exhausted = record {
+  taken = λ at rows p h.
+      record {
+        config = config ∙ h.config;
+        start = marks.0 ∙ h.start;
+        every = marks.1 ∙ h.every;
+        time = time ∙ ap (λ n. last_time n piece) h.time ∙ sym (last-more 0 rows piece);
+        recording = fed rows h.recording;
+      };
+}
+taken-by piece r (Err e) config marks time fed exhausted = record {
+  taken = λ at rows p h same.
+      record {
+        first = rows ++ piece;
+        rest = [];
+        parted = sym (append-nil (rows ++ piece));
+        met = subst (λ n. Meets (simulation p.config (rows ++ piece)) n is_exhausted) (ap (λ n. last_time n piece) h.time ∙ sym (last-more 0 rows piece))
+            (subst (λ (c : Config). Meets (simulation c (rows ++ piece)) (last_time r.run.time piece) is_exhausted) h.config (exhausted same rows h.recording));
+      };
+}
 
-    by : (s : Result RecordingState Refusal) (at : MarksAt) (rows : List Row) → HasTakenIn at rows g.point r → IfOk s (λ t. t.run.config ≡ r.run.config) → IfOk s (λ t. (t.start ≡ r.start) × (t.every ≡ r.every))
-        → IfOk s (λ t. t.run.time ≡ last_time r.run.time piece) → IfOk s (λ t. (before : List Row) → IsRecordingOf before r → IsRecordingOf (before ++ piece) t)
-        → IfErr s (λ e. e ≡ Exhausted → (before : List Row) → IsRecordingOf before r → Meets (simulation r.run.config (before ++ piece)) (last_time r.run.time piece) is_exhausted)
-        → MatchResult s (HasTakenIn at (rows ++ piece) g.point) (λ e. e ≡ Exhausted → IsExhaustedBy (rows ++ piece) g.point)
-    by (Ok t) at rows h config marks time fed exhausted = record {
-      config = config ∙ h.config;
-      start = marks.0 ∙ h.start;
-      every = marks.1 ∙ h.every;
-      time = time ∙ ap (λ n. last_time n piece) h.time ∙ sym (last-more 0 rows piece);
-      recording = fed rows h.recording;
+-- a refusal that is passed on
+pub refused-by : {piece : List Row} {r : RecordingState} (s : Result RecordingState Refusal) (e : Refusal) → IsErrAnd s (λ f. f ≡ e) → HasTakenPiece piece r (Err e) → HasTakenPiece piece r s
+refused-by (Ok t) e is h = absurd is
+refused-by {piece} {r} (Err f) e is h = subst (λ (g : Refusal). HasTakenPiece piece r (Err g)) (sym is) h
+
+-- a run that did so
+pub fed-by : (piece : List Row) (g : OngoingRun) (r : RecordingState) (s : Result RecordingState Refusal) → g.recording ≡ Ok r → HasTakenPiece piece r s
+    → IsFed piece g (record { point = g.point; recording = s })
+fed-by piece g r s is h = record { point = refl; fed = λ at rows going. h.taken at rows g.point (subst (IsStanding at rows g.point) is going) }
+
+-- what holds of each of some holds of each of the first, and of each of the others
+all-front : {A : Type 0} (P : A → Type 0) (xs ys : List A) → All P (xs ++ ys) → All P xs
+all-front P [] ys all = All-nil P
+all-front P (x ∷ xs) ys all = All-cons P x xs (All-head P x (xs ++ ys) all) (all-front P xs ys (All-tail P x (xs ++ ys) all))
+
+all-back : {A : Type 0} (P : A → Type 0) (xs ys : List A) → All P (xs ++ ys) → All P ys
+all-back P [] ys all = all
+all-back P (x ∷ xs) ys all = all-back P xs ys (All-tail P x (xs ++ ys) all)
+
+-- a recording that has taken in the first part of a piece, of which the rest is still to be taken in
+pub record HasTakenPart (piece : List Row) (r : RecordingState) (now : RecordingState) (rest : List Row) : Type 0 where
+  pub done : List Row
+  pub parted : piece ≡ done ++ rest
+  pub taken : (at : MarksAt) (rows : List Row) (p : Point) → HasTakenIn at rows p r → HasTakenIn at (rows ++ done) p now
+  pub takes : TakesPiece rest now
+
+pub taken-none : (piece : List Row) (r : RecordingState) → TakesPiece piece r → HasTakenPart piece r r piece
+taken-none piece r takes = record {
+  done = [];
+  parted = refl;
+  taken = λ at rows p h. subst (λ rs. HasTakenIn at rs p r) (sym (append-nil rows)) h;
+  takes = takes;
+}
+
+-- the next part may be taken in
+pub takes-first : (part more : List Row) (now : RecordingState) → TakesPiece (part ++ more) now → TakesPiece part now
+takes-first part more now h =
+    let long = length-append part more in
+    let few = h.few in
+    record {
+      ranges = all-front (IsRow now.run.config.edges) part more h.ranges;
+      rising = rise-first now.run.time part more h.rising;
+      before = h.before;
+      recording = h.recording;
+      few = omega (arith, long, few);
     }
-    by (Err e) at rows h config marks time fed exhausted = λ same.
-        subst (λ n. Meets (simulation g.point.config (rows ++ piece)) n is_exhausted) (ap (λ n. last_time n piece) h.time ∙ sym (last-more 0 rows piece))
-        (subst (λ (c : Config). Meets (simulation c (rows ++ piece)) (last_time r.run.time piece) is_exhausted) h.config (exhausted same rows h.recording))
+
+-- as many as a recording may take in
+pub takes-few : (piece : List Row) (now : RecordingState) → TakesPiece piece now → now.run.taken + length piece ≤ 2 ^ 64 - 1
+takes-few piece now h =
+    let taken = h.recording.run.taken in
+    let few = h.few in
+    omega (arith, taken, few)
+
+-- then the rest may be taken in
+takes-behind : (part more : List Row) (now next : RecordingState) → TakesPiece (part ++ more) now → next.run.config ≡ now.run.config → next.run.time ≡ last_time now.run.time part
+    → ((before : List Row) → IsRecordingOf before now → IsRecordingOf (before ++ part) next) → TakesPiece more next
+takes-behind part more now next h config time fed =
+    let long = length-append part more in
+    let longer = length-append h.before part in
+    let few = h.few in
+    record {
+      ranges = subst (λ (c : Config). All (IsRow c.edges) more) (sym config) (all-back (IsRow now.run.config.edges) part more h.ranges);
+      rising = subst (λ t. RiseFrom t more) (sym time) (rise-behind now.run.time part more h.rising);
+      before = h.before ++ part;
+      recording = fed h.before h.recording;
+      few = omega (arith, long, longer, few);
+    }
+
+module _ (piece : List Row) (r now : RecordingState) (rest part more : List Row) (on : HasTakenPart piece r now rest) (cut : rest ≡ part ++ more) where
+  pub may-take-part : TakesPiece part now
+  may-take-part = takes-first part more now (subst (λ rs. TakesPiece rs now) cut on.takes)
+
+  -- one part more
+  pub taken-more : (next : RecordingState) → next.run.config ≡ now.run.config → next.run.time ≡ last_time now.run.time part → ((before : List Row) → IsRecordingOf before now → IsRecordingOf (before ++ part) next)
+      → HasTakenPiece part now (Ok next) → HasTakenPart piece r next more
+  taken-more next config time fed h = record {
+    done = on.done ++ part;
+    parted = on.parted ∙ ap (λ rs. on.done ++ rs) cut ∙ sym (append_assoc on.done part more);
+    taken = λ at rows p before. subst (λ rs. HasTakenIn at rs p next) (append_assoc rows on.done part) (h.taken at (rows ++ on.done) p (on.taken at rows p before));
+    takes = takes-behind part more now next (subst (λ rs. TakesPiece rs now) cut on.takes) config time fed;
+  }
+
+  -- a part on which the recording ended
+  pub ended-on : (e : Refusal) → HasTakenPiece part now (Err e) → HasTakenPiece piece r (Err e)
+  ended-on e h = record {
+    taken = λ at rows p before same.
+        let by : IsExhaustedBy ((rows ++ on.done) ++ part) p = h.taken at (rows ++ on.done) p (on.taken at rows p before) same in
+        record {
+          first = by.first;
+          rest = by.rest ++ more;
+          parted = ap (λ rs. rows ++ rs) (on.parted ∙ ap (λ rs. on.done ++ rs) cut ∙ sym (append_assoc on.done part more)) ∙ sym (append_assoc rows (on.done ++ part) more)
+              ∙ ap (λ rs. rs ++ more) (sym (append_assoc rows on.done part) ∙ by.parted) ∙ append_assoc by.first by.rest more;
+          met = by.met;
+        };
+  }
+
+-- the last part
+pub taken-last : (piece : List Row) (r now : RecordingState) (rest : List Row) (s : Result RecordingState Refusal) → HasTakenPart piece r now rest → HasTakenPiece rest now s → HasTakenPiece piece r s
+taken-last piece r now rest s on h = record {
+  taken = λ at rows p before.
+      subst (λ rs. IsStanding at rs p s) (append_assoc rows on.done rest ∙ ap (λ rs. rows ++ rs) (sym on.parted)) (h.taken at (rows ++ on.done) p (on.taken at rows p before));
+}
 
 -- what holds of what is made of each of some holds of each
 pub all-unmap : {A B : Type 0} (P : B → Type 0) (f : A → B) (xs : List A) → All P (map f xs) → All (λ x. P (f x)) xs
@@ -138,11 +243,12 @@ module _ (at : MarksAt) (points : List Point) (edges : ℕ) (ahead : Ahead) (mos
           by (Err e) h k = k
           by (Ok r) h k =
               let all = on.all in
-              let taken = h.recording.run.taken in
               record {
                 ranges = subst (λ n. All (IsRow n) piece) (sym (ap (λ c. c.edges) h.config ∙ same)) ranges;
                 rising = subst (λ t. RiseFrom t piece) (on.last ∙ sym h.time) rising;
-                few = omega (arith, all, taken, counted, few);
+                before = on.rows;
+                recording = h.recording;
+                few = omega (arith, all, counted, few);
               }
 
       -- each run may take the next piece in
@@ -191,12 +297,12 @@ module _ (at : MarksAt) (points : List Point) (edges : ℕ) (ahead : Ahead) (mos
         ended-now (Err f) Memory now' count is some l full short = subst (IsFaultOfRuns points ahead) (sym is) tt
         ended-now (Err f) Exhausted now' count is (k, g, m, here, ended) l full short =
             let going : IsGoingOn at (on.rows ++ piece) g = subst (IsGoingOn at (on.rows ++ piece)) here (going-fed k g m) in
-            let met : IsExhaustedBy (on.rows ++ piece) g.point = subst (λ r. MatchResult r (HasTakenIn at (on.rows ++ piece) g.point) (λ e. e ≡ Exhausted → IsExhaustedBy (on.rows ++ piece) g.point)) ended going refl in
+            let by : IsExhaustedBy (on.rows ++ piece) g.point = subst (λ r. MatchResult r (HasTakenIn at (on.rows ++ piece) g.point) (λ e. e ≡ Exhausted → IsExhaustedBy (on.rows ++ piece) g.point)) ended going refl in
             let order : (length piece ≡ count) ⊎ (length piece < count) = same-or-less (length piece) count l in
-            let first : ComeFirst ahead (on.rows ++ piece) now' ⊎ AreAll ahead (on.rows ++ piece) =
+            let first : (b : Ahead) × ComeFirst ahead by.first b =
             elim order [
-              | inl same ↦ inl (come-more ahead now now' on.rows piece on.first (full same))
-              | inr less ↦ inr (come-all ahead now on.rows piece on.first (short less))
+              | inl same ↦ come-part ahead now' by.first by.rest (subst (λ rs. ComeFirst ahead rs now') by.parted (come-more ahead now now' on.rows piece on.first (full same)))
+              | inr less ↦ come-of-all ahead by.first by.rest (subst (AreAll ahead) by.parted (come-all ahead now on.rows piece on.first (short less)))
             ] in
             subst (IsFaultOfRuns points ahead) (sym is)
             (subst (Any (λ p. IsExhaustingFirst p.config ahead)) points-fed (
@@ -205,13 +311,13 @@ module _ (at : MarksAt) (points : List Point) (edges : ℕ) (ahead : Ahead) (mos
               subst (λ n. k < n) (sym (length-map runs' (λ h. h.point))) m,
               get_or-map (λ h. h.point) runs' k g g.point m ∙ ap (λ h. h.point) here,
               record {
-                rows = on.rows ++ piece;
-                rest = now';
-                until = last_time 0 (on.rows ++ piece);
-                first = first;
-                rising = rising-fed;
+                rows = by.first;
+                rest = first.0;
+                until = last_time 0 by.first;
+                first = inl first.1;
+                rising = rise-first 0 by.first by.rest (subst (RiseFrom 0) by.parted rising-fed);
                 soon = inl (omega arith);
-                met = met;
+                met = by.met;
               },
             ))
 

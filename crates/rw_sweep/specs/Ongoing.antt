@@ -1,8 +1,9 @@
 -- Runs of configurations that take rows in as these are read.
-use Rattle.std.specs.Prelude.{◌≡◌, ◌<◌, ◌≤◌, ◌+◌, ◌^◌, ◌-◌, ℕ, List, ◌++◌, All, ⊤, MatchResult, Some, length, slice_index_or}
+use Rattle.std.specs.Prelude.{◌≡◌, ◌<◌, ◌≤◌, ◌+◌, ◌^◌, ◌-◌, ℕ, List, ◌++◌, All, ⊤, MatchResult, Result, Some, length, slice_index_or}
 use Rattle.std.specs.List.{AllZip, Any, concat}
 use Rattle.rw_vt.specs.Words.{Time}
 use Rattle.rw_vt.specs.System.{Meets}
+use Rattle.rw_vt.specs.declared.refusal.Refusal.{Refusal}
 use Rattle.rw_vt.specs.declared.refusal.Refusal.TheVariants.{Exhausted}
 use Rattle.rw_blocks.specs.State.{IsShape}
 use Rattle.rw_trace.specs.declared.Row.{Row}
@@ -37,15 +38,21 @@ pub record HasTakenIn (at : MarksAt) (rows : List Row) (p : Point)
   pub time : r.run.time ≡ last_time 0 rows
   pub recording : IsRecordingOf rows r
 
--- running these rows, up to the time of the last of them, comes to a cache that can take no further event
-abbrev pub IsExhaustedBy : List Row → Point → Type 0
-IsExhaustedBy rows p = Meets (simulation p.config rows) (last_time 0 rows) is_exhausted
+-- running the first of these rows, up to the time of the last of those, comes to a cache that can take no further event
+pub record IsExhaustedBy (rows : List Row) (p : Point) : Type 0 where
+  pub first : List Row
+  pub rest : List Row
+  pub parted : rows ≡ first ++ rest
+  pub met : Meets (simulation p.config first) (last_time 0 first) is_exhausted
+
+-- what has become of a run that has taken in these rows
+abbrev pub IsStanding : MarksAt → List Row → Point → Result RecordingState Refusal → Type 0
+IsStanding at rows p s =
+    MatchResult s (HasTakenIn at rows p) (λ e. e ≡ Exhausted → IsExhaustedBy rows p)
 
 -- so far the run has taken in these rows, or has ended
 abbrev pub IsGoingOn : MarksAt → List Row → OngoingRun → Type 0
-IsGoingOn at rows g =
-    MatchResult g.recording (HasTakenIn at rows g.point)
-    (λ e. e ≡ Exhausted → IsExhaustedBy rows g.point)
+IsGoingOn at rows g = IsStanding at rows g.point g.recording
 
 -- the run has not ended
 abbrev pub HasNotEnded : OngoingRun → Type 0
@@ -56,14 +63,22 @@ abbrev pub MayFinish : OngoingRun → Type 0
 MayFinish g = MatchResult g.recording (λ r. r.run.time ≤ latest_time) (λ e. ⊥)
 
 -- a run may take in a piece more: its rows are in their ranges, none is before the time that the run has reached, or
--- before the row in front of it, and they are not too many
+-- before the row in front of it, and with those that it has taken in before they are not too many
 pub record TakesPiece (piece : List Row) (r : RecordingState) : Type 0 where
   pub ranges : All (IsRow r.run.config.edges) piece
   pub rising : RiseFrom r.run.time piece
-  pub few : r.run.taken + length piece ≤ 2 ^ 64 - 1
+  pub before : List Row
+  pub recording : IsRecordingOf before r
+  pub few : length before + length piece ≤ 2 ^ 64 - 1
 
 abbrev pub MayTake : List Row → OngoingRun → Type 0
 MayTake piece g = MatchResult g.recording (TakesPiece piece) (λ e. ⊥)
+
+-- a recording has taken in a piece more, or has ended on the way
+pub record HasTakenPiece (piece : List Row) (r : RecordingState)
+    (s : Result RecordingState Refusal) : Type 0 where
+  pub taken : (at : MarksAt) (rows : List Row) (p : Point) → HasTakenIn at rows p r
+      → IsStanding at (rows ++ piece) p s
 
 -- a run has taken in a piece more, or has ended on the way
 pub record IsFed (piece : List Row) (g h : OngoingRun) : Type 0 where

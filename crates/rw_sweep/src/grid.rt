@@ -224,8 +224,8 @@ impl Grid {
         ensures axes { IfOk result (λ grid. grid ≡ axes) }
         ensures few { OnOk result (length (combinations axes) ≤ most_configurations) }
         ensures in_range { OnOk result (All (IsInGridRanges axes) (combinations axes)) }
-        ensures too_many { result ≡ Err GridFault.TooMany
-            → most_configurations < length (combinations axes) }
+        ensures too_many { (result ≡ Err GridFault.TooMany)
+            ↔ (most_configurations < length (combinations axes)) }
         ensures out_of_range { result ≡ Err GridFault.OutOfRange
             → Any (λ x. IsInGridRanges axes x → ⊥) (combinations axes) }
     {

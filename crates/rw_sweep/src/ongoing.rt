@@ -6,7 +6,7 @@ ghost use Rattle.rw_vt.specs.System.{Meets};
 ghost use Rattle.rw_trace.specs.declared.Row.{Row};
 ghost use Rattle.rw_photo.specs.Cache.{is_exhausted};
 ghost use Rattle.rw_photo.specs.Simulation.{simulation};
-ghost use Rattle.rw_sweep.specs.Ongoing.{AreFed, HasNotEnded, HasTexts, IsFed, IsGoingOn, IsToTell, MayFinish, MayTake};
+ghost use Rattle.rw_sweep.specs.Ongoing.{AreFed, HasNotEnded, HasTakenPiece, HasTexts, IsFed, IsGoingOn, IsToTell, MayFinish, MayTake, TakesPiece};
 ghost use Rattle.rw_sweep.specs.Working.{IsTextOfPoint};
 
 use crate::point::Point;
@@ -18,6 +18,9 @@ use rw_vt::Refusal;
 use std::alloc::Global;
 use std::mem::replace;
 use std::thread::{Threads, for_each_mut};
+
+/// How many rows of a piece a run takes in at a time.
+const PART: usize = 1 << 14;
 
 /// A configuration whose run takes rows in as they are read.
 #[derive(Drop)]
@@ -71,9 +74,28 @@ fn feed(alloc: Global, run: &mut OngoingRun, piece: &[Row])
 {
     let recording = replace(&mut run.recording, Err(Refusal::Memory));
     run.recording = match recording {
-        Ok(recording) => recording.feed(alloc, piece),
+        Ok(recording) => feed_in_parts(alloc, recording, piece),
         Err(refusal) => Err(refusal),
     };
+}
+
+/// Feeds a piece to a recording, a part at a time, so that few of its events wait at once.
+///
+/// # Errors
+///
+/// Those of [`Recording::feed`].
+fn feed_in_parts(alloc: Global, recording: Recording, piece: &[Row]) -> Result<Recording, Refusal>
+    requires { TakesPiece piece.now recording }
+    ensures { HasTakenPiece piece.now recording result }
+{
+    let mut recording = recording;
+    let mut rest = piece;
+    'parts: while rest.len() > PART {
+        let (part, more) = rest.split_at(PART);
+        recording = recording.feed(alloc, part)?;
+        rest = more;
+    }
+    recording.feed(alloc, rest)
 }
 
 /// Why the first of these runs has ended that has, if one has.

@@ -57,6 +57,7 @@ pub fn sweep_over_time<W: Write, P: Progress, R: Threads + Sync>(
         (W.contents out.old.writer) (W.contents out.new.writer) }
     ensures nothing { (fault : TraceFault) → result ≡ Err (SimFault.Trace fault)
         → out.new ≡ out.old }
+    ensures early { result ≡ Err SimFault.Plan → out.new ≡ out.old }
     ensures whole_lines { IfErr result (λ e. e ≢ SimFault.Output
         → (out.new ≡ out.old) ⊎ HasSweptFirstOverTime sweeping.now.grid.now sweeping.now.part
         sweeping.now.outlook bytes.now (W.contents out.old.writer) (W.contents out.new.writer)) }

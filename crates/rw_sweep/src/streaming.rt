@@ -10,8 +10,8 @@ use rw_trace::{RowSource, next_piece};
 use std::alloc::Global;
 use std::thread::Threads;
 
-/// How many rows are read and taken in at a time.
-const PIECE: usize = 1 << 15;
+/// How many rows are read at a time. All runs take turns at them, and while one does, its caches stay in those of the processor.
+const PIECE: usize = 1 << 18;
 
 /// Runs the rows of a source under each of these configurations as they are read, by so many workers side by side, up to the time of
 /// the last row. It needs the memory of a piece of rows, and of each run its caches and what is on its way, however many rows there

@@ -1,6 +1,7 @@
 -- No fault of a row is that of the header, nor is that of a measure that a table lacks.
-use Rattle.std.proofs.Common.{◌≡◌, ◌+◌, ◌==◌, ◌↔◌, ℕ, List, [], ◌∷◌, Bool, true, false, Option, Some, None, Ok, Err, refl, if◌then◌else◌}
-use Rattle.std.specs.Prelude.{nat_lt}
+use Rattle.std.proofs.Common.{◌≡◌, ◌+◌, ◌==◌, ◌↔◌, ◌∙◌, ℕ, List, [], ◌∷◌, Bool, true, false, Option, Some, None, Result, Ok, Err, refl, sym, subst, if◌then◌else◌}
+use Rattle.std.specs.Prelude.{◌≢◌, nat_lt}
+use Rattle.std.specs.Result.{IfErr, IsErrAnd}
 use Rattle.rw_tables.specs.Layouts.{caches_column, is_layout, layout_of}
 use Rattle.rw_tables.specs.Tables.{DrawnRow, OrPlotFault, backend_bytes_of, caches_of_column, configuration_of, count_of_column, drawn_before, drawn_caches, drawn_of, drawn_row, figures_of, five_counts, flash_of_column, has_table_header, interval_of, is_drawn, lacks_measure, most_lines, or_plot_fault, policy_of_fields, ratio_of_column, rows_drawn, sample_of, sizes_of, some_count, some_rows, table_of, ticks_of, ◌>>=◌}
 use Rattle.rw_tables.specs.declared.layout.Layout.{Layout}
@@ -146,3 +147,11 @@ header-told drawing (h ∷ rs) = by (layout_of h)
     by : (o : Option Layout) → ((or_plot_fault fault.Header o >>= rows_drawn drawing rs) ≡ Err fault.Header) ↔ (is_layout o ≡ false)
     by None = (λ q. refl, λ q. refl)
     by (Some layout) = (λ q. absurd (rows-other drawing rs layout q), λ q. cc)
+
+-- a fault of the header that is passed on
+pub header-passed : {T : Type 0} (drawing : Drawing) (recs : List (List (List ℕ))) (r : Result T PlotFault) (e : PlotFault) → IsErrAnd r (λ f. f ≡ e) → (e ≢ fault.Memory → table_of drawing recs ≡ Err e)
+    → IfErr r (λ f. f ≡ fault.Header → has_table_header recs ≡ false)
+header-passed drawing recs (Ok v) e is h = tt
+header-passed drawing recs (Err f) e is h = λ same.
+    let header : e ≡ fault.Header = sym is ∙ same in
+    (header-told drawing recs).0 (subst (λ x. table_of drawing recs ≡ Err x) header (h (λ memory. let no : fault.Header ≡ fault.Memory = sym header ∙ memory in cc)))

@@ -258,9 +258,3 @@ table_of drawing (h ∷ rs) =
 -- whether the first of some records is the header of a table
 abbrev pub has_table_header : List Fields → Bool
 has_table_header recs = is_layout (layout_of_table recs)
-
--- what is refused for its header is just what does not begin with the header of a table
-abbrev pub HeaderFaultIsOfTheHeader : Type 0
-HeaderFaultIsOfTheHeader =
-    (drawing : Drawing) (recs : List Fields)
-    → (table_of drawing recs ≡ Err fault.Header) ↔ (has_table_header recs ≡ false)

@@ -8,7 +8,7 @@
 //! Worked examples: `rw_program_tests/src/plots.rt`.
 
 ghost use Rattle.std.specs.Prelude.{◌≡◌};
-ghost use Rattle.rw_tables.specs.Tables.{HeaderFaultIsOfTheHeader, most_lines};
+ghost use Rattle.rw_tables.specs.Tables.{most_lines};
 
 mod header;
 mod layout;
@@ -24,13 +24,7 @@ pub use plot_fault::PlotFault;
 pub use sample::{Configuration, Figures, Interval, Line, Sample, Table};
 pub use table::{MAX_LINES, read};
 
-/// What is refused with `Header` is just what does not begin with the header of a table. This is a law of the definitions; the
-/// call itself does nothing. [`read`] answers what they say.
-pub fn header_fault()
-    ensures { HeaderFaultIsOfTheHeader }
-{}
-
 /// [`MAX_LINES`] is the limit that stands in `specs/Tables.antt`, which the definitions cite. The call itself does nothing.
-pub fn line_limit()
+pub fn every_limit()
     ensures { MAX_LINES ≡ most_lines }
 {}

@@ -1,10 +1,10 @@
 // The rows of a table that are drawn, or its first fault.
-ghost use Rattle.std.specs.Prelude.{◌≡◌, ◌≢◌, ◌∷◌, [], IfOk, IfErr, OnOk, Ok, Some, Err, map, ◌++◌, if◌then◌else◌};
+ghost use Rattle.std.specs.Prelude.{◌≡◌, ◌≢◌, ◌∷◌, [], IfOk, IfErr, OnOk, Ok, Some, Err, map, ◌++◌, if◌then◌else◌, false, true};
 ghost use Rattle.csv.specs.Records.{fields_of};
 ghost use Rattle.rw_trace.specs.Unread.{Steady, records_of, unread};
 ghost use Rattle.rw_tables.specs.Layouts.{layout_of_table};
-ghost use Rattle.rw_tables.specs.Tables.{are_same_caches, drawn_caches, drawn_of, drawn_row, is_drawn, most_lines, policy_of_fields, row_of_line, rows_drawn, table_of};
-ghost use Rattle.rw_tables.specs.declared.plot_fault.PlotFault.TheVariants.{Memory};
+ghost use Rattle.rw_tables.specs.Tables.{are_same_caches, drawn_caches, drawn_of, drawn_row, has_table_header, is_drawn, most_lines, policy_of_fields, row_of_line, rows_drawn, table_of};
+ghost use Rattle.rw_tables.specs.declared.plot_fault.PlotFault.TheVariants.{Header, Memory};
 
 use crate::header::layout_of_record;
 use crate::layout::Layout;
@@ -198,6 +198,9 @@ pub fn read(alloc: Global, bytes: &[u8], drawing: Drawing) -> Result<Table, Plot
         ≡ Ok (map row_of_line t.lines.items)) }
     ensures fault { IfErr result (λ e.
         e ≢ Memory → table_of drawing (records_of bytes.now) ≡ Err e) }
+    ensures headed { IfOk result (λ _. has_table_header (records_of bytes.now) ≡ true) }
+    ensures header { IfErr result (λ e.
+        e ≡ Header → has_table_header (records_of bytes.now) ≡ false) }
 {
     let mut lines = Vec::new(alloc);
     let mut reader = open_records(alloc, bytes);

@@ -1,13 +1,11 @@
 -- What holds of every world, in every setting: the laws of these definitions.
-use Rattle.std.specs.Prelude.{◌≤◌, ◌↔◌, ◌++◌, List}
+use Rattle.std.specs.Prelude.{◌≤◌, ◌↔◌, List}
 use Rattle.std.specs.declared.cmp.Ordering.{Ordering}
 use Rattle.rw_vt.specs.Words.{Process, Time}
 use Rattle.rw_vt.specs.Limits.{end_of_time}
 use Rattle.rw_vt.specs.declared.event.Letter.{Letter}
 use Rattle.rw_vt.specs.declared.model.Model.{Ghosts}
-use Rattle.rw_vt.specs.System.{Setting, Rules, system_in}
-use Rattle.rw_lp.specs.Process.{ProcessState}
-use Rattle.rw_lp.specs.Sound.{Kept}
+use Rattle.rw_vt.specs.System.{Setting, system_in}
 use Rattle.rw_world.specs.declared.step.Step.{Step}
 use Rattle.rw_world.specs.WorldState.{WorldState, opening_world, floor}
 use Rattle.rw_world.specs.Steps.{run}
@@ -47,11 +45,3 @@ ExchangesKeepSound {M} {S} {B} model order =
     (k : Setting model) (w v : WorldState S B) (came out : Process → List (Letter B))
     → Sound (system_in order k) w → Exchanged (system_in order k) w v came out
     → Sound (system_in order k) v
-
--- what process p kept on the way from x to z, and from there to u, it kept on the whole way
-abbrev pub BalancesAddUp : (S B : Type 0) → Type 0
-BalancesAddUp S B =
-    (y : Rules S B) (g : Time) (p : Process) (x z u : ProcessState S B)
-    (came more out rest : List (Letter B))
-    → Kept y g p x z came out → Kept y g p z u more rest
-    → Kept y g p x u (came ++ more) (out ++ rest)

@@ -8,7 +8,7 @@
 //!
 //! Worked examples: `rw_round_tests/src/relay_world.rt`.
 
-ghost use Rattle.rw_world.specs.Laws.{BalancesAddUp, ExchangesKeepSound, FloorIsGreatest, SchedulesLeadInOrder, SoundIsInOrder, StepsKeepSound};
+ghost use Rattle.rw_world.specs.Laws.{ExchangesKeepSound, FloorIsGreatest, SchedulesLeadInOrder, SoundIsInOrder, StepsKeepSound};
 
 mod drawing;
 mod least;
@@ -57,10 +57,4 @@ pub fn every_floor<M: Model>()
 /// nothing.
 pub fn every_exchange<M: Model>()
     ensures { ExchangesKeepSound M.Model M.Body.cmp }
-{}
-
-/// What one process kept on the way from one state to a second, and from there to a third, it kept on the whole way: its
-/// balance of letters adds up. This is a law of the definitions, for every model; the call itself does nothing.
-pub fn every_way<M: Model>()
-    ensures { BalancesAddUp M.State M.Body }
 {}

@@ -1,7 +1,6 @@
 use Rattle.std.proofs.lemmas.Slice.Eq.{strip_prefix_is}
 use Rattle.std.proofs.lemmas.Bool.Decides.{Decides-eqb}
-use Rattle.rw_join.proofs.PartsRead.{begins}
 use Rattle.rw_join.proofs.reading.behind.Goals as goal
 
 pub returns : goal.returns
-returns c = begins c.args.text.now c.args.first.now c.strip_prefix.result (strip_prefix_is Decides-eqb c.args.text.now c.args.first.now c.strip_prefix.result c.strip_prefix.ensures.cases)
+returns c = strip_prefix_is Decides-eqb c.args.text.now c.args.first.now c.strip_prefix.result c.strip_prefix.ensures.cases

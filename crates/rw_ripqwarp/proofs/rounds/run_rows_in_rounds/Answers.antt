@@ -1,21 +1,22 @@
 use Rattle.std.proofs.Common.{◌≡◌, ◌++◌, ℕ, List, Some, ◌∙◌, ap, subst}
-use Rattle.std.proofs.lemmas.Result.{IfErr-weaker, IfOk-from_err}
-use Rattle.std.specs.Prelude.{slice_get}
+use Rattle.std.proofs.lemmas.Result.{IfOk-from_err}
+use Rattle.std.specs.Prelude.{OnOk, slice_get}
 use Rattle.rw_photo.specs.declared.config.Config.{Config}
-use Rattle.rw_photo.specs.Cache.{Cache, IsWellFormed}
-use Rattle.rw_photo.specs.Simulation.{starts_of}
-use Rattle.std.specs.Result.{IfOk}
+use Rattle.rw_photo.specs.Cache.{Cache, IsWellFormed, is_exhausted}
+use Rattle.rw_photo.specs.Simulation.{simulation, starts_of}
+use Rattle.std.specs.Result.{IfErr, IfOk}
 use Rattle.rw_vt.specs.System.{System, map_from}
 use Rattle.rw_photo.specs.declared.body.Body.{Body}
 use Rattle.rw_photo.specs.Events.{event_of}
 use Rattle.rw_rounds.specs.declared.stop.Stop.TheVariants as stop
-use Rattle.rw_engine.specs.Alone.{MayStopAlone}
+use Rattle.rw_engine.specs.Alone.{HaveRoomFor}
 use Rattle.rw_engine.specs.Runs.{AreLastStates}
 use Rattle.rw_engine.specs.Stretches.{MayStopInRounds}
+use Rattle.rw_engine.proofs.Stopping.{alone_in_rounds}
 use Rattle.rw_replay.proofs.Failing.{handed-on}
 use Rattle.rw_replay.proofs.Runs.{ready, ready-at, runs-rows}
-use Rattle.rw_ripqwarp.proofs.Failing.{alone-stops}
 use Rattle.rw_ripqwarp.proofs.Stopping.{good-plan}
+use Rattle.rw_ripqwarp.proofs.Ways.{caches}
 use Rattle.rw_ripqwarp.proofs.rounds.run_rows_in_rounds.Goals as goal
 
 pub run_in_rounds-requires-clause-ready : goal.run_in_rounds-requires-clause-ready
@@ -87,7 +88,7 @@ pub returns-in_err-rows-clause-in_range : goal.returns-in_err-rows-clause-in_ran
 returns-in_err-rows-clause-in_range g c = IfOk-from_err c.from_residual.result _ c.from_residual.ensures.0
 
 pub returns-in_err-rows-clause-stops : goal.returns-in_err-rows-clause-stops
-returns-in_err-rows-clause-stops g c = handed-on c.from_residual.result stop.Memory (MayStopInRounds c.args.plan) c.from_residual.ensures.1 tt
+returns-in_err-rows-clause-stops g c = handed-on c.from_residual.result stop.Memory (MayStopInRounds (simulation c.args.config.now (c.args.rows.now ++ c.args.others.now)) is_exhausted c.args.plan) c.from_residual.ensures.1 tt
 
 pub returns-in_err-starts-clause-outcome : goal.returns-in_err-starts-clause-outcome
 returns-in_err-starts-clause-outcome g c = IfOk-from_err c.from_residual-in_err-starts.result _ c.from_residual-in_err-starts.ensures.0
@@ -96,7 +97,7 @@ pub returns-in_err-starts-clause-in_range : goal.returns-in_err-starts-clause-in
 returns-in_err-starts-clause-in_range g c = IfOk-from_err c.from_residual-in_err-starts.result _ c.from_residual-in_err-starts.ensures.0
 
 pub returns-in_err-starts-clause-stops : goal.returns-in_err-starts-clause-stops
-returns-in_err-starts-clause-stops g c = handed-on c.from_residual-in_err-starts.result stop.Memory (MayStopInRounds c.args.plan) c.from_residual-in_err-starts.ensures.1 tt
+returns-in_err-starts-clause-stops g c = handed-on c.from_residual-in_err-starts.result stop.Memory (MayStopInRounds (simulation c.args.config.now (c.args.rows.now ++ c.args.others.now)) is_exhausted c.args.plan) c.from_residual-in_err-starts.ensures.1 tt
 
 pub returns-in_err-starts-2-clause-outcome : goal.returns-in_err-starts-2-clause-outcome
 returns-in_err-starts-2-clause-outcome g c = IfOk-from_err c.from_residual-in_err-starts-2.result _ c.from_residual-in_err-starts-2.ensures.0
@@ -105,18 +106,69 @@ pub returns-in_err-starts-2-clause-in_range : goal.returns-in_err-starts-2-claus
 returns-in_err-starts-2-clause-in_range g c = IfOk-from_err c.from_residual-in_err-starts-2.result _ c.from_residual-in_err-starts-2.ensures.0
 
 pub returns-in_err-starts-2-clause-stops : goal.returns-in_err-starts-2-clause-stops
-returns-in_err-starts-2-clause-stops g c = handed-on c.from_residual-in_err-starts-2.result stop.Memory (MayStopInRounds c.args.plan) c.from_residual-in_err-starts-2.ensures.1 tt
+returns-in_err-starts-2-clause-stops g c = handed-on c.from_residual-in_err-starts-2.result stop.Memory (MayStopInRounds (simulation c.args.config.now (c.args.rows.now ++ c.args.others.now)) is_exhausted c.args.plan) c.from_residual-in_err-starts-2.ensures.1 tt
 
 pub returns-then-alone-clause-stops : goal.returns-then-alone-clause-stops
 returns-then-alone-clause-stops g c =
-    IfErr-weaker c.run_alone.result (MayStopAlone c.args.plan) (MayStopInRounds c.args.plan) (alone-stops c.args.plan) c.run_alone.ensures.stops
+    let made = c.in_ok-starts.ensures in
+    let all = c.as_slice.ensures.value ∙ c.in_ok-rows.ensures in
+    subst (λ (y : System Cache Body). IfErr c.run_alone.result (MayStopInRounds y is_exhausted c.args.plan))
+    (runs-rows c.args.config.now c.new-photo.result (c.args.rows.now ++ c.args.others.now) c.in_ok-starts.starts.items c.in_ok-starts.initial.items c.new-photo.ensures made.starts (made.initial ∙ ap (map_from 0 event_of) all))
+    (alone_in_rounds (caches c.new-photo.result c.in_ok-starts.starts.items c.in_ok-starts.initial.items) is_exhausted c.args.plan c.run_alone.result c.run_alone.ensures.stops c.run_alone.ensures.used_up c.run_alone.ensures.exhausted)
+
+pub returns-then-alone-clause-room : goal.returns-then-alone-clause-room
+returns-then-alone-clause-room g c = λ one.
+    let made = c.in_ok-starts.ensures in
+    let all = c.as_slice.ensures.value ∙ c.in_ok-rows.ensures in
+    subst (λ (y : System Cache Body). OnOk c.run_alone.result (HaveRoomFor c.args.plan y))
+    (runs-rows c.args.config.now c.new-photo.result (c.args.rows.now ++ c.args.others.now) c.in_ok-starts.starts.items c.in_ok-starts.initial.items c.new-photo.ensures made.starts (made.initial ∙ ap (map_from 0 event_of) all))
+    c.run_alone.ensures.room
 
 pub returns-then-alone-2-clause-stops : goal.returns-then-alone-2-clause-stops
 returns-then-alone-2-clause-stops g c =
-    IfErr-weaker c.run_alone_from.result (MayStopAlone c.args.plan) (MayStopInRounds c.args.plan) (alone-stops c.args.plan) c.run_alone_from.ensures.stops
+    subst (λ (y : System Cache Body). IfErr c.run_alone_from.result (MayStopInRounds y is_exhausted c.args.plan))
+    (runs-rows c.args.config.now c.new-photo.result (c.args.rows.now ++ c.args.others.now) c.in_ok-starts-2.starts.items c.in-Some.source c.new-photo.ensures (c.in_ok-starts-2.ensures.states ∙ ap starts_of c.new-photo.ensures) c.in-Some.ensures.events)
+    (alone_in_rounds (caches c.new-photo.result c.in_ok-starts-2.starts.items c.in-Some.source) is_exhausted c.args.plan c.run_alone_from.result c.run_alone_from.ensures.stops c.run_alone_from.ensures.used_up c.run_alone_from.ensures.exhausted)
+
+pub returns-then-alone-2-clause-room : goal.returns-then-alone-2-clause-room
+returns-then-alone-2-clause-room g c = λ one.
+    subst (λ (y : System Cache Body). OnOk c.run_alone_from.result (HaveRoomFor c.args.plan y))
+    (runs-rows c.args.config.now c.new-photo.result (c.args.rows.now ++ c.args.others.now) c.in_ok-starts-2.starts.items c.in-Some.source c.new-photo.ensures (c.in_ok-starts-2.ensures.states ∙ ap starts_of c.new-photo.ensures) c.in-Some.ensures.events)
+    c.run_alone_from.ensures.room
 
 pub returns-in_default-clause-stops : goal.returns-in_default-clause-stops
-returns-in_default-clause-stops g c = c.run_in_rounds.ensures.stops
+returns-in_default-clause-stops g c =
+    let made = c.in_ok-starts.ensures in
+    let all = c.as_slice.ensures.value ∙ c.in_ok-rows.ensures in
+    subst (λ (y : System Cache Body). IfErr c.run_in_rounds.result (MayStopInRounds y is_exhausted c.args.plan))
+    (runs-rows c.args.config.now c.new-photo.result (c.args.rows.now ++ c.args.others.now) c.in_ok-starts.starts.items c.in_ok-starts.initial.items c.new-photo.ensures made.starts (made.initial ∙ ap (map_from 0 event_of) all))
+    c.run_in_rounds.ensures.stops
+
+pub returns-in_default-clause-room : goal.returns-in_default-clause-room
+returns-in_default-clause-room g c = λ one.
+    let made = c.in_ok-starts.ensures in
+    let all = c.as_slice.ensures.value ∙ c.in_ok-rows.ensures in
+    subst (λ (y : System Cache Body). OnOk c.run_in_rounds.result (HaveRoomFor c.args.plan y))
+    (runs-rows c.args.config.now c.new-photo.result (c.args.rows.now ++ c.args.others.now) c.in_ok-starts.starts.items c.in_ok-starts.initial.items c.new-photo.ensures made.starts (made.initial ∙ ap (map_from 0 event_of) all))
+    (c.run_in_rounds.ensures.room one)
 
 pub returns-clause-stops : goal.returns-clause-stops
-returns-clause-stops g c = c.run_in_rounds_from.ensures.stops
+returns-clause-stops g c =
+    subst (λ (y : System Cache Body). IfErr c.run_in_rounds_from.result (MayStopInRounds y is_exhausted c.args.plan))
+    (runs-rows c.args.config.now c.new-photo.result (c.args.rows.now ++ c.args.others.now) c.in_ok-starts-2.starts.items c.in-Some.source c.new-photo.ensures (c.in_ok-starts-2.ensures.states ∙ ap starts_of c.new-photo.ensures) c.in-Some.ensures.events)
+    c.run_in_rounds_from.ensures.stops
+
+pub returns-clause-room : goal.returns-clause-room
+returns-clause-room g c = λ one.
+    subst (λ (y : System Cache Body). OnOk c.run_in_rounds_from.result (HaveRoomFor c.args.plan y))
+    (runs-rows c.args.config.now c.new-photo.result (c.args.rows.now ++ c.args.others.now) c.in_ok-starts-2.starts.items c.in-Some.source c.new-photo.ensures (c.in_ok-starts-2.ensures.states ∙ ap starts_of c.new-photo.ensures) c.in-Some.ensures.events)
+    (c.run_in_rounds_from.ensures.room one)
+
+pub returns-in_err-rows-clause-room : goal.returns-in_err-rows-clause-room
+returns-in_err-rows-clause-room g c = λ one. IfOk-from_err c.from_residual.result _ c.from_residual.ensures.0
+
+pub returns-in_err-starts-clause-room : goal.returns-in_err-starts-clause-room
+returns-in_err-starts-clause-room g c = λ one. IfOk-from_err c.from_residual-in_err-starts.result _ c.from_residual-in_err-starts.ensures.0
+
+pub returns-in_err-starts-2-clause-room : goal.returns-in_err-starts-2-clause-room
+returns-in_err-starts-2-clause-room g c = λ one. IfOk-from_err c.from_residual-in_err-starts-2.result _ c.from_residual-in_err-starts-2.ensures.0

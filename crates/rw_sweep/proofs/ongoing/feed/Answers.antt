@@ -10,7 +10,7 @@ returns c = elim c.match-recording.branch [
   | in-Ok w ↦
       let is : c.args.run.now.recording ≡ Ok w.in-Ok.recording = sym c.replace-recording.ensures.value ∙ w.in-Ok.is in
       subst (λ r. IsFed c.args.piece.now c.args.run.now (record { point = c.args.run.now.point; recording = r })) (sym w.t-11-is)
-      (fed-by c.args.piece.now c.args.run.now w.in-Ok.recording w.feed.result is w.feed.ensures.config w.feed.ensures.marks w.feed.ensures.time w.feed.ensures.fed w.feed.ensures.exhausted)
+      (fed-by c.args.piece.now c.args.run.now w.in-Ok.recording w.feed_in_parts.result is w.feed_in_parts.ensures)
   | in-Err w ↦
       let is : c.args.run.now.recording ≡ Err w.in-Err.refusal = sym c.replace-recording.ensures.value ∙ w.in-Err.is in
       absurd (subst (λ r. MatchResult r (TakesPiece c.args.piece.now) (λ e. ⊥)) is c.requires)

@@ -42,7 +42,7 @@ returns-in_err-first_refusal-clause-fault g c =
     let back : take c.pieces.runs.len (new ++ drop (length new) runs) ≡ new = written-back c.pieces.runs.len new runs fed.many (omega (arith, c.pieces.runs.ok.0)) in
     let e = c.in_err-first_refusal.field-0.0 in
     ended-now at c.args.points.now from.edges from.ahead from.most c.requires.edges c.requires.few now.latest now.most now.ahead runs c.pieces.invariant.between
-    piece (g.S.RowSource.rest c.next_piece.new.source).most ranges told.rising told.most new fed c.from_residual-in_err-first_refusal.result c.in_err-first_refusal.field-0.0 (g.S.RowSource.rest c.next_piece.new.source).ahead 32768 c.from_residual-in_err-first_refusal.ensures.1
+    piece (g.S.RowSource.rest c.next_piece.new.source).most ranges told.rising told.most new fed c.from_residual-in_err-first_refusal.result c.in_err-first_refusal.field-0.0 (g.S.RowSource.rest c.next_piece.new.source).ahead 262144 c.from_residual-in_err-first_refusal.ensures.1
     (subst (Any (λ h. h.recording ≡ Err c.in_err-first_refusal.field-0.0)) (c.as_slice-in-pieces.ensures.value ∙ back) c.in_err-first_refusal.ensures.ended) told.few told.first told.all
 
 pub returns-then-len-lt-PIECE-clause-points : goal.returns-then-len-lt-PIECE-clause-points
@@ -73,7 +73,7 @@ returns-then-len-lt-PIECE-clause-taken g c =
     let ranges : All (IsRow from.edges) piece = subst (λ n. All (IsRow n) piece) c.pieces.invariant.edges told.ranges in
     let fed : AreFed piece runs new = subst (λ rs. AreFed piece rs new) c.as_mut_slice.ensures.value (subst (λ ps. AreFed ps c.as_mut_slice.result.now new) c.as_slice.ensures.value c.feed_all.ensures) in
     let back : take c.pieces.runs.len (new ++ drop (length new) runs) ≡ new = written-back c.pieces.runs.len new runs fed.many (omega (arith, c.pieces.runs.ok.0)) in
-    let short : length piece < 32768 = omega (arith, c.if-len-lt-PIECE.true, c.len.ensures, c.next_piece.new.piece.ok.0) in
+    let short : length piece < 262144 = omega (arith, c.if-len-lt-PIECE.true, c.len.ensures, c.next_piece.new.piece.ok.0) in
     let not_ended : All HasNotEnded new = subst (All HasNotEnded) (c.as_slice-in-pieces.ensures.value ∙ back) c.in_ok-first_refusal.ensures.not_ended in
     subst (HaveTakenAll at from.edges from.ahead) (sym back)
     (taken-all at c.args.points.now from.edges from.ahead from.most c.requires.edges c.requires.few now.latest now.most now.ahead runs c.pieces.invariant.between
@@ -92,7 +92,7 @@ pieces-preserved g c =
     let ranges : All (IsRow from.edges) piece = subst (λ n. All (IsRow n) piece) c.pieces.invariant.edges told.ranges in
     let fed : AreFed piece runs new = subst (λ rs. AreFed piece rs new) c.as_mut_slice.ensures.value (subst (λ ps. AreFed ps c.as_mut_slice.result.now new) c.as_slice.ensures.value c.feed_all.ensures) in
     let back : take c.pieces.runs.len (new ++ drop (length new) runs) ≡ new = written-back c.pieces.runs.len new runs fed.many (omega (arith, c.pieces.runs.ok.0)) in
-    let full : length piece ≡ 32768 = omega (arith, c.if-len-lt-PIECE.false, c.len.ensures, c.next_piece.new.piece.ok.0, told.few) in
+    let full : length piece ≡ 262144 = omega (arith, c.if-len-lt-PIECE.false, c.len.ensures, c.next_piece.new.piece.ok.0, told.few) in
     let not_ended : All HasNotEnded new = subst (All HasNotEnded) (c.as_slice-in-pieces.ensures.value ∙ back) c.in_ok-first_refusal.ensures.not_ended in
     record {
       between = subst (AreBetween at c.args.points.now from.edges from.ahead from.most next.latest next.most next.ahead) (sym back)

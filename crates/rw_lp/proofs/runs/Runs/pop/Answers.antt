@@ -1,6 +1,6 @@
 use Rattle.std.proofs.Common.{◌≡◌, ◌<◌, ◌≤◌, ◌++◌, [], length, sym, ap, ◌∙◌, subst, arith, append-nil, length-append}
 use Rattle.std.specs.Option.{option_to_list}
-use Rattle.rw_lp.specs.declared.runs.TheConstants.{RUN}
+use Rattle.rw_lp.specs.Limits.{longest_run}
 use Rattle.rw_lp.specs.Runs.{AreFilled, values_of}
 use Rattle.rw_lp.proofs.Filled.{filled_last, pop_is, values_push}
 use Rattle.std.proofs.lemmas.List.{nil_from_length}
@@ -11,7 +11,7 @@ invariant_of-self-2 g c =
     let last = filled_last c.pop_back.new.self.items c.in_ok-self-inside.field-0 (subst AreFilled c.in_ok-self-inside.ensures.items c.self.invariant.older_filled) in
     let all : length c.in_ok-self-inside.field-0.items ≡ length (c.pop-2.new.self.items ++ option_to_list c.pop-2.result) = ap length c.pop-2.ensures.items in
     let both = length-append c.pop-2.new.self.items (option_to_list c.pop-2.result) in
-    let most : length c.in_ok-self-inside.field-0.items ≤ RUN = last.2 in
+    let most : length c.in_ok-self-inside.field-0.items ≤ longest_run = last.2 in
     record { older_filled = last.0; last_within = omega (arith, all, both, most) }
 
 pub returns : goal.returns

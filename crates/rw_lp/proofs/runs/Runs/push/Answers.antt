@@ -1,6 +1,6 @@
 use Rattle.std.proofs.Common.{◌≡◌, ◌<◌, ◌≤◌, ◌++◌, ◌∷◌, [], length, sym, ap, ◌∙◌, subst, arith, length-append, append-nil, append_assoc}
 use Rattle.std.specs.Global.{Vec}
-use Rattle.rw_lp.specs.declared.runs.TheConstants.{RUN}
+use Rattle.rw_lp.specs.Limits.{longest_run}
 use Rattle.rw_lp.specs.Runs.{AreFilled, values_of}
 use Rattle.rw_lp.proofs.Filled.{filled_push, values_push}
 use Rattle.rw_lp.proofs.runs.Runs.push.Given.{Over}
@@ -8,15 +8,15 @@ use Rattle.rw_lp.proofs.runs.Runs.push.Goals.{then-is_full+in_ok-begun+in_ok-pus
 use Rattle.rw_lp.proofs.runs.Runs.push.Goals as goal
 
 -- whether or not a run was begun, the last one has room, and the values are the same
-roomy : (g : Over) (c : goal.In_ok-push g) → AreFilled c.if-is_full.self-inside.older.items × (length c.if-is_full.self-inside.last.items < RUN) × (values_of c.if-is_full.self-inside.older.items ++ c.if-is_full.self-inside.last.items ≡ c.args.self.now)
+roomy : (g : Over) (c : goal.In_ok-push g) → AreFilled c.if-is_full.self-inside.older.items × (length c.if-is_full.self-inside.last.items < longest_run) × (values_of c.if-is_full.self-inside.older.items ++ c.if-is_full.self-inside.last.items ≡ c.args.self.now)
 roomy g c =
     elim c.if-is_full.branch [
       | then-is_full+in_ok-begun+in_ok-push_back w ↦
           let old = c.self.inside.older.items in
           let full : w.replace-full.result ≡ c.self.inside.last = w.replace-full.ensures.value in
-          let long : RUN ≤ length c.self.inside.last.items = omega (arith, w.if-is_full.true, c.len-is_full.ensures, c.self.inside.last.ok) in
+          let long : longest_run ≤ length c.self.inside.last.items = omega (arith, w.if-is_full.true, c.len-is_full.ensures, c.self.inside.last.ok) in
           let some : 0 < length w.replace-full.result.items = subst (λ (v : Vec g.row.T.Denot). 0 < length v.items) (sym full) (omega arith) in
-          let most : length w.replace-full.result.items ≤ RUN = subst (λ (v : Vec g.row.T.Denot). length v.items ≤ RUN) (sym full) c.self.invariant.last_within in
+          let most : length w.replace-full.result.items ≤ longest_run = subst (λ (v : Vec g.row.T.Denot). length v.items ≤ longest_run) (sym full) c.self.invariant.last_within in
           let begun : w.replace-full.new.dest.items ≡ [] = ap (λ (v : Vec g.row.T.Denot). v.items) w.replace-full.ensures.after ∙ w.in_ok-begun.ensures.items in
           let short : length w.replace-full.new.dest.items ≡ 0 = ap length begun in
           let more : w.push_back.new.self.items ≡ old ++ w.replace-full.result ∷ [] = w.in_ok-push_back.ensures.items in
