@@ -1,3 +1,8 @@
+ghost use Rattle.std.specs.Prelude.{◌≡◌};
+ghost use Rattle.rw_console.specs.declared.fault.CommandFault.TheVariants as command;
+ghost use Rattle.rw_studies.specs.Status.{status_of_fault};
+ghost use Rattle.rw_studies.specs.declared.fault.Fault.TheVariants as fault;
+
 use rw_console::{CommandFault, SimFault, SourceFault, write_line};
 use rw_import::ImportFault;
 use rw_join::JoinFault;
@@ -11,10 +16,10 @@ use std::io::Write;
 pub enum Fault {
     /// As any command may fail.
     #[error("{0}")]
-    Command(#[from] CommandFault),
+    Command(CommandFault),
     /// The schedule has a word that says no step.
     #[error("{0}")]
-    Schedule(#[from] ScheduleFault),
+    Schedule(ScheduleFault),
     /// An option is no list of its values.
     #[error("error: --{0}: no list of its values; see ripqwarp sweep --help")]
     List(&'static str),
@@ -48,18 +53,20 @@ pub enum Fault {
     Combinations(u64),
     /// The log was refused.
     #[error("{0}")]
-    Import(#[from] ImportFault),
+    Import(ImportFault),
     /// The sweep was refused.
     #[error("{0}")]
-    Plot(#[from] PlotFault),
+    Plot(PlotFault),
     /// The parts of a sweep were refused.
     #[error("{0}")]
-    Join(#[from] JoinFault),
+    Join(JoinFault),
 }
 
 impl Fault {
     /// The exit status that tells it. Takes no memory.
-    pub fn status(&self) -> u8 {
+    pub fn status(&self) -> u8
+        ensures { result ≡ status_of_fault self.now }
+    {
         match self {
             Fault::Command(fault) => fault.status(),
             Fault::List(_)
@@ -87,20 +94,66 @@ impl Fault {
     }
 }
 
+impl From<CommandFault> for Fault {
+    ghost from_gives = { λ e f. f ≡ fault.Command e };
+
+    fn from(fault: CommandFault) -> Fault {
+        Fault::Command(fault)
+    }
+}
+
 impl From<AllocError> for Fault {
+    ghost from_gives = { λ _ f. f ≡ fault.Command command.Memory };
+
     fn from(error: AllocError) -> Fault {
         Fault::Command(error.into())
     }
 }
 
 impl From<SourceFault> for Fault {
+    ghost from_gives = { λ e f. f ≡ fault.Command (command.Source e) };
+
     fn from(fault: SourceFault) -> Fault {
         Fault::Command(fault.into())
     }
 }
 
 impl From<SimFault> for Fault {
+    ghost from_gives = { λ e f. f ≡ fault.Command (command.Run e) };
+
     fn from(fault: SimFault) -> Fault {
         Fault::Command(fault.into())
+    }
+}
+
+impl From<ScheduleFault> for Fault {
+    ghost from_gives = { λ e f. f ≡ fault.Schedule e };
+
+    fn from(fault: ScheduleFault) -> Fault {
+        Fault::Schedule(fault)
+    }
+}
+
+impl From<ImportFault> for Fault {
+    ghost from_gives = { λ e f. f ≡ fault.Import e };
+
+    fn from(fault: ImportFault) -> Fault {
+        Fault::Import(fault)
+    }
+}
+
+impl From<PlotFault> for Fault {
+    ghost from_gives = { λ e f. f ≡ fault.Plot e };
+
+    fn from(fault: PlotFault) -> Fault {
+        Fault::Plot(fault)
+    }
+}
+
+impl From<JoinFault> for Fault {
+    ghost from_gives = { λ e f. f ≡ fault.Join e };
+
+    fn from(fault: JoinFault) -> Fault {
+        Fault::Join(fault)
     }
 }

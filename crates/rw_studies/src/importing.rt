@@ -1,4 +1,7 @@
 // From a log to a trace.
+ghost use Rattle.std.specs.Prelude.{◌≢◌, IfErr};
+ghost use Rattle.rw_studies.specs.Status.{status_of_fault};
+
 use crate::fault::Fault;
 use clap::ArgMatches;
 use rw_console::{CommandFault, Out, Source, read, write, write_line};
@@ -99,7 +102,9 @@ fn streamed<S: Source, W: Write, P: Progress>(
 }
 
 /// The log time that is tick 0, in billionths of its unit, where the options name one.
-pub(crate) fn epoch(options: &ArgMatches<'_>) -> Result<Option<u128>, Fault> {
+pub(crate) fn epoch(options: &ArgMatches<'_>) -> Result<Option<u128>, Fault>
+    ensures unwritten { IfErr result (λ e. status_of_fault e ≢ 8) }
+{
     match options.get_str("epoch") {
         Some(text) => Ok(Some(time_of(text.as_bytes()).ok_or(Fault::Epoch)?)),
         None => Ok(None),
@@ -121,7 +126,9 @@ fn reading(options: &ArgMatches<'_>) -> Option<Options> {
 }
 
 /// How the columns of a log of fields are found.
-fn layout(alloc: Global, options: &ArgMatches<'_>) -> Result<Layout, Fault> {
+fn layout(alloc: Global, options: &ArgMatches<'_>) -> Result<Layout, Fault>
+    ensures unwritten { IfErr result (λ e. status_of_fault e ≢ 8) }
+{
     Ok(Layout {
         delimiter: delimiter(options).ok_or(Fault::Delimiter)?,
         time: needed_column(alloc, options, "time")?,
@@ -142,12 +149,16 @@ fn delimiter(options: &ArgMatches<'_>) -> Option<u8> {
 }
 
 /// A column that has a default.
-fn needed_column(alloc: Global, options: &ArgMatches<'_>, name: &str) -> Result<Column, Fault> {
+fn needed_column(alloc: Global, options: &ArgMatches<'_>, name: &str) -> Result<Column, Fault>
+    ensures unwritten { IfErr result (λ e. status_of_fault e ≢ 8) }
+{
     Ok(column(alloc, options, name)?.ok_or(CommandFault::Plan)?)
 }
 
 /// The column that an option names, by its number where that is one.
-fn column(alloc: Global, options: &ArgMatches<'_>, name: &str) -> Result<Option<Column>, Fault> {
+fn column(alloc: Global, options: &ArgMatches<'_>, name: &str) -> Result<Option<Column>, Fault>
+    ensures unwritten { IfErr result (λ e. status_of_fault e ≢ 8) }
+{
     let Some(text) = options.get_str(name) else {
         return Ok(None);
     };

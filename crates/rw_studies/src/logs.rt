@@ -1,6 +1,7 @@
 // Logs in the oracle-general format that are run as they are read, with no trace between.
-ghost use Rattle.std.specs.Prelude.{◌≡◌, IfOk};
+ghost use Rattle.std.specs.Prelude.{◌≡◌, ◌≢◌, ◌↔◌, IfErr, IfOk, IsErrAnd};
 ghost use Rattle.rw_trace.specs.Limits.{most_streamed_rows};
+ghost use Rattle.rw_studies.specs.Status.{status_of_fault};
 
 use crate::fault::Fault;
 use crate::importing::{epoch, tell};
@@ -29,7 +30,11 @@ pub fn serial<S: Source, W: Write, E: Write, C: Clock>(
     out: &mut Out<W>,
     err: &mut E,
     terminal: bool,
-) -> Result<(), Fault> {
+) -> Result<(), Fault>
+    ensures output { IsErrAnd result (λ e. status_of_fault e ≡ 8)
+        ↔ (out.new.failures ≢ out.old.failures) }
+    ensures nothing { IfErr result (λ e. status_of_fault e ≢ 8 → out.new ≡ out.old) }
+{
     if !names_log(options)? {
         return Ok(rw_runs::serial(clock, alloc, options, source, out, err, terminal)?);
     }
@@ -52,7 +57,9 @@ pub fn serial<S: Source, W: Write, E: Write, C: Clock>(
 /// # Errors
 ///
 /// [`Fault::OnlyWith`] where there is an option that goes only with one that is not there.
-pub(crate) fn names_log(options: &ArgMatches<'_>) -> Result<bool, Fault> {
+pub(crate) fn names_log(options: &ArgMatches<'_>) -> Result<bool, Fault>
+    ensures unwritten { IfErr result (λ e. status_of_fault e ≢ 8) }
+{
     if options.get_str("from") == Some("oracle-general") {
         if options.get_flag("stream") {
             return Ok(true);
@@ -88,6 +95,7 @@ pub(crate) fn open_log<S: Source>(
     ensures edges { IfOk result (λ rows. rows.edges ≡ edges) }
     ensures latest { IfOk result (λ rows. rows.latest ≡ 0) }
     ensures most { IfOk result (λ rows. rows.most ≡ most_streamed_rows) }
+    ensures unwritten { IfErr result (λ e. status_of_fault e ≢ 8) }
 {
     let dealing = match options.get_str("edge-by") {
         Some("object") => Dealing::ByObject,

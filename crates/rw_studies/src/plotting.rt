@@ -1,4 +1,7 @@
 // From a table to a picture.
+ghost use Rattle.std.specs.Prelude.{◌≡◌, ◌≢◌, ◌↔◌, IfErr, IsErrAnd};
+ghost use Rattle.rw_studies.specs.Status.{status_of_fault};
+
 use crate::fault::Fault;
 use clap::ArgMatches;
 use rw_console::{CommandFault, Out, Source, read, write};
@@ -10,13 +13,18 @@ use std::io::Write;
 ///
 /// # Errors
 ///
-/// What the source answers, a [`PlotFault`](rw_plot::PlotFault), `Output` and `Memory`.
+/// What the source answers, a [`PlotFault`](rw_plot::PlotFault), and `Memory`: nothing was written then. `Output` exactly where the
+/// writer failed.
 pub fn plot<S: Source, W: Write>(
     alloc: Global,
     options: &ArgMatches<'_>,
     source: &mut S,
     out: &mut Out<W>,
-) -> Result<(), Fault> {
+) -> Result<(), Fault>
+    ensures output { IsErrAnd result (λ e. status_of_fault e ≡ 8)
+        ↔ (out.new.failures ≢ out.old.failures) }
+    ensures nothing { IfErr result (λ e. status_of_fault e ≢ 8 → out.new ≡ out.old) }
+{
     let drawing = drawing(options).ok_or(CommandFault::Plan)?;
     let table = read(alloc, options, "table", source)?;
     let picture = rw_plot::plot(alloc, table.as_slice(), drawing)?;

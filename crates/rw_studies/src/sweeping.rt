@@ -1,4 +1,9 @@
 // One trace through many configurations.
+ghost use Rattle.std.specs.Prelude.{◌≡◌, ◌≢◌, ◌↔◌, ◌⊎◌, IfErr, IsErrAnd};
+ghost use Rattle.rw_console.specs.Status.{status_of};
+ghost use Rattle.rw_studies.specs.Left.{LeavesLines};
+ghost use Rattle.rw_studies.specs.Status.{status_of_fault};
+
 use crate::fault::Fault;
 use crate::importing::tell;
 use crate::logs::{counts_of, names_log, open_log};
@@ -34,7 +39,13 @@ pub fn sweep<S: Source, W: Write, E: Write, R: Threads + Clock + Sync>(
     out: &mut Out<W>,
     err: &mut E,
     terminal: bool,
-) -> Result<(), Fault> {
+) -> Result<(), Fault>
+    ensures output { IsErrAnd result (λ e. status_of_fault e ≡ 8)
+        ↔ (out.new.failures ≢ out.old.failures) }
+    ensures nothing { IfErr result (λ e. status_of_fault e ≢ 8 → (out.new ≡ out.old)
+        ⊎ LeavesLines (status_of_fault e)
+        (W.contents out.old.writer) (W.contents out.new.writer)) }
+{
     let part = part(options)?;
     let grid = Grid::new(alloc, axes(alloc, options)?).map_err(fault_of_grid)?;
     if options.get_flag("list") {
@@ -77,7 +88,13 @@ fn run<S: Source, P: Progress, W: Write, R: Threads + Sync>(
     source: &mut S,
     progress: &mut P,
     out: &mut Out<W>,
-) -> Result<(), Fault> {
+) -> Result<(), Fault>
+    ensures output { IsErrAnd result (λ e. status_of_fault e ≡ 8)
+        ↔ (out.new.failures ≢ out.old.failures) }
+    ensures nothing { IfErr result (λ e. status_of_fault e ≢ 8 → (out.new ≡ out.old)
+        ⊎ LeavesLines (status_of_fault e)
+        (W.contents out.old.writer) (W.contents out.new.writer)) }
+{
     if options.get_flag("stream") {
         let reader = open(options, source)?;
         return Ok(sweep_stream(rt, alloc, reader, sweeping, progress, out)?);
@@ -91,7 +108,9 @@ fn run<S: Source, P: Progress, W: Write, R: Threads + Sync>(
 }
 
 /// A reader of the trace that the options name.
-fn open<S: Source>(options: &ArgMatches<'_>, source: &mut S) -> Result<S::Reader, CommandFault> {
+fn open<S: Source>(options: &ArgMatches<'_>, source: &mut S) -> Result<S::Reader, CommandFault>
+    ensures unwritten { IfErr result (λ e. status_of e ≢ 8) }
+{
     let path = options.get_str("trace").ok_or(CommandFault::Plan)?;
     Ok(source.open(path)?)
 }
@@ -104,13 +123,18 @@ fn sweep_plainly<P: Progress, W: Write, R: Threads + Sync>(
     sweeping: &Sweeping<'_>,
     progress: &mut P,
     out: &mut Out<W>,
-) -> Result<(), Fault> {
+) -> Result<(), Fault>
+    ensures output { IsErrAnd result (λ e. status_of_fault e ≡ 8)
+        ↔ (out.new.failures ≢ out.old.failures) }
+    ensures nothing { IfErr result (λ e. status_of_fault e ≢ 8 → (out.new ≡ out.old)
+        ⊎ LeavesLines (status_of_fault e)
+        (W.contents out.old.writer) (W.contents out.new.writer)) }
+{
     let (grid, workers) = (sweeping.grid, sweeping.workers);
-    let swept = match sweeping.part {
-        Some(part) => sweep_part(rt, alloc, bytes, grid, part, workers, progress, out),
-        None => rw_sweep::sweep(rt, alloc, bytes, grid, workers, progress, out),
-    };
-    Ok(swept?)
+    match sweeping.part {
+        Some(part) => Ok(sweep_part(rt, alloc, bytes, grid, part, workers, progress, out)?),
+        None => Ok(rw_sweep::sweep(rt, alloc, bytes, grid, workers, progress, out)?),
+    }
 }
 
 /// Writes the configurations of a part as a list.
@@ -119,13 +143,19 @@ fn write_list<W: Write>(
     grid: &Grid,
     part: Part,
     out: &mut Out<W>,
-) -> Result<(), Fault> {
+) -> Result<(), Fault>
+    ensures output { IsErrAnd result (λ e. status_of_fault e ≡ 8)
+        ↔ (out.new.failures ≢ out.old.failures) }
+    ensures nothing { IfErr result (λ e. status_of_fault e ≢ 8 → out.new ≡ out.old) }
+{
     let text = list(alloc, grid, part).map_err(|_| CommandFault::Memory)?;
     Ok(write(text.as_slice(), out)?)
 }
 
 /// The part that the options ask for, if they do.
-fn part(options: &ArgMatches<'_>) -> Result<Option<Part>, Fault> {
+fn part(options: &ArgMatches<'_>) -> Result<Option<Part>, Fault>
+    ensures unwritten { IfErr result (λ e. status_of_fault e ≢ 8) }
+{
     match options.get_str("part") {
         Some(text) => Ok(Some(part_of(text).ok_or(Fault::Part)?)),
         None => Ok(None),
@@ -139,7 +169,9 @@ fn part_of(text: &str) -> Option<Part> {
 }
 
 /// What the options list, and what all runs have in common.
-fn axes(alloc: Global, options: &ArgMatches<'_>) -> Result<Axes, Fault> {
+fn axes(alloc: Global, options: &ArgMatches<'_>) -> Result<Axes, Fault>
+    ensures unwritten { IfErr result (λ e. status_of_fault e ≢ 8) }
+{
     let list = options.get_str("policy").ok_or(CommandFault::Plan)?;
     Ok(Axes {
         edges: options.get_one("edges").ok_or(CommandFault::Plan)?,
@@ -161,13 +193,17 @@ fn numbers_of(
     options: &ArgMatches<'_>,
     name: &'static str,
     most: u64,
-) -> Result<Vec<u64>, Fault> {
+) -> Result<Vec<u64>, Fault>
+    ensures unwritten { IfErr result (λ e. status_of_fault e ≢ 8) }
+{
     let list = options.get_str(name).ok_or(CommandFault::Plan)?;
     listed(name, numbers(alloc, list, most))
 }
 
 /// What an option lists, or why it is a fault of the command line.
-fn listed<T: Drop>(name: &'static str, values: Result<Vec<T>, ListFault>) -> Result<Vec<T>, Fault> {
+fn listed<T: Drop>(name: &'static str, values: Result<Vec<T>, ListFault>) -> Result<Vec<T>, Fault>
+    ensures unwritten { IfErr result (λ e. status_of_fault e ≢ 8) }
+{
     match values {
         Ok(values) => Ok(values),
         Err(ListFault::Item) => Err(Fault::List(name)),
@@ -176,7 +212,9 @@ fn listed<T: Drop>(name: &'static str, values: Result<Vec<T>, ListFault>) -> Res
 }
 
 /// A grid that cannot be is a fault of the command line.
-fn fault_of_grid(fault: GridFault) -> Fault {
+fn fault_of_grid(fault: GridFault) -> Fault
+    ensures { status_of_fault result ≢ 8 }
+{
     match fault {
         GridFault::TooMany => Fault::Combinations(MAX_CONFIGURATIONS),
         GridFault::OutOfRange => CommandFault::Plan.into(),

@@ -1,0 +1,11 @@
+use Rattle.std.proofs.Common.{◌≡◌}
+use Rattle.rw_studies.proofs.Sweeps.{handed-left, left-over-time}
+use Rattle.rw_studies.proofs.sweeping.run.Goals as goal
+
+pub returns-in_err-sweep_over_time-clause-nothing : goal.returns-in_err-sweep_over_time-clause-nothing
+returns-in_err-sweep_over_time-clause-nothing g c =
+    let e = c.in_err-sweep_over_time.field-0.0 in
+    let said = c.in_err-sweep_over_time.ensures in
+    let sweeping = c.args.sweeping.now in
+    handed-left c.from_residual-in_err-sweep_over_time.result e _ _ c.from_residual-in_err-sweep_over_time.ensures.1
+    (left-over-time sweeping.grid.now sweeping.part sweeping.outlook c.as_slice-else-is_plain.result.now _ _ e said.fault (λ f is. said.nothing f cc) (λ is. said.early cc) said.whole_lines)
