@@ -58,7 +58,7 @@ impl Requests {
     }
 }
 
-/// Runs a short trace for each of so many seeds by several workers, and counts the runs that agree with the run on one thread.
+/// Runs a short trace of each seed below `seeds` by several workers, and counts the runs that agree with the run on one thread.
 pub fn compare_short<R: Threads + Wait + Clock + Sync>(
     rt: &R,
     alloc: Global,
@@ -71,8 +71,8 @@ pub fn compare_short<R: Threads + Wait + Clock + Sync>(
     Ok(tally)
 }
 
-/// Runs a long trace of sparse and one of dense requests for each of so many seeds by several workers, and counts the runs in which
-/// these rolled back, or went by windows, and that agree with the run on one thread.
+/// Runs a long trace of sparse and one of dense requests of each seed below `seeds` by several workers, and counts the runs in which
+/// workers rolled back, or went by windows, and that agree with the run on one thread.
 pub fn compare_long<R: Threads + Wait + Clock + Sync>(
     rt: &R,
     alloc: Global,
