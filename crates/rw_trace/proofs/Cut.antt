@@ -214,7 +214,7 @@ fine-stripped (x ∷ y ∷ z ∷ r) ends plain = by (is_bom x y z) refl
     by true is = rw is (record { start = inl refl; ends = closed-tail z r ends; plain = plain-tail z r (plain-tail y (z ∷ r) (plain-tail x (y ∷ z ∷ r) plain)) })
     by false is = rw is (record { start = inl refl; ends = ends; plain = plain })
 
-unmarked : (b : List ℕ) → slice_get b 0 ≢ Some 0xEF → strip_bom b ≡ b
+pub unmarked : (b : List ℕ) → slice_get b 0 ≢ Some 0xEF → strip_bom b ≡ b
 unfolding strip_bom
 unmarked [] other = refl
 unmarked (x ∷ []) other = refl

@@ -1,15 +1,18 @@
 #![tactic(auto)]
-//! The rows of a trace, read from the bytes of a CSV text.
+//! Reads the rows of a trace from CSV text.
 //!
-//! The records are those that the `csv` crate gives: comma and double quote, nothing trimmed, a byte order mark at the
-//! start taken off. The first one is the header `time,edge,object,size` or `time,edge,object,size,kind`; each further
-//! one is a row of as many fields. What a trace means is `trace_of` of `specs/Trace.antt`; `specs/Laws.antt` says the
-//! same in the words of the format.
+//! Records are those of the `csv` crate: fields are separated by commas and may be quoted with double
+//! quotes, nothing is trimmed, and a byte order mark at the start is skipped. The first record is the
+//! header, `time,edge,object,size` or `time,edge,object,size,kind`. Each further record is a row with
+//! as many fields. A text of plain lines (digits, commas and line ends) is read by a scanner of its
+//! own, `plain`, with the same result. `trace_of` in `specs/Trace.antt` defines what a trace means,
+//! and `specs/Laws.antt` says the same in the terms of the format.
 //!
 //! Worked examples: `rw_cache_tests/src/traces.rt`.
 
 mod parts;
 mod pieces;
+mod plain;
 mod reading;
 mod row_source;
 
@@ -25,6 +28,7 @@ ghost use Rattle.rw_trace.specs.declared.Version.TheVariants.{First, Second};
 use csv::{ByteRecord, Reader};
 pub use parts::read_in_parts;
 pub use pieces::{OrderedRows, RowsFault, read_record};
+use plain::plain_trace;
 pub use reading::{next_record, open_records};
 pub use row_source::{RowSource, next_piece};
 use std::alloc::{AllocError, Global};
@@ -357,6 +361,9 @@ pub fn read_up_to(
     ensures refused { IfErr result (λ e. e ≢ Memory → IsNoTrace edges most (records_of bytes.now)) }
     ensures first { IfErr result (λ e. e ≢ Memory → IsFaultOf edges most (records_of bytes.now) e) }
 {
+    if let Some(rows) = plain_trace(alloc, bytes, edges, most) {
+        return Ok(rows);
+    }
     let mut reader = open_records(alloc, bytes);
     let mut fields = ByteRecord::new(alloc);
     trace_left(alloc, &mut reader, &mut fields, edges, most)
