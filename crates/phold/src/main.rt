@@ -1,5 +1,5 @@
 #![tactic(auto)]
-//! Runs PHOLD in order of time or in rounds of workers, and prints what it comes to: the same line either way.
+//! Runs PHOLD sequentially or in rounds of workers and prints the outcome, the same line in both cases.
 
 use rw_engine::{END, How, Plan, Ran, Stop, Traffic, run_in};
 use rw_phold::{Phold, Report, beginning, report_of};

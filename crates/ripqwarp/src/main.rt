@@ -1,6 +1,6 @@
 #![tactic(auto)]
-//! The program `ripqwarp`: hands its words, its files and its streams to the library, and ends with the status that it
-//! answers.
+//! The program `ripqwarp`: passes its arguments, files and streams to the library, and exits with the
+//! status that the library answers.
 
 use rw_command::{Inputs, Out, command_at, words};
 use std::io::IsTerminal;

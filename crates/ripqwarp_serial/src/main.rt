@@ -1,6 +1,6 @@
 #![tactic(auto)]
-//! The program `ripqwarp`, as far as its command `serial` goes: it stands on less than half of what the whole program stands on,
-//! so it is there in half the time.
+//! The program `ripqwarp` with the command `serial` alone. It needs less than half of the crates of the
+//! whole program, so it builds in half the time.
 
 use rw_console::{Inputs, Out, words};
 use rw_runs::serial_alone;

@@ -1,9 +1,9 @@
 #![tactic(auto)]
-//! Commands and what they take, as `clap` knows them.
+//! Commands and their arguments, as `clap` sees them.
 //!
-//! A table says what a command takes, an [`Argument`] each, and [`program_of`] makes the program of
-//! such tables. Here stand the arguments too that say which trace a command takes, and that it is to
-//! keep quiet. No command is carried out here, and nothing is known of caches.
+//! A table lists the arguments of a command, an [`Argument`] each, and [`program_of`] builds a program
+//! from such tables. The arguments that name a trace, and the one that turns progress off, are here
+//! too. The crate runs no command and knows nothing about caches.
 //!
 //! Worked examples: `rw_program_tests/src/commands.rt`, and the cases of `rw_cases`.
 

@@ -1,8 +1,9 @@
 #![tactic(auto)]
-//! Bags of the events of a model, in order: whole events are compared, and equal copies count.
+//! Multisets of events, in order. Whole events are compared, and equal copies count.
 //!
-//! A [`Bag`] is for events of which most come in order, or before all others, and of which the least is asked for most; a
-//! [`CountedBag`] is for those that come and go in any order. Contracts see both as their events in order.
+//! [`Bag`] suits events that mostly arrive in order, or before all others, and whose least is asked for
+//! most. [`CountedBag`] suits events that come and go in any order. Contracts treat both as their
+//! events in order.
 //!
 //! Worked examples: `rw_process_tests/src/bags.rt`.
 

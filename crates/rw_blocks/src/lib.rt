@@ -1,10 +1,11 @@
 #![tactic(auto)]
-//! The priority queue of RIPQ (Tang, Huang, Lloyd, Kumar and Li, FAST 2015) as data, and primitives that undo
-//! themselves (reverse computation: Carothers, Perumalla and Fujimoto, 1999).
+//! The priority queue of RIPQ (Tang, Huang, Lloyd, Kumar and Li, FAST 2015) as data, with primitives
+//! that can be undone (reverse computation: Carothers, Perumalla and Fujimoto, 1999).
 //!
-//! A queue is a list of sections from head to tail. Each section has an active device block, an active virtual block
-//! and a list of sealed blocks. A block is only a serial: what it holds is said by the rows, one for each object that
-//! is stored. Each primitive changes one thing and gives a [`Mark`], by which [`Queue::undo`] takes it back.
+//! A queue is a list of sections from head to tail. Each section has an active device block, an active
+//! virtual block and a list of sealed blocks. A block is only a serial number: the rows, one for each
+//! stored object, say what it holds. Each primitive makes one change and returns a [`Mark`], with
+//! which [`Queue::undo`] reverses it.
 //!
 //! Worked examples: `rw_cache_tests/src/primitives.rt`.
 

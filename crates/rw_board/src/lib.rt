@@ -1,10 +1,10 @@
 #![tactic(auto)]
-//! One word that many threads lower and read: the least time that any of them noted.
+//! An atomic word shared by threads: the least time that any of them has noted.
 //!
-//! While the workers of a round run, each notes on the board the time of every letter that it sends, and reads from it
-//! how far the others may still reach back. When the round is over, the word is a lower bound of what is outstanding:
-//! what Jefferson (1985) calls global virtual time. There is no lock and no waiting: a note is one atomic `fetch_min`,
-//! a reading is one atomic load.
+//! While a round runs, each worker notes the time of every message that it sends and reads how far back
+//! the others may still reach. After the round the word is a lower bound of global virtual time
+//! (Jefferson 1985). There are no locks and no waiting: noting is one atomic `fetch_min`, reading one
+//! atomic load.
 //!
 //! Worked examples: `rw_round_tests/src/board_of_two_seats.rt`.
 

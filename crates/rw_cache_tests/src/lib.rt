@@ -1,7 +1,8 @@
 #![tactic(auto)]
-//! Worked examples of traces and of caches, each as a test: what is expected comes from the definitions, worked by hand.
+//! Worked examples of traces and caches, each a test. Expected values are worked out by hand from the
+//! definitions.
 //!
-//! They stand above the crates that they work through, so that each of those is proved once, without tests.
+//! The tests are above the crates that they use, so those crates are proved without tests.
 
 #[cfg(test)]
 mod insertions;

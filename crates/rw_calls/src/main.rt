@@ -1,6 +1,7 @@
 #![tactic(auto)]
-//! Makes single calls of the library, each on its own, and tells what they answer: all of them, or with a name that one alone;
-//! the word `names` prints the names. So a call can be tried with its requests for memory refused, one after another.
+//! Makes single calls of the library and prints what they answer: all calls, or the one that is named.
+//! The argument `names` prints the names. This allows trying one call while its requests for memory are
+//! refused, one after another.
 
 mod cache_calls;
 mod calls;

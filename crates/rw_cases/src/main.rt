@@ -1,13 +1,15 @@
 #![tactic(auto)]
-//! Runs the cases of `cases.jsonl` through the program's command, with a source and writers in memory, and compares what
-//! it writes and its exit status with what the case says. Prints each case that differs and how many agree; then how many of
-//! the command `serial` agree by the program that has no other.
+//! Runs the cases of `cases.jsonl` through the program's command, with input and output in memory, and
+//! compares output and exit status with the case. Prints each case that differs and the number of cases
+//! that agree, then the number of `serial` cases that agree in the program with that command alone.
 //!
-//! Then runs drawn traces through drawn caches by several workers, under several plans, and compares each report with that of the
-//! run on one thread: short ones, and long ones, in which workers roll back, or go by windows. Prints how many agree.
+//! Then runs random traces through random caches with several workers, under several plans, and
+//! compares each report with that of the sequential run. Some traces are short; in the long ones
+//! workers roll back or run in windows. Prints how many agree.
 //!
-//! A case is a line: its name, the program's words behind its name (`args`), the bytes of standard input (`stdin`), the
-//! whole of standard output (`stdout`), the exit status and, where it is pinned, standard error (`stderr`).
+//! A case is a line with its name, the program's arguments (`args`), the bytes of standard input
+//! (`stdin`), all of standard output (`stdout`), the exit status and, where it is fixed, standard error
+//! (`stderr`).
 
 mod case;
 mod drawn;

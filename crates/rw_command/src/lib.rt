@@ -1,5 +1,5 @@
 #![tactic(auto)]
-//! The command line: from the program's words to what it writes and its exit status.
+//! The command line: from the program's words to its output and exit status.
 //!
 //! Worked examples: `rw_program_tests/src/commands.rt`, and the cases of `rw_cases`.
 

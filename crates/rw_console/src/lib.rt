@@ -1,8 +1,9 @@
 #![tactic(auto)]
-//! What all commands of the program share: its words, where bytes come from, the faults that any command may have and the exit
-//! status of each, and a line on standard error.
+//! What all commands share: the program's words, input files, faults that any command may have with
+//! their exit status, and lines on standard error.
 //!
-//! Which fault has which status is a table, `specs/Status.antt`. A writer's failure is told exactly where there was one.
+//! `specs/Status.antt` is the table of faults and statuses. Whether the writer has failed is reported
+//! exactly.
 //!
 //! Worked examples: `rw_program_tests/src/commands.rt`, and the cases of `rw_cases`.
 

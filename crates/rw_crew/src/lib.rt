@@ -1,5 +1,5 @@
 #![tactic(auto)]
-//! What a crew of workers shares: a job that each does in a thread of its own, and lists that are dealt out to them and
+//! A thread pool: jobs that run in threads of their own, and lists that are split among workers and
 //! joined again.
 
 mod crew;

@@ -20,8 +20,9 @@ use std::alloc::Global;
 /// # Errors
 ///
 /// `BadPlan` exactly where a field of the plan is out of its range; `RoundsUsed` only where there are more events than the
-/// rounds of the plan have room for, and then there is no result; `Exhausted` only where some process, in order of time, would execute an event in a state
-/// that can take no further one; `Memory` where memory was refused. Nothing is handed back then.
+/// rounds of the plan have room for, and then there is no result; `Exhausted` only where some process, in order of time,
+/// would execute an event in a state that can take no further one; `Memory` where memory was refused. Nothing is handed
+/// back then.
 pub fn run_alone<M: Model>(
     alloc: Global,
     model: &M,

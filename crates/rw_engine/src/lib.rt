@@ -1,9 +1,10 @@
 #![tactic(auto)]
-//! One door to the engines, for every lawful model: all its events in order of time on one thread, in rounds of workers
-//! that run ahead and take back (Time Warp: Jefferson 1985), or by the steps of a schedule.
+//! One entry point to the engines, for every lawful model: sequentially on one thread, in rounds of
+//! workers that run ahead and roll back (Time Warp: Jefferson 1985), or by the steps of a schedule.
 //!
-//! In order and in rounds a model comes to the very same states; by steps, whatever they are, what is committed is what
-//! executing all events in order of time would have done. What is asked of a model is the trait [`Model`].
+//! Sequential runs and rounds end in the same states. In a run by steps, whatever the steps, the
+//! committed events are those of executing all events in order of time. A model implements the trait
+//! [`Model`].
 //!
 //! Worked examples: `rw_round_tests/src/phold_runs.rt`, and the program `phold`.
 

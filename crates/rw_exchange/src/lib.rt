@@ -1,15 +1,15 @@
 #![tactic(auto)]
-//! Rings between workers: one for each ordered pair of different workers, each for letters in the order of sending.
-//! What a letter is, the user says: a [`Port`] is generic in the items that go through it.
+//! Rings between workers: one for each ordered pair of different workers, each first in, first out.
 //!
-//! Every worker of a round owns one [`Port`], which may move to a thread of its own. Nothing waits: a letter that a
-//! ring has no room for comes back to its sender, and what is still in the rings when the round is over is given out
-//! by [`settle`]. No letter is lost, repeated or made up.
+//! Each worker of a round owns a [`Port`], which can move to the worker's thread. Ports never block: an
+//! item that does not fit into a ring goes back to its sender, and [`settle`] hands out what is still
+//! in the rings when the round is over. No item is lost, duplicated or invented. A port is generic in
+//! its items; those of Time Warp are a [`Letter`], that is, a message or an anti-message.
 //!
-//! A port is generic in a [`Protocol`] too, which says which letters may follow those before them. Who sends has to keep
-//! to it, and so who receives knows it of each letter, in a thread of its own. [`AnyItems`] allows every letter.
-//! [`open_greeted`] passes a first item through each ring, which both its ends then know, for protocols that judge later
-//! letters by it.
+//! A port is also generic in a [`Protocol`], which says which items may follow the ones before them.
+//! The sender has to keep it, so the receiver can rely on it in another thread. [`AnyItems`] allows all
+//! items. [`open_greeted`] sends a first item through each ring, known at both ends, for protocols that
+//! judge later items by it.
 //!
 //! Worked examples: `rw_round_tests/src/rings.rt`.
 

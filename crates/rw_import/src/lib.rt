@@ -1,11 +1,12 @@
 #![tactic(auto)]
-//! A log of requests becomes a trace that `rw_trace` reads.
+//! Converts a log of requests into a trace that `rw_trace` can read.
 //!
-//! What a log means is `specs/Log.antt`: what each row says, which rows are kept, in order, and what row of the trace
-//! each of these becomes. `specs/Csv.antt` says what a record of a log of fields says, where its columns stand and which
-//! number an object's text has; `specs/Oracle.antt` what a record of the oracle-general format says; `specs/Streamed.antt`
-//! what a log means whose trace is written as the log is read; `specs/OracleRows.antt` which rows a log in the
-//! oracle-general format gives where they are read one by one.
+//! - `specs/Log.antt` defines what a log means: what each row says, which rows are kept and in which
+//!   order, and which row of the trace each of them becomes.
+//! - `specs/Csv.antt` covers delimited text: where the columns are, and the number that stands for an
+//!   object's text. `specs/Oracle.antt` covers the binary oracle-general format.
+//! - `specs/Streamed.antt` and `specs/OracleRows.antt` cover logs that are converted or run while they
+//!   are read.
 //!
 //! Worked examples: `rw_program_tests/src/imports.rt`.
 

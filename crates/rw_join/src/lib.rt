@@ -1,9 +1,10 @@
 #![tactic(auto)]
-//! The parts of a sweep, put together again.
+//! Joins the parts of a sweep into one table.
 //!
-//! A part is what [`rw_sweep::sweep_part`] writes: lines of a table, each behind the place of its configuration. [`join`] reads
-//! some parts and gives the table of all their lines, in the order of the places and without them. What a part says and what
-//! becomes of all of them stands in `rw_sweep/specs/Joining.antt` and in `specs/Join.antt`.
+//! A part is what [`rw_sweep::sweep_part`] writes: lines of a table, each after the place of its
+//! configuration. [`join`] reads parts and writes all their lines in the order of the places, without
+//! the places. `rw_sweep/specs/Joining.antt` and `specs/Join.antt` define what a part means and what
+//! the parts become.
 //!
 //! Worked examples: `rw_program_tests/src/joins.rt`.
 

@@ -1,7 +1,8 @@
 #![tactic(auto)]
-//! A run by hand in words: the steps that the text of a schedule says, and the journal of the world to which they lead.
+//! The text around a run by hand: parses a schedule into steps, and writes the journal of the world
+//! that the steps lead to.
 //!
-//! It makes no step itself, so it stands on no engine: [`World::run_steps`](rw_world::World::run_steps) makes them.
+//! [`World::run_steps`](rw_world::World::run_steps) makes the steps, so this crate needs no engine.
 //!
 //! Worked examples: the cases of `rw_cases`, and `rw_program_tests/src/reports.rt`.
 

@@ -1,10 +1,12 @@
 #![tactic(auto)]
-//! A logical process of Time Warp (Jefferson 1985): it executes ahead of the others, and takes back what it did too early.
+//! A logical process of Time Warp (Jefferson 1985): it executes events speculatively and rolls back
+//! those it executed too early.
 //!
-//! [`Lp`] keeps what it did with the records that take it back, its pending events and its debts, each in a
-//! [`Bag`](rw_bag::Bag), and what it holds back. Each call is one step of the relation that `specs/Process.antt` defines, or
-//! an arrival: the fewest undoings and a delivery. Nothing here knows what a model's events mean: all rests on the laws of
-//! [`rw_vt::Model`].
+//! [`Lp`] has its executed events with their undo records, its pending events and its debts
+//! (anti-messages that arrived before their messages), each in a [`Bag`](rw_bag::Bag), and the messages
+//! that lazy cancellation holds back. Each call is one step of the relation in `specs/Process.antt`, or
+//! an arrival: as few undo steps as possible, then a delivery. The crate does not depend on what a
+//! model's events mean, only on the laws of [`rw_vt::Model`].
 //!
 //! Worked examples: `rw_process_tests/src/edge_process.rt` and `station_process.rt`.
 

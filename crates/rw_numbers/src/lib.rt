@@ -1,3 +1,4 @@
 #![tactic(auto)]
-//! What the numbers of traces and caches are: words for definitions to say it by. There is no code here, so that
-//! crates that share nothing else stand side by side.
+//! Vocabulary for the numbers of traces and caches, for definitions to use.
+//!
+//! The crate has no code, so crates that share nothing else can share these definitions.

@@ -1,9 +1,9 @@
 #![tactic(auto)]
-//! The command line of the whole program as `clap` knows it, and the lists that its options say.
+//! The command line of the whole program, as `clap` sees it, and the lists in its options.
 //!
-//! [`program`] is the program with all its commands; tables say what each of them takes, above what
-//! `rw_arguments` and `rw_runs` have of it. A sweep takes lists, which [`policies`] and [`numbers`]
-//! read. No command is carried out here.
+//! [`program`] is the program with all its commands. Tables list the arguments of each, beyond those of
+//! `rw_arguments` and `rw_runs`. [`policies`] and [`numbers`] read the lists that a sweep takes. The
+//! crate runs no command.
 //!
 //! Worked examples: `rw_program_tests/src/commands.rt`, and the cases of `rw_cases`.
 

@@ -1,6 +1,8 @@
 #![tactic(auto)]
-//! What a run of a trace ends in, whatever engine it is run by: a text that goes out through an [`Out`], which writes it and counts
-//! its failures, or a [`SimFault`], which says why there is no text.
+//! What a run of a trace ends with, whichever engine ran it: text or a [`SimFault`].
+//!
+//! The text goes out through an [`Out`], which counts the writes that fail. A [`SimFault`] says why
+//! there is no text.
 //!
 //! Worked examples: `rw_program_tests/src/reports.rt`, and the cases of `rw_cases`.
 

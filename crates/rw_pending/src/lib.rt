@@ -1,15 +1,16 @@
 #![tactic(auto)]
-//! The pending-event set of a run in order: the events that are still to be executed, of which a least one is taken each time.
+//! The pending event set of a sequential run: the events still to be executed, least first.
 //!
-//! The initial ones come from a [`Source`], which may make each of them when it is taken; those that are sent wait in
-//! [`Pending`] until their time comes. Nothing here knows what an event does: `rw_serial` executes what is taken, and each
-//! worker of `rw_windows` has a set of its own.
+//! Initial events come from a [`Source`], which can create each of them on demand. Events that were
+//! sent wait in [`Pending`] until their time comes. This crate does not execute events: `rw_serial`
+//! does, and each worker of `rw_windows` has a pending set of its own.
 //!
-//! An initial event costs a comparison or two. What is sent waits in four lanes, one for each delay, and costs as little; where
-//! a model has more delays the rest waits in a heap, at the logarithm of how many are there. The events of a time are sorted
-//! together, once.
+//! An initial event costs one or two comparisons. So does a sent event while a model uses at most four
+//! different delays, since each delay has a queue of its own; other events go through a heap, in
+//! logarithmic time. The events of one time are sorted together, once.
 //!
-//! Worked examples: `rw_program_tests/src/reports.rt`, and the cases of `rw_cases`, through a run in order.
+//! Worked examples: `rw_program_tests/src/reports.rt`, and the cases of `rw_cases`, through sequential
+//! runs.
 
 mod fifo;
 mod heap;

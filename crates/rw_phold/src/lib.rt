@@ -1,10 +1,11 @@
 #![tactic(auto)]
-//! PHOLD, the customary load of parallel simulators (Fujimoto 1990): a population of balls, each of which is held by a
-//! process for a drawn time and then goes to a drawn one. A model of one's own is written just so; `docs/MODELS.md` tells
-//! what is asked of it.
+//! PHOLD, the usual benchmark of parallel simulators (Fujimoto 1990): a population of balls. A process
+//! holds each ball for a random time and then sends it to a random process. Use this crate as the
+//! pattern for a model of your own; `docs/MODELS.md` lists what a model has to provide.
 //!
-//! What is drawn comes from a linear congruence in each process, which is taken back by its inverse (reverse computation:
-//! Carothers, Perumalla and Fujimoto 1999): an undo record says only whether the ball went on.
+//! Random numbers come from a linear congruential generator in each process, which is reversed by its
+//! inverse (reverse computation: Carothers, Perumalla and Fujimoto 1999). So an undo record only says
+//! whether the ball was passed on.
 
 mod opening;
 mod phold;

@@ -1,13 +1,15 @@
 #![tactic(auto)]
-//! Photo caches as a model: edges near the users, origins behind them, a backend store behind those.
+//! The photo cache stack as a model: edge caches near users, origin caches behind them, and a backend
+//! store behind those.
 //!
-//! A user's request comes to an edge. What the edge lacks it asks of an origin, once however many requests wait for
-//! it; what the origin lacks it fetches from the backend. What comes is stored on flash, in a RIPQ queue (Tang,
-//! Huang, Lloyd, Kumar and Li, FAST 2015) under the policy of the configuration, and requests for an object that is
-//! on its way coalesce. A user's purge at an edge has the object leave that edge, its origin and then the other edges.
+//! A user's request arrives at an edge. On a miss the edge asks an origin for the object, once,
+//! however many requests wait for it; on a miss there the origin fetches it from the backend. Objects
+//! that arrive are stored on flash, in a RIPQ queue (Tang, Huang, Lloyd, Kumar and Li, FAST 2015) under
+//! the configured policy. Requests for an object on its way are coalesced. A user's purge removes the
+//! object from the user's edge, then from its origin, then from all other edges.
 //!
-//! [`Photo`] is a model of `rw_vt`: each event can be taken back, by the marks of what it did to the queue, by what it
-//! counted and by the few numbers that it destroyed.
+//! [`Photo`] implements the trait of `rw_vt`. Each event can be reversed: its undo record has the marks
+//! of what it did to the queue, what it counted, and the few numbers that it overwrote.
 //!
 //! Worked examples: `rw_process_tests/src/edge_process.rt` and `photo_rounds.rt`.
 

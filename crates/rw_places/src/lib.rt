@@ -1,8 +1,10 @@
 #![tactic(auto)]
-//! Where objects lie: one row for each object that is stored, found by the object, by the block that holds its bytes and by
-//! the block that gives its priority. Here a block is only its serial.
+//! Where objects are stored: one row for each stored object.
 //!
-//! Worked examples: `rw_cache_tests/src/primitives.rt`, through the queue that keeps them.
+//! A row is found by its object, by the block that holds its bytes (its home) and by the block that
+//! gives its priority (its place). Blocks are only serial numbers here.
+//!
+//! Worked examples: `rw_cache_tests/src/primitives.rt`, through the queue that uses them.
 
 mod members;
 mod row_map;

@@ -1,8 +1,8 @@
 #![tactic(auto)]
-//! A picture of a table: from the bytes of its CSV text to the bytes of an SVG.
+//! Draws a table as an SVG: CSV text in, the bytes of the picture out.
 //!
-//! [`plot`] draws one measure of the rows that [`rw_tables::read`] answers: of a sweep by the size of the flash, and over time
-//! where they are those of intervals. What a text of the file becomes stands in `specs/Escape.antt`.
+//! [`plot`] draws one measure of the rows that [`rw_tables::read`] gives: over the size of the flash
+//! for a sweep, or over time for intervals. `specs/Escape.antt` defines how text is escaped.
 //!
 //! Worked examples: `rw_program_tests/src/plots.rt`.
 

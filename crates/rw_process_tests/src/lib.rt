@@ -1,8 +1,8 @@
 #![tactic(auto)]
-//! Worked examples of one process of Time Warp and of the bags in which its events wait, each as a test: what is
-//! expected comes from the definitions, worked by hand.
+//! Worked examples of one Time Warp process and of the multisets that hold its events, each a test.
+//! Expected values are worked out by hand from the definitions.
 //!
-//! They stand above the crates that they work through, so that each of those is proved once, without tests.
+//! The tests are above the crates that they use, so those crates are proved without tests.
 
 /// The message of an event, for tables of constants.
 macro_rules! message {

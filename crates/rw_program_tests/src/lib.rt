@@ -1,8 +1,8 @@
 #![tactic(auto)]
-//! Worked examples of the program as a library, each as a test: reports, the command line, imports, sweeps and pictures. What is
-//! expected comes from the definitions, worked by hand.
+//! Worked examples of the program as a library, each a test: reports, the command line, imports, sweeps
+//! and plots. Expected values are worked out by hand from the definitions.
 //!
-//! They stand above the crates that they work through, so that each of those is proved once, without tests.
+//! The tests are above the crates that they use, so those crates are proved without tests.
 
 #[cfg(test)]
 mod commands;

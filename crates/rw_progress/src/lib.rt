@@ -1,8 +1,9 @@
 #![tactic(auto)]
-//! How far a long run has come, shown as one line that moves.
+//! Progress of a long run, shown as one line that is redrawn.
 //!
-//! A run tells a [`Progress`] how far it has come; a [`Line`] shows it on a terminal, with the time left by what went before,
-//! and is gone at the end. What a run computes and writes rests on nothing here: a [`Progress`] is told, and tells nothing.
+//! A run reports how far it is to a [`Progress`]. A [`Line`] shows this on a terminal with an estimate
+//! of the time left, and is erased at the end. A [`Progress`] never answers anything, so it cannot
+//! change what a run computes or writes.
 //!
 //! Worked examples: `rw_program_tests/src/progress.rt`, and `checks/terminal`.
 

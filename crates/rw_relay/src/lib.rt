@@ -1,6 +1,6 @@
 #![tactic(auto)]
-//! Small lawful models, on which generic code is tried beside the photo caches: two stations that pass parcels to and fro, and a
-//! bus stop that calls its bus.
+//! Small lawful models for testing generic code beside the photo caches: two stations that pass parcels
+//! to each other, and a bus stop that calls its bus.
 
 pub mod parcels;
 mod stop;

@@ -1,17 +1,16 @@
 #![tactic(auto)]
-//! The rows of a trace on one thread, and the report: what a run begins with, in which states the
-//! rows leave all caches, and what these have counted, as text.
+//! Runs the rows of a trace on one thread and writes the report.
 //!
-//! [`replay`] does all of it: it reads a trace, runs it and writes its report. Its pieces serve other
-//! engines too: [`beginning`] reads a trace and gives the caches as they start, and the requests;
-//! [`beginning_of_rows`] gives them of rows that are read already, and [`last_states_of_rows`] runs
-//! these rows in order of time. [`report`] makes the text, which an [`Out`] writes, and a
-//! [`SimFault`] says why there is none. `rw_ripqwarp::simulate` joins all of these with the engines.
+//! [`replay`] reads a trace, runs it and writes its report. The other engines share its parts:
+//! [`beginning`] reads a trace and returns the caches as they start and the requests,
+//! [`beginning_of_rows`] does the same for rows already read, [`last_states_of_rows`] runs rows in
+//! order of time, and [`report`] makes the text. Text is written through an [`Out`]; a [`SimFault`]
+//! says why there is none. `rw_ripqwarp::simulate` combines these parts with the engines.
 //!
-//! [`replay_stream`] reads a trace as it is run, [`replay_rows`] runs what any source of rows gives, and
-//! [`replay_over_time`] runs a trace that is in memory; they tell what an [`Outlook`] asks for. A
-//! [`Run`] takes rows in as they come and goes on up to any time, a [`Recording`] notes on its way the
-//! [`Moment`]s of its [`Marks`], and [`tell`] makes the report or the table of them.
+//! [`replay_stream`] reads a trace while it runs it, [`replay_rows`] runs the rows of any source, and
+//! [`replay_over_time`] runs a trace in memory; an [`Outlook`] says what they report. Inside, a [`Run`]
+//! takes rows as they come and can advance to any time, a [`Recording`] stores the [`Moment`]s at its
+//! [`Marks`] on the way, and [`tell`] turns them into a report or a table.
 //!
 //! Worked examples: `rw_program_tests/src/reports.rt`, and the cases of `rw_cases`.
 

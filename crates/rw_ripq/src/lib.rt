@@ -1,7 +1,9 @@
 #![tactic(auto)]
-//! The operations of RIPQ (Tang, Huang, Lloyd, Kumar and Li, FAST 2015) over the queue of blocks: an insertion, which
-//! may evict, merge and split, the promotion of a hit, and the purge of an object. Each hands back a [`Trail`], by which
-//! [`rewind`] takes the whole of it back (reverse computation: Carothers, Perumalla and Fujimoto, 1999).
+//! The operations of RIPQ (Tang, Huang, Lloyd, Kumar and Li, FAST 2015) on the queue of blocks:
+//! insertion, which may evict, merge and split, promotion on a hit, and purging an object.
+//!
+//! Each operation returns a [`Trail`], the undo log with which [`rewind`] reverses it as a whole
+//! (reverse computation: Carothers, Perumalla and Fujimoto, 1999).
 //!
 //! Worked examples: `rw_cache_tests/src/insertions.rt`.
 

@@ -1,9 +1,11 @@
 #![tactic(auto)]
-//! The program as a library: from the bytes of a trace to the bytes of a report, or of a journal under a schedule.
+//! The program as a library: from the bytes of a trace to the bytes of a report, or of a journal for a
+//! schedule.
 //!
-//! [`simulate`] runs a trace in any mode: on one thread by [`rw_replay::report_of_trace`], else by the engine. Three calls carry what is
-//! proved of the whole: [`execute_and_reverse`], that rollback is exact; [`any_schedule`], that what is committed is what executing
-//! in order would have done; and `simulate`, whose clause `report` says that a run in threads writes the report of the run on one.
+//! [`simulate`] runs a trace in any mode: on one thread with [`rw_replay::report_of_trace`], otherwise
+//! with the engine. Three calls have the main theorems: [`execute_and_reverse`], that rollback is
+//! exact; [`any_schedule`], that the committed events are those of executing in order; and the clause
+//! `report` of `simulate`, that a threaded run writes the report of the sequential run.
 //!
 //! Worked examples: `rw_program_tests/src/reports.rt`, and the cases of `rw_cases`.
 

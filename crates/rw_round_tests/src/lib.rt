@@ -1,8 +1,8 @@
 #![tactic(auto)]
-//! Worked examples of many processes, each as a test: worlds, what goes between workers, rounds and whole runs. What is expected comes
-//! from the definitions, worked by hand.
+//! Worked examples of many processes, each a test: worlds, what passes between workers, rounds and
+//! whole runs. Expected values are worked out by hand from the definitions.
 //!
-//! They stand above the crates that they work through, so that each of those is proved once, without tests.
+//! The tests are above the crates that they use, so those crates are proved without tests.
 
 #[cfg(test)]
 mod board_of_two_seats;

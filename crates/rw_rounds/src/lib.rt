@@ -1,12 +1,13 @@
 #![tactic(auto)]
-//! Rounds of workers, each with its own processes of a world of Time Warp (Jefferson 1985).
+//! Rounds of workers over a world of Time Warp (Jefferson 1985), each with processes of its own.
 //!
-//! A [`Worker`] owns every process whose number is its own modulo the number of workers, and
-//! executes ahead of the others: `rw_worker` says what it does in a turn.
+//! A [`Worker`] owns every process whose number is the worker's own modulo the number of workers;
+//! `rw_worker` describes its turns.
 //!
-//! [`run_round`] sets the workers up, lets each take its turns in a thread of its own (the last one in the calling thread),
-//! gathers what they hold at the end and commits what is final; [`run`] makes rounds until nothing is outstanding, and
-//! [`run_stretch`] some rounds by threads that were there before. How one round leads to the next is in `specs/Rounds.antt`.
+//! [`run_round`] sets up the workers, runs each in a thread of its own (the last one in the calling
+//! thread), gathers their processes and messages, and commits what is final. [`run`] repeats rounds
+//! until nothing is outstanding, and [`run_stretch`] runs several rounds on existing threads.
+//! `specs/Rounds.antt` defines how one round leads to the next.
 //!
 //! Worked examples: `rw_round_tests/src/relay_rounds.rt` and `photo_rounds.rt`.
 

@@ -1,11 +1,12 @@
 #![tactic(auto)]
-//! Commands that run a trace: the options that say which caches there are, and the first of these commands, [`serial`], which runs
-//! it on one thread; [`serial_alone`] is a program that has no other.
+//! Commands that run a trace: the options that describe the caches, and [`serial`], the command that
+//! runs a trace on one thread. [`serial_alone`] is a program with no other command.
 //!
-//! Of what `clap` has understood, [`config`] makes the caches of a run. The ranges of numbers are the limits of the crates that they
-//! go to.
+//! [`config`] turns what `clap` has parsed into the caches of a run. The ranges of numbers are the
+//! limits of the crates that the numbers go to.
 //!
-//! What a command has written that answers Ok is `specs/Written.antt`; with any fault but the writer's it has written nothing.
+//! `specs/Written.antt` defines what a command that answers Ok has written. With any fault but the
+//! writer's a command has written nothing.
 //!
 //! Worked examples: `rw_program_tests/src/commands.rt`, and the cases of `rw_cases`.
 

@@ -1,9 +1,9 @@
 #![tactic(auto)]
-//! Draws schedules, and runs the worlds that they lead to in rounds, under several plans and with workers held back. Prints
-//! how many agree with the run on one thread.
+//! Runs random schedules, and continues the worlds that they lead to in rounds, under several plans and
+//! with workers held back. Prints how many agree with the sequential run.
 //!
-//! With a number it draws so many schedules a trace, and prints also what is outstanding in those worlds, and what rounds and
-//! gates did, which the threads' timing changes.
+//! With a number as argument it runs that many schedules for each trace, and also prints what is
+//! outstanding in those worlds and what rounds and gates did, which depends on the timing of threads.
 
 mod gate;
 mod outstanding;

@@ -1,8 +1,10 @@
 #![tactic(auto)]
-//! The sections of a queue from head to tail: each has an active device block, an active virtual block and a list of sealed
-//! blocks. A block is only its serial. Which section has a block is looked up, not searched for.
+//! The sections of a queue, from head to tail.
 //!
-//! Worked examples: `rw_cache_tests/src/primitives.rt`, through the queue that keeps them.
+//! Each section has an active device block, an active virtual block and a list of sealed blocks. Blocks
+//! are only serial numbers here. The section of a block is found by a lookup, not by a search.
+//!
+//! Worked examples: `rw_cache_tests/src/primitives.rt`, through the queue that uses them.
 
 mod sealed_blocks;
 mod section;

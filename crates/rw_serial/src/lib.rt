@@ -1,13 +1,13 @@
 #![tactic(auto)]
-//! A whole run on one thread: always the least event that is pending is executed. The initial events come from a [`Source`],
-//! which may make each of them when it is taken. What is pending stands in [`Pending`], which `rw_pending` has.
+//! A sequential run: always executes the least pending event. Initial events come from a [`Source`],
+//! which can create each of them on demand. Pending events are in [`Pending`], from `rw_pending`.
 //!
-//! So each process executes its events in order, and none is ever taken back. This is the sequential execution that Time
-//! Warp (Jefferson 1985) is measured by: whatever its schedule, a parallel run is to leave the very journals and states
-//! that this one leaves.
+//! Each process executes its events in order, and nothing is ever rolled back. This is the sequential
+//! execution that Time Warp (Jefferson 1985) is measured against: whatever its schedule, a parallel run
+//! has to end with the journals and states of this one.
 //!
-//! A run need not be one piece: [`go_on`] goes on from wherever a run stands, executes so many events, and leaves where the
-//! run then stands, so that another engine may go on from there, and it again.
+//! A run can be made in pieces: [`go_on`] continues a run from any point, executes a given number of
+//! events, and returns where the run then is, so that this engine or another one can continue it.
 //!
 //! Worked examples: `rw_program_tests/src/reports.rt`, and the cases of `rw_cases`.
 

@@ -1,9 +1,10 @@
 #![tactic(auto)]
-//! The commands that need no Time Warp: a log becomes a trace, a trace or a log is run on one thread or through many configurations,
-//! their table is put together of parts and drawn. And [`Fault`], every fault of the program with its exit status.
+//! The commands that need no Time Warp: import a log, run a trace or a log on one thread or under many
+//! configurations, join the parts of a sweep, and plot a table. Also [`Fault`], every fault of the
+//! program with its exit status.
 //!
-//! Which fault has which status is a table, `specs/Status.antt`; `specs/Left.antt` says what a command may have written that fails
-//! but not by the writer.
+//! `specs/Status.antt` is the table of faults and statuses. `specs/Left.antt` says what a command may
+//! have written that fails, but not because of the writer.
 //!
 //! Worked examples: `rw_program_tests/src/commands.rt`, and the cases of `rw_cases`.
 

@@ -1,13 +1,14 @@
 #![tactic(auto)]
-//! One trace under many configurations: a table with three lines for each.
+//! Runs one trace under many configurations and writes a table with three lines for each.
 //!
-//! A [`Grid`] is every combination of the values of some [`Axes`]. [`sweep`] runs a trace under each of its configurations, many
-//! side by side, and writes what the edges, the origins and all caches of each have counted. What a table is stands in
-//! `specs/Sweep.antt` and `specs/Table.antt`. [`sweep_part`] runs it under some of them alone, a [`Part`], so that several
-//! machines can share a sweep: `specs/Parts.antt`. [`list`] tells which configurations a part has.
+//! A [`Grid`] is every combination of the values of some [`Axes`]. [`sweep`] runs a trace under all of
+//! them, several at a time, and writes what the edges, the origins and all caches have counted
+//! (`specs/Sweep.antt`, `specs/Table.antt`). [`sweep_part`] runs a [`Part`] of them, so that several
+//! machines can share a sweep (`specs/Parts.antt`). [`list`] says which configurations a part has.
 //!
-//! [`sweep_over_time`] tells what an [`Outlook`] asks for in place of that: a table over time, or what was counted from a time on
-//! (`specs/OverTime.antt`). [`sweep_stream`] reads the trace as it is run, once, in little memory (`specs/Streams.antt`).
+//! [`sweep_over_time`] writes what an [`Outlook`] asks for: a table over time, or the counts after a
+//! warm-up (`specs/OverTime.antt`). [`sweep_stream`] reads the trace once, while it runs, in little
+//! memory (`specs/Streams.antt`).
 //!
 //! Worked examples: `rw_program_tests/src/sweeps.rt`.
 

@@ -1,9 +1,10 @@
 #![tactic(auto)]
-//! What is drawn of a table: from the bytes of its CSV text to the numbers of its rows, or its first fault.
+//! Reads the tables that can be plotted: CSV text in, the rows as numbers or the first fault out.
 //!
-//! Three tables are read, and the header says which one is: a sweep's, with a row for each configuration and each of `edges`,
-//! `origins` and `all`; one over time, with a row for each interval and each of these; and a sweep's over time, with both. What a
-//! table means, and what is wrong with one that is refused, stands in `specs/Tables.antt`, its headers in `specs/Layouts.antt`.
+//! There are three kinds, told apart by the header: a sweep, with a row for each configuration and each
+//! of `edges`, `origins` and `all`; a table over time, with a row for each interval and each of these;
+//! and a sweep over time, with both. `specs/Tables.antt` defines what a table means and which fault a
+//! bad one has, `specs/Layouts.antt` the headers.
 //!
 //! Worked examples: `rw_program_tests/src/plots.rt`.
 

@@ -1,7 +1,8 @@
 #![tactic(auto)]
-//! The least of a model's events at many places: a tournament, in which a change of one place is played again on the way to the top.
+//! The least of a model's events over many places, as a tournament tree: after a change at one place
+//! only the matches on its way to the root are played again.
 //!
-//! It knows nothing of processes: `rw_worker` keeps in one what is next at each of its processes.
+//! `rw_worker` uses one to find the next event over all its processes.
 //!
 //! Worked examples: `rw_round_tests/src/relay_worker.rt`, through a worker.
 

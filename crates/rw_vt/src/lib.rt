@@ -1,11 +1,11 @@
 #![tactic(auto)]
-//! Events, letters, and the trait of models whose processes execute events and can take them back.
+//! Events, messages, and [`Model`], the trait of simulation models whose events can be reversed.
 //!
-//! What a run of a model means is defined here once, in `specs/System.antt`: time is sliced, each slice is sorted, and
-//! nothing else is said of how it is computed. The one-thread run, a logical process and the world of all processes all
-//! state their contracts by those definitions.
+//! `specs/System.antt` defines what a run of a model means: it cuts time into slices and sorts each
+//! slice, and does not mention how a run is computed. The sequential engine, a logical process and the
+//! world of all processes all state their contracts in these terms.
 //!
-//! Worked examples: `rw_process_tests/src/edge_process.rt`; every other test goes through a model too.
+//! Worked examples: `rw_process_tests/src/edge_process.rt`. Every other test uses a model too.
 
 mod event;
 mod lists;

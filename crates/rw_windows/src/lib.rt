@@ -1,26 +1,27 @@
 #![tactic(auto)]
-//! Many workers that execute for good, window by window: conservative synchronization (Chandy and Misra 1979). Nothing is
-//! ever undone, so there are no undo records. A window is at least as wide as the lookahead of the model, which sends nothing
-//! nearer than that.
+//! Workers that execute window by window: conservative synchronization (Chandy and Misra 1979).
 //!
-//! A worker owns every process whose number is its own modulo the number of workers, and works in a thread of its own. The
-//! threads are those of whoever calls (`rw_crew::Hands`): their job is [`Work`], each with a [`Share`] of the run. A worker
-//! executes, in order, what waits at its processes before some time. Then it sends each other worker one batch: the events for
-//! that one, and a time before which it sends nothing more, the lookahead after the first event that it has or may still hear
-//! of. It takes up one batch of each other worker, for which it waits, and goes on up to the least time that it was told or
-//! told others.
+//! Nothing is ever rolled back, so there are no undo records. A window is at least as wide as the
+//! model's lookahead, since no event sends a message nearer than that. A worker owns every process
+//! whose number is the worker's own modulo the number of workers, and runs in a thread of the caller's
+//! pool (`rw_crew::Hands`); its job is [`Work`] and its part of the run a [`Share`].
 //!
-//! It goes by a third of the lookahead at a time, and takes up the batches of the others two behind. So one that has much to do
-//! in one part does not hold the others up, as long as it is no more than two parts behind them. There is a ring each way
-//! between any two workers, with a bell beside it for the one that sleeps while it waits, no barrier and no board.
+//! A worker executes its events before some time, in order. Then it sends each other worker one batch:
+//! the events for that worker, and a time before which it will send nothing more, the lookahead after
+//! the first event that it has or may still receive. It waits for one batch from each other worker and
+//! continues to the least time that it sent or received. A step is a third of the lookahead, and
+//! batches are taken two steps behind, so a worker with much to do in one step does not hold up the
+//! others until it is more than two steps behind. There is a ring for each ordered pair of workers,
+//! with a flag to wake a receiver that sleeps. There is no barrier and no board.
 //!
-//! [`run_in_windows`] deals a run out to the workers, and puts together what they leave once all have come to the end. From
-//! there whoever called goes on: in windows up to a later end, or by another engine, as by `rw_serial::go_on`.
+//! [`run_in_windows`] splits a run among the workers and joins what they leave. The caller continues
+//! from there: in windows to a later end, or with another engine such as `rw_serial::go_on`.
 //!
-//! What is proved: for any lawful model, any lookahead that it keeps to, any number of workers and whatever the threads'
-//! timing was, where a run in windows answers Ok nothing that is left is before the end, and from what is left the run ends
-//! as it does from where it began, whatever more comes from outside, none of it before the end. That the workers come to the
-//! end is only tested, since they wait for one another. A worker that is gone stops the others: none waits for it.
+//! Proved, for any lawful model, any lookahead that it keeps, any number of workers and any timing of
+//! threads: where a run in windows answers Ok, no event before the end is left, and what is left
+//! continues to the same outcome as the run's beginning would, whatever else arrives from outside, none
+//! of it before the end. That workers reach the end is only tested, since they wait for one another.
+//! A worker that stops early stops the others too, so none waits for it.
 //!
 //! Worked examples: `rw_round_tests/src/windows.rt`.
 

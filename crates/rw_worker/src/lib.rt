@@ -1,15 +1,15 @@
 #![tactic(auto)]
-//! A worker of a round of Time Warp (Jefferson 1985): it owns some of a model's processes and
-//! executes ahead of the others.
+//! A worker in a round of Time Warp (Jefferson 1985): it owns some of a model's processes and executes
+//! their events speculatively.
 //!
-//! A [`Worker`] owns every process whose number is its own modulo the number of workers. In each
-//! turn it takes up what the others sent, executes ahead of them as far as the window lets it, and
-//! sends what its processes give out through rings; on the board it notes the time of each letter
-//! that it sends. It takes no lock and never waits. What it does in a turn is in `desk.rt`, and how
-//! it finds its next event without a walk in `processes.rt`.
+//! A [`Worker`] owns every process whose number is the worker's own modulo the number of workers. In
+//! each turn it receives what the others sent, executes events as far ahead as the window allows, sends
+//! its processes' messages through rings, and notes the time of each on the board. It takes no locks
+//! and never waits. `desk.rt` has what a turn does, `processes.rt` how the next event is found without
+//! scanning all processes.
 //!
-//! It knows nothing of the other workers but how many there are: `rw_rounds` sets workers up and
-//! joins what they leave.
+//! A worker knows nothing about the others except their number: `rw_rounds` sets workers up and
+//! gathers what they leave.
 //!
 //! Worked examples: `rw_round_tests/src/relay_worker.rt`.
 

@@ -1,10 +1,11 @@
 #![tactic(auto)]
-//! A world of logical processes that run ahead of one another (Time Warp: Jefferson 1985), one step at a time.
+//! All logical processes of a model (Time Warp: Jefferson 1985), run one step at a time.
 //!
-//! [`World`] holds all processes of a model and the letters on their way. A [`Step`] executes an event, takes one back,
-//! delivers a letter or commits what is final; a schedule is any list of steps. Whatever the schedule, what is committed is
-//! what executing all events in order of time would have done: the contract of [`World::run_steps`] says so, for every
-//! lawful model, and the functions of this page say it of the definitions.
+//! [`World`] has the processes and the messages in transit. A [`Step`] executes an event, undoes one,
+//! delivers a message or commits what is final. A schedule is any list of steps. Whatever the schedule,
+//! the committed events are those of executing all events in order of time: the contract of
+//! [`World::run_steps`] states this for every lawful model, and the functions on this page restate it
+//! from the definitions.
 //!
 //! Worked examples: `rw_round_tests/src/relay_world.rt`.
 
