@@ -1,14 +1,15 @@
--- A line of four runs of digits with commas between them is one record, with these as its fields.
-use Rattle.std.proofs.Common.{◌≡◌, inl, inr, ◌≢◌, ◌≤◌, ◌<◌, ◌+◌, ◌-◌, ◌*◌, ◌^◌, ℕ, List, [], ◌∷◌, ◌++◌, length, drop, take, nat_eq, get_or, Bool, true, false, Option, None, Some, refl, sym, ap, ◌∙◌, arith, add-one, append-nil, append_assoc, length-append, subst, codes}
+-- A plain line is one record, whose fields stand in it between commas.
+use Rattle.std.proofs.Common.{All, ◌≡◌, inl, inr, ◌≢◌, ◌≤◌, ◌<◌, ◌+◌, ◌-◌, ◌*◌, ◌^◌, ℕ, List, [], ◌∷◌, ◌++◌, length, drop, take, nat_eq, get_or, Bool, true, false, Option, None, Some, refl, sym, ap, ◌∙◌, arith, add-one, append-nil, append_assoc, length-append, subst, codes}
 use Rattle.std.specs.Prelude.{◌==◌, slice_get}
-use Rattle.std.specs.Char.{is_ascii_digit}
+use Rattle.std.specs.Char.{is_ascii_digit, is_ascii_lowercase}
 use Rattle.std.specs.Cmp.Lexicographic.{pointwise}
-use Rattle.std.specs.List.{list_all, starts_with}
+use Rattle.std.specs.List.{AllPass, list_all, starts_with}
 use Rattle.std.proofs.lemmas.Grind.{common_steps}
 use Rattle.std.proofs.lemmas.List.{drop-append-le, drop-drop, drop_all, drop_more, length-drop, take-append-drop}
 use Rattle.std.proofs.lemmas.Bool.Decides.{Decides-eqb}
 use Rattle.std.proofs.lemmas.Slice.Eq.{slice_eq-Decides}
-use Rattle.std.proofs.lemmas.List.Sums.{list_all-from_AllPass}
+use Rattle.std.proofs.lemmas.List.Sums.{AllPass-from_list_all}
+use Rattle.std.proofs.lemmas.List.Elements.{All-cons, All-head, All-nil, All-tail, All-weaker}
 use Rattle.std.proofs.Math.Nat.{pow-le-pow_right, pow-succ'}
 use Rattle.csv.specs.Machine.{Read, next_record, step}
 use Rattle.csv.specs.Reading.{default_config, strip_bom}
@@ -20,31 +21,32 @@ use Rattle.rw_trace.proofs.Cut.{unmarked}
 use Rattle.rw_trace.proofs.Laws.{none-written, number-law, write-more}
 use Rattle.rw_trace.proofs.Numbers.{is-number}
 use Rattle.rw_trace.proofs.Records.{left-more, left-none}
-use Rattle.rw_trace.specs.Laws.{IsNumber, WriteRows}
+use Rattle.rw_trace.specs.Laws.{IsNumber, WriteRows, WritesRow}
 use Rattle.rw_trace.specs.Limits.{greatest_size, latest_time}
-use Rattle.rw_trace.specs.Lines.{EndsLine, IsHeaderAt, IsLastAt, IsNumberAt, IsRowAt, four, records_at}
-use Rattle.rw_trace.specs.Trace.{is_header, is_text_at, value_after, version_of}
+use Rattle.rw_trace.specs.Lines.{EndsLine, IsEndAt, IsHeaderAt, IsKindAt, IsNumberAndComma, IsNumberAt, IsOrdinary, IsOrdinaryField, IsRowAt, commas, kind_fields, records_at}
+use Rattle.rw_trace.specs.Trace.{is_header, is_text_at, value_after, version_of, word_of}
 use Rattle.rw_trace.specs.Unread.{records_left, records_of}
-use Rattle.rw_trace.specs.declared.Kind.TheVariants.{Get}
+use Rattle.rw_trace.specs.declared.Kind.{Kind}
+use Rattle.rw_trace.specs.declared.Kind.TheVariants.{Get, Purge}
 use Rattle.rw_trace.specs.declared.Row.{Row}
-use Rattle.rw_trace.specs.declared.Version.TheVariants.{First}
+use Rattle.rw_trace.specs.declared.Version.{Version}
+use Rattle.rw_trace.specs.declared.Version.TheVariants.{First, Second}
 
--- in this state a digit begins a field, or goes on with one
+-- in this state a plain byte begins a field, or goes on with one
 abbrev Takes : State → Type 0
-Takes s = (c : ℕ) → is_ascii_digit c ≡ true → step default_config s c ≡ (st.InField, act.Copy)
+Takes s = (c : ℕ) → IsOrdinary c → step default_config s c ≡ (st.InField, act.Copy)
 
--- a digit is none of the bytes that have a meaning
-no-comma : (c : ℕ) → is_ascii_digit c ≡ true → (c == 44) ≡ false
-no-comma c h = grind (arith, common_steps)
+no-comma : (c : ℕ) → IsOrdinary c → (c == 44) ≡ false
+no-comma c h = let other = h.comma in grind (arith, common_steps)
 
-no-return : (c : ℕ) → is_ascii_digit c ≡ true → (c == 13) ≡ false
-no-return c h = grind (arith, common_steps)
+no-quote : (c : ℕ) → IsOrdinary c → (c == 34) ≡ false
+no-quote c h = let other = h.quote in grind (arith, common_steps)
 
-no-feed : (c : ℕ) → is_ascii_digit c ≡ true → (c == 10) ≡ false
-no-feed c h = grind (arith, common_steps)
+no-return : (c : ℕ) → IsOrdinary c → (c == 13) ≡ false
+no-return c h = let other = h.return in grind (arith, common_steps)
 
-no-quote : (c : ℕ) → is_ascii_digit c ≡ true → (c == 34) ≡ false
-no-quote c h = grind (arith, common_steps)
+no-feed : (c : ℕ) → IsOrdinary c → (c == 10) ≡ false
+no-feed c h = let other = h.feed in grind (arith, common_steps)
 
 takes-in : Takes st.InField
 takes-in c h = rw (no-comma c h, no-return c h, no-feed c h) refl
@@ -59,32 +61,20 @@ takes-record c h = rw (no-return c h, no-feed c h, no-quote c h, no-comma c h) r
 abbrev From : List (List ℕ) → List ℕ → List ℕ → Option Read
 From fields field xs = next_record default_config st.InField fields field xs
 
-digit-first : (c : ℕ) (f : List ℕ) → list_all is_ascii_digit (c ∷ f) ≡ true → is_ascii_digit c ≡ true
-digit-first c f h = by (is_ascii_digit c) refl h
-  where
-    by : (d : Bool) → is_ascii_digit c ≡ d → list_all is_ascii_digit (c ∷ f) ≡ true → is_ascii_digit c ≡ true
-    by true e h = e
-    by false e h = let no = rw e at h in cc
-
-digits-rest : (c : ℕ) (f : List ℕ) → list_all is_ascii_digit (c ∷ f) ≡ true → list_all is_ascii_digit f ≡ true
-digits-rest c f h = rw (digit-first c f h) at h
-
--- digits join the field at hand
-digits-in : (fields : List (List ℕ)) (field f rest : List ℕ) → list_all is_ascii_digit f ≡ true
-    → From fields field (f ++ rest) ≡ From fields (field ++ f) rest
+-- plain bytes join the field at hand
+bytes-in : (fields : List (List ℕ)) (field f rest : List ℕ) → All IsOrdinary f → From fields field (f ++ rest) ≡ From fields (field ++ f) rest
 unfolding next_record
-digits-in fields field [] rest h = ap (λ g. From fields g rest) (sym (append-nil field))
-digits-in fields field (c ∷ f) rest h =
-    rw (takes-in c (digit-first c f h))
-    (digits-in fields (field ++ c ∷ []) f rest (digits-rest c f h) ∙ ap (λ g. From fields g rest) (append_assoc field (c ∷ []) f))
+bytes-in fields field [] rest h = ap (λ g. From fields g rest) (sym (append-nil field))
+bytes-in fields field (c ∷ f) rest h =
+    rw (takes-in c (All-head IsOrdinary c f h))
+    (bytes-in fields (field ++ c ∷ []) f rest (All-tail IsOrdinary c f h) ∙ ap (λ g. From fields g rest) (append_assoc field (c ∷ []) f))
 
--- a run of digits begins a field
-digits-begin : (s : State) → Takes s → (fields : List (List ℕ)) (f rest : List ℕ) → 1 ≤ length f → list_all is_ascii_digit f ≡ true
-    → next_record default_config s fields [] (f ++ rest) ≡ From fields f rest
+-- a plain field begins
+field-begins : (s : State) → Takes s → (fields : List (List ℕ)) (f rest : List ℕ) → IsOrdinaryField f → next_record default_config s fields [] (f ++ rest) ≡ From fields f rest
 unfolding next_record
-digits-begin s takes fields [] rest some h = absurd (omega arith)
-digits-begin s takes fields (c ∷ f) rest some h =
-    rw (takes c (digit-first c f h)) (digits-in fields (c ∷ []) f rest (digits-rest c f h))
+field-begins s takes fields [] rest h = let some = h.some in absurd (omega arith)
+field-begins s takes fields (c ∷ f) rest h =
+    rw (takes c (All-head IsOrdinary c f h.all)) (bytes-in fields (c ∷ []) f rest (All-tail IsOrdinary c f h.all))
 
 -- a comma ends a field
 comma : (fields : List (List ℕ)) (field rest : List ℕ) → From fields field (44 ∷ rest) ≡ next_record default_config st.StartField (fields ++ field ∷ []) [] rest
@@ -96,23 +86,27 @@ feed : (fields : List (List ℕ)) (field rest : List ℕ) → From fields field 
 unfolding next_record
 feed fields field rest = refl
 
--- a run of digits, of one at least
-pub record Digits (f : List ℕ) : Type 0 where
-  pub some : 1 ≤ length f
-  pub all : list_all is_ascii_digit f ≡ true
+-- the fields that are complete, and the one at hand, once more fields have come
+abbrev complete : List (List ℕ) → List ℕ → List (List ℕ) → List (List ℕ)
+complete before field [] = before
+complete before field (f ∷ fs) = complete (before ++ field ∷ []) f fs
 
--- one more field of digits behind a comma
-field-more : (fields : List (List ℕ)) (field f rest : List ℕ) → Digits f → From fields field (44 ∷ (f ++ rest)) ≡ From (fields ++ field ∷ []) f rest
-field-more fields field f rest h = comma fields field (f ++ rest) ∙ digits-begin st.StartField takes-field (fields ++ field ∷ []) f rest h.some h.all
+abbrev at_hand : List ℕ → List (List ℕ) → List ℕ
+at_hand field [] = field
+at_hand field (f ∷ fs) = at_hand f fs
 
--- four runs of digits are read up to the last one's end
-four-read : (a b c d tail : List ℕ) → Digits a → Digits b → Digits c → Digits d
-    → next_record default_config st.StartRecord [] [] (four a b c d tail) ≡ From (a ∷ b ∷ c ∷ []) d tail
-four-read a b c d tail is-a is-b is-c is-d =
-    digits-begin st.StartRecord takes-record [] a (44 ∷ (b ++ (44 ∷ (c ++ (44 ∷ (d ++ tail)))))) is-a.some is-a.all
-    ∙ field-more [] a b (44 ∷ (c ++ (44 ∷ (d ++ tail)))) is-b
-    ∙ field-more (a ∷ []) b c (44 ∷ (d ++ tail)) is-c
-    ∙ field-more (a ∷ b ∷ []) c d tail is-d
+all-fields : (before : List (List ℕ)) (field : List ℕ) (fs : List (List ℕ)) → complete before field fs ++ at_hand field fs ∷ [] ≡ before ++ field ∷ fs
+all-fields before field [] = refl
+all-fields before field (f ∷ fs) = all-fields (before ++ field ∷ []) f fs ∙ append_assoc before (field ∷ []) (f ∷ fs)
+
+-- further fields behind commas
+fields-more : (before : List (List ℕ)) (field : List ℕ) (fs : List (List ℕ)) (tail : List ℕ) → All IsOrdinaryField fs
+    → From before field (commas fs tail) ≡ From (complete before field fs) (at_hand field fs) tail
+fields-more before field [] tail h = refl
+fields-more before field (f ∷ fs) tail h =
+    comma before field (f ++ commas fs tail)
+    ∙ field-begins st.StartField takes-field (before ++ field ∷ []) f (commas fs tail) (All-head IsOrdinaryField f fs h)
+    ∙ fields-more (before ++ field ∷ []) f fs tail (All-tail IsOrdinaryField f fs h)
 
 -- the end of the text ends the record
 stop : (fields : List (List ℕ)) (field : List ℕ) → From fields field [] ≡ Some (fields ++ field ∷ [], st.StartRecord, [])
@@ -133,49 +127,65 @@ after-return rest = by (next_record default_config st.StartRecord [] [] rest) re
     by None is = left-none default_config st.AfterCr (10 ∷ rest) is ∙ sym (left-none default_config st.StartRecord rest is)
     by (Some p) is = left-more default_config st.AfterCr (10 ∷ rest) p is ∙ sym (left-more default_config st.StartRecord rest p is)
 
--- the record of a plain line
-pub plain-record : (a b c d rest : List ℕ) → Digits a → Digits b → Digits c → Digits d
-    → next_record default_config st.StartRecord [] [] (four a b c d (10 ∷ rest)) ≡ Some (a ∷ b ∷ c ∷ d ∷ [], st.StartRecord, rest)
-plain-record a b c d rest is-a is-b is-c is-d = four-read a b c d (10 ∷ rest) is-a is-b is-c is-d ∙ feed (a ∷ b ∷ c ∷ []) d rest
-
 -- the records of a text that begins with a plain line
-pub plain-left : (a b c d tail rest : List ℕ) → Digits a → Digits b → Digits c → Digits d → EndsLine tail rest
-    → records_left default_config st.StartRecord (Some (four a b c d tail)) ≡ (a ∷ b ∷ c ∷ d ∷ []) ∷ records_left default_config st.StartRecord (Some rest)
-plain-left a b c d tail rest is-a is-b is-c is-d ends = elim ends [
-  | inl feeds ↦ left-more default_config st.StartRecord (four a b c d tail) (fields, st.StartRecord, rest) (read ∙ ap behind feeds ∙ feed front d rest)
+pub plain-left : (field : List ℕ) (others : List (List ℕ)) (tail rest : List ℕ) → IsOrdinaryField field → All IsOrdinaryField others → EndsLine tail rest
+    → records_left default_config st.StartRecord (Some (field ++ commas others tail)) ≡ (field ∷ others) ∷ records_left default_config st.StartRecord (Some rest)
+plain-left field others tail rest plain plains ends = elim ends [
+  | inl feeds ↦ left-more default_config st.StartRecord line (fields, st.StartRecord, rest) (read ∙ ap behind feeds ∙ feed front last rest ∙ ended st.StartRecord rest)
   | inr other ↦ elim other [
     | inl returns ↦
-        left-more default_config st.StartRecord (four a b c d tail) (fields, st.AfterCr, 10 ∷ rest) (read ∙ ap behind returns ∙ return front d (10 ∷ rest))
+        left-more default_config st.StartRecord line (fields, st.AfterCr, 10 ∷ rest) (read ∙ ap behind returns ∙ return front last (10 ∷ rest) ∙ ended st.AfterCr (10 ∷ rest))
         ∙ ap (λ rs. fields ∷ rs) (after-return rest)
     | inr stops ↦
-        left-more default_config st.StartRecord (four a b c d tail) (fields, st.StartRecord, []) (read ∙ ap behind stops.0 ∙ stop front d)
+        left-more default_config st.StartRecord line (fields, st.StartRecord, []) (read ∙ ap behind stops.0 ∙ stop front last ∙ ended st.StartRecord [])
         ∙ ap (λ xs. fields ∷ records_left default_config st.StartRecord (Some xs)) (sym stops.1)
   ]
 ]
   where
+    line : List ℕ
+    line = field ++ commas others tail
+
     front : List (List ℕ)
-    front = a ∷ b ∷ c ∷ []
+    front = complete [] field others
+
+    last : List ℕ
+    last = at_hand field others
 
     fields : List (List ℕ)
-    fields = a ∷ b ∷ c ∷ d ∷ []
+    fields = field ∷ others
 
     behind : List ℕ → Option Read
-    behind xs = From front d xs
+    behind xs = From front last xs
 
-    read : next_record default_config st.StartRecord [] [] (four a b c d tail) ≡ From front d tail
-    read = four-read a b c d tail is-a is-b is-c is-d
+    read : next_record default_config st.StartRecord [] [] line ≡ From front last tail
+    read = field-begins st.StartRecord takes-record [] field (commas others tail) plain ∙ fields-more [] field others tail plains
+
+    found : State → List ℕ → List (List ℕ) → Option Read
+    found s xs fs = Some (fs, s, xs)
+
+    ended : (s : State) (xs : List ℕ) → found s xs (front ++ last ∷ []) ≡ found s xs fields
+    ended s xs = ap (found s xs) (all-fields [] field others)
 
 -- the records of what stands from a place on where a row does
-pub row-records : (edges : ℕ) (text : List ℕ) (from : ℕ) (row : Row) (next : ℕ) (h : IsRowAt edges text from row next)
-    → records_at text from ≡ (h.time ∷ h.edge ∷ h.object ∷ h.size ∷ []) ∷ records_at text next
-unfolding field_at
-row-records edges text from row next h =
-    ap (λ xs. records_left default_config st.StartRecord (Some xs)) h.parts
-    ∙ plain-left h.time h.edge h.object h.size h.tail (drop next text)
-    (are-digits h.time row.time h.written.time) (are-digits h.edge row.edge h.written.edge) (are-digits h.object row.object h.written.object) (are-digits h.size row.size h.written.size) h.ends
-  where
-    are-digits : (f : List ℕ) (n : ℕ) → IsNumber f n → Digits f
-    are-digits f n is = record { some = is.some; all = list_all-from_AllPass is_ascii_digit f is.digits }
+pub row-records : (version : Version) (edges : ℕ) (text : List ℕ) (from : ℕ) (row : Row) (next : ℕ) (h : IsRowAt version edges text from row next)
+    → records_at text from ≡ (h.field ∷ h.others) ∷ records_at text next
+row-records version edges text from row next h =
+    ap (λ xs. records_left default_config st.StartRecord (Some xs)) h.parts ∙ plain-left h.field h.others h.tail (drop next text) h.plain h.plains h.ends
+
+-- a digit has no meaning of its own
+digit-plain : (c : ℕ) → is_ascii_digit c ≡ true → IsOrdinary c
+digit-plain c h = record {
+  comma = grind (arith, common_steps);
+  quote = grind (arith, common_steps);
+  return = grind (arith, common_steps);
+  feed = grind (arith, common_steps);
+}
+
+digits-plain : (f : List ℕ) → AllPass is_ascii_digit f → All IsOrdinary f
+digits-plain f h = All-weaker (λ c. is_ascii_digit c ≡ true) IsOrdinary digit-plain f h
+
+number-plain : (f : List ℕ) (n : ℕ) → IsNumber f n → IsOrdinaryField f
+number-plain f n h = record { some = h.some; all = digits-plain f h.digits }
 
 -- one more digit behind the others
 digit-behind : (n v b : ℕ) (f : List ℕ) → is_ascii_digit b ≡ true → value_after n f ≡ Some v → value_after n (f ++ b ∷ []) ≡ Some (v * 10 + (b - 48))
@@ -208,105 +218,6 @@ one-digit text from at value b h within is digit = record {
   read = digit-behind 0 value b h.field digit h.read;
 }
 
-pub number-at : (text : List ℕ) (from at value end : ℕ) → AreDigits text from at value → at < length text → get_or text at 0 ≡ end → from < at → at - from ≤ 20 → value < 2 ^ 64
-    → IsNumberAt text from end value (at + 1)
-number-at text from at value end h within is some few fits =
-    let long : 1 ≤ length h.field = omega (arith, h.ends) in
-    let short : length h.field ≤ 20 = omega (arith, h.ends) in
-    record {
-      field = h.field;
-      number = number-law h.field value (is-number h.field value (grind (arith, common_steps)) short fits h.read);
-      parts = h.parts ∙ ap (λ r. h.field ++ r) (drop_more text at 0 within ∙ ap (λ c. c ∷ drop (at + 1) text) is);
-      behind = omega (arith, h.ends);
-      within = omega arith;
-    }
-
--- four numbers in a row
-pub row-at : (edges : ℕ) (text : List ℕ) (from second third fourth next time edge object size : ℕ)
-    → IsNumberAt text from 44 time second → IsNumberAt text second 44 edge third → IsNumberAt text third 44 object fourth → IsLastAt text fourth size next
-    → time ≤ latest_time → edge < edges → 1 ≤ size → size ≤ greatest_size
-    → IsRowAt edges text from (record { time = time; edge = edge; object = object; size = size; kind = Get }) next
-unfolding field_at
-row-at edges text from second third fourth next time edge object size t e o s early known some few = record {
-  time = t.field;
-  edge = e.field;
-  object = o.field;
-  size = s.field;
-  parts =
-      t.parts
-      ∙ ap (λ r. t.field ++ (44 ∷ r)) (e.parts
-      ∙ ap (λ r. e.field ++ (44 ∷ r)) (o.parts
-      ∙ ap (λ r. o.field ++ (44 ∷ r)) s.parts));
-  tail = s.tail;
-  ends = s.ends;
-  written = record {
-    width = refl;
-    time = t.number;
-    edge = e.number;
-    object = o.number;
-    size = s.number;
-    kind = refl;
-    time_within = early;
-    edge_within = known;
-    size_above = some;
-    size_within = few;
-  };
-  behind = omega (arith, t.behind, e.behind, o.behind, s.behind);
-  within = s.within;
-}
-
--- rows that were read, and what is left of the text
-pub record AreRead (edges : ℕ) (text : List ℕ) (from at : ℕ) (rows : List Row) : Type 0 where
-  pub body : List (List (List ℕ))
-  pub parts : records_at text from ≡ body ++ records_at text at
-  pub written : WriteRows First edges body rows
-
-pub none-read : (edges : ℕ) (text : List ℕ) (from : ℕ) → AreRead edges text from from []
-none-read edges text from = record { body = []; parts = refl; written = none-written First edges }
-
-pub one-read : (edges : ℕ) (text : List ℕ) (from at : ℕ) (rows : List Row) (row : Row) (next : ℕ) → AreRead edges text from at rows → IsRowAt edges text at row next
-    → AreRead edges text from next (rows ++ row ∷ [])
-one-read edges text from at rows row next h is =
-    let f = is.time ∷ is.edge ∷ is.object ∷ is.size ∷ [] in
-    record {
-      body = h.body ++ f ∷ [];
-      parts = h.parts ∙ ap (λ rs. h.body ++ rs) (row-records edges text at row next is) ∙ sym (append_assoc h.body (f ∷ []) (records_at text next));
-      written = write-more First edges h.body rows f row h.written is.written;
-    }
-
--- no record is left at the end
-nothing-left : records_left default_config st.StartRecord (Some []) ≡ []
-unfolding next_record
-nothing-left = left-none default_config st.StartRecord [] refl
-
-pub all-read : (edges : ℕ) (text : List ℕ) (from at : ℕ) (rows : List Row) → AreRead edges text from at rows → length text ≤ at → WriteRows First edges (records_at text from) rows
-all-read edges text from at rows h ended =
-    let ends : records_at text at ≡ [] = ap (λ xs. records_left default_config st.StartRecord (Some xs)) (drop_all at text ended) ∙ nothing-left in
-    let all : records_at text from ≡ h.body = h.parts ∙ ap (λ rs. h.body ++ rs) ends ∙ append-nil h.body in
-    subst (λ rs. WriteRows First edges rs rows) (sym all) h.written
-
--- the header of the first version as a line, with each end
-abbrev header : List ℕ
-header = codes "time,edge,object,size\n"
-
-abbrev header_returned : List ℕ
-header_returned = codes "time,edge,object,size\r\n"
-
-abbrev names : List (List ℕ)
-names = codes "time" ∷ codes "edge" ∷ codes "object" ∷ codes "size" ∷ []
-
-names-header : version_of names ≡ Some First
-unfolding version_of is_header is_text_at field_at
-names-header = refl
-
-header-records : (rest : List ℕ) → records_of (header ++ rest) ≡ names ∷ records_left default_config st.StartRecord (Some rest)
-unfolding next_record strip_bom
-header-records rest = left-more default_config st.StartRecord (header ++ rest) (names, st.StartRecord, rest) refl
-
-returned-records : (rest : List ℕ) → records_of (header_returned ++ rest) ≡ names ∷ records_left default_config st.StartRecord (Some rest)
-unfolding next_record strip_bom
-returned-records rest = left-more default_config st.StartRecord (header_returned ++ rest) (names, st.AfterCr, 10 ∷ rest) refl ∙ ap (λ rs. names ∷ rs) (after-return rest)
-
 -- a text that starts with a text
 front-of : (text front : List ℕ) → starts_with nat_eq text front ≡ true → text ≡ front ++ drop (length front) text
 front-of text front h =
@@ -314,12 +225,205 @@ front-of text front h =
     let same : front ≡ take n text = (slice_eq-Decides Decides-eqb front (take n text) (pointwise nat_eq front (take n text)) refl).0 h in
     sym (take-append-drop n text) ∙ ap (λ xs. xs ++ drop n text) (sym same)
 
--- a text that starts with the header
-pub header-starts : (text : List ℕ) → starts_with nat_eq text header ≡ true → IsHeaderAt text 22
-header-starts text h = record { head = names; parts = ap (λ xs. records_of xs) (front-of text header h) ∙ header-records (drop 22 text); is_header = names-header }
+pub number-at : (text : List ℕ) (from at value : ℕ) → AreDigits text from at value → at ≤ length text → from < at → at - from ≤ 20 → value < 2 ^ 64
+    → IsNumberAt text from value at
+number-at text from at value h within some few fits =
+    let long : 1 ≤ length h.field = omega (arith, h.ends) in
+    let short : length h.field ≤ 20 = omega (arith, h.ends) in
+    record {
+      field = h.field;
+      number = number-law h.field value (is-number h.field value (grind (arith, common_steps)) short fits h.read);
+      parts = h.parts;
+      behind = h.ends;
+      within = within;
+    }
 
-pub header-returned : (text : List ℕ) → starts_with nat_eq text header_returned ≡ true → IsHeaderAt text 23
-header-returned text h = record { head = names; parts = ap (λ xs. records_of xs) (front-of text header_returned h) ∙ returned-records (drop 23 text); is_header = names-header }
+-- no kind, and a kind behind a comma
+pub kind-none : (text : List ℕ) (from : ℕ) → from ≤ length text → IsKindAt First text from Get from
+kind-none text from within = record { parts = refl; first = λ same. refl; behind = omega arith; within = within }
+
+pub kind-word : (text : List ℕ) (from n : ℕ) (k : Kind) → starts_with nat_eq (drop from text) (44 ∷ word_of k) ≡ true → length (44 ∷ word_of k) ≡ n → from ≤ length text
+    → IsKindAt Second text from k (from + n)
+kind-word text from n k starts long within =
+    let whole = front-of (drop from text) (44 ∷ word_of k) starts in
+    let rest : drop n (drop from text) ≡ drop (from + n) text = drop-drop n from text in
+    let size = ap (λ (xs : List ℕ). length xs) whole in
+    record {
+      parts = whole ∙ ap (λ r. (44 ∷ word_of k) ++ r) (ap (λ j. drop j (drop from text)) long ∙ rest);
+      first = λ same. cc;
+      behind = omega arith;
+      within = omega (arith, size, long, length-append (44 ∷ word_of k) (drop (length (44 ∷ word_of k)) (drop from text)), length-drop from text);
+    }
+
+-- the ends of a line
+pub end-text : (text : List ℕ) (at : ℕ) → at ≤ length text → length text ≤ at → IsEndAt text at at
+end-text text at within ended = record { ends = inr (inr (drop_all at text ended, drop_all at text ended)); behind = omega arith; within = within }
+
+pub end-feed : (text : List ℕ) (at : ℕ) → at < length text → get_or text at 0 ≡ 10 → IsEndAt text at (at + 1)
+end-feed text at within is = record {
+  ends = inl (drop_more text at 0 within ∙ ap (λ c. c ∷ drop (at + 1) text) is);
+  behind = omega arith;
+  within = omega arith;
+}
+
+pub end-return : (text : List ℕ) (at : ℕ) → starts_with nat_eq (drop at text) (13 ∷ 10 ∷ []) ≡ true → at ≤ length text → IsEndAt text at (at + 2)
+end-return text at starts within =
+    let whole = front-of (drop at text) (13 ∷ 10 ∷ []) starts in
+    let size = ap (λ (xs : List ℕ). length xs) whole in
+    record {
+      ends = inr (inl (whole ∙ ap (λ r. 13 ∷ (10 ∷ r)) (drop-drop 2 at text)));
+      behind = omega arith;
+      within = omega (arith, size, length-drop at text);
+    }
+
+-- letters have no meaning of their own
+letters : (f : List ℕ) → list_all is_ascii_lowercase f ≡ true → All IsOrdinary f
+letters f h = All-weaker (λ c. is_ascii_lowercase c ≡ true) IsOrdinary letter-plain f (AllPass-from_list_all is_ascii_lowercase f h)
+  where
+    letter-plain : (c : ℕ) → is_ascii_lowercase c ≡ true → IsOrdinary c
+    letter-plain c h = record {
+      comma = grind (arith, common_steps);
+      quote = grind (arith, common_steps);
+      return = grind (arith, common_steps);
+      feed = grind (arith, common_steps);
+    }
+
+one-plain : (f : List ℕ) → 1 ≤ length f → All IsOrdinary f → All IsOrdinaryField (f ∷ [])
+one-plain f some all = All-cons IsOrdinaryField f [] (record { some = some; all = all }) (All-nil IsOrdinaryField)
+
+-- the fields of a kind are plain
+kind-plain : (version : Version) (k : Kind) → All IsOrdinaryField (kind_fields version k)
+kind-plain First k = All-nil IsOrdinaryField
+kind-plain Second Get = one-plain (codes "get") (omega arith) (letters (codes "get") refl)
+kind-plain Second Purge = one-plain (codes "purge") (omega arith) (letters (codes "purge") refl)
+
+-- four numbers in their ranges and a kind
+row-written : (version : Version) (edges time edge object size : ℕ) (kind : Kind) (t e o s : List ℕ) → IsNumber t time → IsNumber e edge → IsNumber o object → IsNumber s size → (version ≡ First → kind ≡ Get)
+    → time ≤ latest_time → edge < edges → 1 ≤ size → size ≤ greatest_size
+    → WritesRow version edges (t ∷ e ∷ o ∷ s ∷ kind_fields version kind) (record { time = time; edge = edge; object = object; size = size; kind = kind })
+unfolding field_at
+row-written First edges time edge object size kind t e o s is-t is-e is-o is-s is early known some few =
+    record { width = refl; time = is-t; edge = is-e; object = is-o; size = is-s; kind = is refl; time_within = early; edge_within = known; size_above = some; size_within = few }
+row-written Second edges time edge object size kind t e o s is-t is-e is-o is-s is early known some few =
+    record { width = refl; time = is-t; edge = is-e; object = is-o; size = is-s; kind = refl; time_within = early; edge_within = known; size_above = some; size_within = few }
+
+-- the numbers and the kind of a row
+pub row-at : (version : Version) (edges : ℕ) (text : List ℕ) (from second third fourth fifth end next time edge object size : ℕ) (kind : Kind)
+    → IsNumberAndComma text from time second → IsNumberAndComma text second edge third → IsNumberAndComma text third object fourth → IsNumberAt text fourth size fifth
+    → IsKindAt version text fifth kind end → IsEndAt text end next
+    → time ≤ latest_time → edge < edges → 1 ≤ size → size ≤ greatest_size
+    → IsRowAt version edges text from (record { time = time; edge = edge; object = object; size = size; kind = kind }) next
+row-at version edges text from second third fourth fifth end next time edge object size kind t e o s k l early known some few =
+    let kinds = kind_fields version kind in
+    record {
+      field = t.field;
+      others = e.field ∷ o.field ∷ s.field ∷ kinds;
+      tail = drop end text;
+      parts =
+          t.parts
+          ∙ ap (λ r. t.field ++ (44 ∷ r)) (e.parts
+          ∙ ap (λ r. e.field ++ (44 ∷ r)) (o.parts
+          ∙ ap (λ r. o.field ++ (44 ∷ r)) (s.parts
+          ∙ ap (λ r. s.field ++ r) k.parts)));
+      plain = number-plain t.field time t.number;
+      plains =
+          All-cons IsOrdinaryField e.field (o.field ∷ s.field ∷ kinds) (number-plain e.field edge e.number)
+          (All-cons IsOrdinaryField o.field (s.field ∷ kinds) (number-plain o.field object o.number)
+          (All-cons IsOrdinaryField s.field kinds (number-plain s.field size s.number) (kind-plain version kind)));
+      ends = l.ends;
+      written = row-written version edges time edge object size kind t.field e.field o.field s.field t.number e.number o.number s.number k.first early known some few;
+      behind = omega (arith, t.behind, e.behind, o.behind, s.behind, k.behind, l.behind);
+      within = l.within;
+    }
+
+-- rows that were read, and what is left of the text
+pub record AreRead (version : Version) (edges : ℕ) (text : List ℕ) (from at : ℕ) (rows : List Row) : Type 0 where
+  pub body : List (List (List ℕ))
+  pub parts : records_at text from ≡ body ++ records_at text at
+  pub written : WriteRows version edges body rows
+
+pub none-read : (version : Version) (edges : ℕ) (text : List ℕ) (from : ℕ) → AreRead version edges text from from []
+none-read version edges text from = record { body = []; parts = refl; written = none-written version edges }
+
+pub one-read : (version : Version) (edges : ℕ) (text : List ℕ) (from at : ℕ) (rows : List Row) (row : Row) (next : ℕ) → AreRead version edges text from at rows → IsRowAt version edges text at row next
+    → AreRead version edges text from next (rows ++ row ∷ [])
+one-read version edges text from at rows row next h is =
+    let f = is.field ∷ is.others in
+    record {
+      body = h.body ++ f ∷ [];
+      parts = h.parts ∙ ap (λ rs. h.body ++ rs) (row-records version edges text at row next is) ∙ sym (append_assoc h.body (f ∷ []) (records_at text next));
+      written = write-more version edges h.body rows f row h.written is.written;
+    }
+
+-- no record is left at the end
+nothing-left : records_left default_config st.StartRecord (Some []) ≡ []
+unfolding next_record
+nothing-left = left-none default_config st.StartRecord [] refl
+
+pub all-read : (version : Version) (edges : ℕ) (text : List ℕ) (from at : ℕ) (rows : List Row) → AreRead version edges text from at rows → length text ≤ at → WriteRows version edges (records_at text from) rows
+all-read version edges text from at rows h ended =
+    let ends : records_at text at ≡ [] = ap (λ xs. records_left default_config st.StartRecord (Some xs)) (drop_all at text ended) ∙ nothing-left in
+    let all : records_at text from ≡ h.body = h.parts ∙ ap (λ rs. h.body ++ rs) ends ∙ append-nil h.body in
+    subst (λ rs. WriteRows version edges rs rows) (sym all) h.written
+
+-- the headers as lines, with each end
+abbrev names : List (List ℕ)
+names = codes "time" ∷ codes "edge" ∷ codes "object" ∷ codes "size" ∷ []
+
+abbrev kind_names : List (List ℕ)
+kind_names = names ++ codes "kind" ∷ []
+
+names-header : version_of names ≡ Some First
+unfolding version_of is_header is_text_at field_at
+names-header = refl
+
+kind_names-header : version_of kind_names ≡ Some Second
+unfolding version_of is_header is_text_at field_at
+kind_names-header = refl
+
+-- a header that a text starts with
+abbrev HeaderOf : Version → List ℕ → ℕ → Type 0
+HeaderOf version front at = (text : List ℕ) → starts_with nat_eq text front ≡ true → IsHeaderAt text version at
+
+pub header-feed : HeaderOf First (codes "time,edge,object,size\n") 22
+unfolding next_record strip_bom
+header-feed text h =
+    let front = codes "time,edge,object,size\n" in
+    record {
+      head = names;
+      parts = ap (λ xs. records_of xs) (front-of text front h) ∙ left-more default_config st.StartRecord (front ++ drop 22 text) (names, st.StartRecord, drop 22 text) refl;
+      is_header = names-header;
+    }
+
+pub header-return : HeaderOf First (codes "time,edge,object,size\r\n") 23
+unfolding next_record strip_bom
+header-return text h =
+    let front = codes "time,edge,object,size\r\n" in
+    record {
+      head = names;
+      parts = ap (λ xs. records_of xs) (front-of text front h) ∙ left-more default_config st.StartRecord (front ++ drop 23 text) (names, st.AfterCr, 10 ∷ drop 23 text) refl ∙ ap (λ rs. names ∷ rs) (after-return (drop 23 text));
+      is_header = names-header;
+    }
+
+pub kind_header-feed : HeaderOf Second (codes "time,edge,object,size,kind\n") 27
+unfolding next_record strip_bom
+kind_header-feed text h =
+    let front = codes "time,edge,object,size,kind\n" in
+    record {
+      head = kind_names;
+      parts = ap (λ xs. records_of xs) (front-of text front h) ∙ left-more default_config st.StartRecord (front ++ drop 27 text) (kind_names, st.StartRecord, drop 27 text) refl;
+      is_header = kind_names-header;
+    }
+
+pub kind_header-return : HeaderOf Second (codes "time,edge,object,size,kind\r\n") 28
+unfolding next_record strip_bom
+kind_header-return text h =
+    let front = codes "time,edge,object,size,kind\r\n" in
+    record {
+      head = kind_names;
+      parts = ap (λ xs. records_of xs) (front-of text front h) ∙ left-more default_config st.StartRecord (front ++ drop 28 text) (kind_names, st.AfterCr, 10 ∷ drop 28 text) refl ∙ ap (λ rs. kind_names ∷ rs) (after-return (drop 28 text));
+      is_header = kind_names-header;
+    }
 
 -- a text that does not begin as a byte order mark does
 pub records-bare : (text : List ℕ) → slice_get text 0 ≢ Some 0xEF → records_of text ≡ records_at text 0
@@ -339,9 +443,9 @@ small-fits value k small few =
     omega (arith, small, pow-le-pow_right some few)
 
 -- a number with which the first bytes from a place on begin
-pub number-near : (text : List ℕ) (from : ℕ) (near : List ℕ) (end n next : ℕ) → near ≡ take 18 (drop from text) → from ≤ length text → IsNumberAt near 0 end n next
-    → IsNumberAt text from end n (from + next)
-number-near text from near end n next is there h =
+pub number-near : (text : List ℕ) (from : ℕ) (near : List ℕ) (n next : ℕ) → near ≡ take 18 (drop from text) → from ≤ length text → IsNumberAt near 0 n next
+    → IsNumberAt text from n (from + next)
+number-near text from near n next is there h =
     let far = drop 18 (drop from text) in
     let whole : drop from text ≡ near ++ far = sym (take-append-drop 18 (drop from text)) ∙ ap (λ front. front ++ far) (sym is) in
     let rest : drop (from + next) text ≡ drop next near ++ far = sym (drop-drop next from text) ∙ ap (λ r. drop next r) whole ∙ drop-append-le next near far h.within in
@@ -352,8 +456,8 @@ number-near text from near end n next is there h =
       parts =
           whole
           ∙ ap (λ front. front ++ far) h.parts
-          ∙ append_assoc h.field (end ∷ drop next near) far
-          ∙ ap (λ r. h.field ++ (end ∷ r)) (sym rest);
+          ∙ append_assoc h.field (drop next near) far
+          ∙ ap (λ r. h.field ++ r) (sym rest);
       behind = omega (arith, h.behind);
       within = omega (arith, long, length-append near far, length-drop from text, h.within);
     }

@@ -6,7 +6,7 @@ ghost use Rattle.rw_trace.specs.Trace.{trace_of};
 ghost use Rattle.rw_trace.specs.Unread.{IsHeaded, records_of};
 ghost use Rattle.rw_trace.specs.declared.TraceFault.TheVariants.{Memory};
 
-use crate::plain::{behind_header, plain_text};
+use crate::plain::{header_line, plain_text};
 use crate::{MAX_ROWS, Row, TraceFault, Version, next_version, open_records, read, rows_left};
 use csv::ByteRecord;
 use memchr::{memchr, memrchr};
@@ -218,8 +218,8 @@ fn read_under(alloc: Global, headed: &[u8], bytes: &[u8], edges: u32) -> Option<
     ensures { IfSome result (λ v.
         AreRowsUnder edges (records_of headed.now) (records_of bytes.now) v.items) }
 {
-    if behind_header(headed).is_some()
-        && let Some(rows) = plain_text(alloc, bytes, edges, MAX_ROWS)
+    if let Some((version, _)) = header_line(headed)
+        && let Some(rows) = plain_text(alloc, bytes, version, edges, MAX_ROWS)
     {
         return Some(rows);
     }

@@ -1,119 +1,144 @@
-//! A scanner for plain lines: four numbers separated by commas, and a line feed, which may follow a carriage return and may be
-//! missing at the end of the text. Any other text is left to the reader of records.
+//! A scanner for plain lines: numbers and, in the second version, the word of a kind, separated by commas, and a line feed, which
+//! may follow a carriage return and may be missing at the end of the text. Any other text is left to the reader of records.
+//!
+//! Here `None` makes no claim: the line may be a row that is written in another way, or no row at all.
 ghost use Rattle.std.specs.Prelude.{IfSome, ◌≤◌, ◌+◌, length};
 ghost use Rattle.rw_trace.specs.Laws.{IsTrace, WriteRows};
-ghost use Rattle.rw_trace.specs.Lines.{IsHeaderAt, IsLastAt, IsNumberAt, IsRowAt, records_at};
+ghost use Rattle.rw_trace.specs.Lines.{IsEndAt, IsHeaderAt, IsKindAt, IsNumberAndComma, IsNumberAt, IsRowAt, records_at};
 ghost use Rattle.rw_trace.specs.Unread.{records_of};
-ghost use Rattle.rw_trace.specs.declared.Version.TheVariants.{First};
+ghost use Rattle.rw_trace.specs.declared.Version.TheVariants.{Second};
 
-use crate::{Kind, MAX_DIGITS, MAX_SIZE, MAX_TIME, Row, number};
+use crate::{Kind, MAX_DIGITS, MAX_SIZE, MAX_TIME, Row, Version};
 use std::alloc::Global;
 
 /// The greatest value behind which any digit may stand: the number is still below 2^64.
 const ROOM: u64 = 1_844_674_407_370_955_160;
 
-/// So many bytes are looked at first: so many digits are below 2^64.
+/// The length of the chunk that is tried first. As many digits are always below 2^64.
 const FEW: usize = 18;
 
-/// The number that stands at a place, in front of a byte, and the place behind that byte. `None` says nothing.
+/// The number at a place, and the place behind its last digit.
 #[inline(always)]
-fn number_before(bytes: &[u8], from: usize, end: u8) -> Option<(u64, usize)>
+fn number_at(bytes: &[u8], from: usize) -> Option<(u64, usize)>
     requires { from ≤ length bytes.now }
-    ensures { IfSome result (λ r. IsNumberAt bytes.now from end r.0 r.1) }
+    ensures { IfSome result (λ r. IsNumberAt bytes.now from r.0 r.1) }
 {
     if let Some(near) = bytes[from..].first_chunk::<FEW>()
-        && let Some((value, next)) = few_before(near, end)
+        && let Some((value, next)) = short_number(near)
     {
         return Some((value, from + next));
     }
-    long_number_before(bytes, from, end)
+    long_number_at(bytes, from)
 }
 
-/// The number with which a text of few bytes begins, in front of a byte, and the place behind that byte. `None` says nothing.
+/// The number at the start of a chunk that also has the byte behind it, and the place of that byte.
 #[inline(always)]
-fn few_before(bytes: &[u8; FEW], end: u8) -> Option<(u64, usize)>
-    ensures { IfSome result (λ r. IsNumberAt bytes.now 0 end r.0 r.1) }
+fn short_number(bytes: &[u8; FEW]) -> Option<(u64, usize)>
+    ensures { IfSome result (λ r. IsNumberAt bytes.now 0 r.0 r.1) }
 {
     let mut value: u64 = 0;
     for at in 0..FEW {
         let byte = bytes[at];
         if !byte.is_ascii_digit() {
-            return if byte == end && at > 0 {
-                Some((value, at + 1))
-            } else {
-                None
-            };
+            return if at > 0 { Some((value, at)) } else { None };
         }
         value = value * 10 + u64::from(byte - b'0');
     }
     None
 }
 
-/// The same, of a number of any length.
+/// [`number_at`] for a number of any length.
 #[inline(never)]
-fn long_number_before(bytes: &[u8], from: usize, end: u8) -> Option<(u64, usize)>
-    ensures { IfSome result (λ r. IsNumberAt bytes.now from end r.0 r.1) }
+fn long_number_at(bytes: &[u8], from: usize) -> Option<(u64, usize)>
+    requires { from ≤ length bytes.now }
+    ensures { IfSome result (λ r. IsNumberAt bytes.now from r.0 r.1) }
 {
     let mut value: u64 = 0;
-    for at in from..bytes.len() {
-        let byte = bytes[at];
-        if !byte.is_ascii_digit() {
-            if byte == end && at > from && at - from <= MAX_DIGITS {
-                return Some((value, at + 1));
-            }
-            return None;
-        }
+    let mut at = from;
+    while at < bytes.len() && bytes[at].is_ascii_digit() {
         if value > ROOM {
             return None;
         }
-        value = value * 10 + u64::from(byte - b'0');
+        value = value * 10 + u64::from(bytes[at] - b'0');
+        at += 1;
+    }
+    if at > from && at - from <= MAX_DIGITS {
+        Some((value, at))
+    } else {
+        None
+    }
+}
+
+/// The number at a place and the place behind the comma that follows it.
+#[inline(always)]
+fn number_and_comma(bytes: &[u8], from: usize) -> Option<(u64, usize)>
+    requires { from ≤ length bytes.now }
+    ensures { IfSome result (λ r. IsNumberAndComma bytes.now from r.0 r.1) }
+{
+    let (value, at) = number_at(bytes, from)?;
+    if bytes.get(at) == Some(&b',') {
+        Some((value, at + 1))
+    } else {
+        None
+    }
+}
+
+/// The kind behind the numbers of a row of a version, and the place behind it.
+#[inline(always)]
+fn kind_at(bytes: &[u8], from: usize, version: Version) -> Option<(Kind, usize)>
+    requires { from ≤ length bytes.now }
+    ensures { IfSome result (λ r. IsKindAt version bytes.now from r.0 r.1) }
+{
+    match version {
+        Version::First => Some((Kind::Get, from)),
+        Version::Second => word_at(bytes, from),
+    }
+}
+
+/// The kind whose word stands behind a comma at a place, and the place behind the word.
+fn word_at(bytes: &[u8], from: usize) -> Option<(Kind, usize)>
+    requires { from ≤ length bytes.now }
+    ensures { IfSome result (λ r. IsKindAt Second bytes.now from r.0 r.1) }
+{
+    let rest = &bytes[from..];
+    if rest.starts_with(b",get") {
+        Some((Kind::Get, from + 4))
+    } else if rest.starts_with(b",purge") {
+        Some((Kind::Purge, from + 6))
+    } else {
+        None
+    }
+}
+
+/// The place behind the end of line that stands at a place.
+#[inline(always)]
+fn line_end(bytes: &[u8], at: usize) -> Option<usize>
+    requires { at ≤ length bytes.now }
+    ensures { IfSome result (λ next. IsEndAt bytes.now at next) }
+{
+    if at >= bytes.len() {
+        return Some(at);
+    }
+    if bytes[at] == b'\n' {
+        return Some(at + 1);
+    }
+    if bytes[at..].starts_with(b"\r\n") {
+        return Some(at + 2);
     }
     None
 }
 
-/// The number that stands at a place, at the end of a line, and where the next line begins. `None` says nothing.
-#[inline(always)]
-fn last_number(bytes: &[u8], from: usize) -> Option<(u64, usize)>
-    requires { from ≤ length bytes.now }
-    ensures { IfSome result (λ r. IsLastAt bytes.now from r.0 r.1) }
-{
-    match number_before(bytes, from, b'\n') {
-        Some(read) => Some(read),
-        None => last_number_otherwise(bytes, from),
-    }
-}
-
-/// The same, where no line feed alone ends the line.
-#[inline(never)]
-fn last_number_otherwise(bytes: &[u8], from: usize) -> Option<(u64, usize)>
-    requires { from ≤ length bytes.now }
-    ensures { IfSome result (λ r. IsLastAt bytes.now from r.0 r.1) }
-{
-    match long_number_before(bytes, from, b'\r') {
-        Some((value, at)) if at < bytes.len() && bytes[at] == b'\n' => Some((value, at + 1)),
-        Some(_) => None,
-        None => number_at_end(bytes, from),
-    }
-}
-
-/// The number that stands at a place, at the end of the text, and where that is. `None` says nothing.
-fn number_at_end(bytes: &[u8], from: usize) -> Option<(u64, usize)>
-    requires { from ≤ length bytes.now }
-    ensures { IfSome result (λ r. IsLastAt bytes.now from r.0 r.1) }
-{
-    let value = number(&bytes[from..])?;
-    Some((value, bytes.len()))
-}
-
-/// The row that the line at a place writes, and where the next line begins. `None` says nothing.
-pub fn plain_row(bytes: &[u8], at: usize, edges: u32) -> Option<(Row, usize)>
+/// The row that the line at a place writes, and where the next line begins.
+pub fn plain_row(bytes: &[u8], at: usize, version: Version, edges: u32) -> Option<(Row, usize)>
     requires { at ≤ length bytes.now }
-    ensures { IfSome result (λ r. IsRowAt edges bytes.now at r.0 r.1) }
+    ensures { IfSome result (λ r. IsRowAt version edges bytes.now at r.0 r.1) }
 {
-    let (time, second) = number_before(bytes, at, b',')?;
-    let (edge, third) = number_before(bytes, second, b',')?;
-    let (object, fourth) = number_before(bytes, third, b',')?;
-    let (size, next) = last_number(bytes, fourth)?;
+    let (time, second) = number_and_comma(bytes, at)?;
+    let (edge, third) = number_and_comma(bytes, second)?;
+    let (object, fourth) = number_and_comma(bytes, third)?;
+    let (size, fifth) = number_at(bytes, fourth)?;
+    let (kind, end) = kind_at(bytes, fifth, version)?;
+    let next = line_end(bytes, end)?;
     if time > MAX_TIME || edge >= u64::from(edges) || size == 0 || size > MAX_SIZE {
         return None;
     }
@@ -122,21 +147,28 @@ pub fn plain_row(bytes: &[u8], at: usize, edges: u32) -> Option<(Row, usize)>
         object,
         size,
         edge: edge as u32,
-        kind: Kind::Get,
+        kind,
     };
     Some((row, next))
 }
 
-/// The rows of the lines from a place up to the end, at most so many. `None` where one is not plain, or memory is refused.
-fn plain_rows(alloc: Global, bytes: &[u8], from: usize, edges: u32, most: u64) -> Option<Vec<Row>>
+/// The rows of the lines from a place to the end of the text, at most `most`. `None` also where memory is refused.
+fn plain_rows(
+    alloc: Global,
+    bytes: &[u8],
+    from: usize,
+    version: Version,
+    edges: u32,
+    most: u64,
+) -> Option<Vec<Row>>
     ensures written { IfSome result (λ v.
-        WriteRows First edges (records_at bytes.now from) v.items) }
+        WriteRows version edges (records_at bytes.now from) v.items) }
     ensures few { IfSome result (λ v. length v.items ≤ most) }
 {
     let mut rows = Vec::new(alloc);
     let mut at = from;
     while at < bytes.len() {
-        let (row, next) = plain_row(bytes, at, edges)?;
+        let (row, next) = plain_row(bytes, at, version, edges)?;
         if rows.len() as u64 >= most {
             return None;
         }
@@ -146,34 +178,45 @@ fn plain_rows(alloc: Global, bytes: &[u8], from: usize, edges: u32, most: u64) -
     Some(rows)
 }
 
-/// Where the line behind the header of the first version begins, where a text begins with that header as a plain line.
-pub fn behind_header(bytes: &[u8]) -> Option<usize>
-    ensures { IfSome result (λ at. IsHeaderAt bytes.now at) }
+/// The version whose header, as a plain line, a text begins with, and where the next line begins.
+pub fn header_line(bytes: &[u8]) -> Option<(Version, usize)>
+    ensures { IfSome result (λ r. IsHeaderAt bytes.now r.0 r.1) }
 {
     if bytes.starts_with(b"time,edge,object,size\n") {
-        Some(22)
+        Some((Version::First, 22))
     } else if bytes.starts_with(b"time,edge,object,size\r\n") {
-        Some(23)
+        Some((Version::First, 23))
+    } else if bytes.starts_with(b"time,edge,object,size,kind\n") {
+        Some((Version::Second, 27))
+    } else if bytes.starts_with(b"time,edge,object,size,kind\r\n") {
+        Some((Version::Second, 28))
     } else {
         None
     }
 }
 
-/// The rows of a trace of the first version all of whose lines are plain. `None` where it is none, or memory is refused.
+/// The rows of a trace all of whose lines are plain, at most `most`. `None` also where memory is refused.
 pub fn plain_trace(alloc: Global, bytes: &[u8], edges: u32, most: u64) -> Option<Vec<Row>>
     ensures { IfSome result (λ v. IsTrace edges most (records_of bytes.now) v.items) }
 {
-    let from = behind_header(bytes)?;
-    plain_rows(alloc, bytes, from, edges, most)
+    let (version, from) = header_line(bytes)?;
+    plain_rows(alloc, bytes, from, version, edges, most)
 }
 
-/// The rows of a text without a header all of whose lines are plain. `None` where one is not, or memory is refused.
-pub fn plain_text(alloc: Global, bytes: &[u8], edges: u32, most: u64) -> Option<Vec<Row>>
-    ensures written { IfSome result (λ v. WriteRows First edges (records_of bytes.now) v.items) }
+/// The rows of a text without a header all of whose lines are plain, at most `most`. `None` also where memory is refused.
+pub fn plain_text(
+    alloc: Global,
+    bytes: &[u8],
+    version: Version,
+    edges: u32,
+    most: u64,
+) -> Option<Vec<Row>>
+    ensures written { IfSome result (λ v.
+        WriteRows version edges (records_of bytes.now) v.items) }
     ensures few { IfSome result (λ v. length v.items ≤ most) }
 {
     if bytes.first() == Some(&0xEF) {
         return None;
     }
-    plain_rows(alloc, bytes, 0, edges, most)
+    plain_rows(alloc, bytes, 0, version, edges, most)
 }

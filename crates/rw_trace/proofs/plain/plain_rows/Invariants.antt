@@ -4,7 +4,7 @@ use Rattle.rw_trace.proofs.plain.plain_rows.Given as goal
 
 abbrev pub invariant-loop-at : goal.invariant-loop-at
 invariant-loop-at l = record {
-  read : AreRead l.edges l.fn.bytes l.fn.from l.at l.rows.items;
+  read : AreRead l.version l.edges l.fn.bytes l.fn.from l.at l.rows.items;
   few : length l.rows.items ≤ l.most;
 }
 

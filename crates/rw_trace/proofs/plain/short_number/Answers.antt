@@ -1,7 +1,7 @@
 -- The digits so far have the value so far, and few digits have a small one.
 use Rattle.std.proofs.Common.{◌∙◌, ◌+◌, ◌*◌, ◌≤◌, ◌<◌, refl, sym, subst, arith, get_or, length, rules}
 use Rattle.rw_trace.proofs.Lines.{AreDigits, digit-low, no-digits, number-at, one-digit, small-fits, small-more}
-use Rattle.rw_trace.proofs.plain.few_before.Goals as goal
+use Rattle.rw_trace.proofs.plain.short_number.Goals as goal
 
 pub loop-at-init : goal.loop-at-init
 loop-at-init c = record { small = omega arith; digits = no-digits c.args.bytes.now 0 }
@@ -10,7 +10,7 @@ pub returns-then-at-gt0 : goal.returns-then-at-gt0
 returns-then-at-gt0 c =
     let within : c.loop-at.at < length c.args.bytes.now = search rules in
     let small = small-fits c.loop-at.value c.loop-at.at c.loop-at.invariant.small (omega (arith, c.loop-at-test.true)) in
-    number-at c.args.bytes.now 0 c.loop-at.at c.loop-at.value c.args.end c.loop-at.invariant.digits within c.if-byte-end.true (omega (arith, c.if-at-gt0.true)) (omega (arith, c.loop-at-test.true)) (omega (arith, small))
+    number-at c.args.bytes.now 0 c.loop-at.at c.loop-at.value c.loop-at.invariant.digits (omega (arith, within)) (omega (arith, c.if-at-gt0.true)) (omega (arith, c.loop-at-test.true)) (omega (arith, small))
 
 pub overflow_mul-value : goal.overflow_mul-value
 overflow_mul-value c =
