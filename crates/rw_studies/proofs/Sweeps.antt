@@ -1,5 +1,5 @@
 -- What a sweep leaves behind that fails.
-use Rattle.std.proofs.Common.{◌≡◌, Result, Ok, Err, refl, sym, subst, inl, inr}
+use Rattle.std.proofs.Common.{◌≡◌, Result, refl, inl, inr}
 use Rattle.std.specs.Prelude.{◌≢◌, ◌⊎◌, IfErr, IsErrAnd, Option}
 use Rattle.rw_trace.specs.Words.{Text}
 use Rattle.rw_trace.specs.declared.TraceFault.{TraceFault}
@@ -16,7 +16,7 @@ use Rattle.rw_sweep.specs.Parts.{HasSweptPartFirst, IsPartSweepFault}
 use Rattle.rw_sweep.specs.Sweep.{HasSweptFirst, IsSweepFault}
 use Rattle.rw_studies.specs.declared.fault.Fault.{Fault}
 use Rattle.rw_studies.specs.declared.fault.Fault.TheVariants as fault
-use Rattle.rw_studies.specs.Left.{HasSweptSome, LeavesLines}
+use Rattle.rw_studies.specs.Left.{LeavesLines}
 use Rattle.rw_studies.specs.Status.{status_of_fault}
 
 -- nothing, or the lines that a sweep has written: so many as have this status

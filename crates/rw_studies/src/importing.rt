@@ -1,13 +1,14 @@
 // From a log to a trace.
-ghost use Rattle.std.specs.Prelude.{◌≢◌, IfErr};
+ghost use Rattle.std.specs.Prelude.{◌≡◌, ◌≢◌, ◌↔◌, ◌⊎◌, IfErr, IsErrAnd};
+ghost use Rattle.rw_studies.specs.Left.{LeavesNoTrace};
 ghost use Rattle.rw_studies.specs.Status.{status_of_fault};
 
 use crate::fault::Fault;
 use clap::ArgMatches;
 use rw_console::{CommandFault, Out, Source, read, write, write_line};
 use rw_import::{
-    Column, Counts, Dealing, Layout, LeftOut, Options, Streaming, import_csv, import_oracle,
-    stream_csv, stream_oracle, time_of,
+    Column, Counts, Dealing, ImportFault, Imported, Layout, LeftOut, Options, Streaming,
+    import_csv, import_oracle, stream_csv, stream_oracle, time_of,
 };
 use rw_progress::{Line, Measure, Progress};
 use std::alloc::Global;
@@ -19,8 +20,9 @@ use std::time::Clock;
 ///
 /// # Errors
 ///
-/// What the source answers, an [`ImportFault`](rw_import::ImportFault), a delimiter or an epoch that is none, `Output` and `Memory`;
-/// and [`CommandFault::Plan`] where an option is missing or out of its range, which the command line rules out.
+/// What the source answers, an [`ImportFault`](rw_import::ImportFault), a delimiter or an epoch that is none, and `Memory`; and
+/// [`CommandFault::Plan`] where an option is missing or out of its range, which the command line rules out. Nothing was written
+/// then, or, where the log is refused as it is read, a text that is no trace. `Output` exactly where the writer failed.
 pub fn import<S: Source, W: Write, E: Write, C: Clock>(
     clock: &C,
     alloc: Global,
@@ -29,23 +31,45 @@ pub fn import<S: Source, W: Write, E: Write, C: Clock>(
     out: &mut Out<W>,
     err: &mut E,
     terminal: bool,
-) -> Result<(), Fault> {
+) -> Result<(), Fault>
+    ensures output { IsErrAnd result (λ e. status_of_fault e ≡ 8)
+        ↔ (out.new.failures ≢ out.old.failures) }
+    ensures nothing { IfErr result (λ e. status_of_fault e ≢ 8 → (out.new ≡ out.old)
+        ⊎ LeavesNoTrace (status_of_fault e)
+        (W.contents out.old.writer) (W.contents out.new.writer)) }
+{
     let shown = terminal && !options.get_flag("quiet");
-    let is_streamed = options.get_flag("stream");
-    let measure = if is_streamed {
+    let measure = if options.get_flag("stream") {
         Measure::BytesSoFar
     } else {
         Measure::Bytes
     };
     let mut line = Line::new(err, clock, "import", measure, shown);
-    let counts = if is_streamed {
-        streamed(alloc, options, source, &mut line, out)
-    } else {
-        imported(alloc, options, source, &mut line, out)
-    };
+    let counts = counted(alloc, options, source, &mut line, out);
     drop(line);
     tell("import", counts?, err);
     Ok(())
+}
+
+/// Writes the trace of the log that the options name, and counts its rows.
+fn counted<S: Source, W: Write, P: Progress>(
+    alloc: Global,
+    options: &ArgMatches<'_>,
+    source: &mut S,
+    progress: &mut P,
+    out: &mut Out<W>,
+) -> Result<Counts, Fault>
+    ensures output { IsErrAnd result (λ e. status_of_fault e ≡ 8)
+        ↔ (out.new.failures ≢ out.old.failures) }
+    ensures nothing { IfErr result (λ e. status_of_fault e ≢ 8 → (out.new ≡ out.old)
+        ⊎ LeavesNoTrace (status_of_fault e)
+        (W.contents out.old.writer) (W.contents out.new.writer)) }
+{
+    if options.get_flag("stream") {
+        streamed(alloc, options, source, progress, out)
+    } else {
+        imported(alloc, options, source, progress, out)
+    }
 }
 
 /// Reads the log that the options name, and then writes its trace.
@@ -55,7 +79,11 @@ fn imported<S: Source, W: Write, P: Progress>(
     source: &mut S,
     progress: &mut P,
     out: &mut Out<W>,
-) -> Result<Counts, Fault> {
+) -> Result<Counts, Fault>
+    ensures output { IsErrAnd result (λ e. status_of_fault e ≡ 8)
+        ↔ (out.new.failures ≢ out.old.failures) }
+    ensures nothing { IfErr result (λ e. status_of_fault e ≢ 8 → out.new ≡ out.old) }
+{
     if options.get_str("epoch").is_some() {
         return Err(Fault::OnlyWith {
             option: "epoch",
@@ -65,17 +93,30 @@ fn imported<S: Source, W: Write, P: Progress>(
     let reading = reading(options).ok_or(CommandFault::Plan)?;
     let layout = layout(alloc, options)?;
     let log = read(alloc, options, "log", source)?;
-    let imported = match options.get_str("from") {
-        Some("oracle-general") => import_oracle(alloc, log.as_slice(), &reading, progress),
-        _ => import_csv(alloc, log.as_slice(), &layout, &reading, progress),
-    };
-    let imported = imported?;
+    let imported = trace_of(alloc, options, log.as_slice(), &layout, &reading, progress)?;
     progress.about_to_write();
     write(imported.text.as_slice(), out)?;
     Ok(Counts {
         kept: imported.kept,
         left_out: imported.left_out,
     })
+}
+
+/// The trace of a log.
+fn trace_of<P: Progress>(
+    alloc: Global,
+    options: &ArgMatches<'_>,
+    log: &[u8],
+    layout: &Layout,
+    reading: &Options,
+    progress: &mut P,
+) -> Result<Imported, ImportFault>
+    ensures unwritten { IfErr result (λ e. e ≢ ImportFault.Output) }
+{
+    match options.get_str("from") {
+        Some("oracle-general") => import_oracle(alloc, log, reading, progress),
+        _ => import_csv(alloc, log, layout, reading, progress),
+    }
 }
 
 /// Writes the trace of the log that the options name as it reads the log.
@@ -85,7 +126,13 @@ fn streamed<S: Source, W: Write, P: Progress>(
     source: &mut S,
     progress: &mut P,
     out: &mut Out<W>,
-) -> Result<Counts, Fault> {
+) -> Result<Counts, Fault>
+    ensures output { IsErrAnd result (λ e. status_of_fault e ≡ 8)
+        ↔ (out.new.failures ≢ out.old.failures) }
+    ensures nothing { IfErr result (λ e. status_of_fault e ≢ 8 → (out.new ≡ out.old)
+        ⊎ LeavesNoTrace (status_of_fault e)
+        (W.contents out.old.writer) (W.contents out.new.writer)) }
+{
     let streaming = Streaming {
         options: reading(options).ok_or(CommandFault::Plan)?,
         epoch: epoch(options)?,
@@ -94,11 +141,10 @@ fn streamed<S: Source, W: Write, P: Progress>(
     let path = options.get_str("log").ok_or(CommandFault::Plan)?;
     let log = source.open(path)?;
     progress.begin(0, u64::MAX);
-    let counts = match options.get_str("from") {
-        Some("oracle-general") => stream_oracle(alloc, log, &streaming, progress, out),
-        _ => stream_csv(alloc, log, &layout, &streaming, progress, out),
-    };
-    Ok(counts?)
+    match options.get_str("from") {
+        Some("oracle-general") => Ok(stream_oracle(alloc, log, &streaming, progress, out)?),
+        _ => Ok(stream_csv(alloc, log, &layout, &streaming, progress, out)?),
+    }
 }
 
 /// The log time that is tick 0, in billionths of its unit, where the options name one.

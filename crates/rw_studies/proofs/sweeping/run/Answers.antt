@@ -1,4 +1,3 @@
-use Rattle.std.proofs.Common.{◌≡◌}
 use Rattle.rw_studies.proofs.Sweeps.{handed-left, left-over-time}
 use Rattle.rw_studies.proofs.sweeping.run.Goals as goal
 

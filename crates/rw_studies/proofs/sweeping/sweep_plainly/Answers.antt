@@ -1,4 +1,3 @@
-use Rattle.std.proofs.Common.{◌≡◌}
 use Rattle.rw_studies.proofs.Sweeps.{handed-left, left-by-part, left-by-sweep}
 use Rattle.rw_studies.proofs.sweeping.sweep_plainly.Goals as goal
 
