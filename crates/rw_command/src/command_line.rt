@@ -1,3 +1,9 @@
+// From the words of the command line to output and an exit status.
+ghost use Rattle.std.specs.Prelude.{◌≡◌, ◌≢◌, ◌↔◌, ◌⊎◌, IfErr, IfSome, IsErrAnd};
+ghost use Rattle.rw_console.specs.Status.{IsStatus};
+ghost use Rattle.rw_studies.specs.Left.{LeavesSome};
+ghost use Rattle.rw_studies.specs.Status.{status_of_fault};
+
 use clap::ArgMatches;
 use rw_console::{CommandFault, Out, Source, answer, read, write_line};
 use rw_options::program;
@@ -17,6 +23,9 @@ use std::time::Clock;
 /// does, once the report of a run in rounds is written, what its rounds did, and once a log is imported, what was left out
 /// of it. Where `err` fails it is ignored, and nothing is tried again.
 ///
+/// The status is 8 exactly where `out` failed. With any other status but 0 nothing went out there, with two exceptions: a sweep may
+/// have written whole lines, and `import --stream` a text that is no trace.
+///
 /// | Status | Meaning |
 /// |---|---|
 /// | 0 | done, also after help |
@@ -34,7 +43,12 @@ pub fn command<S: Source, W: Write, E: Write, R: Threads + Wait + Clock + Sync>(
     source: &mut S,
     out: &mut Out<W>,
     err: &mut E,
-) -> u8 {
+) -> u8
+    ensures status { IsStatus result }
+    ensures output { (result ≡ 8) ↔ (out.new.failures ≢ out.old.failures) }
+    ensures nothing { result ≢ 0 → result ≢ 8 → (out.new ≡ out.old)
+        ⊎ LeavesSome result (W.contents out.old.writer) (W.contents out.new.writer) }
+{
     command_at(rt, alloc, words, source, out, err, false)
 }
 
@@ -48,7 +62,12 @@ pub fn command_at<S: Source, W: Write, E: Write, R: Threads + Wait + Clock + Syn
     out: &mut Out<W>,
     err: &mut E,
     terminal: bool,
-) -> u8 {
+) -> u8
+    ensures status { IsStatus result }
+    ensures output { (result ≡ 8) ↔ (out.new.failures ≢ out.old.failures) }
+    ensures nothing { result ≢ 0 → result ≢ 8 → (out.new ≡ out.old)
+        ⊎ LeavesSome result (W.contents out.old.writer) (W.contents out.new.writer) }
+{
     match attempt(rt, alloc, words.as_slice(), source, out, err, terminal) {
         Ok(()) => 0,
         Err(fault) => {
@@ -67,7 +86,13 @@ fn attempt<S: Source, W: Write, E: Write, R: Threads + Wait + Clock + Sync>(
     out: &mut Out<W>,
     err: &mut E,
     terminal: bool,
-) -> Result<(), Fault> {
+) -> Result<(), Fault>
+    ensures output { IsErrAnd result (λ e. status_of_fault e ≡ 8)
+        ↔ (out.new.failures ≢ out.old.failures) }
+    ensures nothing { IfErr result (λ e. status_of_fault e ≢ 8 → (out.new ≡ out.old)
+        ⊎ LeavesSome (status_of_fault e)
+        (W.contents out.old.writer) (W.contents out.new.writer)) }
+{
     if let Some(fault) = not_taken(words) {
         return Err(fault);
     }
@@ -79,7 +104,9 @@ fn attempt<S: Source, W: Write, E: Write, R: Threads + Wait + Clock + Sync>(
 }
 
 /// Why the words are refused that give `warp` or `journal` an option of runs in order of time on one thread, if they do.
-fn not_taken(words: &[String]) -> Option<Fault> {
+fn not_taken(words: &[String]) -> Option<Fault>
+    ensures unwritten { IfSome result (λ f. status_of_fault f ≢ 8) }
+{
     let command = match words.get(1)?.as_str() {
         "warp" => "warp",
         "journal" => "journal",
@@ -105,7 +132,13 @@ fn carry_out<S: Source, W: Write, E: Write, R: Threads + Wait + Clock + Sync>(
     out: &mut Out<W>,
     err: &mut E,
     terminal: bool,
-) -> Result<(), Fault> {
+) -> Result<(), Fault>
+    ensures output { IsErrAnd result (λ e. status_of_fault e ≡ 8)
+        ↔ (out.new.failures ≢ out.old.failures) }
+    ensures nothing { IfErr result (λ e. status_of_fault e ≢ 8 → (out.new ≡ out.old)
+        ⊎ LeavesSome (status_of_fault e)
+        (W.contents out.old.writer) (W.contents out.new.writer)) }
+{
     let Some((name, options)) = matches.subcommand() else {
         return Err(CommandFault::Plan.into());
     };
@@ -129,7 +162,11 @@ fn simulation<S: Source, W: Write, E: Write, R: Threads + Wait + Clock + Sync>(
     out: &mut Out<W>,
     err: &mut E,
     terminal: bool,
-) -> Result<(), Fault> {
+) -> Result<(), Fault>
+    ensures output { IsErrAnd result (λ e. status_of_fault e ≡ 8)
+        ↔ (out.new.failures ≢ out.old.failures) }
+    ensures nothing { IfErr result (λ e. status_of_fault e ≢ 8 → out.new ≡ out.old) }
+{
     let mode = mode(alloc, name, options)?;
     let is_warp = matches!(mode, Mode::Warp(_));
     let is_journal = matches!(mode, Mode::Journal(_));
@@ -144,7 +181,9 @@ fn simulation<S: Source, W: Write, E: Write, R: Threads + Wait + Clock + Sync>(
 }
 
 /// How the command of this name runs a trace under these options.
-fn mode(alloc: Global, name: &str, options: &ArgMatches<'_>) -> Result<Mode, Fault> {
+fn mode(alloc: Global, name: &str, options: &ArgMatches<'_>) -> Result<Mode, Fault>
+    ensures unwritten { IfErr result (λ e. status_of_fault e ≢ 8) }
+{
     match name {
         "warp" => Ok(Mode::Warp(plan(options).ok_or(CommandFault::Plan)?)),
         "journal" => {
@@ -177,7 +216,11 @@ fn run<S: Source, P: Progress, W: Write, R: Threads + Wait + Sync>(
     source: &mut S,
     progress: &mut P,
     out: &mut Out<W>,
-) -> Result<Traffic, Fault> {
+) -> Result<Traffic, Fault>
+    ensures output { IsErrAnd result (λ e. status_of_fault e ≡ 8)
+        ↔ (out.new.failures ≢ out.old.failures) }
+    ensures nothing { IfErr result (λ e. status_of_fault e ≢ 8 → out.new ≡ out.old) }
+{
     let config = config(options).ok_or(CommandFault::Plan)?;
     let bytes = read(alloc, options, "trace", source)?;
     let traffic = simulate_and_tell(rt, alloc, bytes.as_slice(), &config, mode, progress, out)?;
