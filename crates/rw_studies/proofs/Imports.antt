@@ -15,7 +15,7 @@ use Rattle.rw_import.specs.declared.layout.Layout.{Layout}
 use Rattle.rw_import.specs.declared.layout.Places.{Places}
 use Rattle.rw_import.specs.declared.options.Options.{Options}
 
--- an answer has no fault of the writer
+-- an answer is not the fault of the writer
 abbrev IsQuiet : {T : Type 0} → Result T ImportFault → Type 0
 IsQuiet r = IfErr r (λ e. e ≢ log.Output)
 
@@ -53,16 +53,17 @@ places_under-quiet : (l : Layout) (records : List Fields) → IsQuiet (places_un
 places_under-quiet l [] = λ is. cc
 places_under-quiet l (header ∷ rows) = places_in-quiet header l
 
--- columns are not found for the header, and not for the writer
+-- columns are never missing because of the writer
 pub columns-quiet : (l : Layout) (records : List Fields) → IfErr (columns_found l records) (λ e. e ≢ log.Output)
 unfolding columns_found
 columns-quiet l records = if-quiet (has_header l) (places_under l records) (places_in [] l) (places_under-quiet l records) (places_in-quiet [] l)
 
--- and rows are not refused for the writer
+-- and rows are never refused because of it
 pub rows-quiet : {O : Type 0} (o : Options) (said : List (Saying O)) (e : ImportFault) → (e ≢ log.Memory → IsRowsFault o said e) → e ≢ log.Output
 rows-quiet o said log.Output why = absurd (why (λ is. cc))
 rows-quiet o said e why = λ is. cc
 
+-- and so no log of fields is
 pub csv-quiet : (o : Options) (told : List (Saying Text)) (found : Result Places ImportFault) (e : ImportFault) → IfErr found (λ f. f ≢ log.Output) → (e ≢ log.Memory → IsCsvFault o told found e) → e ≢ log.Output
 csv-quiet o told (Ok p) e quiet why = rows-quiet o told e why
 csv-quiet o told (Err f) log.Output quiet why = λ _. quiet (sym (why (λ is. cc)))
