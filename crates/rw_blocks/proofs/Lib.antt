@@ -8,7 +8,6 @@ pub mod Greater
 pub mod Sums
 pub mod Starts
 pub mod Tails
-pub mod Firsts
 -- that each primitive leaves a loose queue
 pub mod Kept
 pub mod Grown

@@ -27,7 +27,7 @@ use Rattle.std.proofs.lemmas.Option.{slice_get-get_or}
 use Rattle.rw_blocks.proofs.Moved.{left_out, count-after_take_out}
 use Rattle.rw_blocks.proofs.Grown.{at_block, count_in-cons}
 use Rattle.rw_blocks.specs.Primitives.{after_take_out}
-use Rattle.rw_places.proofs.Filed.{by_test}
+use Rattle.rw_places.proofs.Entries.{by_test}
 use Rattle.rw_sections.proofs.Tagged.{insert_old, remove_old, before_insert, after_insert, low, high}
 use Rattle.rw_blocks.proofs.Weighed.{bytes_where-same, bytes_where-two}
 use Rattle.rw_blocks.proofs.Present.{any-count, times, has-times, absent-none, all-places, times-joining, gone-times, Joins-once, Parts-once}

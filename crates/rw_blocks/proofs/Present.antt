@@ -19,7 +19,7 @@ use Rattle.rw_blocks.proofs.Kept.{of_row}
 use Rattle.std.proofs.lemmas.List.{get_or_default}
 use Rattle.rw_blocks.proofs.Grown.{count_in-cons, one}
 use Rattle.rw_blocks.proofs.Moved.{left_out, count_in-section_joining}
-use Rattle.rw_places.proofs.Filed.{by_test}
+use Rattle.rw_places.proofs.Entries.{by_test}
 
 pub any-count : {X : Type 0} (p : X → Bool) (xs : List X) → list_any p xs ≡ nat_lt 0 (count_by p xs)
 any-count p [] = refl

@@ -1,8 +1,10 @@
 -- Sums over the rows that a test keeps.
 use Rattle.std.proofs.Common.{◌≡◌, ℕ, ◌+◌, ◌≤◌, ◌<◌, List, [], ◌∷◌, refl, sym, ap, ◌∙◌, arith, Bool, true, false, cond, nat_eq, ◌*◌, ◌^◌, drop, length, get_or, length-drop}
 use Rattle.std.specs.Prelude.{sum_by, filter}
-use Rattle.std.specs.Map.{values_of}
+use Rattle.std.specs.Map.{values_of, keys_of}
 use Rattle.std.proofs.lemmas.List.Sums.{sum_by-cons, sum_by-le}
+use Rattle.rw_places.specs.declared.Place.{Place}
+use Rattle.rw_places.specs.Index.{objects_of}
 use Rattle.rw_sections.specs.declared.Kind.TheVariants.{Device, Virtual}
 use Rattle.rw_sections.specs.Sections.{SectionState, has_block}
 use Rattle.rw_blocks.specs.State.{QueueState}
@@ -44,3 +46,12 @@ below-fits q i loose =
     omega (arith, each, length-drop (i + 1) q.sections, loose.few_sections, loose.shaped.1)
 
 pub ruleset bytes_bound = (bytes_in-le-total)
+
+-- ---- a block has as many objects as rows
+pub objects-rows : (key : Place → ℕ) (b : ℕ) (rows : List (ℕ × Place)) → length (objects_of key b rows) ≡ length (filter (λ r. nat_eq (key r) b) (values_of rows))
+objects-rows key b [] = refl
+objects-rows key b (e ∷ es) =
+    elim (nat_eq (key e.1) b) as (λ t. length (keys_of (cond t (e ∷ filter (λ x. nat_eq (key x.1) b) es) (filter (λ x. nat_eq (key x.1) b) es))) ≡ length (cond t (e.1 ∷ filter (λ r. nat_eq (key r) b) (values_of es)) (filter (λ r. nat_eq (key r) b) (values_of es)))) [
+      | true ↦ omega (arith, objects-rows key b es)
+      | false ↦ objects-rows key b es
+    ]

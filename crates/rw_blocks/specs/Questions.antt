@@ -1,19 +1,15 @@
 -- What the questions answer, beside the sums.
-use Rattle.std.specs.Prelude.{◌≡◌, ◌+◌, ◌<◌, List, [], ◌∷◌, Option, Some, None, length, find, position, nat_eq}
-use Rattle.std.specs.Option.{option_map}
-use Rattle.rw_numbers.specs.Words.{Object, Position, Section, Serial, Size}
+use Rattle.std.specs.Prelude.{◌≡◌, ◌+◌, ◌<◌, Bool, not, List, [], ◌∷◌, Option, Some, None, length, position, nat_eq}
+use Rattle.rw_numbers.specs.Words.{Position, Section, Serial, Size}
 use Rattle.rw_sections.specs.declared.Kind.{Kind}
 use Rattle.rw_sections.specs.Sections.{SectionState, active_of, has_block, NoneSealedBehind}
 use Rattle.rw_blocks.specs.State.{QueueState, section_at}
-use Rattle.rw_blocks.specs.Sums.{bytes_held}
+use Rattle.rw_blocks.specs.Sums.{bytes_held, rows_placed}
 use Rattle.rw_blocks.specs.Loose.{count}
 
--- the least object whose home, or whose place, the block is
-abbrev pub first_home : QueueState → Serial → Option Object
-first_home q b = option_map (λ e. e.0) (find (λ e. nat_eq e.1.home b) q.rows)
-
-abbrev pub first_place : QueueState → Serial → Option Object
-first_place q b = option_map (λ e. e.0) (find (λ e. nat_eq e.1.place b) q.rows)
+-- whether any row's place is the block
+abbrev pub is_placed : QueueState → Serial → Bool
+is_placed q b = not (nat_eq (length (rows_placed q b)) 0)
 
 -- the section that has the block, active or sealed
 abbrev pub section_of : QueueState → Serial → Option Section

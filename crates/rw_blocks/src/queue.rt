@@ -9,8 +9,9 @@ ghost use Rattle.rw_sections.specs.Changes.{joined_at, parted_at};
 ghost use Rattle.rw_blocks.specs.Primitives.{after_remove, with_row};
 ghost use Rattle.rw_blocks.specs.Undo.{IsJoined};
 ghost use Rattle.rw_sections.specs.Tags.{IsOnlyIn};
+ghost use Rattle.rw_places.specs.Index.{objects_of, home_of, place_of};
 ghost use Rattle.rw_blocks.specs.Weights.{weight_from, with_sections, CanHave};
-ghost use Rattle.rw_blocks.specs.Questions.{first_home, first_place, section_of, last_block, IsLastSealed, IsHeldOfKind, IsHeldWhereActive};
+ghost use Rattle.rw_blocks.specs.Questions.{is_placed, section_of, last_block, IsLastSealed, IsHeldOfKind, IsHeldWhereActive};
 
 use crate::{Kind, Place, Seam, Shape, Vanished};
 use rw_places::Rows;
@@ -29,7 +30,8 @@ use std::marker::Model;
 /// than its shape allows. Each primitive takes a loose queue and leaves a loose one.
 ///
 /// Sections and positions count from 0, sections from the head and positions from the front of a sealed list. After
-/// `NoMemory` nothing is said of the queue: it is only dropped. Its questions, which change nothing, take no memory.
+/// `NoMemory` nothing is said of the queue: it is only dropped. Its questions change nothing, and take no memory, but
+/// for those that answer with a list.
 pub struct Queue {
     pub(crate) shape: Shape,
     pub(crate) sections: Sections,
@@ -94,7 +96,7 @@ impl Queue {
     }
 }
 
-/// Questions. None takes memory.
+/// Questions. Only those that answer with a list take memory.
 impl Queue {
     /// The shape: how many sections there may be, the bytes of a block, and how many device blocks may be sealed.
     pub fn shape(&self) -> (u64, u64, u64)
@@ -200,20 +202,35 @@ impl Queue {
         self.rows.get(object)
     }
 
-    /// The least object whose home is the serial, `None` exactly where there is none.
-    pub fn first_home(&self, serial: u64) -> Option<u64>
-        ensures first { result ≡ first_home self.now serial }
-        ensures none { IsNone result ↔ (rows_homed self.now serial ≡ []) }
+    /// The objects whose home is the block with the serial, in rising order.
+    ///
+    /// # Errors
+    ///
+    /// [`NoMemory`] where memory was refused.
+    pub fn homed(&self, serial: u64) -> Result<Vec<u64>, NoMemory>
+        ensures { IfOk result (λ objects.
+            objects.items ≡ objects_of home_of serial self.now.rows) }
     {
-        self.rows.first_home(serial)
+        Ok(self.rows.homed(serial)?)
     }
 
-    /// The least object whose place is the serial, `None` exactly where there is none.
-    pub fn first_place(&self, serial: u64) -> Option<u64>
-        ensures first { result ≡ first_place self.now serial }
-        ensures none { IsNone result ↔ (rows_placed self.now serial ≡ []) }
+    /// The objects whose place is the block with the serial, in rising order.
+    ///
+    /// # Errors
+    ///
+    /// [`NoMemory`] where memory was refused.
+    pub fn placed(&self, serial: u64) -> Result<Vec<u64>, NoMemory>
+        ensures { IfOk result (λ objects.
+            objects.items ≡ objects_of place_of serial self.now.rows) }
     {
-        self.rows.first_place(serial)
+        Ok(self.rows.placed(serial)?)
+    }
+
+    /// Whether any row's place is the block with the serial.
+    pub fn is_placed(&self, serial: u64) -> bool
+        ensures { result ≡ is_placed self.now serial }
+    {
+        self.rows.is_placed(serial)
     }
 
     /// The bytes of all rows.
@@ -301,6 +318,7 @@ impl Queue {
     ) -> Result<(), NoMemory>
         requires there { section < length self.old.sections }
         requires new { row_at self.old object ≡ None }
+        requires sized { 1 ≤ row.size }
         requires room { total self.old + row.size < 2 ^ 64 }
         requires here { has_block row.place (section_at self.old section) ≡ true }
         requires only { IsOnlyIn section row.place self.old.sections }

@@ -1,10 +1,13 @@
 -- A block that is no row's home and no row's place is free.
 use Rattle.std.proofs.Common.{◌≡◌, ℕ, ◌<◌, List, [], ◌∷◌, refl, arith, Bool, true, false, cond, nat_eq, get_or, length, zero, suc}
-use Rattle.std.proofs.lemmas.Bool.{eq-eqb}
-use Rattle.std.specs.Prelude.{filter, All}
-use Rattle.std.specs.Map.{values_of}
+use Rattle.std.proofs.lemmas.Bool.{eq-eqb, eqb-true}
+use Rattle.std.proofs.lemmas.List.{nil_from_length}
+use Rattle.std.specs.Prelude.{filter, All, not}
+use Rattle.std.specs.Map.{values_of, keys_of}
 use Rattle.rw_places.specs.declared.Place.{Place}
+use Rattle.rw_places.specs.Index.{objects_of}
 use Rattle.rw_blocks.specs.State.{QueueState}
+use Rattle.rw_blocks.specs.Questions.{is_placed}
 use Rattle.rw_blocks.specs.Sums.{rows_homed, rows_placed}
 use Rattle.rw_blocks.specs.Loose.{IsFree}
 
@@ -31,4 +34,20 @@ IsFree-none q b homes places =
     let r : Place = get_or (values_of q.rows) k d in
     (not_equal r.home b (none_pass (λ r. nat_eq r.home b) (values_of q.rows) homes k d lt), not_equal r.place b (none_pass (λ r. nat_eq r.place b) (values_of q.rows) places k d lt))
 
-pub ruleset free_laws = (IsFree-none)
+-- a block without objects has no row
+pub no_rows : (key : Place → ℕ) (b : ℕ) (rows : List (ℕ × Place)) → objects_of key b rows ≡ [] → filter (λ r. nat_eq (key r) b) (values_of rows) ≡ []
+no_rows key b [] none = refl
+no_rows key b (e ∷ es) none = go (nat_eq (key e.1) b) none (no_rows key b es)
+  where
+    go : (t : Bool) → keys_of (cond t (e ∷ filter (λ x. nat_eq (key x.1) b) es) (filter (λ x. nat_eq (key x.1) b) es)) ≡ [] → (objects_of key b es ≡ [] → filter (λ r. nat_eq (key r) b) (values_of es) ≡ [])
+        → cond t (e.1 ∷ filter (λ r. nat_eq (key r) b) (values_of es)) (filter (λ r. nat_eq (key r) b) (values_of es)) ≡ []
+    go true h rest = absurd (cc)
+    go false h rest = rest h
+
+-- a block that is no row's place
+pub none_placed : (q : QueueState) (b : ℕ) → is_placed q b ≡ false → rows_placed q b ≡ []
+none_placed q b h = nil_from_length (rows_placed q b) (eqb-true (length (rows_placed q b)) 0 (zero_is (nat_eq (length (rows_placed q b)) 0) h))
+  where
+    zero_is : (t : Bool) → not t ≡ false → t ≡ true
+    zero_is true h = refl
+    zero_is false h = absurd (cc)

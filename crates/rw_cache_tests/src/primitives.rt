@@ -38,11 +38,14 @@ fn fits(queue: &Queue, section: usize, kind: Kind, size: u64) -> bool
 }
 
 /// Whether the block has no row.
-#[tactic(auto, using(crate::proofs::FreeBlocks::free_laws))]
-fn is_free(queue: &Queue, serial: u64) -> bool
-    ensures { IsTrue result → IsFree queue.now serial }
+fn is_free(queue: &Queue, serial: u64) -> Result<bool, NoMemory>
+    ensures { IfOk result (λ free. IsTrue free → IsFree queue.now serial) }
 {
-    queue.first_home(serial).is_none() && queue.first_place(serial).is_none()
+    if queue.is_placed(serial) {
+        return Ok(false);
+    }
+    let homed = queue.homed(serial)?;
+    Ok(homed.is_empty())
 }
 
 fn add(queue: &mut Queue, object: u64, size: u64, section: usize) -> Result<Option<Mark>, NoMemory>
@@ -96,7 +99,7 @@ fn take_out(queue: &mut Queue, section: usize, position: usize) -> Result<Option
         return Ok(None);
     }
     let (serial, _) = queue.sealed_at(section, position);
-    if !is_free(queue, serial) {
+    if !is_free(queue, serial)? {
         return Ok(None);
     }
     Ok(Some(queue.take_out(section, position)?))
@@ -443,22 +446,24 @@ const BLOCKS: [Block; 13] = [
 ];
 
 /// The answers for the block with the serial.
-fn block(queue: &Queue, serial: u64) -> Block
+fn block(queue: &Queue, serial: u64) -> Result<Block, NoMemory>
     requires { IsLoose queue.now }
 {
-    (
-        queue.first_home(serial),
-        queue.first_place(serial),
+    let homed = queue.homed(serial)?;
+    let placed = queue.placed(serial)?;
+    Ok((
+        homed.first().copied(),
+        placed.first().copied(),
         queue.fill(serial),
         queue.section_of(serial),
-    )
+    ))
 }
 
 #[test]
 fn a_block_answers_for_its_rows(rt: HostRuntime) -> Result<(), Fail> {
     let queue = three_sections(&rt, rt.alloc())?;
     for (serial, want) in (0..).zip(&BLOCKS) {
-        assert!(rt; block(&queue, serial) == *want, "of block {serial}");
+        assert!(rt; block(&queue, serial)? == *want, "of block {serial}");
     }
     Ok(())
 }

@@ -12,9 +12,8 @@ use Rattle.std.proofs.lemmas.Map.Keys.{IsDistinct-from_sorted, sorted_tail}
 use Rattle.std.proofs.lemmas.Map.Entries.{lookup_head, lookup_tail, none_past_head, none_below_head}
 use Rattle.std.proofs.lemmas.Map.Lookups.{exact_unsigned}
 use Rattle.std.proofs.lemmas.Bool.{eq-eqb, ne_eqb, eqb-true}
-use Rattle.rw_places.proofs.Entries.{by_cases, nat_cmp-self, sorted-insert_entry, sorted-remove_entry}
+use Rattle.rw_places.proofs.Entries.{by_cases, by_test, nat_cmp-self, sorted-insert_entry, sorted-remove_entry}
 use Rattle.rw_places.specs.RowMap.{by_object}
-use Rattle.rw_places.proofs.Filed.{by_test}
 
 less_tied : Less ≡ Equal → ⊥
 less_tied e = cc
@@ -78,7 +77,7 @@ module _ {X : Type 0} where
   sorted-by_object (e ∷ es) = sorted-insert_entry (by_object es) e.0 e.1 (sorted-by_object es)
 
   -- one entry more is found at its key alone
-  find-insert : (es : List (ℕ × X)) (k : ℕ) (v : X) (q : ℕ) → lookup (is_at (nat_cmp q)) (insert_entry nat_cmp es k v) ≡ cond (nat_eq q k) (Some v) (lookup (is_at (nat_cmp q)) es)
+  pub find-insert : (es : List (ℕ × X)) (k : ℕ) (v : X) (q : ℕ) → lookup (is_at (nat_cmp q)) (insert_entry nat_cmp es k v) ≡ cond (nat_eq q k) (Some v) (lookup (is_at (nat_cmp q)) es)
   find-insert [] k v q = ap (λ b. cond b (Some v) None) (at-eq q k)
   find-insert (e ∷ es) k v q =
       by_cases (nat_cmp k e.0)
@@ -102,7 +101,7 @@ module _ {X : Type 0} where
   find-by_object [] q = refl
   find-by_object (e ∷ es) q = find-insert (by_object es) e.0 e.1 q ∙ ap (λ o. cond (nat_eq q e.0) (Some e.1) o) (find-by_object es q)
 
-  find-remove : (es : List (ℕ × X)) (k q : ℕ) → IsStrictlySortedBy nat_cmp (keys_of es) → lookup (is_at (nat_cmp q)) (remove_entry (is_at (nat_cmp k)) es) ≡ cond (is_at (nat_cmp k) q) None (lookup (is_at (nat_cmp q)) es)
+  pub find-remove : (es : List (ℕ × X)) (k q : ℕ) → IsStrictlySortedBy nat_cmp (keys_of es) → lookup (is_at (nat_cmp q)) (remove_entry (is_at (nat_cmp k)) es) ≡ cond (is_at (nat_cmp k) q) None (lookup (is_at (nat_cmp q)) es)
   find-remove es k q s =
       maps.lookup-remove_entry (eq_by_cmp_equiv nat_cmp_total) (is_at (nat_cmp k)) one q es (IsDistinct-from_sorted nat_cmp (keys_of es) s)
     where

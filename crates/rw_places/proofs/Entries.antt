@@ -1,5 +1,5 @@
 -- The entries of an ordered map at numbers: what an insertion and a removal at one key undo, and what they keep.
-use Rattle.std.proofs.Common.{◌≡◌, ℕ, List, [], ◌∷◌, refl, sym, ap, ◌∙◌, subst}
+use Rattle.std.proofs.Common.{◌≡◌, ℕ, List, [], ◌∷◌, Bool, true, false, refl, sym, ap, ◌∙◌, subst}
 use Rattle.std.specs.Prelude.{Some, None, All}
 use Rattle.std.specs.Ordering.{nat_cmp, ordering_reverse}
 use Rattle.std.specs.declared.cmp.Ordering.{Ordering}
@@ -19,6 +19,10 @@ pub by_cases : {P : Type 0} (r : Ordering) → (r ≡ Less → P) → (r ≡ Equ
 by_cases Less a b c = a refl
 by_cases Equal a b c = b refl
 by_cases Greater a b c = c refl
+
+pub by_test : {P : Type 0} (b : Bool) → (b ≡ true → P) → (b ≡ false → P) → P
+by_test true hit miss = hit refl
+by_test false hit miss = miss refl
 
 pub nat_cmp-self : (k : ℕ) → nat_cmp k k ≡ Equal
 nat_cmp-self k = tied_itself nat_cmp_total k
@@ -157,3 +161,7 @@ module _ {X : Type 0} where
       (λ h. found-value P es k v (All-tail P e.1 (values_of es) all) (rw h at is))
       (λ h. let same : Some e.1 ≡ Some v = rw h at is in let x : e.1 ≡ v = cc in subst P x (All-head P e.1 (values_of es) all))
       (λ h. found-value P es k v (All-tail P e.1 (values_of es) all) (rw h at is))
+
+  -- a row goes and another one comes
+  pub write-again : (es : List (ℕ × X)) (o : ℕ) (r w : X) → IsStrictlySortedBy nat_cmp (keys_of es) → lookup (is_at (nat_cmp o)) es ≡ Some r → insert_entry nat_cmp (remove_entry (is_at (nat_cmp o)) es) o w ≡ insert_entry nat_cmp es o w
+  write-again es o r w s is = sym (insert_entry-insert_entry (remove_entry (is_at (nat_cmp o)) es) o r w) ∙ ap (λ zs. insert_entry nat_cmp zs o w) (insert_entry-remove_entry es o r s is)

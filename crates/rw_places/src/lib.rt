@@ -6,7 +6,8 @@
 //!
 //! Worked examples: `rw_cache_tests/src/primitives.rt`, through the queue that uses them.
 
-mod members;
+mod listed;
+mod lists;
 mod row_map;
 mod rows;
 

@@ -1,25 +1,24 @@
 // The rows of a queue, with their index by block.
-ghost use Rattle.std.specs.Prelude.{◌≡◌, ◌<◌, ◌+◌, ◌^◌, ℕ, [], Some, None, OnOk, OnErr, IsSome, find, nat_eq, ◌≢◌};
-ghost use Rattle.std.specs.Option.{option_map};
+ghost use Rattle.std.specs.Prelude.{◌≡◌, ◌<◌, ◌≤◌, ◌+◌, ◌^◌, ℕ, [], Some, None, OnOk, OnErr, IfOk, IsSome, ◌≢◌, nat_eq, not, length};
 ghost use Rattle.std.specs.Ordering.{nat_cmp};
 ghost use Rattle.std.specs.Map.{values_of, keys_of};
 ghost use Rattle.std.specs.List.Sorted.{IsStrictlySortedBy};
 ghost use Rattle.rw_places.specs.Rows.{row_in, rows_with, rows_without, size_of};
-ghost use Rattle.rw_places.specs.Index.{bytes_of, home_of, place_of};
+ghost use Rattle.rw_places.specs.Index.{bytes_of, objects_of, home_of, place_of};
 
 use crate::Place;
-use crate::members::Members;
+use crate::listed::Role;
+use crate::lists::{Bytes, Lists};
 use crate::row_map::RowMap;
 use std::alloc::{AllocError, Global};
 use std::marker::Model;
 
 /// The rows, one for each object that is stored. Contracts see them as the list of objects with their rows, in the
-/// order of the objects. Beside them stand the objects of each home and of each place, and the bytes of all rows.
+/// order of the objects. Beside them stand the bytes and the objects of each block, and the bytes of all rows.
 #[derive(Drop)]
 pub struct Rows {
     rows: RowMap,
-    homes: Members,
-    places: Members,
+    lists: Lists,
     total: u64,
 }
 
@@ -30,14 +29,13 @@ impl Model for Rows {
 
     ghost Value = { List (Object × Place) };
 
-    ghost use Rattle.rw_places.specs.Index.{IsIndexed};
+    ghost use Rattle.rw_places.specs.Lists.{IsListed};
 
     ghost view = { λ r. r.rows };
 
-    ghost invariant = { λ r. IsIndexed r.rows r.homes r.places r.total };
+    ghost invariant = { λ r. IsListed r.rows r.lists r.total };
 }
 
-#[tactic(auto, using(crate::proofs::Filed::filed_laws))]
 impl Rows {
     /// No row.
     pub fn new(alloc: Global) -> Rows
@@ -45,8 +43,7 @@ impl Rows {
     {
         Rows {
             rows: RowMap::new(alloc),
-            homes: Members::new(alloc),
-            places: Members::new(alloc),
+            lists: Lists::new(alloc),
             total: 0,
         }
     }
@@ -69,28 +66,53 @@ impl Rows {
     pub fn home_bytes(&self, serial: u64) -> u64
         ensures { result ≡ bytes_of home_of serial self.now }
     {
-        self.homes.bytes(serial)
+        self.lists.homed(serial)
     }
 
     /// The bytes of the rows whose place is the block.
     pub fn place_bytes(&self, serial: u64) -> u64
         ensures { result ≡ bytes_of place_of serial self.now }
     {
-        self.places.bytes(serial)
+        self.lists.placed(serial)
     }
 
-    /// The least object whose home is the block. `None` exactly where there is none.
-    pub fn first_home(&self, serial: u64) -> Option<u64>
-        ensures { result ≡ option_map (λ e. e.0) (find (λ e. nat_eq e.1.home serial) self.now) }
+    /// Whether any row's place is the block.
+    pub fn is_placed(&self, serial: u64) -> bool
+        ensures { result ≡ not (nat_eq (length (objects_of place_of serial self.now)) 0) }
     {
-        self.homes.first(serial)
+        // each row has some bytes
+        self.lists.placed(serial) != 0
     }
 
-    /// The least object whose place is the block. `None` exactly where there is none.
-    pub fn first_place(&self, serial: u64) -> Option<u64>
-        ensures { result ≡ option_map (λ e. e.0) (find (λ e. nat_eq e.1.place serial) self.now) }
+    /// The objects whose home is the block, in rising order.
+    ///
+    /// # Errors
+    ///
+    /// [`AllocError`] where memory was refused.
+    pub fn homed(&self, serial: u64) -> Result<Vec<u64>, AllocError>
+        ensures { IfOk result (λ objects. objects.items ≡ objects_of home_of serial self.now) }
     {
-        self.places.first(serial)
+        self.lists.sorted(&self.rows, Role::Home, serial)
+    }
+
+    /// The objects whose place is the block, in rising order.
+    ///
+    /// # Errors
+    ///
+    /// [`AllocError`] where memory was refused.
+    pub fn placed(&self, serial: u64) -> Result<Vec<u64>, AllocError>
+        ensures { IfOk result (λ objects. objects.items ≡ objects_of place_of serial self.now) }
+    {
+        self.lists.sorted(&self.rows, Role::Priority, serial)
+    }
+
+    /// Where a list has grown wide, and it is the one of this block, it gives way to what counts in it.
+    fn trim(&mut self, wide: bool, serial: u64)
+        ensures { self.new ≡ self.old }
+    {
+        if wide {
+            self.lists.trim(&self.rows, serial);
+        }
     }
 
     /// A row comes, of an object that has none.
@@ -100,23 +122,20 @@ impl Rows {
     /// [`AllocError`] where memory was refused; the rows are then as they were.
     pub fn add(&mut self, object: u64, row: Place) -> Result<(), AllocError>
         requires new { row_in self.old object ≡ None }
+        requires sized { 1 ≤ row.size }
         requires room { size_of (values_of self.old) + row.size < 2 ^ 64 }
         ensures added { OnOk result (self.new ≡ rows_with self.old object row) }
         ensures same { OnErr result (self.new ≡ self.old) }
         ensures ordered { IsStrictlySortedBy nat_cmp (keys_of self.old) }
     {
-        let Place { size, home, place } = row;
-        self.homes.add(home, object, size)?;
-        if let Err(refused) = self.places.add(place, object, size) {
-            self.homes.take(home, object, size);
-            return Err(refused);
-        }
+        let wide = self.lists.add_row(object, row)?;
         if let Err(refused) = self.rows.insert(object, row) {
-            self.homes.take(home, object, size);
-            self.places.take(place, object, size);
+            self.lists.remove_row(row);
             return Err(refused);
         }
-        self.total += size;
+        self.total += row.size;
+        self.trim(wide, row.home);
+        self.trim(wide, row.place);
         Ok(())
     }
 
@@ -127,10 +146,8 @@ impl Rows {
         ensures rest { self.new ≡ rows_without self.old object }
     {
         let row = self.rows.remove(object).unwrap();
-        let Place { size, home, place } = row;
-        self.homes.take(home, object, size);
-        self.places.take(place, object, size);
-        self.total -= size;
+        self.lists.remove_row(row);
+        self.total -= row.size;
         row
     }
 
@@ -146,9 +163,14 @@ impl Rows {
             (self.new ≡ rows_with self.old object (record row { place = place })) }
         ensures same { OnErr result (self.new ≡ self.old) }
     {
-        self.places.add(place, object, row.size)?;
-        self.places.take(row.place, object, row.size);
+        let bytes = Bytes {
+            homed: 0,
+            placed: row.size,
+        };
+        let wide = self.lists.add(place, object, bytes)?;
+        self.lists.take(row.place, bytes);
         self.rows.set_place(object, row, place);
+        self.trim(wide, place);
         Ok(())
     }
 }

@@ -20,7 +20,6 @@ pub mod Turns
 pub mod Falls
 pub mod Evictions
 -- what an eviction does, row by row
-pub mod Leaves
 pub mod Reputs
 pub mod Folds
 pub mod Backs

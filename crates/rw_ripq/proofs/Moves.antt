@@ -1,10 +1,9 @@
 -- What the code of an eviction needs at its calls.
-use Rattle.std.proofs.Common.{◌≡◌, ℕ, ◌+◌, ◌≤◌, ◌<◌, List, [], ◌∷◌, refl, sym, ap, subst, ◌∙◌, arith, Bool, true, false, length, get_or, nat_eq, inl, inr, suc}
-use Rattle.std.specs.Prelude.{Some, None, IsSome, position, unwrap_or, is_none, find, filter, not}
+use Rattle.std.proofs.Common.{◌≡◌, ℕ, ◌+◌, ◌≤◌, ◌<◌, List, refl, sym, ap, subst, ◌∙◌, arith, Bool, true, false, length, get_or, nat_eq, inl, inr}
+use Rattle.std.specs.Prelude.{Some, None, IsSome, position, unwrap_or, not}
 use Rattle.std.specs.Option.{option_map}
-use Rattle.std.specs.Map.{values_of}
 use Rattle.std.specs.List.{list_any, position_or_len}
-use Rattle.std.proofs.lemmas.Bool.{cases_Bool, cases_lt, ne_eqb, eqb-true, and_parts, lt-ltb}
+use Rattle.std.proofs.lemmas.Bool.{cases_Bool, cases_lt, eqb-true, and_parts, lt-ltb}
 use Rattle.std.proofs.lemmas.List.Sums.{position_or_len_is}
 use Rattle.rw_sections.specs.declared.Kind.{Kind}
 use Rattle.rw_sections.specs.declared.Kind.TheVariants.{Device, Virtual}
@@ -17,7 +16,7 @@ use Rattle.rw_ripq.proofs.Basics.{none_some}
 use Rattle.rw_ripq.proofs.Places.{any_get, none-any}
 use Rattle.rw_ripq.proofs.Measures.{sealed-there, position-there, sealed-virtual-there}
 use Rattle.rw_blocks.specs.Loose.{IsFree, IsHomed, IsLoose, IsPlaced, IsSized, count, is_sealed_virtual}
-use Rattle.rw_blocks.specs.Questions.{first_place, section_of}
+use Rattle.rw_blocks.specs.Questions.{section_of}
 use Rattle.rw_sections.specs.Sections.{no_section, has_serial}
 use Rattle.rw_blocks.specs.State.{QueueState, no_place, row_at, row_or, section_at}
 use Rattle.rw_blocks.specs.Sums.{bytes_held, rows_placed, total}
@@ -69,17 +68,6 @@ section-more q b i fails none k lt = elim (cases_lt k i) [
 
 pub stands-nowhere : (q : QueueState) (b i : ℕ) → ((k : ℕ) → k < i → has_sealed b (section_at q k) ≡ false) → length q.sections ≤ i → is_sealed q b ≡ false
 stands-nowhere q b i fails all = none-any (has_sealed b) q.sections i no_section fails all
-
--- a block is without rows where no first one is found
-empty-test : (t : Place → Bool) (es : List (ℕ × Place)) → is_none (option_map (λ e. e.0) (find (λ (e : ℕ × Place). t e.1) es)) ≡ nat_eq (length (filter t (values_of es))) 0
-empty-test t [] = refl
-empty-test t (e ∷ es) = elim (cases_Bool (t e.1)) [
-  | inl h ↦ rw h (sym (ne_eqb (suc (length (filter t (values_of es)))) 0 (λ x. omega (arith, x))))
-  | inr h ↦ rw h (empty-test t es)
-]
-
-pub empty-is : (q : QueueState) (b : ℕ) → is_none (first_place q b) ≡ nat_eq (length (rows_placed q b)) 0
-empty-is q b = empty-test (λ r. nat_eq r.place b) q.rows
 
 pub cleared-parts : (q : QueueState) (b : ℕ) → IsLoose q → is_emptied q b ≡ true → (list_any (has_sealed b) q.sections ≡ true) × IsFree q b
 cleared-parts q b loose h =

@@ -1,7 +1,7 @@
 -- The displaced rows are few, and a new object finds room in the total.
 use Rattle.std.proofs.Common.{◌≡◌, ℕ, ◌+◌, ◌*◌, ◌≤◌, ◌^◌, List, [], ◌∷◌, ◌++◌, refl, sym, ap, ◌∙◌, arith, Bool, true, false, cond, length, nat_eq, get_or, inl, inr}
 use Rattle.std.specs.Prelude.{sum_by, count_by, not, ◌&&◌}
-use Rattle.std.specs.List.{list_any}
+use Rattle.std.specs.List.{AllByRecursion, list_any}
 use Rattle.std.specs.Map.{values_of}
 use Rattle.std.proofs.lemmas.Bool.{eq-eqb, ne_eqb, cases_eq}
 use Rattle.std.proofs.lemmas.List.Sums.{sum_by-cons, sum_by-append, sum_by-le}
@@ -16,7 +16,6 @@ use Rattle.rw_sections.specs.declared.Kind.TheVariants.{Device, Virtual}
 use Rattle.rw_places.specs.declared.Place.{Place}
 use Rattle.rw_ripq.proofs.Basics.{by_bool}
 use Rattle.rw_ripq.proofs.Falls.{sum-le}
-use Rattle.rw_ripq.proofs.Leaves.{length-le-sizes}
 use Rattle.rw_ripq.proofs.Turns.{sum-above}
 use Rattle.rw_ripq.specs.Evict.{displaced_rows}
 
@@ -28,6 +27,10 @@ at-most-one false = omega arith
 count-length : {X : Type 0} (p : X → Bool) (xs : List X) → count_by p xs ≤ length xs
 count-length p [] = omega arith
 count-length p (x ∷ xs) = omega (arith, sum_by-cons (λ x. cond (p x) 1 0) x xs, at-most-one (p x), count-length p xs)
+
+length-le-sizes : (rs : List Place) → AllByRecursion (λ r. 1 ≤ r.size) rs → length rs ≤ sum_by (λ r. r.size) rs
+length-le-sizes [] all = omega arith
+length-le-sizes (r ∷ rs) all = omega (arith, sum_by-cons (λ (r : Place). r.size) r rs, length-le-sizes rs all.1, all.0)
 
 pub displaced-few : (q : QueueState) → IsLoose q → displaced_rows q ≤ 2 ^ 48
 displaced-few q loose =

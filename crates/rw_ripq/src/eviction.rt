@@ -15,7 +15,7 @@ use crate::{Change, Tally};
 use rw_blocks::{Kind, Queue};
 use rw_vt::NoMemory;
 
-/// Removes the objects whose place is the block, and counts them as evicted.
+/// Removes the objects whose place is the block, the least first, and counts them as evicted.
 fn leave(queue: &mut Queue, change: &mut Change<Tally>, block: u64) -> Result<(), NoMemory>
     requires loose { IsLoose queue.old }
     requires headroom { HasHeadroom (work_of queue.old change.old.counts) }
@@ -23,8 +23,9 @@ fn leave(queue: &mut Queue, change: &mut Change<Tally>, block: u64) -> Result<()
         ≡ leave (work_of queue.old change.old.counts) (objects_placed queue.old block)) }
     ensures trail { OnOk result (Extends queue.old change.old queue.new change.new) }
 {
-    while let Some(object) = queue.first_place(block) {
-        let mark = queue.remove(object)?;
+    let objects = queue.placed(block)?;
+    for object in &objects {
+        let mark = queue.remove(*object)?;
         change.trail.push(mark)?;
         change.counts.evicted += 1;
     }
@@ -53,7 +54,7 @@ fn reinsert(queue: &mut Queue, change: &mut Change<Tally>, object: u64) -> Resul
     Ok(())
 }
 
-/// Writes the objects again whose home is the block.
+/// Writes the objects again whose home is the block, the least first.
 fn reinsert_all(queue: &mut Queue, change: &mut Change<Tally>, block: u64) -> Result<(), NoMemory>
     requires victim { IsVictim block queue.old }
     requires headroom { HasHeadroom (work_of queue.old change.old.counts) }
@@ -61,8 +62,9 @@ fn reinsert_all(queue: &mut Queue, change: &mut Change<Tally>, block: u64) -> Re
         ≡ fold reinsert (work_of queue.old change.old.counts) (objects_homed queue.old block)) }
     ensures trail { OnOk result (Extends queue.old change.old queue.new change.new) }
 {
-    while let Some(object) = queue.first_home(block) {
-        reinsert(queue, change, object)?;
+    let objects = queue.homed(block)?;
+    for object in &objects {
+        reinsert(queue, change, *object)?;
     }
     Ok(())
 }

@@ -1,9 +1,8 @@
 // Sealed blocks that leave their lists.
-ghost use Rattle.std.specs.Prelude.{◌≡◌, ◌<◌, ◌≤◌, ◌+◌, length, position, true, false, OnOk, IfSome, IsNone, IsTrue, is_some, ◌-◌, slice_index_or};
+ghost use Rattle.std.specs.Prelude.{◌≡◌, ◌<◌, ◌≤◌, ◌+◌, length, position, true, false, OnOk, IfSome, IsNone, IsTrue, ◌-◌, slice_index_or};
 ghost use Rattle.rw_blocks.specs.State.{section_at};
 ghost use Rattle.rw_sections.specs.Sections.{has_serial, is_virtual};
 ghost use Rattle.rw_blocks.specs.Loose.{IsLoose, IsFree};
-ghost use Rattle.rw_blocks.specs.Questions.{first_place};
 ghost use Rattle.rw_ripq.specs.Work.{work_before};
 ghost use Rattle.rw_ripq.specs.Sealed.{is_sealed, sealed_section, sealed_position, without_block, is_emptied, without_if_emptied};
 ghost use Rattle.rw_ripq.specs.Record.{Recorded};
@@ -131,19 +130,12 @@ fn is_virtual(kind: Kind) -> bool
     kind == Kind::Virtual
 }
 
-/// Whether some row's place is the block.
-fn is_placed(queue: &Queue, block: u64) -> bool
-    ensures { result ≡ is_some (first_place queue.now block) }
-{
-    queue.first_place(block).is_some()
-}
-
 /// Whether the block is a sealed virtual one that no row has as its place.
 fn is_emptied(queue: &Queue, block: u64) -> bool
     requires { IsLoose queue.now }
     ensures { result ≡ is_emptied queue.now block }
 {
-    if is_placed(queue, block) {
+    if queue.is_placed(block) {
         return false;
     }
     let Some((section, position)) = find_sealed(queue, block) else {

@@ -1,37 +1,44 @@
-use Rattle.std.proofs.Common.{◌∙◌, ap, sym, arith, refl}
-use Rattle.std.specs.Prelude.{fold}
-use Rattle.rw_ripq.specs.Evict.{reinsert}
-use Rattle.rw_ripq.specs.Work.{work_of}
-use Rattle.rw_ripq.proofs.Leaves.{resident-homed, objects_homed-none}
-use Rattle.rw_ripq.proofs.Backs.{back-some, back-made}
+use Rattle.std.proofs.Common.{◌≡◌, ◌∙◌, ◌+◌, ℕ, List, ◌∷◌, ap, sym, arith, refl, drop}
+use Rattle.std.specs.Prelude.{fold, slice_index_or}
+use Rattle.std.proofs.lemmas.List.{drop_more}
+use Rattle.rw_ripq.specs.Evict.{reinsert, objects_homed}
+use Rattle.rw_ripq.specs.Work.{Work, work_of}
+use Rattle.rw_ripq.proofs.Basics.{nothing_left}
+use Rattle.rw_ripq.proofs.Backs.{back-some, back-made, first-homed}
 use Rattle.rw_ripq.proofs.Records.{Recorded-none, Recorded-then}
 use Rattle.rw_ripq.proofs.eviction.reinsert_all.Goals as goal
 
+pub loop-object-init : goal.loop-object-init
+loop-object-init c =
+    let list : objects_homed c.args.queue.now c.args.block ≡ c.deref-object-items.result.now = sym (c.deref-object-items.ensures.value ∙ c.in_ok-objects.ensures) in
+    record { victim = c.requires.victim; room = c.requires.headroom; rest = list; effect = ap (fold reinsert (work_of c.args.queue.now c.args.change.now.counts)) (sym list); trail = Recorded-none _ _ }
+
 pub reinsert-requires-clause-resident : goal.reinsert-requires-clause-resident
 reinsert-requires-clause-resident c =
-    resident-homed c.loop-object.queue c.args.block c.in-Some.object c.loop-object.invariant.victim.loose (sym c.first_home.ensures.first ∙ c.in-Some.is)
+    let is = c.loop-object.invariant.rest ∙ drop_more c.deref-object-items.result.now c.loop-object.object-index 0 c.loop-object-test.true in
+    let row = first-homed c.loop-object.queue c.args.block _ _ c.loop-object.invariant.victim is in
+    rw row.1 refl
 
 pub reinsert-requires-clause-fresh : goal.reinsert-requires-clause-fresh
 reinsert-requires-clause-fresh c =
-    omega (arith, back-some c.loop-object.queue c.args.block c.in-Some.object c.loop-object.invariant.victim (sym c.first_home.ensures.first ∙ c.in-Some.is))
-
-pub loop-object-init : goal.loop-object-init
-loop-object-init c = record { victim = c.requires.victim; room = c.requires.headroom; effect = refl; trail = Recorded-none _ _ }
-
-pub loop-object-smaller : goal.loop-object-smaller
-loop-object-smaller c =
-    (back-made (work_of c.loop-object.queue c.loop-object.change.counts) (work_of c.reinsert.new.queue c.reinsert.new.change.counts) c.args.block c.in-Some.object c.loop-object.invariant.victim (sym c.first_home.ensures.first ∙ c.in-Some.is) c.loop-object.invariant.room c.in_ok-reinsert.ensures.effect).fewer
+    let is = c.loop-object.invariant.rest ∙ drop_more c.deref-object-items.result.now c.loop-object.object-index 0 c.loop-object-test.true in
+    omega (arith, back-some c.loop-object.queue c.args.block _ _ c.loop-object.invariant.victim is, c.loop-object.invariant.room.serials)
 
 pub loop-object-preserved : goal.loop-object-preserved
 loop-object-preserved c =
-    let step = back-made (work_of c.loop-object.queue c.loop-object.change.counts) (work_of c.reinsert.new.queue c.reinsert.new.change.counts) c.args.block c.in-Some.object c.loop-object.invariant.victim (sym c.first_home.ensures.first ∙ c.in-Some.is) c.loop-object.invariant.room c.in_ok-reinsert.ensures.effect in
+    let w : Work = work_of c.loop-object.queue c.loop-object.change.counts in
+    let os : List ℕ = drop (c.loop-object.object-index + 1) c.deref-object-items.result.now in
+    let o : ℕ = slice_index_or c.deref-object-items.result.now c.loop-object.object-index 0 in
+    let more : drop c.loop-object.object-index c.deref-object-items.result.now ≡ o ∷ os = drop_more c.deref-object-items.result.now c.loop-object.object-index 0 c.loop-object-test.true in
+    let step = back-made w (work_of c.reinsert.new.queue c.reinsert.new.change.counts) c.args.block o os c.loop-object.invariant.victim (c.loop-object.invariant.rest ∙ more) c.loop-object.invariant.room c.in_ok-reinsert.ensures.effect in
     record {
       victim = step.victim;
       room = step.room;
-      effect = step.same ∙ c.loop-object.invariant.effect;
+      rest = step.rest;
+      effect = step.same ∙ (ap (fold reinsert w) (sym more) ∙ c.loop-object.invariant.effect);
       trail = Recorded-then c.loop-object.invariant.trail c.in_ok-reinsert.ensures.trail;
     }
 
 pub returns-clause-effect : goal.returns-clause-effect
 returns-clause-effect c =
-    sym (ap (fold reinsert (work_of c.loop-object.queue c.loop-object.change.counts)) (objects_homed-none c.loop-object.queue c.args.block (sym c.first_home.ensures.first ∙ c.in_default.is))) ∙ c.loop-object.invariant.effect
+    sym (ap (fold reinsert (work_of c.loop-object.queue c.loop-object.change.counts)) (nothing_left c.deref-object-items.result.now c.loop-object.object-index c.loop-object-test.false)) ∙ c.loop-object.invariant.effect

@@ -1,4 +1,4 @@
-use Rattle.std.proofs.Common.{◌≡◌, length}
+use Rattle.std.proofs.Common.{◌≡◌, drop}
 use Rattle.std.specs.Prelude.{fold}
 use Rattle.rw_ripq.specs.Work.{work_of}
 use Rattle.rw_ripq.specs.Evict.{reinsert, objects_homed}
@@ -11,9 +11,7 @@ invariant-loop-object l =
     record {
       victim : IsVictim l.block l.queue;
       room : HasHeadroom (work_of l.queue l.change.counts);
-      effect : fold reinsert (work_of l.queue l.change.counts) (objects_homed l.queue l.block) ≡ fold reinsert (work_of l.fn.queue l.fn.change.counts) (objects_homed l.fn.queue l.block);
+      rest : objects_homed l.queue l.block ≡ drop l.object-index l.object-items;
+      effect : fold reinsert (work_of l.queue l.change.counts) (drop l.object-index l.object-items) ≡ fold reinsert (work_of l.fn.queue l.fn.change.counts) (objects_homed l.fn.queue l.block);
       trail : Recorded l.fn.change.trail (work_of l.fn.queue l.fn.change.counts) l.change.trail (work_of l.queue l.change.counts);
     }
-
-abbrev pub decreases-loop-object : goal.decreases-loop-object
-decreases-loop-object l = length (objects_homed l.queue l.block)

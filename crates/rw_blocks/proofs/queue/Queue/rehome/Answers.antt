@@ -4,14 +4,19 @@ use Rattle.rw_places.specs.declared.Place.{Place}
 use Rattle.rw_blocks.specs.State.{QueueState, row_at, section_at}
 use Rattle.rw_blocks.specs.Primitives.{with_row, after_rehome}
 use Rattle.rw_blocks.specs.Sums.{total}
+use Rattle.rw_blocks.specs.Loose.{IsSized}
 use Rattle.rw_blocks.proofs.Laws.{Undoes-after_rehome}
-use Rattle.rw_blocks.proofs.Kept.{IsLoose-after_rehome}
+use Rattle.rw_blocks.proofs.Kept.{IsLoose-after_rehome, of_row}
 use Rattle.rw_blocks.proofs.Moving.{moved, gone-row, room-again}
 use Rattle.rw_places.proofs.Errors.{if_error, on_error}
 use Rattle.rw_blocks.proofs.queue.Queue.rehome.Goals as goal
 
 pub put_row-requires-clause-new : goal.put_row-requires-clause-new
 put_row-requires-clause-new c = ap (λ (q : QueueState). row_at q c.args.object) c.take_row-size.ensures.rest ∙ gone-row c.args.self.now c.args.object c.requires.loose
+
+pub put_row-requires-clause-sized : goal.put_row-requires-clause-sized
+put_row-requires-clause-sized c =
+    (of_row c.args.self.now c.args.object c.take_row-size.result (IsSized c.args.self.now) c.requires.loose.sizes c.take_row-size.ensures.row).0
 
 pub put_row-requires-clause-room : goal.put_row-requires-clause-room
 put_row-requires-clause-room c =

@@ -18,7 +18,7 @@ use Rattle.rw_blocks.specs.Weights.{weight_in, IsWeighed}
 use Rattle.rw_blocks.proofs.Laws.{Undoes-after_replace}
 use Rattle.rw_blocks.proofs.Kept.{IsLoose-after_replace}
 use Rattle.rw_blocks.proofs.Present.{row-there}
-use Rattle.rw_places.proofs.Filed.{write-again}
+use Rattle.rw_places.proofs.Entries.{write-again}
 use Rattle.rw_blocks.proofs.Moving.{room-again}
 use Rattle.rw_blocks.proofs.Weighed.{IsWeighed-insert, IsWeighed-remove, row-le-weight, bytes_where-le}
 use Rattle.rw_places.proofs.Errors.{if_error, on_error}

@@ -1,92 +1,77 @@
-use Rattle.std.proofs.Common.{arith, ap, subst, ◌≡◌, ◌∙◌, ℕ, List}
+use Rattle.std.proofs.Common.{arith, subst, sym, ◌≡◌, ◌≤◌, ◌+◌, ◌<◌, ◌^◌, ℕ, List}
 use Rattle.std.specs.Prelude.{None}
 use Rattle.std.specs.Ordering.{nat_cmp}
-use Rattle.std.specs.List.Sorted.{IsStrictlySortedBy}
 use Rattle.std.specs.Cmp.{nat_cmp_total}
-use Rattle.std.specs.Map.{lookup, keys_of}
-use Rattle.std.specs.BTreeMap.{is_at, insert_entry}
+use Rattle.std.specs.Map.{lookup, values_of}
+use Rattle.rw_places.specs.Rows.{size_of}
+use Rattle.std.specs.BTreeMap.{is_at}
 use Rattle.std.proofs.lemmas.Map.Entries.{sum_by-insert_entry}
-use Rattle.rw_places.proofs.Entries.{sorted-insert_entry}
+use Rattle.rw_places.proofs.Entries.{sorted-insert_entry, values-insert_entry}
 use Rattle.rw_places.specs.declared.Place.{Place}
+use Rattle.rw_places.specs.declared.lists.Lists.{Lists}
 use Rattle.rw_places.specs.Index.{home_of, place_of}
-use Rattle.rw_places.proofs.Filed.{Files-insert, Files-back, Files-same}
-use Rattle.rw_places.proofs.Errors.{of_error, on_error}
+use Rattle.rw_places.specs.Lists.{homed_in, placed_in}
+use Rattle.rw_places.proofs.Bytes.{bytes_of-le}
+use Rattle.rw_places.proofs.Follows.{Follows-insert, Follows-back, Follows-same}
 use Rattle.rw_places.proofs.rows.Rows.add.Goals as goal
+
+pub add_row-requires-clause-homed_fit : goal.add_row-requires-clause-homed_fit
+add_row-requires-clause-homed_fit c b =
+    let rows : List (ℕ × Place) = c.self.inside.rows in
+    let fits : size_of (values_of rows) + c.args.row.size < 2 ^ 64 = subst (λ (es : List (ℕ × Place)). size_of (values_of es) + c.args.row.size < 2 ^ 64) (sym c.self.view_is) c.requires.room in
+    omega (arith, fits, bytes_of-le home_of b rows, c.self.invariant.homed.bytes b)
+
+pub add_row-requires-clause-placed_fit : goal.add_row-requires-clause-placed_fit
+add_row-requires-clause-placed_fit c b =
+    let rows : List (ℕ × Place) = c.self.inside.rows in
+    let fits : size_of (values_of rows) + c.args.row.size < 2 ^ 64 = subst (λ (es : List (ℕ × Place)). size_of (values_of es) + c.args.row.size < 2 ^ 64) (sym c.self.view_is) c.requires.room in
+    omega (arith, fits, bytes_of-le place_of b rows, c.self.invariant.placed.bytes b)
+
+pub invariant_of-self : goal.invariant_of-self
+invariant_of-self c =
+    let rows : List (ℕ × Place) = c.self.inside.rows in
+    let m : Lists = c.self.inside.lists in
+    let n : Lists = c.add_row.new.self in
+    record {
+      homed = Follows-same home_of rows (homed_in m) (homed_in n) m n c.self.invariant.sized c.self.invariant.homed c.in_err-wide.ensures.same.homed c.in_err-wide.ensures.same.homes_list;
+      placed = Follows-same place_of rows (placed_in m) (placed_in n) m n c.self.invariant.sized c.self.invariant.placed c.in_err-wide.ensures.same.placed c.in_err-wide.ensures.same.places_list;
+      whole = c.self.invariant.whole;
+      ordered = c.self.invariant.ordered;
+      sized = c.self.invariant.sized;
+    }
 
 pub invariant_of-self-in-Err : goal.invariant_of-self-in-Err
 invariant_of-self-in-Err c =
     let rows : List (ℕ × Place) = c.self.inside.rows in
     let row : Place = c.args.row in
+    let m : Lists = c.self.inside.lists in
+    let n : Lists = c.add_row.new.self in
+    let k : Lists = c.remove_row.new.self in
     let none : lookup (is_at (nat_cmp c.args.object)) rows ≡ None = cc in
-    let homed = Files-insert home_of rows c.self.inside.homes c.add.new.self c.args.object row c.self.invariant.ordered none c.self.invariant.homed c.in_ok-add.ensures.bytes c.in_ok-add.ensures.objects in
-    record {
-      homed = Files-back home_of rows c.add.new.self c.take.new.self c.args.object row none homed c.take.ensures.bytes c.take.ensures.objects;
-      placed = Files-same place_of rows c.self.inside.places c.add-2.new.self c.self.invariant.placed c.in-Err.ensures.same_bytes c.in-Err.ensures.same_objects;
-      whole = c.self.invariant.whole;
-      ordered = c.self.invariant.ordered;
-    }
-
-pub invariant_of-self-in-Err-insert : goal.invariant_of-self-in-Err-insert
-invariant_of-self-in-Err-insert c =
-    let rows : List (ℕ × Place) = c.self.inside.rows in
-    let row : Place = c.args.row in
-    let none : lookup (is_at (nat_cmp c.args.object)) rows ≡ None = cc in
-    let homed = Files-insert home_of rows c.self.inside.homes c.add.new.self c.args.object row c.self.invariant.ordered none c.self.invariant.homed c.in_ok-add.ensures.bytes c.in_ok-add.ensures.objects in
-    let placed = Files-insert place_of rows c.self.inside.places c.add-2.new.self c.args.object row c.self.invariant.ordered none c.self.invariant.placed c.in_default.ensures.bytes c.in_default.ensures.objects in
-    rw c.in-Err-insert.ensures.same
+    let homed = Follows-insert home_of rows (homed_in m) (homed_in n) m n c.args.object row c.self.invariant.ordered none c.self.invariant.homed c.in_ok-wide.ensures.homed c.in_ok-wide.ensures.lists.kept c.in_ok-wide.ensures.lists.home in
+    let placed = Follows-insert place_of rows (placed_in m) (placed_in n) m n c.args.object row c.self.invariant.ordered none c.self.invariant.placed c.in_ok-wide.ensures.placed c.in_ok-wide.ensures.lists.kept c.in_ok-wide.ensures.lists.place in
+    rw c.in-Err.ensures.same
     (record {
-      homed = Files-back home_of rows c.add.new.self c.take-in-Err-insert.new.self c.args.object row none homed c.take-in-Err-insert.ensures.bytes c.take-in-Err-insert.ensures.objects;
-      placed = Files-back place_of rows c.add-2.new.self c.take-in-Err-insert-2.new.self c.args.object row none placed c.take-in-Err-insert-2.ensures.bytes c.take-in-Err-insert-2.ensures.objects;
+      homed = Follows-back home_of rows (homed_in n) (homed_in k) n k c.args.object row c.self.invariant.ordered none c.self.invariant.sized homed c.remove_row.ensures.homed c.remove_row.ensures.homes_list;
+      placed = Follows-back place_of rows (placed_in n) (placed_in k) n k c.args.object row c.self.invariant.ordered none c.self.invariant.sized placed c.remove_row.ensures.placed c.remove_row.ensures.places_list;
       whole = c.self.invariant.whole;
       ordered = c.self.invariant.ordered;
+      sized = c.self.invariant.sized;
     })
 
 pub invariant_of-self-2 : goal.invariant_of-self-2
 invariant_of-self-2 c =
     let rows : List (ℕ × Place) = c.self.inside.rows in
     let row : Place = c.args.row in
+    let m : Lists = c.self.inside.lists in
+    let n : Lists = c.add_row.new.self in
     let none : lookup (is_at (nat_cmp c.args.object)) rows ≡ None = cc in
     let sum = rw none at (sum_by-insert_entry (λ (r : Place). r.size) nat_cmp_total rows c.args.object row c.self.invariant.ordered) in
-    rw c.in_default-insert.ensures.put
+    rw c.in_default.ensures.put
     (record {
-      homed = Files-insert home_of rows c.self.inside.homes c.add.new.self c.args.object row c.self.invariant.ordered none c.self.invariant.homed c.in_ok-add.ensures.bytes c.in_ok-add.ensures.objects;
-      placed = Files-insert place_of rows c.self.inside.places c.add-2.new.self c.args.object row c.self.invariant.ordered none c.self.invariant.placed c.in_default.ensures.bytes c.in_default.ensures.objects;
+      homed = Follows-insert home_of rows (homed_in m) (homed_in n) m n c.args.object row c.self.invariant.ordered none c.self.invariant.homed c.in_ok-wide.ensures.homed c.in_ok-wide.ensures.lists.kept c.in_ok-wide.ensures.lists.home;
+      placed = Follows-insert place_of rows (placed_in m) (placed_in n) m n c.args.object row c.self.invariant.ordered none c.self.invariant.placed c.in_ok-wide.ensures.placed c.in_ok-wide.ensures.lists.kept c.in_ok-wide.ensures.lists.place;
       whole = omega (arith, sum, c.self.invariant.whole);
       ordered = sorted-insert_entry rows c.args.object row c.self.invariant.ordered;
+      sized = values-insert_entry (λ (r : Place). 1 ≤ r.size) rows c.args.object row c.self.invariant.sized c.requires.sized;
     })
-
-pub invariant_of-self : goal.invariant_of-self
-invariant_of-self c =
-    record {
-      homed = Files-same home_of c.self.inside.rows c.self.inside.homes c.add.new.self c.self.invariant.homed c.in_err-add.ensures.same_bytes c.in_err-add.ensures.same_objects;
-      placed = c.self.invariant.placed;
-      whole = c.self.invariant.whole;
-      ordered = c.self.invariant.ordered;
-    }
-
-pub returns-in_err-add-clause-added : goal.returns-in_err-add-clause-added
-returns-in_err-add-clause-added c = on_error _ _ c.from_residual.result c.from_residual.ensures.1
-
-pub returns-in_err-add-clause-same : goal.returns-in_err-add-clause-same
-returns-in_err-add-clause-same c = of_error _ c.from_residual.result c.self.view_is
-
-pub returns-in_err-add-clause-ordered : goal.returns-in_err-add-clause-ordered
-returns-in_err-add-clause-ordered c = subst (λ es. IsStrictlySortedBy nat_cmp (keys_of es)) c.self.view_is c.self.invariant.ordered
-
-pub returns-in-Err-clause-ordered : goal.returns-in-Err-clause-ordered
-returns-in-Err-clause-ordered c = subst (λ es. IsStrictlySortedBy nat_cmp (keys_of es)) c.self.view_is c.self.invariant.ordered
-
-pub returns-in-Err-insert-clause-ordered : goal.returns-in-Err-insert-clause-ordered
-returns-in-Err-insert-clause-ordered c = subst (λ es. IsStrictlySortedBy nat_cmp (keys_of es)) c.self.view_is c.self.invariant.ordered
-
-pub returns-clause-ordered : goal.returns-clause-ordered
-returns-clause-ordered c = subst (λ es. IsStrictlySortedBy nat_cmp (keys_of es)) c.self.view_is c.self.invariant.ordered
-
-pub returns-in-Err-clause-same : goal.returns-in-Err-clause-same
-returns-in-Err-clause-same c = c.self.view_is
-
-pub returns-in-Err-insert-clause-same : goal.returns-in-Err-insert-clause-same
-returns-in-Err-insert-clause-same c = c.in-Err-insert.ensures.same ∙ c.self.view_is
-
-pub returns-clause-added : goal.returns-clause-added
-returns-clause-added c = c.in_default-insert.ensures.put ∙ ap (λ es. insert_entry nat_cmp es c.args.object c.args.row) c.self.view_is
