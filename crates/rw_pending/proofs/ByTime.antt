@@ -1,10 +1,10 @@
 -- Lists of events by the times that they have.
-use Rattle.std.proofs.Common.{◌≡◌, ℕ, ◌<◌, ◌≤◌, Bool, true, false, cond, List, [], ◌∷◌, ◌++◌, ◌⊎◌, inl, inr, refl, sym, true≢false, ◌∙◌, ap, subst, arith, append_assoc, append-nil, Option, Some, None, All, IfNone, IfSome, IsPermutation, length, map, get_or}
+use Rattle.std.proofs.Common.{◌≡◌, ℕ, ◌<◌, ◌≤◌, Bool, true, false, cond, List, [], ◌∷◌, ◌++◌, ◌⊎◌, inl, inr, refl, sym, true≢false, ◌∙◌, ap, subst, arith, append_assoc, append-nil, Option, Some, None, Bor, All, IfNone, IfSome, IsSome, IsPermutation, length, map, min, get_or}
 use Rattle.std.specs.Prelude.{nat_le, IsTrue, ◌↔◌}
 use Rattle.std.specs.BinaryHeap.{IsUpperBound}
 use Rattle.std.specs.Cmp.{IsTotalOrder}
-use Rattle.std.specs.List.{slice_get}
-use Rattle.std.specs.Option.{option_map, option_to_list}
+use Rattle.std.specs.List.{slice_get, slice_index_or}
+use Rattle.std.specs.Option.{option_copied, option_map, option_to_list}
 use Rattle.std.specs.Prelude.{Result, Ok, Err, OnErr}
 use Rattle.std.specs.declared.cmp.Ordering.{Ordering}
 use Rattle.std.specs.declared.cmp.Reverse.{Reverse}
@@ -16,7 +16,8 @@ use Rattle.rw_vt.specs.declared.event.Event.{Event}
 use Rattle.rw_vt.specs.Order.{AtMost, event_cmp}
 use Rattle.rw_vt.proofs.EventOrder.{time_at_most}
 use Rattle.rw_pending.proofs.Queue.{pushed, reversed, top_least}
-use Rattle.rw_pending.specs.Later.{AreByTime, HasMoved, IsLane, IsLeastTime, IsLeft, earlier_of}
+use Rattle.rw_pending.specs.Later.{AreByTime, HasMoved, IsLane, IsLeastOr, IsLeastTime, IsLeft, earlier_of, or_else}
+use Rattle.std.proofs.Math.Nat.{min-eq_left, min-eq_right, min-le_left}
 
 -- Parts of lists
 
@@ -47,6 +48,17 @@ gone_two xs us ys vs gone done h k =
     IsPermutation-trans (xs ++ ys) ((gone ++ us) ++ (done ++ vs)) ((gone ++ done) ++ (us ++ vs))
     (IsPermutation-trans (xs ++ ys) ((gone ++ us) ++ ys) ((gone ++ us) ++ (done ++ vs)) (IsPermutation-append_left ys xs (gone ++ us) h) (IsPermutation-append_right (gone ++ us) ys (done ++ vs) k))
     (joined_by_place gone us done vs)
+
+pub empty_parts : {E : Type 0} (xs ys : List E) → xs ++ ys ≡ [] → (xs ≡ []) × (ys ≡ [])
+empty_parts [] ys h = (refl, h)
+empty_parts (x ∷ xs) ys h = cc
+
+-- what a queue has in front
+pub front_first : {E : Type 0} (xs : List E) (front : Option (Bor E)) (n : ℕ) → n ≡ length xs → (IsSome front ↔ (0 < n)) → IfSome front (λ f. f.now ≡ slice_index_or xs 0 f.now) → option_copied front ≡ slice_get xs 0
+front_first [] None n is some at = refl
+front_first [] (Some f) n is some at = let there = some.0 refl in absurd (omega (arith, there, is))
+front_first (x ∷ xs) None n is some at = let there = some.1 (omega (arith, is)) in cc
+front_first (x ∷ xs) (Some f) n is some at = ap (λ e. Some e) at
 
 -- Least times
 
@@ -156,6 +168,50 @@ module _ {B : Type 0} where
       go (inl l) = All-weaker (λ e. s ≤ e.time) (λ e. t < e.time) (λ e m. omega arith) xs h.0
       go (inr l) = let m = before_least xs t s late h in let same : s ≡ t = omega arith in absurd (other (ap (λ n. Some n) same))
 
+  -- The least time, or a time that stands for none
+
+  pub least_or_one : {never : ℕ} (e : Event B) → e.time ≤ never → IsLeastOr never (e ∷ []) e.time
+  least_or_one e within = record { found = Some e.time; least = least_one e; value = refl; within = within }
+
+  pub least_or_append : {never s t : ℕ} {xs ys : List (Event B)} → IsLeastOr never xs s → IsLeastOr never ys t → IsLeastOr never (xs ++ ys) (min s t)
+  least_or_append {never} {s} {t} {xs} {ys} h k = record {
+    found = earlier_of h.found k.found;
+    least = least_append xs ys h.found k.found h.least k.least;
+    value = go h.found k.found h.value k.value;
+    within = omega (arith, min-le_left s t, h.within);
+  }
+    where
+      by_test : (b : Bool) (i j : ℕ) → nat_le i j ≡ b → s ≡ i → t ≡ j → min s t ≡ cond b i j
+      by_test true i j is si tj = let l : i ≤ j = grind (arith, nat_tests) in min-eq_left (omega (arith, l, si, tj)) ∙ si
+      by_test false i j is si tj = let l : j < i = grind (arith, nat_tests) in min-eq_right (omega (arith, l, si, tj)) ∙ tj
+
+      go : (a b : Option ℕ) → s ≡ or_else never a → t ≡ or_else never b → min s t ≡ or_else never (earlier_of a b)
+      go None b is also = min-eq_right (omega (arith, is, k.within)) ∙ also
+      go (Some i) None is also = min-eq_left (omega (arith, also, h.within)) ∙ is
+      go (Some i) (Some j) is also = by_test (nat_le i j) i j refl is also
+
+  pub least_or_three : {never s t u : ℕ} {xs ys zs : List (Event B)} → IsLeastOr never xs s → IsLeastOr never ys t → IsLeastOr never zs u → IsLeastOr never (xs ++ (ys ++ zs)) (min (min s t) u)
+  least_or_three {never} {s} {t} {u} {xs} {ys} {zs} h k l = subst (λ es. IsLeastOr never es (min (min s t) u)) (append_assoc xs ys zs) (least_or_append (least_or_append h k) l)
+
+  pub least_or_permuted : {never t : ℕ} {xs ys : List (Event B)} → IsPermutation xs ys → IsLeastOr never xs t → IsLeastOr never ys t
+  least_or_permuted {xs} {ys} moved h = record { found = h.found; least = least_permuted xs ys h.found moved h.least; value = h.value; within = h.within }
+
+  -- no event is earlier
+  pub least_or_from : {never t : ℕ} (xs : List (Event B)) → IsLeastOr never xs t → All (λ e. t ≤ e.time) xs
+  least_or_from {never} {t} xs h = go h.found h.least h.value
+    where
+      go : (found : Option ℕ) → IsLeastTime xs found → t ≡ or_else never found → All (λ e. t ≤ e.time) xs
+      go None least is = subst (All (λ e. t ≤ e.time)) (sym least) (All-nil (λ e. t ≤ e.time))
+      go (Some s) least is = subst (λ n. All (λ e. n ≤ e.time) xs) (sym is) least.0
+
+  -- where all are later, there are none
+  pub least_or_past : {never t : ℕ} (xs : List (Event B)) → IsLeastOr never xs t → All (λ e. t < e.time) xs → xs ≡ []
+  least_or_past {never} {t} xs h past = go h.found h.least h.value
+    where
+      go : (found : Option ℕ) → IsLeastTime xs found → t ≡ or_else never found → xs ≡ []
+      go None least is = least
+      go (Some s) least is = absurd (least.1 (subst (λ n. All (λ e. n < e.time) xs) is past))
+
   -- there is something where there is a least time
   pub some_least : (xs : List (Event B)) (t : ℕ) → IsLeastTime xs (Some t) → xs ≡ [] → ⊥
   some_least xs t h none = h.1 (subst (All (λ e. t < e.time)) (sym none) (All-nil (λ e. t < e.time)))
@@ -169,6 +225,16 @@ module _ {B : Type 0} where
   pub first_least : (xs : List (Event B)) → AreByTime xs → IsLeastTime xs (option_map (λ e. e.time) (slice_get xs 0))
   first_least [] up = refl
   first_least (e ∷ es) up = first_by_time e es up
+
+  -- so is the time of what is in front, or else the time that stands for none
+  pub front_least : (never t : ℕ) (xs : List (Event B)) (front : Option (Bor (Event B))) → AreByTime xs → option_copied front ≡ slice_get xs 0
+      → t ≡ or_else never (option_map (λ e. e.time) (option_copied front)) → t ≤ never → IsLeastOr never xs t
+  front_least never t xs front up is value within = record {
+    found = option_map (λ e. e.time) (option_copied front);
+    least = subst (IsLeastTime xs) (ap (option_map (λ e. e.time)) (sym is)) (first_least xs up);
+    value = value;
+    within = within;
+  }
 
   -- a least event has the least time
   pub at_least : (t : ℕ) (xs rest : List (Event B)) (x : Event B) → All (λ e. t ≤ e.time) xs → IsLeastTime xs (Some t) → IsPermutation xs (x ∷ rest) → All (λ e. x.time ≤ e.time) xs → x.time ≡ t

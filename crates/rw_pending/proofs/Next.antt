@@ -113,6 +113,11 @@ pub reached_alone : {B : Type 0} {first : Event B} {xs ys later left : List (Eve
     → IsReached xs ys later (first ∷ []) left
 reached_alone {first} {left} hand out from past = reached_gathered hand out from (IsPermutation-refl (first ∷ left)) (All-cons (λ f. f.time ≡ first.time) first [] refl (All-nil (λ f. f.time ≡ first.time))) past
 
+-- a least event that was sent is before no other, and no initial event is before it
+pub due_at : {B : Type 0} {next : Option (Event B)} {x : Event B} (later initial : List (Event B)) → next ≡ Some x → IfSome next (λ e. All (λ f. e.time ≤ f.time) later × All (λ f. e.time ≤ f.time) initial)
+    → All (λ f. x.time ≤ f.time) later × All (λ f. x.time ≤ f.time) initial
+due_at later initial is h = subst (λ n. IfSome n (λ e. All (λ f. e.time ≤ f.time) later × All (λ f. e.time ≤ f.time) initial)) is h
+
 -- what is given is no empty answer
 pub not_none : {E : Type 0} (P : Type 0) (next : Option E) → IsSome next → IfNone next P
 not_none P None h = absurd cc

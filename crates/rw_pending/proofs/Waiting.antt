@@ -1,22 +1,21 @@
 -- What waits to be executed: the initial events, those at hand, and those that were sent for later times.
-use Rattle.std.proofs.Common.{◌≡◌, ℕ, ◌<◌, ◌≤◌, Bool, true, false, cond, List, [], ◌∷◌, ◌++◌, refl, sym, ◌∙◌, ap, subst, arith, append_assoc, append-nil, true≢false, Option, Some, None, Bor, All, IfNone, IfSome, IsNone, IsSome, IsTrue, IsPermutation, take}
-use Rattle.std.specs.Prelude.{nat_lt, Result, Ok, Err, OnOk, OnErr}
+use Rattle.std.proofs.Common.{◌≡◌, ℕ, ◌<◌, ◌≤◌, Bool, false, List, [], ◌∷◌, ◌++◌, refl, sym, ◌∙◌, ap, subst, arith, append_assoc, append-nil, true≢false, Option, Some, None, Bor, All, IfNone, IfSome, IsNone, IsSome, IsTrue, IsPermutation, take}
+use Rattle.std.specs.Prelude.{Result, Ok, Err, OnOk, OnErr}
 use Rattle.std.specs.Cmp.{IsTotalOrder, nat_cmp_is}
 use Rattle.std.specs.List.{slice_get}
-use Rattle.std.specs.Option.{is_some, option_copied, option_to_list}
+use Rattle.std.specs.Option.{is_some, option_copied, option_map, option_to_list}
 use Rattle.std.specs.Ordering.{is_gt, nat_cmp, ordering_then}
 use Rattle.std.specs.declared.cmp.Ordering.{Ordering}
 use Rattle.std.specs.declared.cmp.Ordering.TheVariants.{Less}
-use Rattle.std.proofs.lemmas.Bool.Decides.{nat_tests}
 use Rattle.std.proofs.lemmas.Cmp.{upto}
 use Rattle.std.proofs.lemmas.List.Elements.{All-append, All-cons, All-head, All-nil, All-push, All-take, All-weaker}
 use Rattle.std.proofs.lemmas.List.Sorted.{All-permutation, IsPermutation-append_left, IsPermutation-append_right, IsPermutation-refl, IsPermutation-sym, IsPermutation-trans}
 use Rattle.rw_vt.specs.declared.event.Event.{Event}
 use Rattle.rw_vt.specs.Order.{AtMost, event_cmp}
 use Rattle.rw_vt.proofs.EventOrder.{time_at_most}
-use Rattle.rw_pending.specs.Later.{HasMoved, IsLeastTime, IsLeft}
-use Rattle.rw_pending.specs.Pending.{AreAround, IsDue, IsTakenFromOne, due_of, time_or}
-use Rattle.rw_pending.proofs.ByTime.{All-back, All-front, joined_by_place, late_left, none_permuted, put_before, put_behind}
+use Rattle.rw_pending.specs.Later.{HasMoved, IsLeastOr, IsLeastTime, IsLeft, or_else}
+use Rattle.rw_pending.specs.Pending.{AreAround, IsDue, IsTakenFromOne, time_or}
+use Rattle.rw_pending.proofs.ByTime.{All-back, All-front, joined_by_place, late_left, least_or_from, least_or_past, none_permuted, put_before, put_behind}
 
 -- First elements
 
@@ -77,38 +76,19 @@ module _ {B : Type 0} (order : B → B → Ordering) where
       ap (λ r. is_gt (ordering_then r (ordering_then (nat_cmp e.source f.source) (ordering_then (nat_cmp e.number f.number) (ordering_then (nat_cmp e.to f.to) (order e.body f.body))))))
       (sym (nat_cmp_is e.time f.time Less l))
 
-  -- where the least time is due, no initial event is before it
-  pub due_some : (first : Option (Event B)) (least : Option ℕ) (t : ℕ) → due_of first least ≡ Some t → (least ≡ Some t) × IfSome first (λ i. t ≤ i.time)
-  due_some first None t is = cc
-  due_some None (Some s) t is = (is, tt)
-  due_some (Some i) (Some s) t is = go (nat_lt i.time s) refl is
-    where
-      go : (b : Bool) → nat_lt i.time s ≡ b → cond b None (Some s) ≡ Some t → (Some s ≡ Some t) × (t ≤ i.time)
-      go true is_lt h = cc
-      go false is_lt h = let l : s ≤ i.time = grind (arith, nat_tests) in let same : s ≡ t = cc in (h, omega arith)
+  -- where the first initial event's time is before the least time of those that were sent, it comes before all of these
+  pub due_before : {never s t : ℕ} (xs ys : List (Event B)) → s ≡ or_else never (option_map (λ e. e.time) (slice_get xs 0)) → IsLeastOr never ys t → s < t → IsDue xs ys
+  due_before [] ys is least early = absurd (omega (arith, is, least.within, early))
+  due_before {never} {s} {t} (x ∷ xs) ys is least early = All-weaker (λ e. t ≤ e.time) (λ e. x.time < e.time) (λ e m. omega (arith, is, early, m)) ys (least_or_from ys least)
 
-  pub all_from : (xs : List (Event B)) (first : Option (Bor (Event B))) (t : ℕ) → option_copied first ≡ slice_get xs 0 → IfSome first (λ f. All (AtMost (event_cmp order) f.now) xs) → IfSome (option_copied first) (λ i. t ≤ i.time) → All (λ e. t ≤ e.time) xs
-  all_from [] first t is least low = All-nil (λ e. t ≤ e.time)
-  all_from (x ∷ xs) None t is least low = cc
-  all_from (x ∷ xs) (Some f) t is least low = All-weaker (AtMost (event_cmp order) f.now) (λ e. t ≤ e.time) (λ e h. let l = time_at_most order f.now e h in omega arith) (x ∷ xs) least
+  due_nothing : (xs ys : List (Event B)) → ys ≡ [] → IsDue xs ys
+  due_nothing [] ys none = none
+  due_nothing (x ∷ xs) ys none = subst (All (λ e. x.time < e.time)) (sym none) (All-nil (λ e. x.time < e.time))
 
-  -- where no time is due, the first initial event is before all that were sent, or there are none of these
-  pub due_none : (xs ys : List (Event B)) (first : Option (Bor (Event B))) (least : Option ℕ) → option_copied first ≡ slice_get xs 0 → IsLeastTime ys least → due_of (option_copied first) least ≡ None → IsDue xs ys
-  due_none [] ys first None is low none = low
-  due_none (x ∷ xs) ys first None is low none = subst (All (λ e. x.time < e.time)) (sym low) (All-nil (λ e. x.time < e.time))
-  due_none [] ys None (Some t) is low none = cc
-  due_none [] ys (Some f) (Some t) is low none = cc
-  due_none (x ∷ xs) ys None (Some t) is low none = cc
-  due_none (x ∷ xs) ys (Some f) (Some t) is low none = go (nat_lt f.now.time t) refl none
-    where
-      same : f.now ≡ x
-      same = cc
-
-      go : (b : Bool) → nat_lt f.now.time t ≡ b → cond b None (Some t) ≡ None → All (λ e. x.time < e.time) ys
-      go true is_lt h =
-          let l : f.now.time < t = grind (arith, nat_tests) in
-          subst (λ w. All (λ e. w.time < e.time) ys) same (All-weaker (λ e. t ≤ e.time) (λ e. f.now.time < e.time) (λ e m. omega arith) ys low.0)
-      go false is_lt h = cc
+  -- and where none of them has that least time, there are none
+  pub due_none : {never t : ℕ} (xs ys left : List (Event B)) (next : Option (Event B)) → IsLeastOr never ys t → IfNone next (All (λ e. t < e.time) ys) → IfNone next (left ≡ ys) → IfNone next ((left ≡ ys) × IsDue xs ys)
+  due_none xs ys left (Some e) least past same = tt
+  due_none xs ys left None least past same = (same, due_nothing xs ys (least_or_past ys least past))
 
   -- what is taken is not before the time that is reached
   taken_from : (t : ℕ) (xs ys us vs : List (Event B)) (e : Event B) → All (λ f. t ≤ f.time) xs → All (λ f. t ≤ f.time) ys → IsTakenFromOne xs ys (Some e) us vs → t ≤ e.time
@@ -271,8 +251,12 @@ module _ {B : Type 0} where
   )
 
   -- those of time 0 come to hand
-  pub around_start : (xs start now later : List (Event B)) → All (λ e. e.time ≡ 0) start → All (λ e. 0 < e.time) later → IsPermutation start now → AreAround 0 xs now later
+  around_start : (xs start now later : List (Event B)) → All (λ e. e.time ≡ 0) start → All (λ e. 0 < e.time) later → IsPermutation start now → AreAround 0 xs now later
   around_start xs start now later at past moved = record { initial_from = λ k d l. omega arith; now_at = All-permutation (λ e. e.time ≡ 0) start now moved at; later_past = past }
+
+  pub around_filled : {T E : Type 0} (xs start now later : List (Event B)) (r : Result T E) → All (λ e. e.time ≡ 0) start → All (λ e. 0 < e.time) later → OnOk r (IsPermutation start now) → OnErr r (now ≡ []) → AreAround 0 xs now later
+  around_filled xs start now later (Ok x) at past filled none = around_start xs start now later at past filled
+  around_filled xs start now later (Err x) at past filled none = record { initial_from = λ k d l. omega arith; now_at = subst (All (λ e. e.time ≡ 0)) (sym none) (All-nil (λ e. e.time ≡ 0)); later_past = past }
 
   -- of what was sent nothing is left, and time 0 is reached again
   pub around_none : (xs now later : List (Event B)) → now ≡ [] → later ≡ [] → AreAround 0 xs now later
@@ -289,10 +273,6 @@ module _ {B : Type 0} where
       → IfSome next (λ e. All (λ f. e.time ≤ f.time) ys × All (λ f. e.time ≤ f.time) xs)
   taken_due t xs ys None at from low = tt
   taken_due t xs ys (Some e) at from low = (All-weaker (λ f. t ≤ f.time) (λ f. e.time ≤ f.time) (λ f m. omega arith) ys low, All-weaker (λ f. t ≤ f.time) (λ f. e.time ≤ f.time) (λ f m. omega arith) xs from)
-
-  pub due_there : (P : Type 0) (t : ℕ) (ys : List (Event B)) (next : Option (Event B)) → IsLeastTime ys (Some t) → IfNone next (All (λ e. t < e.time) ys) → IfNone next P
-  due_there P t ys None low none = absurd (low.1 none)
-  due_there P t ys (Some e) low none = tt
 
 -- What a call says of the event that it gives
 

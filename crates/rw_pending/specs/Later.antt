@@ -1,5 +1,5 @@
 -- Events that were sent, until their time comes.
-use Rattle.std.specs.Prelude.{◌≡◌, ◌<◌, ◌≤◌, ◌++◌, [], ◌∷◌, All, IsPermutation, List, Option, Some, None, if◌then◌else◌, nat_le}
+use Rattle.std.specs.Prelude.{◌≡◌, ◌-◌, ◌^◌, ◌<◌, ◌≤◌, ◌++◌, [], ◌∷◌, All, IsPermutation, List, Option, Some, None, if◌then◌else◌, nat_le}
 use Rattle.rw_vt.specs.Words.{Time}
 use Rattle.rw_vt.specs.declared.event.Event.{Event}
 
@@ -8,6 +8,22 @@ abbrev pub IsLeastTime : {B : Type 0} → List (Event B) → Option Time → Typ
 IsLeastTime events None = events ≡ []
 IsLeastTime events (Some t) =
     All (λ e. t ≤ e.time) events × (All (λ e. t < e.time) events → ⊥)
+
+-- the time that stands for none: no event is later
+abbrev pub never : Time
+never = 2 ^ 64 - 1
+
+-- a time, or else another
+abbrev pub or_else : Time → Option Time → Time
+or_else t None = t
+or_else t (Some s) = s
+
+-- this time is the least time of an event, or `never` where there is no event; it is not after `never`
+pub record IsLeastOr {B : Type 0} (never : Time) (events : List (Event B)) (t : Time) : Type 0 where
+  pub found : Option Time
+  pub least : IsLeastTime events found
+  pub value : t ≡ or_else never found
+  pub within : t ≤ never
 
 -- the earlier of two times, where there are any
 abbrev pub earlier_of : Option Time → Option Time → Option Time

@@ -1,5 +1,5 @@
 -- The events that are still to be executed.
-use Rattle.std.specs.Prelude.{◌≡◌, ◌<◌, ◌≤◌, ◌++◌, [], ◌∷◌, All, IfNone, IfSome, IsPermutation, List, Option, Some, None, if◌then◌else◌, nat_lt, option_to_list}
+use Rattle.std.specs.Prelude.{◌≡◌, ◌<◌, ◌≤◌, ◌++◌, [], ◌∷◌, All, IfNone, IfSome, IsPermutation, List, Option, Some, None, option_to_list}
 use Rattle.std.specs.declared.cmp.Ordering.{Ordering}
 use Rattle.std.specs.declared.cmp.Reverse.{Reverse}
 use Rattle.std.specs.BinaryHeap.{IsHeap}
@@ -32,12 +32,6 @@ pub record AreAround {B : Type 0} (t : Time) (initial now later : List (Event B)
 abbrev pub IsDue : {B : Type 0} → List (Event B) → List (Event B) → Type 0
 IsDue [] later = later ≡ []
 IsDue (first ∷ initial) later = All (λ e. first.time < e.time) later
-
--- the least time, unless the first initial event is before it
-abbrev pub due_of : {B : Type 0} → Option (Event B) → Option Time → Option Time
-due_of first None = None
-due_of None (Some t) = Some t
-due_of (Some first) (Some t) = if nat_lt first.time t then None else Some t
 
 -- the time of an event, or else this one
 abbrev pub time_or : {B : Type 0} → Option (Event B) → Time → Time

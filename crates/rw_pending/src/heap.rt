@@ -1,7 +1,8 @@
 ghost use Rattle.std.specs.Prelude.{◌≡◌, ◌≤◌, ◌++◌, [], ◌∷◌, All, IfNone, IfSome, IsPermutation, OnErr, OnOk};
+ghost use Rattle.rw_pending.specs.Later.{IsLeastTime};
 
 use crate::later::Store;
-use crate::times::is_time;
+use crate::times::{is_time, or_never};
 use rw_vt::Event;
 use std::alloc::{AllocError, Global};
 use std::cmp::Reverse;
@@ -37,6 +38,16 @@ impl<B: Ord + Copy> Heap<B> {
         }
     }
 
+    /// The least time of an event. `None` only where there is none.
+    fn least_time(&self) -> Option<u64>
+        ensures { IsLeastTime self.now result }
+    {
+        match self.events.peek() {
+            Some(Reverse(event)) => Some(event.time),
+            None => None,
+        }
+    }
+
     /// Takes a least event. `None` only where there is none.
     fn pop(&mut self) -> Option<Event<B>>
         ensures taken { IfSome result (λ e. IsPermutation self.old (e ∷ self.new)) }
@@ -50,26 +61,28 @@ impl<B: Ord + Copy> Heap<B> {
 impl<B: Ord + Copy> Store<B> for Heap<B> {
     ghost events = { λ h. h };
 
-    fn least_time(&self) -> Option<u64> {
-        match self.events.peek() {
-            Some(Reverse(event)) => Some(event.time),
-            None => None,
-        }
+    fn least(&self) -> u64 {
+        or_never(self.least_time())
     }
 
-    fn put(&mut self, event: Event<B>) -> Result<(), AllocError>
-        ensures added { OnOk result (IsPermutation (self.old ++ event ∷ []) self.new) }
+    fn is_empty(&self) -> bool {
+        self.events.is_empty()
+    }
+
+    #[inline(never)]
+    fn put(&mut self, event: &Event<B>) -> Result<(), AllocError>
+        ensures added { OnOk result (IsPermutation (self.old ++ event.now ∷ []) self.new) }
         ensures unchanged { OnErr result (self.new ≡ self.old) }
     {
-        self.events.push(Reverse(event))?;
+        self.events.push(Reverse(*event))?;
         Ok(())
     }
 
-    fn take_one(&mut self, time: u64) -> Option<Event<B>> {
+    fn take_one(&mut self, time: u64, next: &mut Option<Event<B>>) {
         if is_time(self.least_time(), time) {
-            self.pop()
+            *next = self.pop();
         } else {
-            None
+            *next = None;
         }
     }
 

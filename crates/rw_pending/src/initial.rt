@@ -1,10 +1,11 @@
-ghost use Rattle.std.specs.Prelude.{◌≡◌, ◌++◌, [], All, IfNone, IfSome, option_copied, option_to_list, slice_get};
+ghost use Rattle.std.specs.Prelude.{◌≡◌, ◌++◌, [], All, IfNone, IfSome, option_copied, option_map, option_to_list, slice_get};
 ghost use Rattle.rw_vt.specs.Order.{event_cmp, AtMost};
+ghost use Rattle.rw_pending.specs.Later.{IsLeastOr, never, or_else};
 
 use crate::source::Source;
+use crate::times::{or_never, time_of};
 use rw_vt::Event;
 use std::marker::Model;
-use std::mem;
 
 /// What is left of the initial events: a source, whose next event stands before it to be looked at. Contracts see them as a
 /// list in order.
@@ -40,7 +41,17 @@ impl<B: Ord + Copy, S: Source<B>> Initial<B, S> {
         }
     }
 
+    /// The time of the first event, which is the least, or [`NEVER`] where none is left.
+    #[inline]
+    pub fn least(&self) -> u64
+        ensures least { IsLeastOr never self.now result }
+        ensures first { result ≡ or_else never (option_map (λ e. e.time) (slice_get self.now 0)) }
+    {
+        or_never(time_of(self.first()))
+    }
+
     /// The first event, which is a least one. `None` only where none is left.
+    #[inline]
     pub fn first(&self) -> Option<&Event<B>>
         ensures first { option_copied result ≡ slice_get self.now 0 }
         ensures least { IfSome result (λ e. All (AtMost (event_cmp B.cmp) e.now) self.now) }
@@ -48,12 +59,14 @@ impl<B: Ord + Copy, S: Source<B>> Initial<B, S> {
         self.first.as_ref()
     }
 
-    /// Takes the first event, which is a least one. `None` only where none is left.
-    pub fn pop(&mut self) -> Option<Event<B>>
-        ensures taken { self.old ≡ option_to_list result ++ self.new }
-        ensures least { IfSome result (λ e. All (AtMost (event_cmp B.cmp) e) self.old) }
-        ensures none { IfNone result (self.old ≡ []) }
+    /// Takes the first event, which is a least one, into `next`. `None` only where none is left.
+    #[inline]
+    pub fn pop(&mut self, next: &mut Option<Event<B>>)
+        ensures taken { self.old ≡ option_to_list next.new ++ self.new }
+        ensures least { IfSome next.new (λ e. All (AtMost (event_cmp B.cmp) e) self.old) }
+        ensures none { IfNone next.new (self.old ≡ []) }
     {
-        mem::replace(&mut self.first, self.others.next())
+        *next = self.first;
+        self.first = self.others.next();
     }
 }

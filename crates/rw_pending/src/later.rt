@@ -1,12 +1,13 @@
-ghost use Rattle.std.specs.Prelude.{◌≡◌, ◌<◌, ◌≤◌, ◌++◌, [], ◌∷◌, All, IfNone, IfSome, IsPermutation, List, OnErr, OnOk, true};
+ghost use Rattle.std.specs.Prelude.{◌≡◌, ◌<◌, ◌≤◌, ◌↔◌, ◌++◌, [], ◌∷◌, false, true, All, IfNone, IfSome, IsPermutation, IsTrue, List, OnErr, OnOk, Some};
+ghost use Rattle.std.specs.VecDeque.{deque_capacity, deque_len};
 ghost use Rattle.rw_vt.specs.declared.event.Event.{Event};
-ghost use Rattle.rw_pending.specs.Later.{HasMoved, IsLeastTime, IsLeft};
+ghost use Rattle.rw_pending.specs.Later.{HasMoved, IsLeastOr, IsLeastTime, IsLeft, never};
 
-use crate::fifo::Fifo;
 use crate::heap::Heap;
-use crate::times::{earlier, is_time, time_of};
+use crate::times::{NEVER, or_never, time_of};
 use rw_vt::Event;
 use std::alloc::{AllocError, Global};
+use std::collections::VecDeque;
 use std::marker::Model;
 
 /// Where events stand that were sent, until their time comes.
@@ -14,22 +15,28 @@ pub trait Store<B: Copy>: Drop {
     /// The events that are there, in no particular order.
     ghost events: { Self → List (Event B) };
 
-    /// The least time of an event. `None` only where there is no event.
-    fn least_time(&self) -> Option<u64>
-        ensures { IsLeastTime (events self.now) result };
+    /// The least time of an event, or [`NEVER`] where there is no event.
+    fn least(&self) -> u64
+        ensures { IsLeastOr never (events self.now) result };
+
+    /// Whether there is no event.
+    fn is_empty(&self) -> bool
+        ensures { IsTrue result ↔ (events self.now ≡ []) };
 
     /// Adds an event. Where memory is refused, nothing has changed.
-    fn put(&mut self, event: Event<B>) -> Result<(), AllocError>
+    fn put(&mut self, event: &Event<B>) -> Result<(), AllocError>
         ensures added { OnOk result
-            (IsPermutation (events self.old ++ event ∷ []) (events self.new)) }
+            (IsPermutation (events self.old ++ event.now ∷ []) (events self.new)) }
         ensures unchanged { OnErr result (events self.new ≡ events self.old) };
 
-    /// Takes an event of a time, than which none is earlier. `None` only where there is none of that time.
-    fn take_one(&mut self, time: u64) -> Option<Event<B>>
+    /// Takes an event of a time, than which none is earlier, into `next`. `None` only where there is none of that time.
+    fn take_one(&mut self, time: u64, next: &mut Option<Event<B>>)
         requires { All (λ e. time ≤ e.time) (events self.old) }
-        ensures taken { IfSome result (λ e. IsPermutation (events self.old) (e ∷ events self.new)) }
-        ensures of_time { IfSome result (λ e. e.time ≡ time) }
-        ensures none { IfNone result (All (λ e. time < e.time) (events self.old)) };
+        ensures taken { IfSome next.new (λ e.
+            IsPermutation (events self.old) (e ∷ events self.new)) }
+        ensures of_time { IfSome next.new (λ e. e.time ≡ time) }
+        ensures none { IfNone next.new (All (λ e. time < e.time) (events self.old)) }
+        ensures unchanged { IfNone next.new (events self.new ≡ events self.old) };
 
     /// Moves the events of a time, than which none is earlier, to the end of `taken`. Where memory is refused, some events
     /// are lost.
@@ -43,7 +50,9 @@ pub trait Store<B: Copy>: Drop {
 /// Events whose times never fall. Contracts see them as a list in order.
 #[derive(Drop)]
 struct Lane<B: Copy> {
-    events: Fifo<Event<B>>,
+    events: VecDeque<Event<B>>,
+    /// The time of the first event, or [`NEVER`].
+    first: u64,
     /// The time of the last event that came here.
     last: u64,
 }
@@ -51,13 +60,14 @@ struct Lane<B: Copy> {
 impl<B: Copy> Model for Lane<B> {
     ghost use Rattle.std.specs.Prelude.{List};
     ghost use Rattle.rw_vt.specs.declared.event.Event.{Event};
-    ghost use Rattle.rw_pending.specs.Later.{IsLane};
+    ghost use Rattle.rw_pending.specs.Later.{IsLane, IsLeastOr, never};
 
     ghost Value = { List (Event B) };
 
-    ghost view = { λ l. l.events };
+    ghost view = { λ l. l.events.items };
 
-    ghost invariant = { λ l. IsLane l.events l.last };
+    ghost invariant = { λ l. IsLane l.events.items l.last
+        × IsLeastOr never l.events.items l.first };
 }
 
 impl<B: Copy> Lane<B> {
@@ -66,21 +76,40 @@ impl<B: Copy> Lane<B> {
         ensures { result ≡ [] }
     {
         Lane {
-            events: Fifo::new(alloc),
+            events: VecDeque::new(alloc),
+            first: NEVER,
             last: 0,
         }
     }
 
-    /// The time of the first event, which is the least. `None` only where there is no event.
-    #[inline]
-    fn least_time(&self) -> Option<u64>
-        ensures { IsLeastTime self.now result }
+    /// The time of the first event, which is the least, or [`NEVER`] where there is no event.
+    #[inline(always)]
+    fn least(&self) -> u64
+        ensures { IsLeastOr never self.now result }
     {
-        time_of(self.events.first())
+        self.first
+    }
+
+    /// Whether there is no event.
+    #[inline(always)]
+    fn is_empty(&self) -> bool
+        ensures { IsTrue result ↔ (self.now ≡ []) }
+    {
+        self.events.is_empty()
+    }
+
+    /// Whether the first event is of this time.
+    #[inline(always)]
+    fn has(&self, time: u64) -> bool
+        ensures least { IsTrue result → IsLeastTime self.now (Some time) }
+        ensures later { result ≡ false → All (λ e. time ≤ e.time) self.now
+            → All (λ e. time < e.time) self.now }
+    {
+        self.first == time && !self.events.is_empty()
     }
 
     /// Whether an event of this time may come behind those that are there.
-    #[inline]
+    #[inline(always)]
     fn takes(&self, time: u64) -> bool
         ensures { result ≡ true → All (λ e. e.time ≤ time) self.now }
     {
@@ -89,42 +118,56 @@ impl<B: Copy> Lane<B> {
 
     /// Adds an event, than which none is later, at the end. Where memory is refused, nothing has changed.
     #[inline]
-    fn push(&mut self, event: Event<B>) -> Result<(), AllocError>
-        requires { All (λ e. e.time ≤ event.time) self.old }
-        ensures added { OnOk result (self.new ≡ self.old ++ event ∷ []) }
+    fn push(&mut self, event: &Event<B>) -> Result<(), AllocError>
+        requires { All (λ e. e.time ≤ event.now.time) self.old }
+        ensures added { OnOk result (self.new ≡ self.old ++ event.now ∷ []) }
         ensures unchanged { OnErr result (self.new ≡ self.old) }
     {
-        self.events.push(event)?;
+        if self.events.len() == self.events.capacity() {
+            make_room(&mut self.events)?;
+        }
+        self.events.push_back_reserved(*event);
+        self.first = self.first.min(event.time);
         self.last = event.time;
         Ok(())
     }
 
     /// Takes the first event, than which none is earlier. `None` only where there is none.
-    #[inline]
+    #[inline(always)]
     fn pop(&mut self) -> Option<Event<B>>
         ensures taken { IfSome result (λ e. IsPermutation self.old (e ∷ self.new)) }
         ensures least { IfSome result (λ e. All (λ f. e.time ≤ f.time) self.old) }
         ensures none { IfNone result (self.old ≡ []) }
     {
-        self.events.pop()
+        let event = self.events.pop_front();
+        self.first = or_never(time_of(self.events.front()));
+        event
     }
 
     /// Moves the events of a time, than which none is earlier, to the end of `taken`. Where memory is refused, some events
     /// are lost.
-    #[inline(always)]
     fn take(&mut self, time: u64, taken: &mut Vec<Event<B>>) -> Result<(), AllocError>
         requires { All (λ e. time ≤ e.time) self.old }
         ensures moved { OnOk result
             (HasMoved time self.old self.new taken.old.items taken.new.items) }
         ensures left { OnErr result (IsLeft self.old self.new) }
     {
-        while is_time(self.least_time(), time) {
+        while self.has(time) {
             if let Some(event) = self.pop() {
                 taken.push(event)?;
             }
         }
         Ok(())
     }
+}
+
+/// Makes room for one more event.
+#[inline(never)]
+fn make_room<B: Copy>(events: &mut VecDeque<Event<B>>) -> Result<(), AllocError>
+    ensures same { events.new.items ≡ events.old.items }
+    ensures room { OnOk result (deque_len events.new < deque_capacity events.new) }
+{
+    events.reserve(1)
 }
 
 /// Two lanes, and a store for the events that would break their order. What is put into a lane costs no comparison with what is
@@ -161,16 +204,19 @@ impl<B: Copy, R: Store<B>> TwoLanes<B, R> {
 impl<B: Copy, R: Store<B>> Store<B> for TwoLanes<B, R> {
     ghost events = { λ l. l };
 
-    fn least_time(&self) -> Option<u64> {
-        earlier(
-            self.first.least_time(),
-            earlier(self.second.least_time(), self.others.least_time()),
-        )
+    #[inline(always)]
+    fn least(&self) -> u64 {
+        let lanes = self.first.least().min(self.second.least());
+        lanes.min(self.others.least())
+    }
+
+    fn is_empty(&self) -> bool {
+        self.first.is_empty() && self.second.is_empty() && self.others.is_empty()
     }
 
     #[inline]
-    fn put(&mut self, event: Event<B>) -> Result<(), AllocError>
-        ensures added { OnOk result (IsPermutation (self.old ++ event ∷ []) self.new) }
+    fn put(&mut self, event: &Event<B>) -> Result<(), AllocError>
+        ensures added { OnOk result (IsPermutation (self.old ++ event.now ∷ []) self.new) }
         ensures unchanged { OnErr result (self.new ≡ self.old) }
     {
         if self.first.takes(event.time) {
@@ -182,18 +228,18 @@ impl<B: Copy, R: Store<B>> Store<B> for TwoLanes<B, R> {
         }
     }
 
-    #[inline]
-    fn take_one(&mut self, time: u64) -> Option<Event<B>> {
-        if is_time(self.first.least_time(), time) {
-            self.first.pop()
-        } else if is_time(self.second.least_time(), time) {
-            self.second.pop()
+    #[inline(always)]
+    fn take_one(&mut self, time: u64, next: &mut Option<Event<B>>) {
+        if self.first.has(time) {
+            *next = self.first.pop();
+        } else if self.second.has(time) {
+            *next = self.second.pop();
         } else {
-            self.others.take_one(time)
+            self.others.take_one(time, next);
         }
     }
 
-    #[inline]
+    #[inline(always)]
     fn take(&mut self, time: u64, taken: &mut Vec<Event<B>>) -> Result<(), AllocError> {
         self.first.take(time, taken)?;
         self.second.take(time, taken)?;
@@ -210,7 +256,8 @@ type Lanes<B> = TwoLanes<B, TwoLanes<B, Heap<B>>>;
 /// particular order.
 pub struct Later<B: Ord + Copy> {
     lanes: Lanes<B>,
-    least: Option<u64>,
+    /// The least time of an event, or [`NEVER`].
+    least: u64,
 }
 
 // By hand, so that it is proved here, and not in each function of a crate above that has one.
@@ -223,13 +270,13 @@ impl<B: Ord + Copy> Drop for Later<B> {
 impl<B: Ord + Copy> Model for Later<B> {
     ghost use Rattle.std.specs.Prelude.{List};
     ghost use Rattle.rw_vt.specs.declared.event.Event.{Event};
-    ghost use Rattle.rw_pending.specs.Later.{IsLeastTime};
+    ghost use Rattle.rw_pending.specs.Later.{IsLeastOr, never};
 
     ghost Value = { List (Event B) };
 
     ghost view = { λ l. l.lanes };
 
-    ghost invariant = { λ l. IsLeastTime l.lanes l.least };
+    ghost invariant = { λ l. IsLeastOr never l.lanes l.least };
 }
 
 impl<B: Ord + Copy> Later<B> {
@@ -239,8 +286,16 @@ impl<B: Ord + Copy> Later<B> {
     {
         Later {
             lanes: TwoLanes::new(alloc, TwoLanes::new(alloc, Heap::new(alloc))),
-            least: None,
+            least: NEVER,
         }
+    }
+
+    /// The least time of an event, or [`NEVER`] where there is no event.
+    #[inline(always)]
+    pub fn least(&self) -> u64
+        ensures { IsLeastOr never self.now result }
+    {
+        self.least
     }
 
     /// The least time of an event. `None` only where there is no event.
@@ -248,30 +303,32 @@ impl<B: Ord + Copy> Later<B> {
     pub fn least_time(&self) -> Option<u64>
         ensures { IsLeastTime self.now result }
     {
-        self.least
+        if self.least == NEVER && self.lanes.is_empty() {
+            return None;
+        }
+        Some(self.least)
     }
 
     /// Adds an event. Where memory is refused, nothing has changed.
-    pub fn put(&mut self, event: Event<B>) -> Result<(), AllocError>
-        ensures added { OnOk result (IsPermutation (self.old ++ event ∷ []) self.new) }
+    pub fn put(&mut self, event: &Event<B>) -> Result<(), AllocError>
+        ensures added { OnOk result (IsPermutation (self.old ++ event.now ∷ []) self.new) }
         ensures unchanged { OnErr result (self.new ≡ self.old) }
     {
         self.lanes.put(event)?;
-        self.least = earlier(self.least, Some(event.time));
+        self.least = self.least.min(event.time);
         Ok(())
     }
 
-    /// Takes an event of a time, than which none is earlier. `None` only where there is none of that time.
-    #[inline]
-    pub fn take_one(&mut self, time: u64) -> Option<Event<B>>
+    /// Takes an event of a time, than which none is earlier, into `next`. `None` only where there is none of that time.
+    pub fn take_one(&mut self, time: u64, next: &mut Option<Event<B>>)
         requires { All (λ e. time ≤ e.time) self.old }
-        ensures taken { IfSome result (λ e. IsPermutation self.old (e ∷ self.new)) }
-        ensures of_time { IfSome result (λ e. e.time ≡ time) }
-        ensures none { IfNone result (All (λ e. time < e.time) self.old) }
+        ensures taken { IfSome next.new (λ e. IsPermutation self.old (e ∷ self.new)) }
+        ensures of_time { IfSome next.new (λ e. e.time ≡ time) }
+        ensures none { IfNone next.new (All (λ e. time < e.time) self.old) }
+        ensures unchanged { IfNone next.new (self.new ≡ self.old) }
     {
-        let event = self.lanes.take_one(time);
-        self.least = self.lanes.least_time();
-        event
+        self.lanes.take_one(time, next);
+        self.least = self.lanes.least();
     }
 
     /// Moves the events of a time, than which none is earlier, to the end of `taken`. Where memory is refused, some events
@@ -283,7 +340,7 @@ impl<B: Ord + Copy> Later<B> {
         ensures left { OnErr result (IsLeft self.old self.new) }
     {
         let result = self.lanes.take(time, taken);
-        self.least = self.lanes.least_time();
+        self.least = self.lanes.least();
         result
     }
 

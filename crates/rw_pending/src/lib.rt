@@ -7,12 +7,13 @@
 //!
 //! An initial event costs one or two comparisons. So does a sent event while a model uses at most four
 //! different delays, since each delay has a queue of its own; other events go through a heap, in
-//! logarithmic time. The events of one time are sorted together, once.
+//! logarithmic time. An event that is alone in its time goes straight to whoever executes it. Several
+//! events of one time are brought together by their sources and sorted, once.
 //!
 //! Worked examples: `rw_program_tests/src/reports.rt`, and the cases of `rw_cases`, through sequential
 //! runs.
 
-mod fifo;
+mod groups;
 mod heap;
 mod initial;
 mod later;

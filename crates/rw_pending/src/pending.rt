@@ -1,9 +1,9 @@
-ghost use Rattle.std.specs.Prelude.{◌≡◌, ◌+◌, ◌<◌, ◌≤◌, ◌++◌, [], ◌∷◌, false, true, All, IfNone, IfOk, IfSome, IsNone, IsPermutation, IsSome, IsTrue, List, OnErr, OnOk, length, option_copied, take};
+ghost use Rattle.std.specs.Prelude.{◌≡◌, ◌+◌, ◌<◌, ◌≤◌, ◌++◌, [], ◌∷◌, false, true, All, IfNone, IfOk, IfSome, IsNone, IsPermutation, IsSome, IsTrue, List, OnErr, OnOk, length, option_copied, option_to_list, take};
 ghost use Rattle.rw_vt.specs.Words.{Count, Time};
 ghost use Rattle.rw_vt.specs.Order.{event_cmp, AtMost};
 ghost use Rattle.rw_vt.specs.declared.event.Event.{Event};
 ghost use Rattle.rw_pending.specs.Later.{IsLeastTime, IsLeft};
-ghost use Rattle.rw_pending.specs.Pending.{AreAround, HasMovedOn, IsDue, IsNextEvent, IsReached, IsTakenFromOne, due_of, time_or};
+ghost use Rattle.rw_pending.specs.Pending.{AreAround, HasMovedOn, IsDue, IsNextEvent, IsReached, IsTakenFromOne, time_or};
 
 use crate::initial::Initial;
 use crate::later::Later;
@@ -18,9 +18,9 @@ use std::mem;
 /// The events that are still to be executed. Contracts see the time that is reached, and the events as a list, in no
 /// particular order.
 ///
-/// The initial events come from a source, the least first; those that are sent wait for their time. The ones of a time are
-/// taken together and sorted once. So what is sent costs a comparison or two where the model has few delays, beside that
-/// sort; where it has many, the logarithm of how many of them wait.
+/// The initial events come from a source, the least first; those that are sent wait for their time. One that is alone in its
+/// time is given as it is; several are taken together and sorted once. So what is sent costs a comparison or two where the model
+/// has few delays, beside that sort; where it has many, the logarithm of how many of them wait.
 #[derive(Drop)]
 pub struct Pending<B: Ord + Copy, S: Source<B>> {
     /// What is left of the initial events.
@@ -118,8 +118,7 @@ impl<B: Ord + Copy, S: Source<B>> Pending<B, S> {
         sent.sort_unstable();
         self.room.clear();
         put_apart(&sent, &mut self.room, &mut self.later)?;
-        self.now.fill(&mut self.room);
-        Ok(())
+        self.now.fill(&mut self.room)
     }
 
     /// Takes a least event, whose time is then reached, and puts it into `next`. `None` only where there is none.
@@ -179,7 +178,7 @@ impl<B: Ord + Copy, S: Source<B>> Pending<B, S> {
             (IsPermutation (self.old.events ++ event ∷ []) self.new.events) }
         ensures time { OnOk result (self.new.time ≡ self.old.time) }
     {
-        self.later.put(event)
+        self.later.put(&event)
     }
 
     /// Adds events that were sent, in any order. They are later than the time that is reached.
@@ -214,7 +213,7 @@ fn take_least<B: Ord + Copy, S: Source<B>>(
     if reach(time, initial, now, later, room, next)? {
         return Ok(());
     }
-    *next = take_first(initial, now);
+    take_first(initial, now, next);
     Ok(())
 }
 
@@ -244,58 +243,64 @@ fn reach<B: Ord + Copy, S: Source<B>>(
     if now.first().is_some() {
         return Ok(false);
     }
-    let Some(first) = take_due(initial, later) else {
-        *next = initial.pop();
+    take_due(initial, later, next);
+    let Some(first) = &*next else {
+        initial.pop(next);
         return Ok(true);
     };
     if is_time(later.least_time(), first.time) {
         gather(first, now, later, room)?;
         return Ok(false);
     }
-    take_lesser(first, initial, now, next)?;
+    take_lesser(initial, now, next)?;
     Ok(true)
 }
 
-/// Takes one of the earliest events that were sent. `None` only where there is none, or an initial event is before them.
+/// Takes one of the earliest events that were sent into `next`. `None` only where there is none, or an initial event is before
+/// them.
 #[inline]
 fn take_due<B: Ord + Copy, S: Source<B>>(
     initial: &Initial<B, S>,
     later: &mut Later<B>,
-) -> Option<Event<B>>
-    ensures taken { IfSome result (λ e. IsPermutation later.old (e ∷ later.new)) }
-    ensures least { IfSome result (λ e. All (λ f. e.time ≤ f.time) later.old
+    next: &mut Option<Event<B>>,
+)
+    ensures taken { IfSome next.new (λ e. IsPermutation later.old (e ∷ later.new)) }
+    ensures least { IfSome next.new (λ e. All (λ f. e.time ≤ f.time) later.old
         × All (λ f. e.time ≤ f.time) initial.now) }
-    ensures none { IfNone result ((later.new ≡ later.old) × IsDue initial.now later.old) }
+    ensures none { IfNone next.new ((later.new ≡ later.old) × IsDue initial.now later.old) }
 {
-    let Some(time) = due(initial.first(), later.least_time()) else {
-        return None;
-    };
-    later.take_one(time)
+    let least = later.least();
+    if initial.least() < least {
+        *next = None;
+    } else {
+        later.take_one(least, next);
+    }
 }
 
-/// Takes the lesser of the first initial event and an event that was sent, the only one for its time. Where that is not the
-/// event that was sent, it is put at hand, where nothing is.
+/// Takes the lesser of the first initial event and the event in `next`, which was sent, the only one for its time. Where that is
+/// not the event that was sent, it is put at hand, where nothing is.
 #[inline]
 fn take_lesser<B: Ord + Copy, S: Source<B>>(
-    sent: Event<B>,
     initial: &mut Initial<B, S>,
     now: &mut Slice<B>,
     next: &mut Option<Event<B>>,
 ) -> Result<(), AllocError>
-    requires { now.old ≡ [] }
+    requires none { now.old ≡ [] }
+    requires sent { IsSome next.old }
     ensures taken { OnOk result
-        (IsTakenFromOne initial.old (sent ∷ []) next.new initial.new now.new) }
+        (IsTakenFromOne initial.old (option_to_list next.old) next.new initial.new now.new) }
     ensures least { OnOk result (IfSome next.new (λ e.
         All (AtMost (event_cmp B.cmp) e) initial.old
-        × All (AtMost (event_cmp B.cmp) e) (sent ∷ []))) }
+        × All (AtMost (event_cmp B.cmp) e) (option_to_list next.old))) }
     ensures some { OnOk result (IsSome next.new) }
     ensures lost { OnErr result ((initial.new ≡ initial.old) × (now.new ≡ [])) }
 {
-    if is_initial_next(initial.first(), Some(&sent)) {
+    let Some(sent) = &*next else {
+        return Ok(());
+    };
+    if is_initial_next(initial.first(), Some(sent)) {
         now.put(sent)?;
-        *next = initial.pop();
-    } else {
-        *next = Some(sent);
+        initial.pop(next);
     }
     Ok(())
 }
@@ -304,62 +309,45 @@ fn take_lesser<B: Ord + Copy, S: Source<B>>(
 ///
 /// After a refusal of memory some events may be lost.
 fn gather<B: Ord + Copy>(
-    first: Event<B>,
+    first: &Event<B>,
     now: &mut Slice<B>,
     later: &mut Later<B>,
     room: &mut Vec<Event<B>>,
 ) -> Result<(), AllocError>
     requires none { now.old ≡ [] }
-    requires least { All (λ e. first.time ≤ e.time) later.old }
-    ensures moved { OnOk result (IsPermutation (first ∷ later.old) (now.new ++ later.new)) }
-    ensures times { OnOk result (All (λ e. e.time ≡ first.time) now.new
-        × All (λ e. first.time < e.time) later.new) }
+    requires least { All (λ e. first.now.time ≤ e.time) later.old }
+    ensures moved { OnOk result (IsPermutation (first.now ∷ later.old) (now.new ++ later.new)) }
+    ensures times { OnOk result (All (λ e. e.time ≡ first.now.time) now.new
+        × All (λ e. first.now.time < e.time) later.new) }
     ensures lost { OnErr result ((now.new ≡ []) × IsLeft later.old later.new) }
 {
     room.clear();
-    room.push(first)?;
+    room.push(*first)?;
     later.take(first.time, room)?;
-    now.fill(room);
-    Ok(())
+    now.fill(room)
 }
 
-/// The least time of the events that were sent, unless there is an initial event, and it is before that.
-#[inline]
-fn due<B: Ord + Copy>(initial: Option<&Event<B>>, least: Option<u64>) -> Option<u64>
-    ensures { result ≡ due_of (option_copied initial.entry) least }
-{
-    match (initial, least) {
-        (Some(initial), Some(least)) => {
-            if initial.time < least {
-                None
-            } else {
-                Some(least)
-            }
-        }
-        (_, least) => least,
-    }
-}
-
-/// Takes the least of what stands first in both. `None` only where there is nothing.
+/// Takes the least of what stands first in both into `next`. `None` only where there is nothing.
 #[inline]
 fn take_first<B: Ord + Copy, S: Source<B>>(
     initial: &mut Initial<B, S>,
     now: &mut Slice<B>,
-) -> Option<Event<B>>
-    ensures taken { IsTakenFromOne initial.old now.old result initial.new now.new }
-    ensures least { IfSome result (λ e. All (AtMost (event_cmp B.cmp) e) initial.old
+    next: &mut Option<Event<B>>,
+)
+    ensures taken { IsTakenFromOne initial.old now.old next.new initial.new now.new }
+    ensures least { IfSome next.new (λ e. All (AtMost (event_cmp B.cmp) e) initial.old
         × All (AtMost (event_cmp B.cmp) e) now.old) }
-    ensures none { IfNone result ((initial.old ≡ []) × (now.old ≡ [])) }
+    ensures none { IfNone next.new ((initial.old ≡ []) × (now.old ≡ [])) }
 {
     if is_initial_next(initial.first(), now.first()) {
-        initial.pop()
+        initial.pop(next);
     } else {
-        now.pop()
+        now.pop(next);
     }
 }
 
 /// Whether the next event is the first of the initial ones, and not the first of those that were sent.
-#[inline]
+#[inline(always)]
 fn is_initial_next<B: Ord + Copy>(initial: Option<&Event<B>>, sent: Option<&Event<B>>) -> bool
     ensures some { IsTrue result → IsSome initial.entry }
     ensures only { IsNone sent.entry → IsSome initial.entry → IsTrue result }
@@ -369,7 +357,7 @@ fn is_initial_next<B: Ord + Copy>(initial: Option<&Event<B>>, sent: Option<&Even
         (λ i. IfSome sent.entry (λ s. result ≡ false → AtMost (event_cmp B.cmp) s.now i.now)) }
 {
     match (initial, sent) {
-        (Some(initial), Some(sent)) => initial <= sent,
+        (Some(initial), Some(sent)) => initial.time <= sent.time && initial <= sent,
         (initial, _) => initial.is_some(),
     }
 }
@@ -386,14 +374,14 @@ fn time_or<B: Copy>(event: &Option<Event<B>>, time: u64) -> u64
 }
 
 /// Puts events into `later`. Where memory is refused, it has some of them.
-#[inline]
+#[inline(always)]
 fn put_all<B: Ord + Copy>(later: &mut Later<B>, events: &[Event<B>]) -> Result<(), AllocError>
     ensures added { OnOk result (IsPermutation (later.old ++ events.now) later.new) }
     ensures some { OnErr result
         ((n : Count) × IsPermutation (later.old ++ take n events.now) later.new) }
 {
     for event in events {
-        later.put(*event)?;
+        later.put(event)?;
     }
     Ok(())
 }
@@ -430,7 +418,7 @@ fn put_apart<B: Ord + Copy>(
         if event.time == 0 {
             start.push(*event)?;
         } else {
-            later.put(*event)?;
+            later.put(event)?;
         }
     }
     Ok(())
@@ -448,13 +436,15 @@ fn move_first<B: Ord + Copy, S: Source<B>>(
     ensures enough { OnOk result
         (length taken.new.items < length taken.old.items + count → initial.new ≡ []) }
 {
+    let mut next = None;
     let mut missing = count;
     let mut last = 0;
     while missing > 0 || is_time(time_of(initial.first()), last) {
-        let Some(event) = initial.pop() else {
+        initial.pop(&mut next);
+        let Some(event) = &next else {
             return Ok(());
         };
-        taken.push(event)?;
+        taken.push(*event)?;
         last = event.time;
         missing = missing.saturating_sub(1);
     }
@@ -468,8 +458,12 @@ fn move_rest<B: Ord + Copy, S: Source<B>>(
 ) -> Result<(), AllocError>
     ensures { OnOk result (taken.new.items ≡ taken.old.items ++ initial.old) }
 {
-    while let Some(event) = initial.pop() {
-        taken.push(event)?;
+    let mut next = None;
+    'events: loop {
+        initial.pop(&mut next);
+        let Some(event) = &next else {
+            return Ok(());
+        };
+        taken.push(*event)?;
     }
-    Ok(())
 }

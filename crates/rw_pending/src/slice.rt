@@ -2,6 +2,7 @@ ghost use Rattle.std.specs.Prelude.{◌≡◌, ◌++◌, [], ◌∷◌, All, IfN
 ghost use Rattle.rw_vt.specs.Order.{event_cmp, AtMost};
 ghost use Rattle.rw_vt.specs.declared.event.Event.{Event};
 
+use crate::groups::Groups;
 use rw_vt::Event;
 use std::alloc::{AllocError, Global};
 use std::marker::Model;
@@ -12,6 +13,8 @@ pub struct Slice<B: Ord + Copy> {
     events: Vec<Event<B>>,
     /// How many of them are taken already.
     taken: usize,
+    /// Brings events near their order before they are sorted.
+    groups: Groups,
 }
 
 // By hand, so that it is proved here, and not in each function of a crate above that has one.
@@ -20,6 +23,7 @@ impl<B: Ord + Copy> Drop for Slice<B> {
         let Slice {
             events: _,
             taken: _,
+            groups: _,
         } = self;
     }
 }
@@ -46,6 +50,7 @@ impl<B: Ord + Copy> Slice<B> {
         Slice {
             events: Vec::new(alloc),
             taken: 0,
+            groups: Groups::new(alloc),
         }
     }
 
@@ -58,15 +63,18 @@ impl<B: Ord + Copy> Slice<B> {
         self.events.get(self.taken)
     }
 
-    /// Takes the first event. `None` only where none is left.
+    /// Takes the first event into `next`. `None` only where none is left.
     #[inline]
-    pub fn pop(&mut self) -> Option<Event<B>>
-        ensures taken { self.old ≡ option_to_list result ++ self.new }
-        ensures none { IfNone result (self.old ≡ []) }
+    pub fn pop(&mut self, next: &mut Option<Event<B>>)
+        ensures taken { self.old ≡ option_to_list next.new ++ self.new }
+        ensures none { IfNone next.new (self.old ≡ []) }
     {
-        let event = *self.events.get(self.taken)?;
+        let Some(event) = self.events.get(self.taken) else {
+            *next = None;
+            return;
+        };
+        *next = Some(*event);
         self.taken += 1;
-        Some(event)
     }
 
     /// Moves all events to the end of `rest`. Where memory is refused, some events are lost.
@@ -75,31 +83,33 @@ impl<B: Ord + Copy> Slice<B> {
         ensures moved { OnOk result (rest.new.items ≡ rest.old.items ++ self.old) }
         ensures left { (gone : List (Event B)) × (self.old ≡ gone ++ self.new) }
     {
-        while let Some(event) = self.pop() {
-            rest.push(event)?;
-        }
+        rest.extend_from_slice(&self.events[self.taken..])?;
+        self.taken = self.events.len();
         Ok(())
     }
 
     /// Takes this event in, where none is left. Where memory is refused, nothing has changed.
-    pub fn put(&mut self, event: Event<B>) -> Result<(), AllocError>
+    pub fn put(&mut self, event: &Event<B>) -> Result<(), AllocError>
         requires { self.old ≡ [] }
-        ensures put { OnOk result (self.new ≡ event ∷ []) }
+        ensures put { OnOk result (self.new ≡ event.now ∷ []) }
         ensures unchanged { OnErr result (self.new ≡ []) }
     {
         self.events.clear();
         self.taken = 0;
-        self.events.push(event)?;
+        self.events.push(*event)?;
         Ok(())
     }
 
-    /// Takes these events in, where none is left, and sorts them.
-    pub fn fill(&mut self, events: &mut Vec<Event<B>>)
+    /// Takes these events in, where none is left, and sorts them. Where memory is refused, none is taken in.
+    pub fn fill(&mut self, events: &mut Vec<Event<B>>) -> Result<(), AllocError>
         requires { self.old ≡ [] }
-        ensures { IsPermutation events.old.items self.new }
+        ensures filled { OnOk result (IsPermutation events.old.items self.new) }
+        ensures none { OnErr result (self.new ≡ []) }
     {
+        self.groups.group_by_source(events)?;
         mem::swap(&mut self.events, events);
         self.events.sort_unstable();
         self.taken = 0;
+        Ok(())
     }
 }

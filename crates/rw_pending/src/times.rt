@@ -1,7 +1,10 @@
-ghost use Rattle.std.specs.Prelude.{◌≡◌, ◌<◌, ◌↔◌, false, IfNone, IfSome, IsTrue, Some, option_copied, option_map};
-ghost use Rattle.rw_pending.specs.Later.{earlier_of};
+ghost use Rattle.std.specs.Prelude.{◌≡◌, ◌<◌, ◌≤◌, ◌↔◌, false, IfNone, IfSome, IsTrue, Some, option_copied, option_map};
+ghost use Rattle.rw_pending.specs.Later.{earlier_of, never, or_else};
 
 use rw_vt::Event;
+
+/// Stands for the time of no event. No event is later.
+pub const NEVER: u64 = u64::MAX;
 
 /// The time of an event, where there is one.
 #[inline(always)]
@@ -46,5 +49,17 @@ pub fn earlier(first: Option<u64>, second: Option<u64>) -> Option<u64>
         (Some(first), Some(second)) => Some(if first <= second { first } else { second }),
         (Some(first), None) => Some(first),
         (None, second) => second,
+    }
+}
+
+/// A time, or [`NEVER`] where there is none.
+#[inline(always)]
+pub fn or_never(found: Option<u64>) -> u64
+    ensures value { result ≡ or_else never found }
+    ensures within { result ≤ never }
+{
+    match found {
+        Some(found) => found,
+        None => NEVER,
     }
 }

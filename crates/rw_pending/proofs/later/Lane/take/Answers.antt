@@ -1,8 +1,7 @@
-use Rattle.std.proofs.Common.{◌≡◌, ◌≤◌, ◌++◌, [], ◌∷◌, ◌∙◌, ap, append_assoc, arith, subst, sym, true≢false}
+use Rattle.std.proofs.Common.{◌≡◌, ◌≤◌, ◌++◌, [], ◌∷◌, ◌∙◌, ap, append_assoc, arith}
 use Rattle.std.proofs.lemmas.List.Elements.{All-push}
 use Rattle.std.proofs.lemmas.List.Sorted.{IsPermutation-pop_more, length_permutation}
-use Rattle.rw_pending.specs.Later.{IsLeastTime}
-use Rattle.rw_pending.proofs.ByTime.{all_later, at_least, late_left, on_err}
+use Rattle.rw_pending.proofs.ByTime.{at_least, late_left, on_err}
 use Rattle.rw_pending.proofs.later.Lane.take.Goals as goal
 
 pub loop-self-smaller-in-Continue-1 : goal.loop-self-smaller-in-Continue-1
@@ -14,7 +13,7 @@ loop-self-preserved-in-Continue-1 g c =
     let t = c.args.time in
     let x = c.in-Some.event in
     let late = late_left (λ e. t ≤ e.time) c.args.self.now inv.0 c.loop-self.self inv.2 c.requires in
-    let least = subst (IsLeastTime c.loop-self.self) (c.is_time.ensures.0 c.loop-self-test.true) c.least_time.ensures in (
+    let least = c.has.ensures.least c.loop-self-test.true in (
       inv.0 ++ x ∷ [],
       c.in_ok-push.ensures.items ∙ ap (λ l. l ++ x ∷ []) inv.1 ∙ append_assoc c.args.taken.now.items inv.0 (x ∷ []),
       IsPermutation-pop_more c.args.self.now inv.0 c.loop-self.self c.pop.new.self x inv.2 c.in-Some.ensures.taken,
@@ -37,5 +36,5 @@ returns-clause-moved g c =
       behind = inv.1;
       parts = inv.2;
       of_time = inv.3;
-      later = all_later c.loop-self.self c.least_time.result t c.least_time.ensures late (λ is. true≢false (sym (c.is_time.ensures.1 is) ∙ c.loop-self-test.false));
+      later = c.has.ensures.later c.loop-self-test.false late;
     }

@@ -8,4 +8,4 @@ returns g c = λ is.
     let last = c.self.inside.last in
     let t = c.args.time in
     let late : last ≤ t = grind (arith, nat_tests) in
-    subst (All (λ e. e.time ≤ t)) c.self.view_is (All-weaker (λ e. e.time ≤ last) (λ e. e.time ≤ t) (λ e m. omega arith) c.self.inside.events c.self.invariant.within)
+    subst (All (λ e. e.time ≤ t)) c.self.view_is (All-weaker (λ e. e.time ≤ last) (λ e. e.time ≤ t) (λ e m. omega arith) c.self.inside.events.items c.self.invariant.0.within)

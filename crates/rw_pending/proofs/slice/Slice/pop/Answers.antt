@@ -1,8 +1,7 @@
-use Rattle.std.proofs.Common.{rules, ◌≡◌, ◌+◌, ◌≤◌, suc, arith, drop, length, subst, sym, ◌∙◌}
+use Rattle.std.proofs.Common.{rules, ◌≡◌, ◌+◌, ◌≤◌, suc, arith, drop, length, subst}
 use Rattle.std.specs.List.Sorted.{IsSorted}
 use Rattle.rw_vt.specs.Order.{event_cmp}
 use Rattle.rw_vt.proofs.EventOrder.{events_total}
-use Rattle.rw_pending.proofs.Lists.{dropped}
 use Rattle.rw_pending.proofs.Queue.{sorted_next}
 use Rattle.rw_pending.proofs.slice.Slice.pop.Goals as goal
 
@@ -13,11 +12,3 @@ invariant_of-self g c =
     let there : n + 1 ≤ length xs = search rules in
     let next : suc n ≡ n + 1 = omega arith in
     (there, subst (λ k. IsSorted (event_cmp g.B.Ord.cmp) (drop k xs)) next (sorted_next (events_total g.met.B.Ord.total) n xs c.self.invariant.1))
-
-pub returns : goal.returns
-returns g c =
-    let lookup = c.in_ok-event.ensures.lookup in
-    record {
-      taken = sym c.self.view_is ∙ dropped c.self.inside.events.items c.deref.result.now c.self.inside.taken c.in_ok-event.field-0.now c.deref.ensures.value lookup.0 lookup.1;
-      none = tt;
-    }

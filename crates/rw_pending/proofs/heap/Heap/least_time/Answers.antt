@@ -2,7 +2,7 @@ use Rattle.std.proofs.Common.{rules, heap_items, ◌<◌, length, subst, Some}
 use Rattle.rw_vt.proofs.EventOrder.{events_total}
 use Rattle.rw_pending.specs.Later.{IsLeastTime}
 use Rattle.rw_pending.proofs.ByTime.{least_on_top}
-use Rattle.rw_pending.proofs.heap.HeapStore.least_time.Goals as goal
+use Rattle.rw_pending.proofs.heap.Heap.least_time.Goals as goal
 
 pub returns-in-Some : goal.returns-in-Some
 returns-in-Some g c =
