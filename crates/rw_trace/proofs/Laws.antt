@@ -193,15 +193,17 @@ fits-written None n h = absurd h
 fits-written (Some f) n h = h.fits
 
 -- rows that are written are in their ranges
+pub row-in_range : (version : Version) (edges : ℕ) (fields : List (List ℕ)) (row : Row) → WritesRow version edges fields row → IsRow edges row
+row-in_range version edges fields row h =
+    record { time = h.time_within; edge = h.edge_within; object = fits-written (field_at fields 2) row.object h.object; some = h.size_above; few = h.size_within }
+
 pub rows-in_range : (version : Version) (edges : ℕ) (recs : List (List (List ℕ))) (rows : List Row) → WriteRows version edges recs rows → All (IsRow edges) rows
 unfolding WriteRows
 rows-in_range version edges [] [] h = All-nil (IsRow edges)
 rows-in_range version edges [] (w ∷ ws) h = absurd h
 rows-in_range version edges (r ∷ rs) [] h = absurd h
 rows-in_range version edges (r ∷ rs) (w ∷ ws) h =
-    All-cons (IsRow edges) w ws
-    (record { time = h.0.time_within; edge = h.0.edge_within; object = fits-written (field_at r 2) w.object h.0.object; some = h.0.size_above; few = h.0.size_within })
-    (rows-in_range version edges rs ws h.1)
+    All-cons (IsRow edges) w ws (row-in_range version edges r w h.0) (rows-in_range version edges rs ws h.1)
 
 -- a column that writes no number is refused
 column-lacks : (row column : ℕ) (fields : List (List ℕ)) → Lacks fields column → column_of row column fields ≡ Err (fault.Number row column)

@@ -11,6 +11,7 @@ use Rattle.std.proofs.lemmas.Slice.Eq.{slice_eq-Decides}
 use Rattle.std.proofs.lemmas.List.Sums.{AllPass-from_list_all}
 use Rattle.std.proofs.lemmas.List.Elements.{All-cons, All-head, All-nil, All-tail, All-weaker}
 use Rattle.std.proofs.Math.Nat.{pow-le-pow_right, pow-succ'}
+use Rattle.std.proofs.Math.Seq.{take-append_seam}
 use Rattle.csv.specs.Machine.{Read, next_record, step}
 use Rattle.csv.specs.Reading.{default_config, strip_bom}
 use Rattle.csv.specs.Records.{field_at}
@@ -237,6 +238,15 @@ number-at text from at value h within some few fits =
       behind = h.ends;
       within = within;
     }
+
+-- a longer text starts so too
+pub starts-longer : (text front more : List ℕ) → starts_with nat_eq text front ≡ true → starts_with nat_eq (text ++ more) front ≡ true
+starts-longer text front more h =
+    let n = length front in
+    let rest = drop n text in
+    let same : take n (text ++ more) ≡ front =
+    ap (λ xs. take n (xs ++ more)) (front-of text front h) ∙ ap (λ xs. take n xs) (append_assoc front rest more) ∙ take-append_seam front (rest ++ more) in
+    (slice_eq-Decides Decides-eqb front (take n (text ++ more)) (pointwise nat_eq front (take n (text ++ more))) refl).1 (sym same)
 
 -- no kind, and a kind behind a comma
 pub kind-none : (text : List ℕ) (from : ℕ) → from ≤ length text → IsKindAt First text from Get from

@@ -14,6 +14,7 @@ mod parts;
 mod pieces;
 mod plain;
 mod reading;
+mod record_reader;
 mod row_source;
 
 ghost use Rattle.std.specs.Prelude.{All, ◌≡◌, ◌≢◌, ◌≤◌, ◌∷◌, [], Ok, Err, Some, IfOk, IfNone, IfSome, length, IfErr, MatchBool, MatchResult, true};

@@ -2,13 +2,15 @@
 ghost use Rattle.std.specs.Prelude.{◌≡◌, ◌+◌, ◌≤◌, ◌<◌, ◌⊎◌, IfErr, IfOk, IfSome, MatchBool, Ok, Some, length, option_map, true};
 ghost use Rattle.csv.specs.Reading.{error_kind, stops_reader};
 ghost use Rattle.csv.specs.Records.{fields_of};
+ghost use Rattle.rw_trace.specs.Ahead.{IsFaultFound, IsRowFound};
 ghost use Rattle.rw_trace.specs.Pieces.{Gives, GivesNone, IsRefusal, MayRead, ordered_trace_of, records_ahead};
 ghost use Rattle.rw_trace.specs.Unread.{records_of};
 ghost use Rattle.rw_trace.specs.declared.TraceFault.TheVariants as fault;
 
+use crate::record_reader::{Found, RecordReader};
 use crate::row_source::RowSource;
-use crate::{Row, TraceFault, Version, row_at, version_of_header};
-use csv::{ByteRecord, Error, ErrorKind, Reader, ReaderBuilder};
+use crate::{Row, TraceFault, Version, row_at};
+use csv::{ByteRecord, Error, ErrorKind, Reader};
 use std::alloc::Global;
 use std::io::Read;
 use std::marker::Model;
@@ -27,9 +29,7 @@ pub enum RowsFault {
 /// The rows of a trace that stand in order of time, read piece by piece. Contracts see what is still to come.
 #[derive(Drop)]
 pub struct OrderedRows<R: Read + Drop> {
-    reader: Reader<R>,
-    /// Room for a record.
-    fields: ByteRecord,
+    records: RecordReader<R>,
     version: Version,
     edges: u32,
     /// Row `most` is one too many.
@@ -42,7 +42,8 @@ pub struct OrderedRows<R: Read + Drop> {
 
 impl<R: Read + Drop> Model for OrderedRows<R> {
     ghost use Rattle.std.specs.Prelude.{◌≤◌, ◌-◌, option_map};
-    ghost use Rattle.rw_trace.specs.Pieces.{MayRead, RowsAhead, ordered_rows_of, records_ahead};
+    ghost use Rattle.rw_trace.specs.Ahead.{MayReadOn, still_ahead};
+    ghost use Rattle.rw_trace.specs.Pieces.{RowsAhead, ordered_rows_of};
 
     ghost Value = { RowsAhead };
 
@@ -51,10 +52,10 @@ impl<R: Read + Drop> Model for OrderedRows<R> {
       latest = r.latest;
       most = r.most - r.number;
       ahead = option_map (ordered_rows_of r.version r.edges r.most r.number r.latest)
-          (records_ahead R.remaining r.reader);
+          (still_ahead R.remaining r.records.source);
     } };
 
-    ghost invariant = { λ r. MayRead r.reader × (r.number ≤ r.most) };
+    ghost invariant = { λ r. MayReadOn r.records.source × (r.number ≤ r.most) };
 }
 
 impl<R: Read + Drop> OrderedRows<R> {
@@ -72,20 +73,9 @@ impl<R: Read + Drop> OrderedRows<R> {
         ensures refused { IfErr result (IsRefusal
             (option_map (λ xs. ordered_trace_of edges most (records_of xs)) (R.remaining bytes))) }
     {
-        let mut reader = ReaderBuilder::new()
-            .has_headers(false)
-            .flexible(true)
-            .from_reader(alloc, bytes);
-        let mut fields = ByteRecord::new(alloc);
-        if !read_record(&mut reader, &mut fields)? {
-            return Err(RowsFault::Trace(TraceFault::Header));
-        }
-        let Some(version) = version_of_header(&fields) else {
-            return Err(RowsFault::Trace(TraceFault::Header));
-        };
+        let (records, version) = RecordReader::open(alloc, bytes)?;
         Ok(OrderedRows {
-            reader,
-            fields,
+            records,
             version,
             edges,
             most,
@@ -99,22 +89,47 @@ impl<R: Read + Drop> RowSource for OrderedRows<R> {
     ghost rest = { λ rows. rows };
 
     fn next_row(&mut self) -> Result<Option<Row>, RowsFault> {
-        if !read_record(&mut self.reader, &mut self.fields)? {
+        let found = self.records.next(self.version, self.edges)?;
+        if let Found::End = found {
             return Ok(None);
         }
         if self.number == self.most {
             return Err(RowsFault::Trace(TraceFault::TooManyRows));
         }
-        let row = match row_at(&self.fields, self.version, self.edges, self.number) {
-            Ok(row) => row,
-            Err(fault) => return Err(RowsFault::Trace(fault)),
-        };
+        let row = row_of(
+            found,
+            &self.records.fields,
+            self.version,
+            self.edges,
+            self.number,
+        )?;
         if row.time < self.latest {
             return Err(RowsFault::Trace(TraceFault::Order(self.number)));
         }
         self.number += 1;
         self.latest = row.time;
         Ok(Some(row))
+    }
+}
+
+/// The row that was found, where something was: that of a plain line, or the one that a record writes.
+#[inline(always)]
+fn row_of(
+    found: Found,
+    fields: &ByteRecord,
+    version: Version,
+    edges: u32,
+    number: u64,
+) -> Result<Row, RowsFault>
+    ensures row { IfOk result (IsRowFound version edges found (fields_of fields.now)) }
+    ensures wrong { IfErr result (IsFaultFound version edges number found (fields_of fields.now)) }
+{
+    if let Found::Row(row) = found {
+        return Ok(row);
+    }
+    match row_at(fields, version, edges, number) {
+        Ok(row) => Ok(row),
+        Err(fault) => Err(RowsFault::Trace(fault)),
     }
 }
 

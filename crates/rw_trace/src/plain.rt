@@ -2,10 +2,11 @@
 //! may follow a carriage return and may be missing at the end of the text. Any other text is left to the reader of records.
 //!
 //! Here `None` makes no claim: the line may be a row that is written in another way, or no row at all.
-ghost use Rattle.std.specs.Prelude.{IfSome, ◌≤◌, ◌+◌, length};
+ghost use Rattle.std.specs.Prelude.{IfSome, ◌≤◌, ◌+◌, ◌++◌, length};
 ghost use Rattle.rw_trace.specs.Laws.{IsTrace, WriteRows};
 ghost use Rattle.rw_trace.specs.Lines.{IsEndAt, IsHeaderAt, IsKindAt, IsNumberAndComma, IsNumberAt, IsRowAt, records_at};
 ghost use Rattle.rw_trace.specs.Unread.{records_of};
+ghost use Rattle.rw_trace.specs.Words.{Text};
 ghost use Rattle.rw_trace.specs.declared.Version.TheVariants.{Second};
 
 use crate::{Kind, MAX_DIGITS, MAX_SIZE, MAX_TIME, Row, Version};
@@ -178,9 +179,11 @@ fn plain_rows(
     Some(rows)
 }
 
-/// The version whose header, as a plain line, a text begins with, and where the next line begins.
+/// The version whose header, as a plain line, a text begins with, whatever follows it, and where the next line begins.
 pub fn header_line(bytes: &[u8]) -> Option<(Version, usize)>
-    ensures { IfSome result (λ r. IsHeaderAt bytes.now r.0 r.1) }
+    ensures here { IfSome result (λ r. IsHeaderAt bytes.now r.0 r.1) }
+    ensures longer { IfSome result (λ r.
+        (more : Text) → IsHeaderAt (bytes.now ++ more) r.0 r.1) }
 {
     if bytes.starts_with(b"time,edge,object,size\n") {
         Some((Version::First, 22))
