@@ -1,4 +1,5 @@
 -- The laws of the definitions that crates above cite, from the files that prove them.
+pub use Rattle.rw_blocks.proofs.Errors.{at_some, when_none}
 pub use Rattle.rw_blocks.proofs.Sums.{bytes_in-le-total}
 pub use Rattle.rw_blocks.proofs.Serials.{kinds, serials-cons}
 pub use Rattle.rw_blocks.proofs.Present.{has-times, times}

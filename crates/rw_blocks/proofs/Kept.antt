@@ -9,16 +9,16 @@ use Rattle.std.specs.BTreeMap.{is_at}
 use Rattle.std.proofs.lemmas.List.Sums.{sum_by-cons, get_or-le-sum_by}
 use Rattle.std.proofs.lemmas.Map.Entries.{sum_by-insert_entry, sum_by-remove_entry}
 use Rattle.std.proofs.lemmas.Map.Views.{All-values-insert_entry, All-map-remove_entry, IfSome-lookup_from_All}
-use Rattle.rw_sections.specs.declared.Kind.{Kind}
-use Rattle.rw_sections.specs.declared.Kind.TheVariants.{Device, Virtual}
-use Rattle.rw_places.specs.declared.Place.{Place}
-use Rattle.rw_sections.specs.Sections.{SectionState, no_section, active_of, is_kind}
+use Rattle.rw_blocks.specs.declared.Kind.{Kind}
+use Rattle.rw_blocks.specs.declared.Kind.TheVariants.{Device, Virtual}
+use Rattle.rw_blocks.specs.declared.Place.{Place}
+use Rattle.rw_blocks.specs.Sections.{SectionState, no_section, active_of, is_kind}
 use Rattle.rw_blocks.specs.State.{QueueState, section_at, row_at}
 use Rattle.rw_blocks.specs.Sums.{bytes_held, total}
 use Rattle.rw_blocks.specs.Loose.{IsLoose, count, count_in, IsHomed, IsPlaced, IsSized}
 use Rattle.rw_blocks.specs.Primitives.{with_row, after_add, after_remove, after_rehome, after_replace}
 use Rattle.std.proofs.lemmas.Bool.{eq-eqb, ne_eqb, cases_eq}
-use Rattle.rw_places.proofs.Entries.{sorted-insert_entry, sorted-remove_entry}
+use Rattle.rw_blocks.proofs.Entries.{sorted-insert_entry, sorted-remove_entry}
 use Rattle.rw_blocks.proofs.Sums.{sum_by-filter}
 
 -- the serial by which a row is held, and what it then adds

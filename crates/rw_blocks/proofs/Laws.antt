@@ -4,19 +4,19 @@ use Rattle.std.proofs.lemmas.List.{set-get_or, take-append-drop, drop_at, take_a
 use Rattle.std.proofs.lemmas.List.Edits.{length-remove, length-insert, get_or-insert_below, get_or-insert_at, get_or-remove_below}
 use Rattle.std.specs.Prelude.{Some, None, insert, remove, slice_get}
 use Rattle.std.proofs.lemmas.Option.{slice_get-get_or}
-use Rattle.rw_sections.specs.declared.Kind.{Kind}
-use Rattle.rw_sections.specs.declared.Kind.TheVariants.{Device, Virtual}
-use Rattle.rw_places.specs.declared.Place.{Place}
-use Rattle.rw_sections.specs.declared.Vanished.{Vanished}
+use Rattle.rw_blocks.specs.declared.Kind.{Kind}
+use Rattle.rw_blocks.specs.declared.Kind.TheVariants.{Device, Virtual}
+use Rattle.rw_blocks.specs.declared.Place.{Place}
+use Rattle.rw_blocks.specs.declared.Vanished.{Vanished}
 use Rattle.rw_blocks.specs.declared.Mark.{Mark}
 use Rattle.rw_blocks.specs.declared.Mark.TheVariants.{Add, Remove, Rehome, Replace, Seal, TakeOut, Split, Merge}
-use Rattle.rw_sections.specs.Sections.{SectionState, no_section}
+use Rattle.rw_blocks.specs.Sections.{SectionState, no_section}
 use Rattle.rw_blocks.specs.State.{QueueState, section_at, row_at}
 use Rattle.rw_blocks.specs.Loose.{IsLoose}
-use Rattle.rw_sections.specs.Changes.{section_joining, block_unless, upper_of, lower_of, rest_unless, section_unsealing}
+use Rattle.rw_blocks.specs.Changes.{section_joining, block_unless, upper_of, lower_of, rest_unless, section_unsealing}
 use Rattle.rw_blocks.specs.Primitives.{with_row, after_add, after_remove, after_rehome, after_replace, after_seal, after_take_out, after_split, after_merge, empty_actives}
 use Rattle.rw_blocks.specs.Undo.{undo_of, seam_of, seam_below, IsJoined, Matches, Undoes}
-use Rattle.rw_places.proofs.Entries.{lookup-insert_entry, lookup-remove_entry, remove_entry-insert_entry, insert_entry-insert_entry, insert_entry-same, insert_entry-remove_entry}
+use Rattle.rw_blocks.proofs.Entries.{lookup-insert_entry, lookup-remove_entry, remove_entry-insert_entry, insert_entry-insert_entry, insert_entry-same, insert_entry-remove_entry}
 
 -- between two loose states a mark that fits and leads back undoes
 undoing : (m : Mark) (before after : QueueState) → IsLoose before → IsLoose after → Matches m after → undo_of m after ≡ before → Undoes m before after

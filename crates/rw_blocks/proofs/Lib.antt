@@ -1,5 +1,19 @@
 -- what the crates above cite
 pub mod Cited
+-- rows: ordered maps; a map that is found by hash, as a list in order; the bytes of a block's rows
+pub mod Entries
+pub mod ByObject
+pub mod Bytes
+-- lists that cover blocks, and that the bytes and the lists of the blocks follow the rows
+pub mod Covering
+pub mod Follows
+-- sections: which blocks one has after a change, that the index of the blocks follows, and the count of the device blocks
+pub mod Holding
+pub mod Tagged
+pub mod Using
+pub mod Devices
+-- what an error meets
+pub mod Errors
 -- what a loose queue says of its blocks
 pub mod Present
 pub mod Serials

@@ -5,15 +5,15 @@ use Rattle.std.specs.Map.{values_of}
 use Rattle.std.proofs.lemmas.List.Edits.{length-insert, length-remove, get_or-remove_below}
 use Rattle.std.proofs.lemmas.List.Sums.{sum_by-cons, sum_by-append, sum_by-set, sum_by-insert, sum_by-remove, sum_by-take-drop, get_or-le-sum_by}
 use Rattle.std.proofs.lemmas.Bool.{eq-eqb, eqb-true, and_right, cases_eq}
-use Rattle.rw_sections.specs.declared.Kind.{Kind}
-use Rattle.rw_sections.specs.declared.Kind.TheVariants.{Device, Virtual}
-use Rattle.rw_places.specs.declared.Place.{Place}
-use Rattle.rw_sections.specs.declared.Vanished.{Vanished}
-use Rattle.rw_sections.specs.Sections.{SectionState, no_section, is_kind}
+use Rattle.rw_blocks.specs.declared.Kind.{Kind}
+use Rattle.rw_blocks.specs.declared.Kind.TheVariants.{Device, Virtual}
+use Rattle.rw_blocks.specs.declared.Place.{Place}
+use Rattle.rw_blocks.specs.declared.Vanished.{Vanished}
+use Rattle.rw_blocks.specs.Sections.{SectionState, no_section, is_kind}
 use Rattle.rw_blocks.specs.State.{QueueState, section_at}
 use Rattle.rw_blocks.specs.Sums.{bytes_held}
 use Rattle.rw_blocks.specs.Loose.{IsLoose, IsFree, count, count_in, IsHomed, IsPlaced}
-use Rattle.rw_sections.specs.Changes.{section_joining, block_unless}
+use Rattle.rw_blocks.specs.Changes.{section_joining, block_unless}
 use Rattle.rw_blocks.specs.Primitives.{after_take_out, after_split, after_merge, empty_actives}
 use Rattle.rw_blocks.proofs.Kept.{bytes_held-is, held_by, weight}
 use Rattle.rw_blocks.proofs.Grown.{one, one-other, one-both, at_block, count_in-cons, bytes_held-blocks, IsLoose-grown}

@@ -4,8 +4,8 @@ use Rattle.std.specs.Prelude.{Some, None}
 use Rattle.std.specs.Ordering.{nat_cmp}
 use Rattle.std.specs.BTreeMap.{is_at, insert_entry}
 use Rattle.std.proofs.lemmas.Map.Entries.{sum_by-remove_entry}
-use Rattle.rw_places.proofs.Entries.{lookup-remove_entry, insert_entry-insert_entry, insert_entry-remove_entry}
-use Rattle.rw_places.specs.declared.Place.{Place}
+use Rattle.rw_blocks.proofs.Entries.{lookup-remove_entry, insert_entry-insert_entry, insert_entry-remove_entry}
+use Rattle.rw_blocks.specs.declared.Place.{Place}
 use Rattle.rw_blocks.specs.State.{QueueState, row_at}
 use Rattle.rw_blocks.specs.Sums.{total}
 use Rattle.rw_blocks.specs.Loose.{IsLoose}

@@ -9,26 +9,26 @@ use Rattle.std.proofs.Common.{get_or-set_same, get_or-set_other}
 use Rattle.std.proofs.lemmas.List.{drop_at, length-take-le}
 use Rattle.std.proofs.lemmas.List.Edits.{length-insert, length-remove, get_or-insert_below, get_or-insert_at, get_or-remove_below}
 use Rattle.std.proofs.lemmas.List.Sums.{sum_by-cons, get_or-le-sum_by, sum_by-set, sum_by-insert, sum_by-remove, sum_by-take-drop, sum_by-drop_more}
-use Rattle.rw_sections.specs.declared.Kind.{Kind}
-use Rattle.rw_sections.specs.declared.Kind.TheVariants.{Device, Virtual}
-use Rattle.rw_places.specs.declared.Place.{Place}
-use Rattle.rw_sections.specs.declared.Vanished.{Vanished}
-use Rattle.rw_sections.specs.declared.Seam.{Seam}
-use Rattle.rw_sections.specs.Sections.{SectionState, no_section, blocks_of, section_in, has_block, has_serial}
+use Rattle.rw_blocks.specs.declared.Kind.{Kind}
+use Rattle.rw_blocks.specs.declared.Kind.TheVariants.{Device, Virtual}
+use Rattle.rw_blocks.specs.declared.Place.{Place}
+use Rattle.rw_blocks.specs.declared.Vanished.{Vanished}
+use Rattle.rw_blocks.specs.declared.Seam.{Seam}
+use Rattle.rw_blocks.specs.Sections.{SectionState, no_section, blocks_of, section_in, has_block, has_serial}
 use Rattle.rw_blocks.specs.State.{QueueState}
 use Rattle.rw_blocks.specs.Loose.{IsLoose, count, count_in}
-use Rattle.rw_sections.specs.Changes.{section_joining, block_unless, upper_of, joined_at, lower_of, parted_at, sections_changing, section_gaining}
+use Rattle.rw_blocks.specs.Changes.{section_joining, block_unless, upper_of, joined_at, lower_of, parted_at, sections_changing, section_gaining}
 use Rattle.rw_blocks.specs.Undo.{IsJoined}
-use Rattle.rw_places.specs.Index.{bytes_of, place_of}
-use Rattle.rw_sections.specs.Tags.{IsAbsent, Parts, ComesFrom, Joins, is_vanishing}
+use Rattle.rw_blocks.specs.Index.{bytes_of, place_of}
+use Rattle.rw_blocks.specs.Tags.{IsAbsent, Parts, ComesFrom, Joins, is_vanishing}
 use Rattle.rw_blocks.specs.Weights.{bytes_where, weight_in, with_sections, IsWeighed}
 use Rattle.rw_blocks.proofs.Serials.{serials, serials-cons, kinds, either_kind}
 use Rattle.std.proofs.lemmas.Option.{slice_get-get_or}
 use Rattle.rw_blocks.proofs.Moved.{left_out, count-after_take_out}
 use Rattle.rw_blocks.proofs.Grown.{at_block, count_in-cons}
 use Rattle.rw_blocks.specs.Primitives.{after_take_out}
-use Rattle.rw_places.proofs.Entries.{by_test}
-use Rattle.rw_sections.proofs.Tagged.{insert_old, remove_old, before_insert, after_insert, low, high}
+use Rattle.rw_blocks.proofs.Entries.{by_test}
+use Rattle.rw_blocks.proofs.Tagged.{insert_old, remove_old, before_insert, after_insert, low, high}
 use Rattle.rw_blocks.proofs.Weighed.{bytes_where-same, bytes_where-two}
 use Rattle.rw_blocks.proofs.Present.{any-count, times, has-times, absent-none, all-places, times-joining, gone-times, Joins-once, Parts-once}
 

@@ -6,20 +6,20 @@ use Rattle.std.specs.Map.{values_of}
 use Rattle.std.proofs.lemmas.Bool.{lt-ltb, le-ltb, ltb-false}
 use Rattle.std.proofs.lemmas.Bool.Decides.{nat_tests}
 use Rattle.std.proofs.lemmas.List.Sums.{sum_by-cons, get_or-le-sum_by, sum_by-le}
-use Rattle.rw_sections.specs.declared.Kind.TheVariants.{Device, Virtual}
-use Rattle.rw_places.specs.declared.Place.{Place}
-use Rattle.rw_sections.specs.declared.Vanished.{Vanished}
-use Rattle.rw_sections.specs.Sections.{SectionState, no_section, blocks_of, section_in, has_block, has_serial}
+use Rattle.rw_blocks.specs.declared.Kind.TheVariants.{Device, Virtual}
+use Rattle.rw_blocks.specs.declared.Place.{Place}
+use Rattle.rw_blocks.specs.declared.Vanished.{Vanished}
+use Rattle.rw_blocks.specs.Sections.{SectionState, no_section, blocks_of, section_in, has_block, has_serial}
 use Rattle.rw_blocks.specs.State.{QueueState, row_at}
 use Rattle.rw_blocks.specs.Loose.{IsLoose, count, count_in}
-use Rattle.rw_sections.specs.Changes.{section_joining}
-use Rattle.rw_sections.specs.Tags.{IsAbsent, Parts, Joins, is_vanishing}
+use Rattle.rw_blocks.specs.Changes.{section_joining}
+use Rattle.rw_blocks.specs.Tags.{IsAbsent, Parts, Joins, is_vanishing}
 use Rattle.rw_blocks.proofs.Serials.{kinds}
 use Rattle.rw_blocks.proofs.Kept.{of_row}
 use Rattle.std.proofs.lemmas.List.{get_or_default}
 use Rattle.rw_blocks.proofs.Grown.{count_in-cons, one}
 use Rattle.rw_blocks.proofs.Moved.{left_out, count_in-section_joining}
-use Rattle.rw_places.proofs.Entries.{by_test}
+use Rattle.rw_blocks.proofs.Entries.{by_test}
 
 pub any-count : {X : Type 0} (p : X → Bool) (xs : List X) → list_any p xs ≡ nat_lt 0 (count_by p xs)
 any-count p [] = refl

@@ -2,9 +2,9 @@
 use Rattle.std.proofs.Common.{◌≡◌, ℕ, zero, suc, ◌+◌, ◌<◌, [], ◌∷◌, get_or, refl, arith, inl, inr}
 use Rattle.std.proofs.lemmas.Bool.{cases_eq}
 use Rattle.std.specs.List.Sorted.{IsStrictlySortedBy}
-use Rattle.rw_sections.specs.declared.Kind.{Kind}
-use Rattle.rw_sections.specs.declared.Kind.TheVariants.{Device, Virtual}
-use Rattle.rw_sections.specs.Sections.{new_section, section_in}
+use Rattle.rw_blocks.specs.declared.Kind.{Kind}
+use Rattle.rw_blocks.specs.declared.Kind.TheVariants.{Device, Virtual}
+use Rattle.rw_blocks.specs.Sections.{new_section, section_in}
 use Rattle.rw_blocks.specs.State.{ShapeState, IsShape, start_of}
 use Rattle.rw_blocks.specs.Sums.{bytes_held}
 use Rattle.rw_blocks.specs.Loose.{IsLoose, IsWellFormedQueue, count}

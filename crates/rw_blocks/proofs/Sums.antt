@@ -3,10 +3,10 @@ use Rattle.std.proofs.Common.{◌≡◌, ℕ, ◌+◌, ◌≤◌, ◌<◌, List,
 use Rattle.std.specs.Prelude.{sum_by, filter}
 use Rattle.std.specs.Map.{values_of, keys_of}
 use Rattle.std.proofs.lemmas.List.Sums.{sum_by-cons, sum_by-le}
-use Rattle.rw_places.specs.declared.Place.{Place}
-use Rattle.rw_places.specs.Index.{objects_of}
-use Rattle.rw_sections.specs.declared.Kind.TheVariants.{Device, Virtual}
-use Rattle.rw_sections.specs.Sections.{SectionState, has_block}
+use Rattle.rw_blocks.specs.declared.Place.{Place}
+use Rattle.rw_blocks.specs.Index.{objects_of}
+use Rattle.rw_blocks.specs.declared.Kind.TheVariants.{Device, Virtual}
+use Rattle.rw_blocks.specs.Sections.{SectionState, has_block}
 use Rattle.rw_blocks.specs.State.{QueueState}
 use Rattle.rw_blocks.specs.Loose.{IsLoose}
 use Rattle.rw_blocks.specs.Sums.{bytes_below, bytes_held, total, bytes_in}

@@ -1,9 +1,9 @@
 -- The last sealed block, by its section and its position.
 use Rattle.std.proofs.Common.{◌≡◌, ℕ, zero, suc, ◌+◌, ◌<◌, List, [], ◌∷◌, refl, sym, ◌∙◌, arith, length, get_or}
 use Rattle.std.specs.Prelude.{Option, Some, None}
-use Rattle.rw_sections.specs.declared.Kind.{Kind}
-use Rattle.rw_sections.specs.declared.Kind.TheVariants.{Device}
-use Rattle.rw_sections.specs.Sections.{SectionState, no_section}
+use Rattle.rw_blocks.specs.declared.Kind.{Kind}
+use Rattle.rw_blocks.specs.declared.Kind.TheVariants.{Device}
+use Rattle.rw_blocks.specs.Sections.{SectionState, no_section}
 use Rattle.rw_blocks.specs.State.{QueueState, section_at, sealed_block}
 use Rattle.rw_blocks.specs.Questions.{last_or, last_from, last_block, IsLastSealed}
 

@@ -10,12 +10,12 @@ use Rattle.std.proofs.lemmas.Bool.{cases_eq}
 use Rattle.std.proofs.lemmas.List.Sums.{sum_by-cons, sum_by-le-sum_by}
 use Rattle.std.proofs.lemmas.List.Elements.{All-tail}
 use Rattle.std.proofs.lemmas.Map.Entries.{sum_by-insert_entry, sum_by-remove_entry}
-use Rattle.rw_places.specs.declared.Place.{Place}
-use Rattle.rw_sections.specs.Sections.{SectionState, no_section, section_in, has_block}
+use Rattle.rw_blocks.specs.declared.Place.{Place}
+use Rattle.rw_blocks.specs.Sections.{SectionState, no_section, section_in, has_block}
 use Rattle.rw_blocks.specs.State.{QueueState}
-use Rattle.rw_places.specs.Rows.{size_of}
+use Rattle.rw_blocks.specs.Rows.{size_of}
 use Rattle.rw_blocks.specs.Sums.{bytes_in, bytes_below}
-use Rattle.rw_sections.specs.Tags.{IsOnlyIn}
+use Rattle.rw_blocks.specs.Tags.{IsOnlyIn}
 use Rattle.rw_blocks.specs.Weights.{bytes_where, weight_in, IsWeighed}
 use Rattle.rw_blocks.proofs.Sums.{sum_by-filter}
 

@@ -6,10 +6,10 @@ use Rattle.std.specs.Ordering.{nat_cmp}
 use Rattle.std.specs.Map.{values_of, keys_of}
 use Rattle.rw_numbers.specs.Words.{Count, Serial}
 use Rattle.rw_blocks.specs.Words.{most_bytes}
-use Rattle.rw_sections.specs.declared.Kind.{Kind}
-use Rattle.rw_sections.specs.declared.Kind.TheVariants.{Device, Virtual}
-use Rattle.rw_places.specs.declared.Place.{Place}
-use Rattle.rw_sections.specs.Sections.{SectionState, blocks_of, is_block, devices_in}
+use Rattle.rw_blocks.specs.declared.Kind.{Kind}
+use Rattle.rw_blocks.specs.declared.Kind.TheVariants.{Device, Virtual}
+use Rattle.rw_blocks.specs.declared.Place.{Place}
+use Rattle.rw_blocks.specs.Sections.{SectionState, blocks_of, is_block, devices_in}
 use Rattle.rw_blocks.specs.State.{QueueState, IsShape}
 use Rattle.rw_blocks.specs.Sums.{bytes_held, total, rows_placed}
 

@@ -1,13 +1,13 @@
 -- The queue after each primitive.
 use Rattle.std.specs.Prelude.{◌+◌, ◌≤◌, Bool, drop, insert, nat_eq}
-use Rattle.rw_sections.specs.Changes.{sections_changing, section_sealing, section_losing, upper_of, joined_at}
+use Rattle.rw_blocks.specs.Changes.{sections_changing, section_sealing, section_losing, upper_of, joined_at}
 use Rattle.rw_numbers.specs.Words.{Count, Object, Position, Section, Serial, Size}
-use Rattle.rw_sections.specs.declared.Kind.{Kind}
-use Rattle.rw_sections.specs.declared.Kind.TheVariants.{Device, Virtual}
-use Rattle.rw_places.specs.declared.Place.{Place}
-use Rattle.rw_sections.specs.declared.Vanished.{Vanished}
-use Rattle.rw_places.specs.Rows.{rows_with, rows_without}
-use Rattle.rw_sections.specs.Sections.{SectionState, active_of}
+use Rattle.rw_blocks.specs.declared.Kind.{Kind}
+use Rattle.rw_blocks.specs.declared.Kind.TheVariants.{Device, Virtual}
+use Rattle.rw_blocks.specs.declared.Place.{Place}
+use Rattle.rw_blocks.specs.declared.Vanished.{Vanished}
+use Rattle.rw_blocks.specs.Rows.{row_homed, rows_with, rows_without}
+use Rattle.rw_blocks.specs.Sections.{SectionState, active_of}
 use Rattle.rw_blocks.specs.State.{QueueState, section_at, row_or}
 use Rattle.rw_blocks.specs.Sums.{bytes_held}
 
@@ -19,10 +19,6 @@ HasRoom kind q i z = bytes_held kind q (active_of kind (section_at q i)) + z ≤
 -- the queue with another row for the object
 abbrev pub with_row : QueueState → Object → Place → QueueState
 with_row q o r = record q { rows = rows_with q.rows o r }
-
--- a row whose home is also its place
-abbrev pub row_homed : Size → Serial → Place
-row_homed z b = record { size = z; home = b; place = b }
 
 abbrev pub after_add : QueueState → Object → Size → Section → QueueState
 after_add q o z i = with_row q o (row_homed z (active_of Device (section_at q i)))

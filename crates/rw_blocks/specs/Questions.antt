@@ -1,8 +1,8 @@
 -- What the questions answer, beside the sums.
 use Rattle.std.specs.Prelude.{◌≡◌, ◌+◌, ◌<◌, Bool, not, List, [], ◌∷◌, Option, Some, None, length, position, nat_eq}
 use Rattle.rw_numbers.specs.Words.{Position, Section, Serial, Size}
-use Rattle.rw_sections.specs.declared.Kind.{Kind}
-use Rattle.rw_sections.specs.Sections.{SectionState, active_of, has_block, NoneSealedBehind}
+use Rattle.rw_blocks.specs.declared.Kind.{Kind}
+use Rattle.rw_blocks.specs.Sections.{SectionState, active_of, has_block, NoneSealedBehind}
 use Rattle.rw_blocks.specs.State.{QueueState, section_at}
 use Rattle.rw_blocks.specs.Sums.{bytes_held, rows_placed}
 use Rattle.rw_blocks.specs.Loose.{count}

@@ -1,11 +1,11 @@
 -- The queue as data.
 use Rattle.std.specs.Prelude.{◌≤◌, List, [], ◌∷◌, Option, unwrap_or}
-use Rattle.rw_sections.specs.Sections.{SectionState, new_section, section_in, sealed_in}
-use Rattle.rw_places.specs.Rows.{row_in}
+use Rattle.rw_blocks.specs.Sections.{SectionState, new_section, section_in, sealed_in}
+use Rattle.rw_blocks.specs.Rows.{row_in}
 use Rattle.rw_numbers.specs.Words.{Count, Object, Position, Section, Serial, Size}
 use Rattle.rw_blocks.specs.Limits.{largest_block, most_blocks, most_sections}
-use Rattle.rw_sections.specs.declared.Kind.{Kind}
-use Rattle.rw_places.specs.declared.Place.{Place}
+use Rattle.rw_blocks.specs.declared.Kind.{Kind}
+use Rattle.rw_blocks.specs.declared.Place.{Place}
 
 -- a shape: how many sections there may be, the bytes of a block, and how many device blocks may be sealed
 pub record ShapeState : Type 0 where

@@ -2,12 +2,12 @@
 use Rattle.std.specs.Prelude.{◌+◌, Bool, if◌then◌else◌, List, drop, nat_eq, filter, sum_by}
 use Rattle.std.specs.List.{list_any}
 use Rattle.std.specs.Map.{values_of}
-use Rattle.rw_places.specs.Rows.{size_of}
+use Rattle.rw_blocks.specs.Rows.{size_of}
 use Rattle.rw_numbers.specs.Words.{Section, Serial, Size}
-use Rattle.rw_sections.specs.declared.Kind.{Kind}
-use Rattle.rw_sections.specs.declared.Kind.TheVariants.{Device, Virtual}
-use Rattle.rw_places.specs.declared.Place.{Place}
-use Rattle.rw_sections.specs.Sections.{SectionState, blocks_of, is_block, has_block}
+use Rattle.rw_blocks.specs.declared.Kind.{Kind}
+use Rattle.rw_blocks.specs.declared.Kind.TheVariants.{Device, Virtual}
+use Rattle.rw_blocks.specs.declared.Place.{Place}
+use Rattle.rw_blocks.specs.Sections.{SectionState, blocks_of, is_block, has_block}
 use Rattle.rw_blocks.specs.State.{QueueState, section_at}
 
 -- all rows

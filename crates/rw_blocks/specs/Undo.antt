@@ -1,13 +1,13 @@
 -- Undoing a primitive by its mark.
 use Rattle.std.specs.Prelude.{◌≡◌, ◌+◌, ◌-◌, ◌≤◌, ◌<◌, length, slice_get, slice_set, remove, None, IsSome, IsSomeAnd}
 use Rattle.rw_numbers.specs.Words.{Section}
-use Rattle.rw_sections.specs.declared.Vanished.{Vanished}
-use Rattle.rw_sections.specs.declared.Seam.{Seam}
+use Rattle.rw_blocks.specs.declared.Vanished.{Vanished}
+use Rattle.rw_blocks.specs.declared.Seam.{Seam}
 use Rattle.rw_blocks.specs.declared.Mark.{Mark}
 use Rattle.rw_blocks.specs.declared.Mark.TheVariants.{Add, Remove, Rehome, Replace, Seal, TakeOut, Split, Merge}
-use Rattle.rw_sections.specs.Sections.{SectionState, active_of}
+use Rattle.rw_blocks.specs.Sections.{SectionState, active_of}
 use Rattle.rw_blocks.specs.State.{QueueState, section_at, row_at, row_or}
-use Rattle.rw_sections.specs.Changes.{sections_changing, section_appending, section_joining, upper_of, section_unsealing, section_gaining, lower_of, parted_at}
+use Rattle.rw_blocks.specs.Changes.{sections_changing, section_appending, section_joining, upper_of, section_unsealing, section_gaining, lower_of, parted_at}
 use Rattle.rw_blocks.specs.Primitives.{with_row, empty_actives, after_remove}
 use Rattle.rw_blocks.specs.Loose.{IsLoose}
 

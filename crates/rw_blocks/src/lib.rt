@@ -4,21 +4,78 @@
 //!
 //! A queue is a list of sections from head to tail. Each section has an active device block, an active
 //! virtual block and a list of sealed blocks. A block is only a serial number: the rows, one for each
-//! stored object, say what it holds. Each primitive makes one change and returns a [`Mark`], with
-//! which [`Queue::undo`] reverses it.
+//! stored object, say what it holds. A row is found by its object, by the block that holds its bytes
+//! (its home) and by the block that gives its priority (its place); the section of a block is found by
+//! a lookup. Each primitive makes one change and returns a [`Mark`], with which [`Queue::undo`]
+//! reverses it.
 //!
 //! Worked examples: `rw_cache_tests/src/primitives.rt`.
 
+mod listed;
+mod lists;
 mod primitives;
 mod queue;
+mod row_map;
+mod rows;
+mod sealed_blocks;
+mod section;
+mod sections;
 mod shape;
 mod undo;
 
 pub use queue::Queue;
-pub use rw_places::Place;
-pub use rw_sections::{Kind, Seam, Vanished};
 pub use rw_vt::NoMemory;
 pub use shape::{Shape, every_limit};
+
+/// Where an object lies.
+#[derive(Clone, Copy)]
+pub struct Place {
+    /// The object's size, in bytes: from 1 to the block size.
+    pub size: u64,
+    /// The serial of the device block that holds its bytes.
+    pub home: u64,
+    /// The serial of the block that gives its priority: its home, or a virtual block.
+    pub place: u64,
+}
+
+/// Whether a block takes flash, or only records a raised priority.
+#[derive(Clone, Copy)]
+pub enum Kind {
+    /// The block gathers objects and is written to flash whole.
+    Device,
+    /// The block takes no flash: it is a place in the queue for objects whose bytes lie elsewhere.
+    Virtual,
+}
+
+/// Which of a section's two active blocks vanish where the section above takes over its blocks: those that hold nothing.
+#[derive(Clone, Copy)]
+pub struct Vanished {
+    /// Whether the device block vanishes.
+    pub device: bool,
+    /// Whether the virtual block vanishes.
+    pub virtual_block: bool,
+}
+
+impl Vanished {
+    /// Both vanish: so it is where a split is undone.
+    pub const BOTH: Vanished = Vanished {
+        device: true,
+        virtual_block: true,
+    };
+}
+
+/// Where two sections were joined: by this they are parted again.
+#[derive(Clone, Copy)]
+pub struct Seam {
+    /// How many sealed blocks the upper section had.
+    pub upper_sealed: usize,
+    /// The serial of the lower section's active device block.
+    pub device: u64,
+    /// The serial of the lower section's active virtual block.
+    pub virtual_block: u64,
+    /// Which of these two vanished. One that did not is sealed behind the upper section's blocks.
+    pub vanished: Vanished,
+}
 
 /// What undoes one primitive: only what the undoing of its change needs and the state after does not say.
 #[derive(Clone, Copy)]

@@ -1,11 +1,14 @@
 // The primitives of a queue: each gives the mark that undoes it.
-ghost use Rattle.std.specs.Prelude.{◌≡◌, ◌≤◌, ◌<◌, ◌+◌, ◌^◌, length, None, Some, OnOk, IfOk, IsSome};
+ghost use Rattle.std.specs.Prelude.{◌≡◌, ◌≤◌, ◌<◌, ◌+◌, ◌^◌, ◌≢◌, length, None, Some, OnOk, IfOk, IfSome, IsNone, IsSome};
 ghost use Rattle.rw_blocks.specs.Words.{most_bytes};
 ghost use Rattle.rw_blocks.specs.State.{row_at, row_or, section_at, sealed_block};
 ghost use Rattle.rw_blocks.specs.Sums.{total};
 ghost use Rattle.rw_blocks.specs.Loose.{IsLoose, IsFree};
 ghost use Rattle.rw_blocks.specs.Primitives.{HasRoom, after_add, after_remove, after_rehome, after_replace, after_seal, after_take_out, after_split, after_merge};
 ghost use Rattle.rw_blocks.specs.Undo.{Undoes, seam_below};
+ghost use Rattle.rw_blocks.specs.Sections.{active_of};
+ghost use Rattle.rw_blocks.specs.Tags.{StandsIn};
+ghost use Rattle.rw_blocks.specs.Questions.{is_placed};
 
 use crate::{Kind, Mark, Place, Queue, Seam, Vanished};
 use rw_vt::NoMemory;
@@ -134,6 +137,83 @@ impl Queue {
             object,
             place: row.place,
         })
+    }
+
+    /// [`add`](Queue::add) where the size fits the section's active device block. Otherwise nothing changes, and the
+    /// answer is `None`. By this call the block is found once.
+    ///
+    /// # Errors
+    ///
+    /// [`NoMemory`] where memory was refused.
+    pub fn add_within(
+        &mut self,
+        object: u64,
+        size: u64,
+        section: usize,
+    ) -> Result<Option<Mark>, NoMemory>
+        requires loose { IsLoose self.old }
+        requires there { section < length self.old.sections }
+        requires new { row_at self.old object ≡ None }
+        requires some { 1 ≤ size }
+        requires room { total self.old + size ≤ most_bytes }
+        ensures effect { IfOk result (λ mark. IfSome mark (λ m.
+            self.new ≡ after_add self.old object size section)) }
+        ensures undoes { IfOk result (λ mark. IfSome mark (λ m. Undoes m self.old self.new)) }
+        ensures kept { IfOk result (λ mark. IfSome mark (λ m. IsLoose self.new)) }
+        ensures fits { IfOk result (λ mark. IfSome mark (λ m.
+            HasRoom Kind.Device self.old section size)) }
+        ensures full { IfOk result (λ mark. IsNone mark → self.new ≡ self.old) }
+    {
+        let active = self.sections.active(section, Kind::Device);
+        let most = self.block_size();
+        if !self.rows.add_within(object, size, active, most)? {
+            return Ok(None);
+        }
+        self.bytes[section] += size;
+        Ok(Some(Mark::Add { object }))
+    }
+
+    /// [`replace`](Queue::replace) of an object whose row is known, and the section of its place, where the size fits the
+    /// section's active virtual block, which is not its place. Beside the mark stands whether the place before is still
+    /// that of any row. Otherwise nothing changes, and the answer is `None`. By this call each block is found once.
+    ///
+    /// # Errors
+    ///
+    /// [`NoMemory`] where memory was refused.
+    pub fn replace_within(
+        &mut self,
+        object: u64,
+        row: Place,
+        from: usize,
+        section: usize,
+    ) -> Result<Option<(Mark, bool)>, NoMemory>
+        requires loose { IsLoose self.old }
+        requires there { section < length self.old.sections }
+        requires row { row_at self.old object ≡ Some row }
+        requires stands { StandsIn row.place from self.old.sections }
+        requires other { row.place ≢ active_of Kind.Virtual (section_at self.old section) }
+        ensures effect { IfOk result (λ done. IfSome done (λ d.
+            self.new ≡ after_replace self.old object section)) }
+        ensures undoes { IfOk result (λ done. IfSome done (λ d. Undoes d.0 self.old self.new)) }
+        ensures kept { IfOk result (λ done. IfSome done (λ d. IsLoose self.new)) }
+        ensures fits { IfOk result (λ done. IfSome done (λ d.
+            HasRoom Kind.Virtual self.old section row.size)) }
+        ensures left { IfOk result (λ done. IfSome done (λ d.
+            d.1 ≡ is_placed self.new row.place)) }
+        ensures full { IfOk result (λ done. IsNone done → self.new ≡ self.old) }
+    {
+        let active = self.sections.active(section, Kind::Virtual);
+        let most = self.block_size();
+        let Some(left) = self.rows.replace_within(object, row, active, most)? else {
+            return Ok(None);
+        };
+        self.bytes[from] -= row.size;
+        self.bytes[section] += row.size;
+        let mark = Mark::Replace {
+            object,
+            place: row.place,
+        };
+        Ok(Some((mark, left)))
     }
 
     /// Seals the section's active block of the kind: it goes to the front of the sealed list, and a fresh block with

@@ -1,21 +1,21 @@
 // The queue: what it is, its questions, and the changes that its primitives and their undoing share.
 ghost use Rattle.std.specs.Prelude.{◌≡◌, ◌≤◌, ◌<◌, ◌+◌, ◌^◌, ◌↔◌, [], length, None, Some, OnOk, IfOk, IfSome, IsSome, IsNone, slice_get, sum, true};
 ghost use Rattle.std.specs.Option.{option_map};
-ghost use Rattle.rw_sections.specs.Sections.{active_of, has_block, NoneSealed};
+ghost use Rattle.rw_blocks.specs.Sections.{active_of, has_block, NoneSealed};
 ghost use Rattle.rw_blocks.specs.State.{IsShape, start_of, row_at, section_at, sealed_block};
 ghost use Rattle.rw_blocks.specs.Sums.{total, bytes_held, rows_homed, rows_placed, fill, section_bytes, bytes_below};
 ghost use Rattle.rw_blocks.specs.Loose.{IsLoose, IsWellFormedQueue, block_count, sealed_devices};
-ghost use Rattle.rw_sections.specs.Changes.{joined_at, parted_at};
+ghost use Rattle.rw_blocks.specs.Changes.{joined_at, parted_at};
 ghost use Rattle.rw_blocks.specs.Primitives.{after_remove, with_row};
 ghost use Rattle.rw_blocks.specs.Undo.{IsJoined};
-ghost use Rattle.rw_sections.specs.Tags.{IsOnlyIn};
-ghost use Rattle.rw_places.specs.Index.{objects_of, home_of, place_of};
+ghost use Rattle.rw_blocks.specs.Tags.{IsOnlyIn, StandsIn};
+ghost use Rattle.rw_blocks.specs.Index.{objects_of, home_of, place_of};
 ghost use Rattle.rw_blocks.specs.Weights.{weight_from, with_sections, CanHave};
 ghost use Rattle.rw_blocks.specs.Questions.{is_placed, section_of, last_block, IsLastSealed, IsHeldOfKind, IsHeldWhereActive};
 
+use crate::rows::Rows;
+use crate::sections::Sections;
 use crate::{Kind, Place, Seam, Shape, Vanished};
-use rw_places::Rows;
-use rw_sections::Sections;
 use rw_vt::NoMemory;
 use std::alloc::Global;
 use std::marker::Model;
@@ -190,7 +190,8 @@ impl Queue {
 
     /// The section that has the block with the serial, active or sealed. `None` exactly where there is no such block.
     pub fn section_of(&self, serial: u64) -> Option<usize>
-        ensures { result ≡ section_of self.now serial }
+        ensures section { result ≡ section_of self.now serial }
+        ensures stands { IfSome result (λ i. StandsIn serial i self.now.sections) }
     {
         self.sections.section_of(serial)
     }

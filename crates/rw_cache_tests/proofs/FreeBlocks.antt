@@ -4,8 +4,8 @@ use Rattle.std.proofs.lemmas.Bool.{eq-eqb, eqb-true}
 use Rattle.std.proofs.lemmas.List.{nil_from_length}
 use Rattle.std.specs.Prelude.{filter, All, not}
 use Rattle.std.specs.Map.{values_of, keys_of}
-use Rattle.rw_places.specs.declared.Place.{Place}
-use Rattle.rw_places.specs.Index.{objects_of}
+use Rattle.rw_blocks.specs.declared.Place.{Place}
+use Rattle.rw_blocks.specs.Index.{objects_of}
 use Rattle.rw_blocks.specs.State.{QueueState}
 use Rattle.rw_blocks.specs.Questions.{is_placed}
 use Rattle.rw_blocks.specs.Sums.{rows_homed, rows_placed}

@@ -6,7 +6,7 @@ use Rattle.std.specs.Map.{keys_of, lookup}
 use Rattle.std.specs.BTreeMap.{is_at}
 use Rattle.std.specs.Ordering.{nat_cmp}
 use Rattle.rw_vt.specs.declared.event.Event.{Event}
-use Rattle.rw_places.proofs.Entries.{insert_entry-same, remove_entry-none}
+use Rattle.rw_blocks.proofs.Entries.{insert_entry-same, remove_entry-none}
 use Rattle.rw_blocks.specs.declared.Mark.{Mark}
 use Rattle.rw_blocks.specs.State.{QueueState}
 use Rattle.rw_ripq.specs.declared.Policy.{Policy}

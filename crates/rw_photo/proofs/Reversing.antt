@@ -5,7 +5,7 @@ use Rattle.std.specs.Map.{keys_of, lookup, remove_entry}
 use Rattle.std.specs.BTreeMap.{is_at}
 use Rattle.std.specs.Ordering.{nat_cmp}
 use Rattle.rw_vt.specs.declared.event.Event.{Event}
-use Rattle.rw_places.proofs.Entries.{insert_entry-insert_entry, insert_entry-remove_entry, insert_entry-same, remove_entry-insert_entry, remove_entry-none}
+use Rattle.rw_blocks.proofs.Entries.{insert_entry-insert_entry, insert_entry-remove_entry, insert_entry-same, remove_entry-insert_entry, remove_entry-none}
 use Rattle.rw_photo.specs.declared.body.Body.{Body}
 use Rattle.rw_photo.specs.declared.counters.Counters.{Counters}
 use Rattle.rw_photo.specs.declared.undo.Undo.{Undo}

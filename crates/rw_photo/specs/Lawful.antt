@@ -16,11 +16,11 @@ use Rattle.rw_vt.specs.Words.{Process, Time}
 use Rattle.rw_vt.specs.Limits.{end_of_time}
 use Rattle.rw_vt.specs.System.{map_from}
 use Rattle.rw_vt.specs.declared.event.Event.{Event}
-use Rattle.rw_places.proofs.Entries.{found-value, sorted-insert_entry, sorted-remove_entry, values-insert_entry, values-remove_entry}
+use Rattle.rw_blocks.proofs.Entries.{found-value, sorted-insert_entry, sorted-remove_entry, values-insert_entry, values-remove_entry}
 use Rattle.rw_numbers.specs.Words.{Object, Size}
 use Rattle.rw_blocks.specs.State.{QueueState, row_at}
 use Rattle.rw_blocks.specs.Loose.{IsWellFormedQueue}
-use Rattle.rw_places.specs.declared.Place.{Place}
+use Rattle.rw_blocks.specs.declared.Place.{Place}
 use Rattle.rw_ripq.specs.declared.Policy.{Policy}
 use Rattle.rw_ripq.specs.declared.Policy.TheVariants.{Off, Lru, Slru}
 use Rattle.rw_ripq.specs.Insert.{insert}

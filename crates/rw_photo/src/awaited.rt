@@ -17,7 +17,7 @@ pub(crate) struct Awaited {
 impl Model for Awaited {
     ghost use Rattle.std.specs.Prelude.{List};
     ghost use Rattle.rw_numbers.specs.Words.{Count, Object};
-    ghost use Rattle.rw_places.specs.RowMap.{by_object};
+    ghost use Rattle.rw_blocks.specs.RowMap.{by_object};
 
     ghost Value = { List (Object × Count) };
 

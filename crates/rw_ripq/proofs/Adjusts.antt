@@ -6,11 +6,11 @@ use Rattle.std.specs.Ordering.{nat_cmp}
 use Rattle.std.specs.BTreeMap.{insert_entry}
 use Rattle.rw_blocks.proofs.Cited.{IsLoose-after_add, IsLoose-after_merge, IsLoose-after_split}
 use Rattle.rw_blocks.specs.Loose.{IsLoose}
-use Rattle.rw_sections.specs.Sections.{active_of}
+use Rattle.rw_blocks.specs.Sections.{active_of}
 use Rattle.rw_blocks.specs.State.{QueueState, section_at}
 use Rattle.rw_blocks.specs.Sums.{bytes_held, total}
-use Rattle.rw_sections.specs.declared.Kind.TheVariants.{Device}
-use Rattle.rw_places.specs.declared.Place.{Place}
+use Rattle.rw_blocks.specs.declared.Kind.TheVariants.{Device}
+use Rattle.rw_blocks.specs.declared.Place.{Place}
 use Rattle.rw_ripq.proofs.Cases.{adjust_unless, split_if}
 use Rattle.rw_ripq.proofs.Found.{heavy_section-there, light_pair-there}
 use Rattle.rw_ripq.proofs.Reputs.{IsLoose-with_room, row-with_room}

@@ -3,7 +3,7 @@ use Rattle.std.proofs.Common.{◌≡◌, ℕ, ◌≤◌, List, ◌∷◌, refl, 
 use Rattle.std.specs.Prelude.{Some, fold}
 use Rattle.std.proofs.lemmas.Bool.{eqb-true}
 use Rattle.rw_blocks.specs.State.{QueueState, row_at}
-use Rattle.rw_places.specs.declared.Place.{Place}
+use Rattle.rw_blocks.specs.declared.Place.{Place}
 use Rattle.rw_ripq.specs.Work.{Work}
 use Rattle.rw_ripq.specs.Evict.{displaced_rows, objects_homed, reinsert}
 use Rattle.rw_ripq.specs.Victim.{IsVictim}

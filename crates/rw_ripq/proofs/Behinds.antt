@@ -4,10 +4,10 @@ use Rattle.std.specs.Prelude.{◌||◌, remove}
 use Rattle.std.specs.List.{list_any}
 use Rattle.std.proofs.lemmas.Bool.{eq-eqb, eqb-true, or_cases}
 use Rattle.std.proofs.lemmas.List.Folds.{list_any-append}
-use Rattle.rw_sections.specs.Changes.{section_sealing}
-use Rattle.rw_sections.specs.Sections.{SectionState, no_section, has_block, has_serial}
-use Rattle.rw_sections.specs.declared.Kind.{Kind}
-use Rattle.rw_sections.specs.declared.Kind.TheVariants.{Device, Virtual}
+use Rattle.rw_blocks.specs.Changes.{section_sealing}
+use Rattle.rw_blocks.specs.Sections.{SectionState, no_section, has_block, has_serial}
+use Rattle.rw_blocks.specs.declared.Kind.{Kind}
+use Rattle.rw_blocks.specs.declared.Kind.TheVariants.{Device, Virtual}
 use Rattle.rw_ripq.proofs.Basics.{true_not_false}
 use Rattle.rw_ripq.specs.Order.{Before, Behind, BehindIn}
 use Rattle.rw_ripq.specs.Sealed.{has_sealed}

@@ -1,7 +1,7 @@
 -- The operations' definitions with the test that each makes as an argument, for proofs by cases.
 use Rattle.std.specs.Prelude.{◌+◌, Bool, if◌then◌else◌}
-use Rattle.rw_sections.specs.declared.Kind.{Kind}
-use Rattle.rw_sections.specs.declared.Kind.TheVariants.{Virtual}
+use Rattle.rw_blocks.specs.declared.Kind.{Kind}
+use Rattle.rw_blocks.specs.declared.Kind.TheVariants.{Virtual}
 use Rattle.rw_numbers.specs.Words.{Object, Section, Serial}
 use Rattle.rw_blocks.specs.State.{QueueState, row_or}
 use Rattle.rw_blocks.specs.Primitives.{after_replace, after_seal}

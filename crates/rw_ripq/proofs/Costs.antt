@@ -10,8 +10,8 @@ use Rattle.std.proofs.lemmas.List.Sums.{sum_by-cons}
 use Rattle.rw_blocks.specs.Loose.{IsLoose}
 use Rattle.rw_blocks.specs.Primitives.{after_remove}
 use Rattle.rw_blocks.specs.State.{QueueState, row_at}
-use Rattle.rw_places.specs.declared.Place.{Place}
-use Rattle.rw_places.proofs.Entries.{by_cases, lookup-insert_entry, lookup-remove_entry}
+use Rattle.rw_blocks.specs.declared.Place.{Place}
+use Rattle.rw_blocks.proofs.Entries.{by_cases, lookup-insert_entry, lookup-remove_entry}
 use Rattle.rw_ripq.proofs.Basics.{by_bool, none_some, some_is}
 use Rattle.rw_ripq.proofs.Falls.{sum-le}
 use Rattle.rw_ripq.proofs.Folds.{Reput, reinsert-row}

@@ -4,13 +4,13 @@ use Rattle.std.specs.Prelude.{Option, Some, None, nat_lt, remove}
 use Rattle.std.proofs.lemmas.Bool.{ltb-true, ltb-false, and_parts}
 use Rattle.std.proofs.lemmas.List.Sums.{sum_by-cons, sum_by-set, sum_by-insert, sum_by-remove, sum_by-take-drop, count_by-le-length}
 use Rattle.rw_blocks.proofs.Cited.{IsLoose-after_merge}
-use Rattle.rw_sections.specs.Sections.{devices_in, SectionState, no_section, is_kind}
+use Rattle.rw_blocks.specs.Sections.{devices_in, SectionState, no_section, is_kind}
 use Rattle.rw_blocks.specs.Loose.{IsLoose, is_sealed_virtual, sealed_devices}
-use Rattle.rw_sections.specs.Changes.{section_sealing}
+use Rattle.rw_blocks.specs.Changes.{section_sealing}
 use Rattle.rw_blocks.specs.Primitives.{after_replace, after_split}
 use Rattle.rw_blocks.specs.State.{QueueState, row_or, section_at}
-use Rattle.rw_sections.specs.declared.Kind.{Kind}
-use Rattle.rw_sections.specs.declared.Kind.TheVariants.{Device, Virtual}
+use Rattle.rw_blocks.specs.declared.Kind.{Kind}
+use Rattle.rw_blocks.specs.declared.Kind.TheVariants.{Device, Virtual}
 use Rattle.rw_ripq.proofs.Cases.{adjust_unless, moved_unless, seal_unless, split_if, without_block_if}
 use Rattle.rw_ripq.proofs.Adjusts.{IsLoose-put_new, start, written}
 use Rattle.rw_ripq.specs.Record.{IsInsertable}

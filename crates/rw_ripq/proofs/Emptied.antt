@@ -4,9 +4,9 @@ use Rattle.std.specs.Prelude.{Some, ◌&&◌, sum_by, slice_get, not}
 use Rattle.std.specs.List.{list_any}
 use Rattle.std.proofs.lemmas.Bool.{eq-eqb, and_right}
 use Rattle.std.proofs.lemmas.List.Sums.{get_or-le-sum_by}
-use Rattle.rw_sections.specs.declared.Kind.{Kind}
-use Rattle.rw_sections.specs.declared.Kind.TheVariants.{Device, Virtual}
-use Rattle.rw_sections.specs.Sections.{no_section, is_kind, is_virtual, is_block}
+use Rattle.rw_blocks.specs.declared.Kind.{Kind}
+use Rattle.rw_blocks.specs.declared.Kind.TheVariants.{Device, Virtual}
+use Rattle.rw_blocks.specs.Sections.{no_section, is_kind, is_virtual, is_block}
 use Rattle.rw_blocks.specs.State.{QueueState, section_at}
 use Rattle.rw_blocks.specs.Sums.{rows_placed}
 use Rattle.rw_blocks.specs.Loose.{IsLoose, is_sealed_virtual}

@@ -16,11 +16,11 @@ use Rattle.rw_blocks.proofs.Cited.{IsLoose-after_remove, IsLoose-after_take_out,
 use Rattle.rw_blocks.specs.Loose.{IsFree, IsLoose, count, count_in, sealed_devices}
 use Rattle.rw_blocks.specs.Primitives.{after_remove}
 use Rattle.rw_blocks.specs.Questions.{last_block, last_from, last_or}
-use Rattle.rw_sections.specs.Sections.{SectionState, has_serial, is_kind}
+use Rattle.rw_blocks.specs.Sections.{SectionState, has_serial, is_kind}
 use Rattle.rw_blocks.specs.State.{QueueState}
-use Rattle.rw_sections.specs.declared.Kind.{Kind}
-use Rattle.rw_sections.specs.declared.Kind.TheVariants.{Device, Virtual}
-use Rattle.rw_places.specs.declared.Place.{Place}
+use Rattle.rw_blocks.specs.declared.Kind.{Kind}
+use Rattle.rw_blocks.specs.declared.Kind.TheVariants.{Device, Virtual}
+use Rattle.rw_blocks.specs.declared.Place.{Place}
 use Rattle.rw_ripq.proofs.Basics.{by_bool}
 use Rattle.rw_ripq.proofs.Evictions.{Falls}
 use Rattle.rw_ripq.proofs.Folds.{Steps, fold-steps, measure}

@@ -10,8 +10,8 @@ use Rattle.rw_blocks.proofs.Cited.{of_row}
 use Rattle.rw_blocks.specs.Loose.{IsLoose, IsPlaced, count, is_sealed_virtual}
 use Rattle.rw_blocks.specs.State.{QueueState, no_place, row_at, row_or, section_at}
 use Rattle.rw_blocks.specs.Sums.{rows_placed}
-use Rattle.rw_sections.specs.declared.Kind.TheVariants.{Device, Virtual}
-use Rattle.rw_places.specs.declared.Place.{Place}
+use Rattle.rw_blocks.specs.declared.Kind.TheVariants.{Device, Virtual}
+use Rattle.rw_blocks.specs.declared.Place.{Place}
 use Rattle.rw_ripq.proofs.Cases.{reinserted, reinserted_from, seal_unless, without_block_if}
 use Rattle.rw_ripq.proofs.Measures.{displaced-after_rehome, displaced-with_room, sealed-there, sealed-virtual-there}
 use Rattle.rw_ripq.proofs.Reputs.{IsLoose-cleared, IsLoose-put_again, IsLoose-with_room, measure-put_again, row-with_room, rows-cleared, sealed_blocks-cleared, section-there}

@@ -6,7 +6,7 @@ use Rattle.std.specs.Ordering.{nat_cmp}
 use Rattle.std.specs.BTreeMap.{is_at}
 use Rattle.std.specs.Cmp.{nat_cmp_total}
 use Rattle.std.proofs.lemmas.Map.Entries.{sum_by-insert_entry, sum_by-remove_entry}
-use Rattle.rw_places.specs.declared.Place.{Place}
+use Rattle.rw_blocks.specs.declared.Place.{Place}
 use Rattle.rw_blocks.specs.State.{QueueState, row_at, row_or}
 use Rattle.rw_blocks.specs.Sums.{total}
 use Rattle.rw_blocks.specs.Loose.{IsLoose, IsSized}
@@ -16,7 +16,7 @@ use Rattle.rw_ripq.specs.Sealed.{section_with}
 use Rattle.rw_ripq.specs.Work.{Work, one_if}
 use Rattle.rw_ripq.specs.Evict.{evict, objects_homed, reinsert}
 use Rattle.rw_ripq.specs.Put.{is_room}
-use Rattle.rw_sections.specs.declared.Kind.TheVariants.{Device}
+use Rattle.rw_blocks.specs.declared.Kind.TheVariants.{Device}
 use Rattle.rw_ripq.specs.Victim.{IsVictim}
 use Rattle.rw_ripq.specs.Record.{HasHeadroom}
 use Rattle.rw_ripq.proofs.Measures.{displaced-after_remove}

@@ -7,13 +7,13 @@ use Rattle.std.proofs.lemmas.List.{take-append-drop}
 use Rattle.std.proofs.lemmas.List.Sums.{sum_by-cons}
 use Rattle.rw_blocks.proofs.Cited.{at_block}
 use Rattle.rw_blocks.specs.Loose.{IsLoose, count_in}
-use Rattle.rw_sections.specs.Changes.{block_unless, section_joining}
+use Rattle.rw_blocks.specs.Changes.{block_unless, section_joining}
 use Rattle.rw_blocks.specs.Questions.{last_from, last_or}
-use Rattle.rw_sections.specs.Sections.{SectionState, blocks_of, no_section, has_block, has_serial}
+use Rattle.rw_blocks.specs.Sections.{SectionState, blocks_of, no_section, has_block, has_serial}
 use Rattle.rw_blocks.specs.State.{QueueState}
-use Rattle.rw_sections.specs.declared.Kind.{Kind}
-use Rattle.rw_sections.specs.declared.Vanished.{Vanished}
-use Rattle.rw_sections.specs.declared.Kind.TheVariants.{Device, Virtual}
+use Rattle.rw_blocks.specs.declared.Kind.{Kind}
+use Rattle.rw_blocks.specs.declared.Vanished.{Vanished}
+use Rattle.rw_blocks.specs.declared.Kind.TheVariants.{Device, Virtual}
 use Rattle.rw_ripq.proofs.Basics.{some_is, true_not_false}
 use Rattle.rw_ripq.proofs.Behinds.{any-cases, any-left, any-right, before-cases, before-cross, before-left, before-right, behind_in-has, has-cases, has-device, has-inside, has-shadow, or-left, or-right}
 use Rattle.rw_ripq.proofs.Falls.{last-there, narrow, sealed_at, sum-le}

@@ -4,7 +4,7 @@ use Rattle.std.specs.Prelude.{Some, None, IsSome}
 use Rattle.rw_ripq.proofs.Basics.{of_some}
 use Rattle.rw_blocks.specs.Loose.{IsLoose, IsWellFormedQueue}
 use Rattle.rw_blocks.specs.State.{QueueState, row_at, row_or}
-use Rattle.rw_places.specs.declared.Place.{Place}
+use Rattle.rw_blocks.specs.declared.Place.{Place}
 use Rattle.rw_ripq.specs.Record.{IsInsertable}
 use Rattle.rw_ripq.proofs.Found.{target-there}
 use Rattle.rw_ripq.proofs.Leaving.{insert-leaves}

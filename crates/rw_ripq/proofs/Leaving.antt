@@ -7,10 +7,10 @@ use Rattle.std.proofs.lemmas.List.Sums.{passes_at_first, get_or-le-sum_by}
 use Rattle.rw_blocks.proofs.Cited.{at_block}
 use Rattle.rw_blocks.specs.Loose.{IsLoose, count, count_in}
 use Rattle.rw_blocks.specs.Questions.{section_of}
-use Rattle.rw_sections.specs.Sections.{SectionState, blocks_of, no_section, has_block, has_serial}
+use Rattle.rw_blocks.specs.Sections.{SectionState, blocks_of, no_section, has_block, has_serial}
 use Rattle.rw_blocks.specs.State.{QueueState, row_at}
-use Rattle.rw_sections.specs.declared.Kind.TheVariants.{Device, Virtual}
-use Rattle.rw_places.specs.declared.Place.{Place}
+use Rattle.rw_blocks.specs.declared.Kind.TheVariants.{Device, Virtual}
+use Rattle.rw_blocks.specs.declared.Place.{Place}
 use Rattle.rw_ripq.proofs.Adjusts.{KeepsAll, insert-good, put_row, rows-put_new, start, written}
 use Rattle.rw_ripq.specs.Record.{IsInsertable}
 use Rattle.rw_ripq.proofs.Basics.{none_some, some_is}

@@ -7,10 +7,10 @@ use Rattle.std.proofs.lemmas.List.{length-append}
 use Rattle.std.proofs.lemmas.List.Folds.{list_any-append}
 use Rattle.std.proofs.lemmas.List.Sums.{sum_by-cons, sum_by-append}
 use Rattle.rw_blocks.specs.Loose.{IsLoose, count_in}
-use Rattle.rw_sections.specs.Sections.{SectionState, has_serial}
+use Rattle.rw_blocks.specs.Sections.{SectionState, has_serial}
 use Rattle.rw_blocks.specs.State.{QueueState}
-use Rattle.rw_sections.specs.declared.Kind.{Kind}
-use Rattle.rw_sections.specs.declared.Kind.TheVariants.{Device, Virtual}
+use Rattle.rw_blocks.specs.declared.Kind.{Kind}
+use Rattle.rw_blocks.specs.declared.Kind.TheVariants.{Device, Virtual}
 use Rattle.rw_ripq.proofs.Basics.{by_bool}
 use Rattle.rw_ripq.proofs.Falls.{sum-le}
 use Rattle.rw_ripq.proofs.Turns.{counts-all, sum-above}

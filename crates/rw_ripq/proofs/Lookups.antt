@@ -5,7 +5,7 @@ use Rattle.std.specs.declared.cmp.Ordering.TheVariants.{Equal}
 use Rattle.std.specs.FinMap.{nat_cmp-IsAntisymmetric}
 use Rattle.std.specs.Map.{lookup, remove_entry}
 use Rattle.std.specs.BTreeMap.{insert_entry, is_at}
-use Rattle.rw_places.proofs.Entries.{by_cases}
+use Rattle.rw_blocks.proofs.Entries.{by_cases}
 
 apart : (o k : ℕ) → (k ≡ o → ⊥) → nat_cmp o k ≡ Equal → ⊥
 apart o k ne h = ne (sym (nat_cmp-IsAntisymmetric o k h))

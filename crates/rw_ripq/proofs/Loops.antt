@@ -10,7 +10,7 @@ use Rattle.rw_blocks.proofs.Cited.{IsLoose-after_remove}
 use Rattle.rw_ripq.specs.Work.{Work}
 use Rattle.rw_ripq.specs.Evict.{is_over, evict, evict_last, leave, objects_placed}
 use Rattle.rw_ripq.specs.Record.{HasHeadroom}
-use Rattle.rw_places.specs.declared.Place.{Place}
+use Rattle.rw_blocks.specs.declared.Place.{Place}
 use Rattle.rw_ripq.proofs.Evictions.{evict-turn}
 use Rattle.rw_ripq.proofs.Falls.{others-after_remove, turn-falls, last-none}
 use Rattle.rw_ripq.proofs.Turns.{first-there}

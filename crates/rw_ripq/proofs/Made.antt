@@ -2,8 +2,8 @@
 use Rattle.std.proofs.Common.{◌≡◌, ℕ, ◌+◌, ◌≤◌, ◌<◌, ◌^◌, refl, sym, ap, subst, ◌∙◌, arith, length, nat_eq, zero, suc}
 use Rattle.std.specs.Prelude.{Some, nat_lt, not}
 use Rattle.std.proofs.lemmas.Bool.{ne_eqb, lt-ltb}
-use Rattle.rw_sections.specs.declared.Kind.TheVariants.{Device, Virtual}
-use Rattle.rw_places.specs.declared.Place.{Place}
+use Rattle.rw_blocks.specs.declared.Kind.TheVariants.{Device, Virtual}
+use Rattle.rw_blocks.specs.declared.Place.{Place}
 use Rattle.rw_blocks.specs.State.{QueueState, row_at, section_at}
 use Rattle.rw_blocks.specs.Sums.{bytes_held}
 use Rattle.rw_blocks.specs.Loose.{IsLoose}

@@ -10,13 +10,13 @@ use Rattle.std.proofs.lemmas.List.Edits.{length-remove}
 use Rattle.std.proofs.lemmas.List.Sums.{sum_by-cons, sum_by-set, get_or-le-sum_by}
 use Rattle.std.proofs.lemmas.Map.Entries.{sum_by-insert_entry, sum_by-remove_entry}
 use Rattle.rw_blocks.specs.Loose.{IsLoose, count, count_in, is_sealed_virtual}
-use Rattle.rw_sections.specs.Changes.{section_sealing}
+use Rattle.rw_blocks.specs.Changes.{section_sealing}
 use Rattle.rw_blocks.specs.Primitives.{after_rehome, after_remove, after_seal, after_take_out}
-use Rattle.rw_sections.specs.Sections.{SectionState, no_section, has_serial, is_kind}
+use Rattle.rw_blocks.specs.Sections.{SectionState, no_section, has_serial, is_kind}
 use Rattle.rw_blocks.specs.State.{QueueState, row_at, row_or, section_at}
-use Rattle.rw_sections.specs.declared.Kind.{Kind}
-use Rattle.rw_sections.specs.declared.Kind.TheVariants.{Device, Virtual}
-use Rattle.rw_places.specs.declared.Place.{Place}
+use Rattle.rw_blocks.specs.declared.Kind.{Kind}
+use Rattle.rw_blocks.specs.declared.Kind.TheVariants.{Device, Virtual}
+use Rattle.rw_blocks.specs.declared.Place.{Place}
 use Rattle.rw_ripq.proofs.Cases.{seal_unless}
 use Rattle.rw_ripq.proofs.Basics.{by_bool}
 use Rattle.rw_ripq.specs.Evict.{displaced_rows, without_rows}

@@ -5,13 +5,13 @@ use Rattle.std.specs.List.{list_any}
 use Rattle.std.proofs.lemmas.Bool.{eq-eqb, eqb-true, eqb-false, and_parts, cases_lt}
 use Rattle.rw_blocks.proofs.Cited.{at_block, count-after_merge, count-after_seal, count-after_split, count-after_take_out, one, one-other}
 use Rattle.rw_blocks.specs.Loose.{IsLoose, count, count_in, is_sealed_virtual}
-use Rattle.rw_sections.specs.Changes.{section_joining, section_sealing}
+use Rattle.rw_blocks.specs.Changes.{section_joining, section_sealing}
 use Rattle.rw_blocks.specs.Primitives.{after_merge, after_seal, after_split, after_take_out, empty_actives}
-use Rattle.rw_sections.specs.Sections.{SectionState, no_section, has_block, has_serial}
+use Rattle.rw_blocks.specs.Sections.{SectionState, no_section, has_block, has_serial}
 use Rattle.rw_blocks.specs.State.{QueueState, section_at}
 use Rattle.rw_blocks.specs.Sums.{bytes_held, rows_placed}
-use Rattle.rw_sections.specs.declared.Kind.{Kind}
-use Rattle.rw_sections.specs.declared.Kind.TheVariants.{Device, Virtual}
+use Rattle.rw_blocks.specs.declared.Kind.{Kind}
+use Rattle.rw_blocks.specs.declared.Kind.TheVariants.{Device, Virtual}
 use Rattle.rw_ripq.proofs.Cases.{seal_unless, without_block_if}
 use Rattle.rw_ripq.proofs.Basics.{by_bool}
 use Rattle.rw_ripq.proofs.Behinds.{behind-device, behind-set, passes-after_remove, passes-sealed}

@@ -6,13 +6,13 @@ use Rattle.std.specs.BTreeMap.{insert_entry}
 use Rattle.std.proofs.lemmas.Bool.{eq-eqb, ne_eqb, cases_eq}
 use Rattle.rw_blocks.proofs.Cited.{IsLoose-after_replace, of_row}
 use Rattle.rw_blocks.specs.Loose.{IsLoose, IsSized, count}
-use Rattle.rw_sections.specs.Changes.{section_sealing}
+use Rattle.rw_blocks.specs.Changes.{section_sealing}
 use Rattle.rw_blocks.specs.Primitives.{after_replace}
-use Rattle.rw_sections.specs.Sections.{SectionState, active_of, no_section}
+use Rattle.rw_blocks.specs.Sections.{SectionState, active_of, no_section}
 use Rattle.rw_blocks.specs.State.{QueueState, no_place, row_at, row_or, section_at}
 use Rattle.rw_blocks.specs.Sums.{bytes_held}
-use Rattle.rw_sections.specs.declared.Kind.TheVariants.{Device, Virtual}
-use Rattle.rw_places.specs.declared.Place.{Place}
+use Rattle.rw_blocks.specs.declared.Kind.TheVariants.{Device, Virtual}
+use Rattle.rw_blocks.specs.declared.Place.{Place}
 use Rattle.rw_ripq.proofs.Cases.{moved, moved_unless, seal_unless}
 use Rattle.rw_ripq.proofs.Basics.{clash, none_some}
 use Rattle.rw_ripq.proofs.Behinds.{or-right}

@@ -4,7 +4,7 @@ use Rattle.std.specs.Prelude.{None}
 use Rattle.std.specs.Ordering.{nat_cmp}
 use Rattle.std.specs.Map.{lookup}
 use Rattle.std.specs.BTreeMap.{is_at}
-use Rattle.rw_places.proofs.Entries.{lookup-remove_entry}
+use Rattle.rw_blocks.proofs.Entries.{lookup-remove_entry}
 use Rattle.rw_blocks.proofs.Cited.{IsLoose-after_remove}
 use Rattle.rw_blocks.specs.Loose.{IsLoose}
 use Rattle.rw_blocks.specs.Primitives.{after_remove}

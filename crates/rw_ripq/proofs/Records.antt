@@ -4,15 +4,15 @@ use Rattle.std.specs.Prelude.{remove}
 use Rattle.std.proofs.Math.ListN.{take-append-drop}
 use Rattle.std.proofs.lemmas.List.Edits.{length-remove, get_or-remove_below}
 use Rattle.std.proofs.lemmas.List.Sums.{sum_by-set, sum_by-insert, sum_by-remove}
-use Rattle.rw_sections.specs.declared.Kind.TheVariants.{Device, Virtual}
+use Rattle.rw_blocks.specs.declared.Kind.TheVariants.{Device, Virtual}
 use Rattle.rw_ripq.specs.Sealed.{sealed_blocks}
-use Rattle.rw_sections.specs.declared.Kind.{Kind}
+use Rattle.rw_blocks.specs.declared.Kind.{Kind}
 use Rattle.rw_blocks.specs.declared.Mark.{Mark}
-use Rattle.rw_sections.specs.declared.Vanished.{Vanished}
-use Rattle.rw_sections.specs.Sections.{SectionState, no_section}
+use Rattle.rw_blocks.specs.declared.Vanished.{Vanished}
+use Rattle.rw_blocks.specs.Sections.{SectionState, no_section}
 use Rattle.rw_blocks.specs.State.{QueueState, section_at}
 use Rattle.rw_blocks.specs.Undo.{Undoes}
-use Rattle.rw_sections.specs.Changes.{block_unless, section_joining}
+use Rattle.rw_blocks.specs.Changes.{block_unless, section_joining}
 use Rattle.rw_blocks.specs.Primitives.{after_remove, after_rehome, after_seal, after_take_out, after_merge, after_split, empty_actives}
 use Rattle.rw_ripq.specs.declared.Tally.{Tally}
 use Rattle.rw_ripq.specs.Work.{Work, work_before, work_of}

@@ -11,12 +11,12 @@ use Rattle.rw_blocks.proofs.Cited.{IsLoose-after_rehome, IsLoose-after_seal, IsL
 use Rattle.rw_blocks.specs.Loose.{IsFree, IsLoose, IsSized, count, count_in, is_sealed_virtual}
 use Rattle.rw_blocks.specs.Primitives.{after_rehome}
 use Rattle.rw_blocks.specs.Questions.{section_of}
-use Rattle.rw_sections.specs.Sections.{SectionState, active_of, blocks_of, no_section, has_block, has_serial}
+use Rattle.rw_blocks.specs.Sections.{SectionState, active_of, blocks_of, no_section, has_block, has_serial}
 use Rattle.rw_blocks.specs.State.{QueueState, row_at, row_or, section_at}
 use Rattle.rw_blocks.specs.Sums.{bytes_held, rows_placed}
-use Rattle.rw_sections.specs.declared.Kind.{Kind}
-use Rattle.rw_sections.specs.declared.Kind.TheVariants.{Device}
-use Rattle.rw_places.specs.declared.Place.{Place}
+use Rattle.rw_blocks.specs.declared.Kind.{Kind}
+use Rattle.rw_blocks.specs.declared.Kind.TheVariants.{Device}
+use Rattle.rw_blocks.specs.declared.Place.{Place}
 use Rattle.rw_ripq.proofs.Cases.{seal_unless, without_block_if}
 use Rattle.rw_ripq.proofs.Measures.{displaced-after_rehome, displaced-with_room, position-there, sealed-there, sealed-virtual-there, sealed_blocks-with_room, sealed_blocks-without_block, virtual-counts}
 use Rattle.rw_ripq.proofs.Rooms.{fits-with_room, rows-with_room, sections-with_room, shape-with_room}

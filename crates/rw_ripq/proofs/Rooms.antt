@@ -3,13 +3,13 @@ use Rattle.std.proofs.Common.{◌≡◌, ℕ, ◌+◌, ◌≤◌, ◌<◌, List,
 use Rattle.std.proofs.lemmas.Bool.{leb-true}
 use Rattle.rw_blocks.proofs.Cited.{bytes_held-blocks, bytes_held-nowhere}
 use Rattle.rw_blocks.specs.Loose.{IsLoose}
-use Rattle.rw_sections.specs.Changes.{section_sealing}
+use Rattle.rw_blocks.specs.Changes.{section_sealing}
 use Rattle.rw_blocks.specs.Primitives.{after_seal}
-use Rattle.rw_sections.specs.Sections.{SectionState, active_of, no_section}
+use Rattle.rw_blocks.specs.Sections.{SectionState, active_of, no_section}
 use Rattle.rw_blocks.specs.State.{QueueState, section_at}
 use Rattle.rw_blocks.specs.Sums.{bytes_held}
-use Rattle.rw_sections.specs.declared.Kind.{Kind}
-use Rattle.rw_sections.specs.declared.Kind.TheVariants.{Device, Virtual}
+use Rattle.rw_blocks.specs.declared.Kind.{Kind}
+use Rattle.rw_blocks.specs.declared.Kind.TheVariants.{Device, Virtual}
 use Rattle.rw_ripq.proofs.Cases.{seal_unless}
 use Rattle.rw_ripq.specs.Put.{is_room, with_room}
 

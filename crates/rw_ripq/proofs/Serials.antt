@@ -8,12 +8,12 @@ use Rattle.std.proofs.lemmas.List.Sums.{sum_by-cons, sum_by-append, sum_by-le}
 use Rattle.std.proofs.lemmas.List.Elements.{recursion_from_All}
 use Rattle.rw_blocks.proofs.Cited.{bytes_held-is, weight}
 use Rattle.rw_blocks.specs.Loose.{IsLoose, count, sealed_devices}
-use Rattle.rw_sections.specs.Sections.{SectionState, blocks_of, is_kind}
+use Rattle.rw_blocks.specs.Sections.{SectionState, blocks_of, is_kind}
 use Rattle.rw_blocks.specs.State.{IsShape, QueueState}
 use Rattle.rw_blocks.specs.Sums.{total}
-use Rattle.rw_sections.specs.declared.Kind.{Kind}
-use Rattle.rw_sections.specs.declared.Kind.TheVariants.{Device, Virtual}
-use Rattle.rw_places.specs.declared.Place.{Place}
+use Rattle.rw_blocks.specs.declared.Kind.{Kind}
+use Rattle.rw_blocks.specs.declared.Kind.TheVariants.{Device, Virtual}
+use Rattle.rw_blocks.specs.declared.Place.{Place}
 use Rattle.rw_ripq.proofs.Basics.{by_bool}
 use Rattle.rw_ripq.proofs.Falls.{sum-le}
 use Rattle.rw_ripq.proofs.Turns.{sum-above}

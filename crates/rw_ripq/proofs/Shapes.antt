@@ -2,7 +2,7 @@
 use Rattle.std.proofs.Common.{◌≡◌, ℕ, ◌<◌, refl, ◌∙◌, Bool, true, false, length}
 use Rattle.rw_blocks.specs.Primitives.{after_replace}
 use Rattle.rw_blocks.specs.State.{QueueState, row_or}
-use Rattle.rw_sections.specs.declared.Kind.TheVariants.{Device, Virtual}
+use Rattle.rw_blocks.specs.declared.Kind.TheVariants.{Device, Virtual}
 use Rattle.rw_ripq.proofs.Cases.{moved_unless, without_block_if}
 use Rattle.rw_ripq.proofs.Adjusts.{KeepsAll, insert-good}
 use Rattle.rw_ripq.proofs.Rooms.{shape-with_room}

@@ -11,8 +11,8 @@ use Rattle.std.proofs.lemmas.Map.Entries.{sum_by-insert_entry, sum_by-remove_ent
 use Rattle.rw_blocks.specs.Loose.{IsLoose}
 use Rattle.rw_blocks.specs.Primitives.{after_remove}
 use Rattle.rw_blocks.specs.State.{QueueState, row_at}
-use Rattle.rw_sections.specs.declared.Kind.TheVariants.{Device}
-use Rattle.rw_places.specs.declared.Place.{Place}
+use Rattle.rw_blocks.specs.declared.Kind.TheVariants.{Device}
+use Rattle.rw_blocks.specs.declared.Place.{Place}
 use Rattle.rw_ripq.proofs.Adjusts.{KeepsAll, insert-good, put_row, rows-put_new, start}
 use Rattle.rw_ripq.specs.Record.{IsInsertable}
 use Rattle.rw_ripq.proofs.Basics.{none_some, some_is}

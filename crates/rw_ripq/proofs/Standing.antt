@@ -6,12 +6,12 @@ use Rattle.std.proofs.lemmas.Bool.{ltb-true, or_parts, lt-ltb, cases_order}
 use Rattle.std.proofs.lemmas.List.Sums.{position_or_len_is, get_or-le-sum_by, sum_by-remove}
 use Rattle.std.proofs.lemmas.List.Edits.{get_or-remove_below, length-remove}
 use Rattle.std.proofs.lemmas.List.Quantifiers.{position-Some}
-use Rattle.rw_sections.specs.declared.Kind.TheVariants.{Device, Virtual}
-use Rattle.rw_sections.specs.Sections.{SectionState, no_section, blocks_of, has_block, has_serial}
+use Rattle.rw_blocks.specs.declared.Kind.TheVariants.{Device, Virtual}
+use Rattle.rw_blocks.specs.Sections.{SectionState, no_section, blocks_of, has_block, has_serial}
 use Rattle.rw_blocks.specs.State.{QueueState, section_at}
 use Rattle.rw_blocks.specs.Loose.{IsLoose, count_in}
 use Rattle.rw_blocks.specs.Questions.{section_of}
-use Rattle.rw_sections.proofs.Tagged.{absent_from-position}
+use Rattle.rw_blocks.proofs.Tagged.{absent_from-position}
 use Rattle.rw_blocks.proofs.Cited.{has-times, kinds, serials-cons, times}
 use Rattle.rw_ripq.proofs.Moves.{stands-nowhere, position-none}
 use Rattle.rw_ripq.specs.Sealed.{has_sealed, is_sealed}

@@ -9,12 +9,12 @@ use Rattle.rw_blocks.proofs.Cited.{IsLoose-after_merge, IsLoose-after_split, of_
 use Rattle.rw_blocks.specs.Loose.{IsFree, IsHomed, IsLoose, IsPlaced, count}
 use Rattle.rw_blocks.specs.Primitives.{after_merge, after_split}
 use Rattle.rw_blocks.specs.Questions.{last_block}
-use Rattle.rw_sections.specs.Sections.{no_section, has_block}
+use Rattle.rw_blocks.specs.Sections.{no_section, has_block}
 use Rattle.rw_blocks.specs.State.{QueueState, no_place, row_at, row_or, section_at}
-use Rattle.rw_sections.specs.declared.Kind.{Kind}
-use Rattle.rw_sections.specs.declared.Kind.TheVariants.{Device, Virtual}
-use Rattle.rw_places.specs.declared.Place.{Place}
-use Rattle.rw_places.proofs.Entries.{lookup-insert_entry}
+use Rattle.rw_blocks.specs.declared.Kind.{Kind}
+use Rattle.rw_blocks.specs.declared.Kind.TheVariants.{Device, Virtual}
+use Rattle.rw_blocks.specs.declared.Place.{Place}
+use Rattle.rw_blocks.proofs.Entries.{lookup-insert_entry}
 use Rattle.rw_ripq.proofs.Cases.{reinserted}
 use Rattle.rw_ripq.proofs.Adjusts.{IsLoose-put_new, KeepsAll, insert-good, put_row, rows-put_new, start}
 use Rattle.rw_ripq.specs.Record.{IsInsertable}

@@ -13,13 +13,13 @@ use Rattle.std.proofs.lemmas.Map.Keys.{sorted_head, sorted_tail}
 use Rattle.std.proofs.lemmas.List.Sums.{sum_by-cons, sum_by-set, sum_by-remove, get_or-le-sum_by}
 use Rattle.rw_blocks.proofs.Cited.{at_block, count_in-cons, one}
 use Rattle.rw_blocks.specs.Loose.{IsLoose, count_in}
-use Rattle.rw_sections.specs.Changes.{section_sealing}
+use Rattle.rw_blocks.specs.Changes.{section_sealing}
 use Rattle.rw_blocks.specs.Primitives.{after_seal, after_take_out}
-use Rattle.rw_sections.specs.Sections.{SectionState, no_section, has_serial, is_kind}
+use Rattle.rw_blocks.specs.Sections.{SectionState, no_section, has_serial, is_kind}
 use Rattle.rw_blocks.specs.State.{QueueState, section_at}
-use Rattle.rw_sections.specs.declared.Kind.{Kind}
-use Rattle.rw_sections.specs.declared.Kind.TheVariants.{Device, Virtual}
-use Rattle.rw_places.specs.declared.Place.{Place}
+use Rattle.rw_blocks.specs.declared.Kind.{Kind}
+use Rattle.rw_blocks.specs.declared.Kind.TheVariants.{Device, Virtual}
+use Rattle.rw_blocks.specs.declared.Place.{Place}
 use Rattle.rw_ripq.proofs.Basics.{by_bool}
 use Rattle.rw_ripq.specs.Sealed.{has_sealed}
 use Rattle.rw_ripq.specs.Victim.{in_sealed, sealed_count}

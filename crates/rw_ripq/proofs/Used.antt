@@ -12,16 +12,16 @@ use Rattle.std.proofs.lemmas.List.Sums.{sum_by-cons, sum_by-append, sum_by-set, 
 use Rattle.std.proofs.lemmas.Map.Entries.{sum_by-insert_entry, sum_by-remove_entry}
 use Rattle.rw_blocks.proofs.Cited.{at_block, count_in-cons, one, one-kind}
 use Rattle.rw_blocks.specs.Loose.{IsLoose, count, count_in, is_sealed_virtual}
-use Rattle.rw_sections.specs.Changes.{block_unless, section_joining, section_sealing}
+use Rattle.rw_blocks.specs.Changes.{block_unless, section_joining, section_sealing}
 use Rattle.rw_blocks.specs.Primitives.{after_merge, after_remove, after_seal, after_split, empty_actives, is_active_empty}
-use Rattle.rw_sections.specs.Sections.{SectionState, no_section, is_block}
+use Rattle.rw_blocks.specs.Sections.{SectionState, no_section, is_block}
 use Rattle.rw_blocks.specs.State.{QueueState, row_at, section_at}
-use Rattle.rw_places.specs.Rows.{size_of}
+use Rattle.rw_blocks.specs.Rows.{size_of}
 use Rattle.rw_blocks.specs.Sums.{bytes_held, rows_placed}
-use Rattle.rw_sections.specs.declared.Kind.{Kind}
-use Rattle.rw_sections.specs.declared.Vanished.{Vanished}
-use Rattle.rw_sections.specs.declared.Kind.TheVariants.{Device, Virtual}
-use Rattle.rw_places.specs.declared.Place.{Place}
+use Rattle.rw_blocks.specs.declared.Kind.{Kind}
+use Rattle.rw_blocks.specs.declared.Vanished.{Vanished}
+use Rattle.rw_blocks.specs.declared.Kind.TheVariants.{Device, Virtual}
+use Rattle.rw_blocks.specs.declared.Place.{Place}
 use Rattle.rw_ripq.proofs.Cases.{seal_unless, without_block_if}
 use Rattle.rw_ripq.proofs.Basics.{by_bool, clash}
 use Rattle.rw_ripq.proofs.Falls.{sum-le}

@@ -8,9 +8,9 @@ use Rattle.rw_blocks.specs.Loose.{IsFree, IsLoose, count, count_in}
 use Rattle.rw_blocks.specs.Primitives.{after_remove}
 use Rattle.rw_blocks.specs.Questions.{last_block}
 use Rattle.rw_blocks.specs.State.{QueueState, row_at}
-use Rattle.rw_sections.specs.declared.Kind.{Kind}
-use Rattle.rw_sections.specs.declared.Kind.TheVariants.{Device, Virtual}
-use Rattle.rw_places.specs.declared.Place.{Place}
+use Rattle.rw_blocks.specs.declared.Kind.{Kind}
+use Rattle.rw_blocks.specs.declared.Kind.TheVariants.{Device, Virtual}
+use Rattle.rw_blocks.specs.declared.Place.{Place}
 use Rattle.rw_ripq.proofs.Basics.{by_bool, none_some}
 use Rattle.rw_ripq.proofs.Falls.{Left, counted, last-there, none-homed, none-placed, others-after_remove, turn-falls, left-without}
 use Rattle.rw_ripq.proofs.Folds.{Steps, fold-steps, reinsert-steps}

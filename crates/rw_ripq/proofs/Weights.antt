@@ -10,8 +10,8 @@ use Rattle.std.proofs.lemmas.Map.Entries.{sum_by-insert_entry}
 use Rattle.rw_blocks.proofs.Cited.{IsLoose-after_merge}
 use Rattle.rw_blocks.specs.Loose.{IsLoose}
 use Rattle.rw_blocks.specs.State.{QueueState, row_at}
-use Rattle.rw_sections.specs.declared.Kind.TheVariants.{Device}
-use Rattle.rw_places.specs.declared.Place.{Place}
+use Rattle.rw_blocks.specs.declared.Kind.TheVariants.{Device}
+use Rattle.rw_blocks.specs.declared.Place.{Place}
 use Rattle.rw_ripq.proofs.Cases.{adjust_unless, split_if}
 use Rattle.rw_ripq.proofs.Adjusts.{IsGood, IsLoose-put_new, KeepsAll, evict-good, insert-good, put_row, rows-put_new, start, written}
 use Rattle.rw_ripq.specs.Record.{IsInsertable}

@@ -6,8 +6,8 @@ use Rattle.rw_blocks.specs.Loose.{IsLoose, IsPlaced, IsSized, IsWellFormedQueue,
 use Rattle.rw_blocks.specs.Primitives.{after_remove, after_replace}
 use Rattle.rw_blocks.specs.State.{ShapeState, QueueState, no_place, row_at, row_or, section_at}
 use Rattle.rw_blocks.specs.Sums.{rows_placed}
-use Rattle.rw_sections.specs.declared.Kind.TheVariants.{Device, Virtual}
-use Rattle.rw_places.specs.declared.Place.{Place}
+use Rattle.rw_blocks.specs.declared.Kind.TheVariants.{Device, Virtual}
+use Rattle.rw_blocks.specs.declared.Place.{Place}
 use Rattle.rw_ripq.proofs.Cases.{moved_unless, reinserted_from}
 use Rattle.rw_ripq.specs.Sealed.{is_emptied, section_with}
 use Rattle.rw_ripq.proofs.Adjusts.{KeepsAll, insert-good, put_row}

@@ -2,7 +2,7 @@
 use Rattle.std.specs.Prelude.{◌+◌, ◌-◌, ◌*◌, ◌/◌, Bool, if◌then◌else◌, ◌&&◌, not, length, Option, Some, None, nat_eq, nat_lt, nat_le, find}
 use Rattle.std.specs.List.{range_with_len}
 use Rattle.rw_numbers.specs.Words.{Section}
-use Rattle.rw_sections.specs.declared.Kind.TheVariants.{Device}
+use Rattle.rw_blocks.specs.declared.Kind.TheVariants.{Device}
 use Rattle.rw_blocks.specs.State.{QueueState, section_at}
 use Rattle.rw_blocks.specs.Sums.{bytes_held, total, section_bytes}
 use Rattle.rw_blocks.specs.Primitives.{after_merge, after_split}

@@ -3,8 +3,8 @@ use Rattle.std.specs.Prelude.{zero, suc, ◌+◌, Bool, true, false, not, List, 
 use Rattle.std.specs.Map.{values_of, keys_of}
 use Rattle.rw_vt.specs.Words.{Count}
 use Rattle.rw_numbers.specs.Words.{Object, Serial}
-use Rattle.rw_sections.specs.declared.Kind.{Kind}
-use Rattle.rw_sections.specs.declared.Kind.TheVariants.{Device, Virtual}
+use Rattle.rw_blocks.specs.declared.Kind.{Kind}
+use Rattle.rw_blocks.specs.declared.Kind.TheVariants.{Device, Virtual}
 use Rattle.rw_blocks.specs.State.{QueueState, row_or}
 use Rattle.rw_blocks.specs.Primitives.{after_remove}
 use Rattle.rw_blocks.specs.Loose.{sealed_devices}

@@ -1,7 +1,7 @@
 -- What an insertion and a promotion leave of the queue before.
 use Rattle.std.specs.Prelude.{◌≡◌, Some, None, ◌⊎◌}
 use Rattle.rw_numbers.specs.Words.{Object, Size}
-use Rattle.rw_places.specs.declared.Place.{Place}
+use Rattle.rw_blocks.specs.declared.Place.{Place}
 use Rattle.rw_blocks.specs.State.{QueueState, row_at}
 use Rattle.rw_blocks.specs.Questions.{section_of}
 

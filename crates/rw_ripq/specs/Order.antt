@@ -2,9 +2,9 @@
 use Rattle.std.specs.Prelude.{◌≡◌, true, List, [], ◌∷◌, Some, None, ◌⊎◌}
 use Rattle.std.specs.List.{list_any}
 use Rattle.rw_numbers.specs.Words.{Object, Serial}
-use Rattle.rw_sections.specs.declared.Kind.{Kind}
-use Rattle.rw_places.specs.declared.Place.{Place}
-use Rattle.rw_sections.specs.Sections.{SectionState, has_serial, has_block}
+use Rattle.rw_blocks.specs.declared.Kind.{Kind}
+use Rattle.rw_blocks.specs.declared.Place.{Place}
+use Rattle.rw_blocks.specs.Sections.{SectionState, has_serial, has_block}
 use Rattle.rw_blocks.specs.State.{QueueState, row_at}
 use Rattle.rw_ripq.specs.Sealed.{has_sealed, is_sealed}
 

@@ -1,7 +1,7 @@
 -- Promote: a hit raises an object's priority by a virtual block, without writing it.
 use Rattle.std.specs.Prelude.{Bool, if◌then◌else◌, ◌||◌, nat_eq}
 use Rattle.rw_numbers.specs.Words.{Object, Section, Serial}
-use Rattle.rw_sections.specs.declared.Kind.TheVariants.{Virtual}
+use Rattle.rw_blocks.specs.declared.Kind.TheVariants.{Virtual}
 use Rattle.rw_blocks.specs.State.{QueueState, section_at, row_or}
 use Rattle.rw_blocks.specs.Primitives.{after_replace}
 use Rattle.rw_ripq.specs.declared.Policy.{Policy}

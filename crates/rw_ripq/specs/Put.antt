@@ -1,9 +1,9 @@
 -- Put: an object comes into the active device block of a section; where it does not fit, that block is sealed first.
 use Rattle.std.specs.Prelude.{◌+◌, Bool, if◌then◌else◌, nat_le}
 use Rattle.rw_numbers.specs.Words.{Object, Section, Size}
-use Rattle.rw_sections.specs.declared.Kind.{Kind}
-use Rattle.rw_sections.specs.declared.Kind.TheVariants.{Device}
-use Rattle.rw_sections.specs.Sections.{active_of}
+use Rattle.rw_blocks.specs.declared.Kind.{Kind}
+use Rattle.rw_blocks.specs.declared.Kind.TheVariants.{Device}
+use Rattle.rw_blocks.specs.Sections.{active_of}
 use Rattle.rw_blocks.specs.State.{QueueState, section_at, row_or}
 use Rattle.rw_blocks.specs.Sums.{bytes_held}
 use Rattle.rw_blocks.specs.Primitives.{after_add, after_rehome, after_seal}

@@ -3,7 +3,7 @@ use Rattle.std.specs.Prelude.{Bool, if◌then◌else◌, ◌&&◌, length, nat_e
 use Rattle.std.specs.List.{list_any, position_or_len}
 use Rattle.rw_vt.specs.Words.{Count, Position}
 use Rattle.rw_numbers.specs.Words.{Section, Serial}
-use Rattle.rw_sections.specs.Sections.{SectionState, has_serial}
+use Rattle.rw_blocks.specs.Sections.{SectionState, has_serial}
 use Rattle.rw_blocks.specs.State.{QueueState, section_at}
 use Rattle.rw_blocks.specs.Sums.{rows_placed}
 use Rattle.rw_blocks.specs.Loose.{is_sealed_virtual}

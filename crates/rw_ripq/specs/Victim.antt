@@ -3,7 +3,7 @@ use Rattle.std.specs.Prelude.{◌≡◌, ◌≤◌, sum_by, count_by, All}
 use Rattle.std.specs.Map.{values_of}
 use Rattle.rw_vt.specs.Words.{Count}
 use Rattle.rw_numbers.specs.Words.{Serial}
-use Rattle.rw_sections.specs.Sections.{SectionState, has_serial}
+use Rattle.rw_blocks.specs.Sections.{SectionState, has_serial}
 use Rattle.rw_blocks.specs.State.{QueueState}
 use Rattle.rw_blocks.specs.Loose.{IsLoose}
 

@@ -2,7 +2,7 @@
 use Rattle.std.specs.Prelude.{◌+◌, ◌*◌, ◌≤◌, Bool, true, false, not, List, length, Option, Some, None, nat_eq, sum_by, count_by}
 use Rattle.std.specs.Map.{keys_of}
 use Rattle.rw_vt.specs.Words.{Count}
-use Rattle.rw_places.specs.declared.Place.{Place}
+use Rattle.rw_blocks.specs.declared.Place.{Place}
 use Rattle.rw_blocks.specs.declared.Mark.{Mark}
 use Rattle.rw_blocks.specs.State.{QueueState, row_at}
 use Rattle.rw_ripq.specs.Work.{Work}

@@ -136,6 +136,10 @@ fn insert_at(
     ensures spends { OnOk result (Spends (length change.old.trail + 1) (work_before queue.old)
         (length change.new.trail) (work_of queue.new change.new.counts)) }
 {
+    if let Some(mark) = queue.add_within(object, size, section)? {
+        change.trail.push(mark)?;
+        return Ok(());
+    }
     let full = make_room(queue, &mut change.trail, section, Kind::Device, size)?;
     let mark = queue.add(object, size, section)?;
     change.trail.push(mark)?;

@@ -25,22 +25,12 @@ pub fn level_of(queue: &Queue, levels: Levels, object: u64) -> Option<u8>
     ensures to_highest { IfSome result (λ level. level ≤ levels.segments) }
 {
     let row = queue.row(object)?;
-    Some(level_of_row(queue, levels, object, row))
-}
-
-/// The level of an object whose row is `row`, which is not looked up again.
-pub fn level_of_row(queue: &Queue, levels: Levels, _object: u64, row: Place) -> u8
-    requires loose { IsLoose queue.now }
-    requires row { row_at queue.now _object ≡ Some row }
-    ensures level { level_of levels queue.now _object ≡ Some result }
-    ensures from_one { 1 ≤ result }
-    ensures to_highest { result ≤ levels.segments }
-{
     let section = queue.section_of(row.place).unwrap();
-    level_of_section(queue, levels, section)
+    Some(level_of_section(queue, levels, section))
 }
 
-fn level_of_section(queue: &Queue, levels: Levels, section: usize) -> u8
+/// The level of the objects whose place is one of the section's blocks.
+pub fn level_of_section(queue: &Queue, levels: Levels, section: usize) -> u8
     requires loose { IsLoose queue.now }
     requires there { section < length queue.now.sections }
     requires some { 1 ≤ total queue.now }

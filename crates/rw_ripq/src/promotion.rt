@@ -2,16 +2,18 @@
 ghost use Rattle.std.specs.Prelude.{◌≡◌, ◌≤◌, ◌<◌, ◌+◌, ◌^◌, ◌≢◌, ◌↔◌, length, not, nat_eq, OnOk, IfOk, IsSome, Some, Err, []};
 ghost use Rattle.rw_blocks.specs.State.{row_at, row_or, QueueState};
 ghost use Rattle.rw_blocks.specs.Loose.{IsLoose, IsWellFormedQueue};
+ghost use Rattle.rw_blocks.specs.Sums.{total};
+ghost use Rattle.rw_blocks.specs.Tags.{StandsIn};
 ghost use Rattle.rw_vt.specs.declared.refusal.Refusal.{Refusal};
 ghost use Rattle.rw_ripq.specs.Limits.{exhaustion};
-ghost use Rattle.rw_ripq.specs.Levels.{hit_target};
+ghost use Rattle.rw_ripq.specs.Levels.{hit_target_from};
 ghost use Rattle.rw_ripq.specs.Promote.{is_active_in, promote_to, promote};
 ghost use Rattle.rw_ripq.specs.Laws.{KeepsHome, KeepsOthers, LeavesWithBlock};
 ghost use Rattle.rw_ripq.specs.Order.{KeepsOrder, LeavesFromTail};
 ghost use Rattle.rw_ripq.specs.Weight.{IsShort};
 ghost use Rattle.rw_ripq.specs.Trail.{Leads};
 
-use crate::levels::{level_of_row, slru_target};
+use crate::levels::{level_of_section, slru_target};
 use crate::putting::make_room;
 use crate::sealed::clear;
 use crate::{EXHAUSTED, Policy, Trail};
@@ -19,17 +21,19 @@ use rw_blocks::{Kind, Place, Queue};
 use rw_vt::{NoMemory, Refusal};
 use std::alloc::Global;
 
-/// The section that a hit of the object goes to, by the level that it has before anything moves.
-fn hit_target(queue: &Queue, policy: Policy, object: u64, row: Place) -> usize
+/// The section that a hit goes to of an object whose place is a block of the section `from`, by the level that it has
+/// before anything moves.
+fn hit_target(queue: &Queue, policy: Policy, from: usize) -> usize
     requires loose { IsLoose queue.now }
-    requires row { row_at queue.now object ≡ Some row }
-    ensures target { result ≡ hit_target policy queue.now object }
+    requires there { from < length queue.now.sections }
+    requires some { 1 ≤ total queue.now }
+    ensures target { result ≡ hit_target_from policy queue.now from }
     ensures there { result < length queue.now.sections }
 {
     match policy {
         Policy::Off | Policy::Lru => 0,
         Policy::Slru(levels) => {
-            let level = level_of_row(queue, levels, object, row);
+            let level = level_of_section(queue, levels, from);
             slru_target(queue, levels, (level + 1).min(levels.segments))
         }
     }
@@ -137,22 +141,25 @@ pub fn promote_with(
     if queue.next_serial() >= EXHAUSTED {
         return Err(Refusal::Exhausted);
     }
-    let section = hit_target(queue, policy, object, row);
-    let changed = promote_to(queue, trail, object, row, section)?;
+    let from = queue.section_of(row.place).unwrap();
+    let section = hit_target(queue, policy, from);
+    let changed = promote_to(queue, trail, object, row, from, section)?;
     Ok(changed)
 }
 
 /// Makes the section's active virtual block the object's place, unless that is an active block of the section already.
-/// Answers whether the place changed.
+/// The object's place before is a block of the section `from`. Answers whether the place changed.
 fn promote_to(
     queue: &mut Queue,
     trail: &mut Trail,
     object: u64,
     row: Place,
+    from: usize,
     section: usize,
 ) -> Result<bool, NoMemory>
     requires loose { IsLoose queue.old }
     requires row { row_at queue.old object ≡ Some row }
+    requires stands { StandsIn row.place from queue.old.sections }
     requires there { section < length queue.old.sections }
     requires fresh { queue.old.next < 2 ^ 63 }
     ensures effect { OnOk result (queue.new ≡ promote_to queue.old object section) }
@@ -166,6 +173,13 @@ fn promote_to(
         || row.place == queue.active(section, Kind::Virtual)
     {
         return Ok(false);
+    }
+    if let Some((mark, left)) = queue.replace_within(object, row, from, section)? {
+        trail.push(mark)?;
+        if !left {
+            clear(queue, trail, row.place)?;
+        }
+        return Ok(true);
     }
     make_room(queue, trail, section, Kind::Virtual, row.size)?;
     let mark = queue.replace_row(object, row, section)?;

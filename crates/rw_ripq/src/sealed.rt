@@ -1,7 +1,7 @@
 // Sealed blocks that leave their lists.
 ghost use Rattle.std.specs.Prelude.{◌≡◌, ◌<◌, ◌≤◌, ◌+◌, length, position, true, false, OnOk, IfSome, IsNone, IsTrue, ◌-◌, slice_index_or};
 ghost use Rattle.rw_blocks.specs.State.{section_at};
-ghost use Rattle.rw_sections.specs.Sections.{has_serial, is_virtual};
+ghost use Rattle.rw_blocks.specs.Sections.{has_serial, is_virtual};
 ghost use Rattle.rw_blocks.specs.Loose.{IsLoose, IsFree};
 ghost use Rattle.rw_ripq.specs.Work.{work_before};
 ghost use Rattle.rw_ripq.specs.Sealed.{is_sealed, sealed_section, sealed_position, without_block, is_emptied, without_if_emptied};

@@ -1,6 +1,6 @@
 use Rattle.std.proofs.Common.{rules, ◌≡◌, length, sym, ◌∙◌}
 use Rattle.std.proofs.lemmas.List.{nil_from_length}
-use Rattle.rw_places.specs.Index.{home_of}
+use Rattle.rw_blocks.specs.Index.{home_of}
 use Rattle.rw_cache_tests.proofs.FreeBlocks.{IsFree-none, no_rows, none_placed}
 use Rattle.rw_cache_tests.proofs.primitives.is_free.Goals as goal
 

@@ -2,7 +2,7 @@ use Rattle.std.proofs.Common.{◌∙◌, sym, ap, arith}
 use Rattle.rw_ripq.proofs.Found.{light_pair-there}
 use Rattle.rw_ripq.proofs.Records.{Recorded-then, Recorded-merge}
 use Rattle.std.proofs.Common.{◌+◌}
-use Rattle.rw_sections.specs.declared.Kind.TheVariants.{Device}
+use Rattle.rw_blocks.specs.declared.Kind.TheVariants.{Device}
 use Rattle.rw_ripq.specs.Work.{Work, work_of}
 use Rattle.rw_blocks.specs.Sums.{bytes_held}
 use Rattle.rw_ripq.specs.Evict.{evict}

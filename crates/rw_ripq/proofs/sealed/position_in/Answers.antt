@@ -1,11 +1,11 @@
 use Rattle.std.proofs.Common.{arith, sym, ap, ◌≡◌, ◌∙◌, ◌<◌, ◌-◌, ℕ, List, length, get_or}
 use Rattle.std.specs.Prelude.{Some}
-use Rattle.rw_sections.specs.declared.Kind.{Kind}
-use Rattle.rw_sections.specs.declared.Kind.TheVariants.{Device}
+use Rattle.rw_blocks.specs.declared.Kind.{Kind}
+use Rattle.rw_blocks.specs.declared.Kind.TheVariants.{Device}
 use Rattle.rw_blocks.specs.State.{section_at}
 use Rattle.rw_ripq.proofs.Standing.{only_place, sealed-once}
 use Rattle.std.proofs.lemmas.Bool.{eq-eqb, ne_eqb}
-use Rattle.rw_sections.specs.Sections.{has_serial}
+use Rattle.rw_blocks.specs.Sections.{has_serial}
 use Rattle.rw_ripq.proofs.Places.{first-at, none-at, more-fail}
 use Rattle.rw_ripq.proofs.sealed.position_in.Goals as goal
 

@@ -1,8 +1,8 @@
 use Rattle.std.proofs.Common.{◌≡◌, ◌<◌, ℕ, false}
 use Rattle.std.specs.Prelude.{slice_index_or}
-use Rattle.rw_sections.specs.declared.Kind.TheVariants.{Device}
+use Rattle.rw_blocks.specs.declared.Kind.TheVariants.{Device}
 use Rattle.rw_blocks.specs.State.{section_at}
-use Rattle.rw_sections.specs.Sections.{has_serial}
+use Rattle.rw_blocks.specs.Sections.{has_serial}
 use Rattle.rw_ripq.proofs.sealed.position_in.Given as goal
 
 abbrev pub invariant-loop-position : goal.invariant-loop-position

@@ -1,11 +1,12 @@
 use Rattle.std.proofs.Common.{ap, ◌≡◌, ◌∙◌}
-use Rattle.rw_sections.specs.declared.Kind.TheVariants.{Device}
-use Rattle.rw_sections.specs.Sections.{active_of}
+use Rattle.rw_blocks.specs.declared.Kind.TheVariants.{Device}
+use Rattle.rw_blocks.specs.Sections.{active_of}
 use Rattle.rw_blocks.specs.State.{QueueState, section_at}
-use Rattle.rw_blocks.specs.Primitives.{with_row, row_homed}
+use Rattle.rw_blocks.specs.Primitives.{with_row}
+use Rattle.rw_blocks.specs.Rows.{row_homed}
 use Rattle.rw_blocks.proofs.Laws.{Undoes-after_add}
 use Rattle.rw_blocks.proofs.Kept.{IsLoose-after_add}
-use Rattle.rw_places.proofs.Errors.{if_error, on_error}
+use Rattle.rw_blocks.proofs.Errors.{if_error, on_error}
 use Rattle.rw_blocks.proofs.queue.Queue.add.Goals as goal
 
 pub returns-clause-effect : goal.returns-clause-effect

@@ -1,6 +1,6 @@
 use Rattle.std.proofs.Common.{arith, sym, ap, ◌≡◌, ◌∙◌, ◌<◌, ℕ, List, length}
 use Rattle.std.proofs.lemmas.List.{get_or_default}
-use Rattle.rw_sections.specs.Sections.{section_in}
+use Rattle.rw_blocks.specs.Sections.{section_in}
 use Rattle.rw_blocks.specs.State.{QueueState}
 use Rattle.rw_blocks.specs.Sums.{section_bytes}
 use Rattle.rw_blocks.specs.Weights.{IsWeighed}

@@ -1,5 +1,5 @@
 use Rattle.std.proofs.Common.{ap, ◌∙◌, ℕ, max}
-use Rattle.rw_sections.specs.declared.Kind.TheVariants.{Device}
+use Rattle.rw_blocks.specs.declared.Kind.TheVariants.{Device}
 use Rattle.rw_blocks.specs.Sums.{bytes_held}
 use Rattle.rw_blocks.proofs.Fills.{fill-of, fill-active}
 use Rattle.rw_blocks.proofs.Greater.{fill-greater}

@@ -1,7 +1,7 @@
 use Rattle.std.proofs.Common.{sym, ap, ◌∙◌}
-use Rattle.rw_sections.specs.declared.Kind.TheVariants.{Device}
+use Rattle.rw_blocks.specs.declared.Kind.TheVariants.{Device}
 use Rattle.rw_blocks.specs.State.{QueueState}
-use Rattle.rw_places.specs.Index.{bytes_of, home_of}
+use Rattle.rw_blocks.specs.Index.{bytes_of, home_of}
 use Rattle.rw_blocks.proofs.Kept.{bytes_held-is}
 use Rattle.rw_blocks.proofs.queue.Queue.home_bytes.Goals as goal
 

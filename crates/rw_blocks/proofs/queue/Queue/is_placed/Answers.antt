@@ -1,7 +1,7 @@
 use Rattle.std.proofs.Common.{◌∙◌, ap, nat_eq, length}
 use Rattle.std.specs.Prelude.{not}
 use Rattle.rw_blocks.specs.State.{QueueState}
-use Rattle.rw_places.specs.Index.{objects_of, place_of}
+use Rattle.rw_blocks.specs.Index.{objects_of, place_of}
 use Rattle.rw_blocks.proofs.Sums.{objects-rows}
 use Rattle.rw_blocks.proofs.queue.Queue.is_placed.Goals as goal
 

@@ -3,13 +3,13 @@ use Rattle.std.specs.Prelude.{remove}
 use Rattle.std.specs.Map.{values_of}
 use Rattle.std.proofs.lemmas.List.{get_or_default}
 use Rattle.std.proofs.lemmas.List.Edits.{length-remove, get_or-remove_below}
-use Rattle.rw_sections.specs.declared.Vanished.{Vanished}
-use Rattle.rw_sections.specs.Sections.{SectionState, section_in, has_block}
+use Rattle.rw_blocks.specs.declared.Vanished.{Vanished}
+use Rattle.rw_blocks.specs.Sections.{SectionState, section_in, has_block}
 use Rattle.rw_blocks.specs.State.{QueueState}
-use Rattle.rw_places.specs.Rows.{size_of}
+use Rattle.rw_blocks.specs.Rows.{size_of}
 use Rattle.rw_blocks.specs.Loose.{IsLoose}
-use Rattle.rw_sections.specs.Changes.{section_joining, joined_at}
-use Rattle.rw_sections.specs.Tags.{JoinsNext}
+use Rattle.rw_blocks.specs.Changes.{section_joining, joined_at}
+use Rattle.rw_blocks.specs.Tags.{JoinsNext}
 use Rattle.rw_blocks.specs.Weights.{IsWeighed, CanHave, weight_in}
 use Rattle.rw_blocks.proofs.Weighed.{bytes_where-le}
 use Rattle.rw_blocks.proofs.Parting.{joins-at, weight-joined, IsWeighed-join}

@@ -1,7 +1,7 @@
 use Rattle.std.proofs.Common.{refl, subst, ◌≡◌, ◌<◌, ◌+◌, ℕ, [], length}
 use Rattle.std.specs.Prelude.{Option, Some, None, IfSome, IsNone}
 use Rattle.std.specs.Option.{option_map}
-use Rattle.rw_sections.specs.Sections.{section_in}
+use Rattle.rw_blocks.specs.Sections.{section_in}
 use Rattle.rw_blocks.specs.State.{QueueState, section_at, sealed_block}
 use Rattle.rw_blocks.specs.Questions.{IsLastSealed, last_block}
 use Rattle.rw_blocks.proofs.Tails.{last_block-at, last_block-none}

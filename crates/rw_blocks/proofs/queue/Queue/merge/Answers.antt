@@ -3,7 +3,7 @@ use Rattle.std.proofs.lemmas.Grind.{common_steps}
 use Rattle.rw_blocks.specs.State.{QueueState}
 use Rattle.rw_blocks.proofs.Laws.{Undoes-after_merge}
 use Rattle.rw_blocks.proofs.Moved.{IsLoose-after_merge}
-use Rattle.rw_places.proofs.Errors.{if_error, on_error}
+use Rattle.rw_blocks.proofs.Errors.{if_error, on_error}
 use Rattle.rw_blocks.proofs.queue.Queue.merge.Goals as goal
 
 pub join-requires-clause-after : goal.join-requires-clause-after

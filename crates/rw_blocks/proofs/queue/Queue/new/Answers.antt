@@ -2,7 +2,7 @@ use Rattle.std.proofs.Common.{rules, arith, refl, sym, subst, ap, ◌≡◌, ◌
 use Rattle.rw_blocks.specs.State.{IsShape}
 use Rattle.rw_blocks.specs.Loose.{IsWellFormedQueue}
 use Rattle.rw_blocks.proofs.Starts.{IsWeighed-start, IsWellFormed-start}
-use Rattle.rw_places.proofs.Errors.{if_error}
+use Rattle.rw_blocks.proofs.Errors.{if_error}
 use Rattle.rw_blocks.proofs.queue.Queue.new.Goals as goal
 
 pub returns-in_err-sections-clause-start : goal.returns-in_err-sections-clause-start

@@ -2,16 +2,16 @@ use Rattle.std.proofs.Common.{arith, sym, ap, subst, ◌≡◌, ◌∙◌, ◌<�
 use Rattle.std.specs.Prelude.{insert}
 use Rattle.std.proofs.lemmas.List.{get_or_default}
 use Rattle.std.proofs.lemmas.List.Edits.{get_or-insert_below}
-use Rattle.rw_sections.specs.declared.Seam.{Seam}
-use Rattle.rw_sections.specs.Sections.{SectionState, section_in}
+use Rattle.rw_blocks.specs.declared.Seam.{Seam}
+use Rattle.rw_blocks.specs.Sections.{SectionState, section_in}
 use Rattle.rw_blocks.specs.State.{QueueState}
 use Rattle.rw_blocks.specs.Loose.{IsLoose}
-use Rattle.rw_sections.specs.Changes.{upper_of, lower_of, parted_at}
+use Rattle.rw_blocks.specs.Changes.{upper_of, lower_of, parted_at}
 use Rattle.rw_blocks.specs.Undo.{IsJoined}
-use Rattle.rw_sections.specs.Tags.{Parts, ComesFrom}
+use Rattle.rw_blocks.specs.Tags.{Parts, ComesFrom}
 use Rattle.rw_blocks.specs.Weights.{IsWeighed, CanHave, weight_from, weight_in}
 use Rattle.rw_blocks.proofs.Parting.{parts-at, from-at, weight-parted, weight-lower, IsWeighed-part}
-use Rattle.rw_places.proofs.Errors.{on_error}
+use Rattle.rw_blocks.proofs.Errors.{on_error}
 use Rattle.rw_blocks.proofs.queue.Queue.part.Goals as goal
 
 pub part-requires-clause-parts : goal.part-requires-clause-parts

@@ -2,11 +2,11 @@ use Rattle.std.proofs.Common.{arith, sym, ap, subst, ◌∙◌, ◌≡◌, ◌<�
 use Rattle.std.specs.Prelude.{insert, ◌||◌, All}
 use Rattle.std.specs.Map.{values_of}
 use Rattle.rw_blocks.specs.declared.Mark.TheVariants.{TakeOut}
-use Rattle.rw_sections.specs.Sections.{SectionState, section_in, has_block}
+use Rattle.rw_blocks.specs.Sections.{SectionState, section_in, has_block}
 use Rattle.rw_blocks.specs.State.{QueueState}
 use Rattle.rw_blocks.specs.Undo.{IsUndoable}
 use Rattle.rw_blocks.proofs.Present.{absent-none}
-use Rattle.rw_sections.proofs.Holding.{has_block-insert}
+use Rattle.rw_blocks.proofs.Holding.{has_block-insert}
 use Rattle.rw_blocks.proofs.Parting.{put-none, unused}
 use Rattle.rw_blocks.proofs.Weighed.{IsWeighed-set}
 use Rattle.rw_blocks.proofs.queue.Queue.put_back.Goals as goal

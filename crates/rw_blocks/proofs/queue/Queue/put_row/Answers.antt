@@ -4,11 +4,11 @@ use Rattle.std.specs.Ordering.{nat_cmp}
 use Rattle.std.specs.Map.{lookup, values_of}
 use Rattle.std.specs.BTreeMap.{is_at}
 use Rattle.std.proofs.lemmas.List.{get_or_default}
-use Rattle.rw_places.specs.declared.Place.{Place}
-use Rattle.rw_sections.specs.Sections.{SectionState, section_in, has_block}
+use Rattle.rw_blocks.specs.declared.Place.{Place}
+use Rattle.rw_blocks.specs.Sections.{SectionState, section_in, has_block}
 use Rattle.rw_blocks.specs.State.{QueueState}
-use Rattle.rw_places.specs.Rows.{size_of}
-use Rattle.rw_sections.specs.Tags.{IsOnlyIn}
+use Rattle.rw_blocks.specs.Rows.{size_of}
+use Rattle.rw_blocks.specs.Tags.{IsOnlyIn}
 use Rattle.rw_blocks.specs.Weights.{weight_in, IsWeighed}
 use Rattle.rw_blocks.proofs.Weighed.{IsWeighed-insert, bytes_where-le}
 use Rattle.rw_blocks.proofs.queue.Queue.put_row.Goals as goal

@@ -1,10 +1,10 @@
 use Rattle.std.proofs.Common.{arith, subst}
 use Rattle.std.specs.Prelude.{IsNone}
-use Rattle.rw_places.proofs.Entries.{lookup-insert_entry}
+use Rattle.rw_blocks.proofs.Entries.{lookup-insert_entry}
 use Rattle.rw_blocks.specs.State.{QueueState}
 use Rattle.rw_blocks.specs.Loose.{IsSized}
 use Rattle.rw_blocks.specs.Primitives.{with_row}
-use Rattle.rw_sections.specs.Tags.{IsAbsent}
+use Rattle.rw_blocks.specs.Tags.{IsAbsent}
 use Rattle.rw_blocks.proofs.Kept.{total-with_row, of_row}
 use Rattle.rw_blocks.proofs.Present.{row-there}
 use Rattle.rw_blocks.proofs.queue.Queue.put_row_again.Goals as goal

@@ -1,6 +1,6 @@
 use Rattle.std.proofs.Common.{arith, sym, ap, ◌≡◌, ◌∙◌, ℕ, refl}
 use Rattle.std.specs.Prelude.{Some}
-use Rattle.rw_places.specs.declared.Place.{Place}
+use Rattle.rw_blocks.specs.declared.Place.{Place}
 use Rattle.rw_blocks.specs.State.{QueueState, row_at, section_at}
 use Rattle.rw_blocks.specs.Primitives.{with_row, after_rehome}
 use Rattle.rw_blocks.specs.Sums.{total}
@@ -8,7 +8,7 @@ use Rattle.rw_blocks.specs.Loose.{IsSized}
 use Rattle.rw_blocks.proofs.Laws.{Undoes-after_rehome}
 use Rattle.rw_blocks.proofs.Kept.{IsLoose-after_rehome, of_row}
 use Rattle.rw_blocks.proofs.Moving.{moved, gone-row, room-again}
-use Rattle.rw_places.proofs.Errors.{if_error, on_error}
+use Rattle.rw_blocks.proofs.Errors.{if_error, on_error}
 use Rattle.rw_blocks.proofs.queue.Queue.rehome.Goals as goal
 
 pub put_row-requires-clause-new : goal.put_row-requires-clause-new

@@ -4,24 +4,24 @@ use Rattle.std.specs.Ordering.{nat_cmp}
 use Rattle.std.specs.Map.{values_of, remove_entry}
 use Rattle.std.specs.BTreeMap.{is_at}
 use Rattle.std.proofs.lemmas.List.{get_or_default}
-use Rattle.rw_places.proofs.Entries.{insert_entry-same, lookup-remove_entry, sorted-remove_entry}
-use Rattle.rw_places.specs.declared.Place.{Place}
-use Rattle.rw_sections.specs.Sections.{SectionState, section_in, has_block}
+use Rattle.rw_blocks.proofs.Entries.{insert_entry-same, lookup-remove_entry, sorted-remove_entry}
+use Rattle.rw_blocks.specs.declared.Place.{Place}
+use Rattle.rw_blocks.specs.Sections.{SectionState, section_in, has_block}
 use Rattle.rw_blocks.specs.State.{QueueState, row_at, section_at}
-use Rattle.rw_places.specs.Rows.{size_of}
+use Rattle.rw_blocks.specs.Rows.{size_of}
 use Rattle.rw_blocks.specs.Loose.{IsLoose}
 use Rattle.rw_blocks.specs.Undo.{Undoes}
 use Rattle.rw_blocks.specs.declared.Mark.TheVariants.{Replace}
 use Rattle.rw_blocks.specs.Primitives.{with_row, after_replace}
-use Rattle.rw_sections.specs.Tags.{IsOnlyIn}
+use Rattle.rw_blocks.specs.Tags.{IsOnlyIn}
 use Rattle.rw_blocks.specs.Weights.{weight_in, IsWeighed}
 use Rattle.rw_blocks.proofs.Laws.{Undoes-after_replace}
 use Rattle.rw_blocks.proofs.Kept.{IsLoose-after_replace}
 use Rattle.rw_blocks.proofs.Present.{row-there}
-use Rattle.rw_places.proofs.Entries.{write-again}
+use Rattle.rw_blocks.proofs.Entries.{write-again}
 use Rattle.rw_blocks.proofs.Moving.{room-again}
 use Rattle.rw_blocks.proofs.Weighed.{IsWeighed-insert, IsWeighed-remove, row-le-weight, bytes_where-le}
-use Rattle.rw_places.proofs.Errors.{if_error, on_error}
+use Rattle.rw_blocks.proofs.Errors.{if_error, on_error}
 use Rattle.rw_blocks.proofs.queue.Queue.replace_row.Goals as goal
 
 at_some : (o : Option ℕ) (i : ℕ) (P : ℕ → Type 0) → o ≡ Some i → IfSome o P → P i

@@ -2,17 +2,17 @@ use Rattle.std.proofs.Common.{arith, sym, ap, subst, ◌≡◌, ◌∙◌, ◌<�
 use Rattle.std.specs.Prelude.{◌||◌, All}
 use Rattle.std.specs.Map.{values_of}
 use Rattle.std.proofs.lemmas.Grind.{common_steps}
-use Rattle.rw_sections.specs.Sections.{SectionState, section_in, has_block}
+use Rattle.rw_blocks.specs.Sections.{SectionState, section_in, has_block}
 use Rattle.rw_blocks.specs.State.{QueueState}
 use Rattle.rw_blocks.specs.Loose.{IsLoose}
-use Rattle.rw_sections.specs.Changes.{section_sealing}
+use Rattle.rw_blocks.specs.Changes.{section_sealing}
 use Rattle.rw_blocks.proofs.Laws.{Undoes-after_seal}
 use Rattle.rw_blocks.proofs.Grown.{IsLoose-after_seal}
 use Rattle.rw_blocks.proofs.Present.{absent-none}
 use Rattle.rw_blocks.proofs.Parting.{unused}
-use Rattle.rw_sections.proofs.Holding.{has_block-sealing}
+use Rattle.rw_blocks.proofs.Holding.{has_block-sealing}
 use Rattle.rw_blocks.proofs.Weighed.{IsWeighed-set}
-use Rattle.rw_places.proofs.Errors.{if_error, on_error}
+use Rattle.rw_blocks.proofs.Errors.{if_error, on_error}
 use Rattle.rw_blocks.proofs.queue.Queue.seal.Goals as goal
 
 pub seal-requires-clause-fresh : goal.seal-requires-clause-fresh

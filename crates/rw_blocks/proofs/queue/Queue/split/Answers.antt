@@ -3,7 +3,7 @@ use Rattle.std.proofs.lemmas.Grind.{common_steps}
 use Rattle.rw_blocks.specs.State.{QueueState}
 use Rattle.rw_blocks.proofs.Laws.{Undoes-after_split}
 use Rattle.rw_blocks.proofs.Moved.{IsLoose-after_split}
-use Rattle.rw_places.proofs.Errors.{if_error, on_error}
+use Rattle.rw_blocks.proofs.Errors.{if_error, on_error}
 use Rattle.rw_blocks.proofs.queue.Queue.split.Goals as goal
 
 pub part-requires-clause-after : goal.part-requires-clause-after

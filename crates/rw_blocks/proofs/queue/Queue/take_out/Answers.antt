@@ -3,14 +3,14 @@ use Rattle.std.specs.Prelude.{Some, slice_get, remove, ◌||◌}
 use Rattle.std.specs.Map.{values_of}
 use Rattle.std.proofs.lemmas.Bool.{ne_eqb}
 use Rattle.std.proofs.lemmas.Grind.{common_steps}
-use Rattle.rw_sections.specs.declared.Kind.{Kind}
-use Rattle.rw_sections.specs.declared.Kind.TheVariants.{Device}
-use Rattle.rw_sections.specs.Sections.{SectionState, section_in, has_block}
+use Rattle.rw_blocks.specs.declared.Kind.{Kind}
+use Rattle.rw_blocks.specs.declared.Kind.TheVariants.{Device}
+use Rattle.rw_blocks.specs.Sections.{SectionState, section_in, has_block}
 use Rattle.rw_blocks.specs.State.{QueueState, section_at}
 use Rattle.rw_blocks.specs.Loose.{IsLoose, IsFree}
 use Rattle.rw_blocks.proofs.Laws.{Undoes-after_take_out}
 use Rattle.rw_blocks.proofs.Moved.{IsLoose-after_take_out}
-use Rattle.rw_sections.proofs.Holding.{has_block-remove}
+use Rattle.rw_blocks.proofs.Holding.{has_block-remove}
 use Rattle.rw_blocks.proofs.Parting.{taken-once}
 use Rattle.rw_blocks.proofs.Weighed.{IsWeighed-set}
 use Rattle.rw_blocks.proofs.queue.Queue.take_out.Goals as goal

@@ -1,10 +1,10 @@
 use Rattle.std.proofs.Common.{arith, sym, ap, subst, ◌≡◌, ◌∙◌, ◌<◌, ◌-◌, ◌≤◌, ℕ, List, length, get_or, true}
 use Rattle.std.specs.Prelude.{Some, Option, IsNone, IfSome}
 use Rattle.std.proofs.lemmas.List.{get_or_default}
-use Rattle.rw_places.specs.declared.Place.{Place}
-use Rattle.rw_sections.specs.Sections.{SectionState, section_in, has_block}
+use Rattle.rw_blocks.specs.declared.Place.{Place}
+use Rattle.rw_blocks.specs.Sections.{SectionState, section_in, has_block}
 use Rattle.rw_blocks.specs.State.{QueueState, row_at}
-use Rattle.rw_sections.specs.Tags.{IsOnlyIn, IsAbsent}
+use Rattle.rw_blocks.specs.Tags.{IsOnlyIn, IsAbsent}
 use Rattle.rw_blocks.specs.Weights.{weight_in, IsWeighed}
 use Rattle.rw_blocks.proofs.Weighed.{IsWeighed-remove, row-le-weight}
 use Rattle.rw_blocks.proofs.Present.{row-there}

@@ -1,15 +1,15 @@
 use Rattle.std.proofs.Common.{arith, sym, ap, subst, ◌∙◌, ◌≡◌, ◌<◌, ◌+◌, ◌-◌, ◌^◌, ℕ, List, [], ◌∷◌, length, get_or, set, false, nat_eq, length-set, get_or-set_same}
 use Rattle.std.specs.Prelude.{◌||◌, All, IsSomeAnd, slice_get}
 use Rattle.std.specs.Map.{values_of}
-use Rattle.rw_sections.specs.declared.Kind.{Kind}
+use Rattle.rw_blocks.specs.declared.Kind.{Kind}
 use Rattle.rw_blocks.specs.declared.Mark.TheVariants.{Seal}
-use Rattle.rw_sections.specs.Sections.{SectionState, no_section, active_of, section_in, has_block}
+use Rattle.rw_blocks.specs.Sections.{SectionState, no_section, active_of, section_in, has_block}
 use Rattle.rw_blocks.specs.State.{QueueState}
-use Rattle.rw_sections.specs.Changes.{section_unsealing}
+use Rattle.rw_blocks.specs.Changes.{section_unsealing}
 use Rattle.rw_blocks.specs.Undo.{undo_of, IsUndoable}
-use Rattle.rw_sections.specs.Tags.{IsAbsent}
+use Rattle.rw_blocks.specs.Tags.{IsAbsent}
 use Rattle.rw_blocks.proofs.Present.{absent-none}
-use Rattle.rw_sections.proofs.Holding.{has_block-unsealing}
+use Rattle.rw_blocks.proofs.Holding.{has_block-unsealing}
 use Rattle.rw_blocks.proofs.Parting.{unused}
 use Rattle.rw_blocks.proofs.Weighed.{IsWeighed-set}
 use Rattle.rw_blocks.proofs.queue.Queue.unseal.Goals as goal

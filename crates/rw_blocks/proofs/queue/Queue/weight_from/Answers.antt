@@ -2,13 +2,13 @@ use Rattle.std.proofs.Common.{arith, sym, ap, subst, ◌≡◌, ◌∙◌, ◌<�
 use Rattle.std.specs.Prelude.{sum_by}
 use Rattle.std.specs.List.{list_any}
 use Rattle.std.specs.Map.{values_of}
-use Rattle.rw_sections.specs.declared.Kind.{Kind}
-use Rattle.rw_places.specs.declared.Place.{Place}
-use Rattle.rw_sections.specs.Sections.{section_in, has_serial}
+use Rattle.rw_blocks.specs.declared.Kind.{Kind}
+use Rattle.rw_blocks.specs.declared.Place.{Place}
+use Rattle.rw_blocks.specs.Sections.{section_in, has_serial}
 use Rattle.rw_blocks.specs.State.{QueueState}
-use Rattle.rw_places.specs.Rows.{size_of}
+use Rattle.rw_blocks.specs.Rows.{size_of}
 use Rattle.rw_blocks.specs.Loose.{IsLoose}
-use Rattle.rw_places.specs.Index.{bytes_of, place_of}
+use Rattle.rw_blocks.specs.Index.{bytes_of, place_of}
 use Rattle.rw_blocks.specs.Weights.{bytes_where}
 use Rattle.rw_blocks.proofs.Weighed.{bytes_where-le}
 use Rattle.rw_blocks.proofs.Parting.{weight-blocks, once-behind, next-weight, drop-past}

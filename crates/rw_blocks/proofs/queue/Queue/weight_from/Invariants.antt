@@ -1,7 +1,7 @@
 use Rattle.std.proofs.Common.{◌≡◌, ◌+◌, drop}
 use Rattle.std.specs.Prelude.{sum_by}
-use Rattle.rw_places.specs.Index.{bytes_of, place_of}
-use Rattle.rw_sections.specs.Sections.{section_in}
+use Rattle.rw_blocks.specs.Index.{bytes_of, place_of}
+use Rattle.rw_blocks.specs.Sections.{section_in}
 use Rattle.rw_blocks.proofs.queue.Queue.weight_from.Given as goal
 
 abbrev pub invariant-loop-position : goal.invariant-loop-position

@@ -2,7 +2,7 @@ use Rattle.std.proofs.Common.{sym, ap, ◌∙◌, ℕ, List}
 use Rattle.std.specs.Ordering.{nat_cmp}
 use Rattle.std.specs.Map.{remove_entry}
 use Rattle.std.specs.BTreeMap.{is_at}
-use Rattle.rw_places.proofs.ByObject.{by_object-remove, find-by_object}
+use Rattle.rw_blocks.proofs.ByObject.{by_object-remove, find-by_object}
 use Rattle.rw_photo.specs.Cache.{waiting_in}
 use Rattle.rw_photo.proofs.awaited.Awaited.end.Goals as goal
 

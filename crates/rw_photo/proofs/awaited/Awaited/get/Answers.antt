@@ -1,5 +1,5 @@
 use Rattle.std.proofs.Common.{sym, ap, ◌∙◌, ℕ, List}
-use Rattle.rw_places.proofs.ByObject.{find-by_object}
+use Rattle.rw_blocks.proofs.ByObject.{find-by_object}
 use Rattle.rw_photo.specs.Cache.{waiting_in}
 use Rattle.rw_photo.proofs.awaited.Awaited.get.Goals as goal
 

@@ -2,7 +2,7 @@ use Rattle.std.proofs.Common.{◌≡◌, sym, ap, ◌∙◌, ℕ, List, Option}
 use Rattle.std.specs.Prelude.{Some}
 use Rattle.std.specs.Ordering.{nat_cmp}
 use Rattle.std.specs.BTreeMap.{insert_entry}
-use Rattle.rw_places.proofs.Entries.{insert_entry-insert_entry}
+use Rattle.rw_blocks.proofs.Entries.{insert_entry-insert_entry}
 use Rattle.rw_photo.specs.Counts.{plus}
 use Rattle.rw_photo.specs.Cache.{waiting_more, waiting_in}
 use Rattle.rw_photo.proofs.awaited.Awaited.join.Goals as goal

@@ -1,5 +1,5 @@
 use Rattle.std.proofs.Common.{ap}
-use Rattle.rw_places.specs.RowMap.{by_object}
+use Rattle.rw_blocks.specs.RowMap.{by_object}
 use Rattle.rw_photo.proofs.awaited.Awaited.new.Goals as goal
 
 pub returns : goal.returns

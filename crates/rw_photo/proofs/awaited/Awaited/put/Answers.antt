@@ -1,7 +1,7 @@
 use Rattle.std.proofs.Common.{sym, ap, ◌∙◌, ℕ, List}
 use Rattle.std.specs.Ordering.{nat_cmp}
 use Rattle.std.specs.BTreeMap.{insert_entry}
-use Rattle.rw_places.proofs.ByObject.{by_object-insert, find-by_object}
+use Rattle.rw_blocks.proofs.ByObject.{by_object-insert, find-by_object}
 use Rattle.rw_photo.specs.Cache.{waiting_in}
 use Rattle.rw_photo.proofs.awaited.Awaited.put.Goals as goal
 

@@ -1,0 +1,7 @@
+use Rattle.std.proofs.Common.{ap}
+use Rattle.rw_blocks.specs.RowMap.{by_object}
+use Rattle.rw_blocks.proofs.row_map.RowMap.new.Goals as goal
+
+pub returns : goal.returns
+unfolding by_object
+returns c = ap by_object c.new.ensures.empty

@@ -1,7 +1,0 @@
-use Rattle.std.proofs.Common.{ap}
-use Rattle.rw_places.specs.RowMap.{by_object}
-use Rattle.rw_places.proofs.row_map.RowMap.new.Goals as goal
-
-pub returns : goal.returns
-unfolding by_object
-returns c = ap by_object c.new.ensures.empty

@@ -1,9 +1,0 @@
-use Rattle.std.proofs.Common.{refl}
-use Rattle.rw_ripq.proofs.Moves.{section-found, total-some}
-use Rattle.rw_ripq.proofs.levels.level_of_row.Goals as goal
-
-pub unwrap-section-requires : goal.unwrap-section-requires
-unwrap-section-requires c = rw (c.section_of.ensures, section-found c.args.queue.now c.args._object c.args.row c.requires.loose c.requires.row) refl
-
-pub level_of_section-requires-clause-some : goal.level_of_section-requires-clause-some
-level_of_section-requires-clause-some c = total-some c.args.queue.now c.args._object c.args.row c.requires.loose c.requires.row
