@@ -128,11 +128,11 @@ append-none [] = refl
 append-none (x ∷ xs) = ap (λ l. x ∷ l) (append-none xs)
 
 -- ---- what serves an object, and what is sent then
-pub served : (s mid now : Cache) (o n : ℕ) (made : QueueAndCounts) (sent told out : List (Event Body)) (ms : List Mark) → IsStrictlySortedBy nat_cmp (keys_of s.awaited)
+pub served : (s mid now : Cache) (o n : ℕ) (made : QueueAndCounts) (sent told out : List (Event Body)) (kept : Bool) (ms : List Mark) → IsStrictlySortedBy nat_cmp (keys_of s.awaited)
     → mid ≡ once_made s made → now ≡ record mid { sends = plus mid.sends n } → n ≡ length sent → out ≡ told ++ sent
-    → Leads ms s.queue mid.queue → IsShort ms s.queue mid.queue
-    → HasHappened (serving s o made sent) s o now told out ms
-served s mid now o n made sent told out ms up is then count all leads short =
+    → (kept ≡ true → Leads ms s.queue mid.queue) → (kept ≡ true → IsShort ms s.queue mid.queue)
+    → HasHappened (serving s o made sent) s o now told out kept ms
+served s mid now o n made sent told out kept ms up is then count all leads short =
     record {
       changed =
           then
@@ -140,16 +140,16 @@ served s mid now o n made sent told out ms up is then count all leads short =
           ∙ (ap (λ m. record (once_made s made) { awaited = m; sends = plus s.sends n }) (sym (waiting-same s.awaited o (waiting_for s o) up refl))
           ∙ ap (λ k. record (once_made s made) { awaited = with_waiting s.awaited o (waiting_for s o); sends = plus s.sends k }) count));
       sent = all;
-      leads = subst (Leads ms s.queue) (ap (λ (x : Cache). x.queue) (sym then)) leads;
-      short = subst (IsShort ms s.queue) (ap (λ (x : Cache). x.queue) (sym then)) short;
+      leads = λ k. subst (Leads ms s.queue) (ap (λ (x : Cache). x.queue) (sym then)) (leads k);
+      short = λ k. subst (IsShort ms s.queue) (ap (λ (x : Cache). x.queue) (sym then)) (short k);
     }
 
 -- nothing is sent
-pub served_alone : (s now : Cache) (o : ℕ) (made : QueueAndCounts) (told : List (Event Body)) (ms : List Mark) → IsStrictlySortedBy nat_cmp (keys_of s.awaited) → s.sends < 2 ^ 64
-    → now ≡ once_made s made → Leads ms s.queue now.queue → IsShort ms s.queue now.queue
-    → HasHappened (serving s o made []) s o now told told ms
-served_alone s now o made told ms up few is leads short =
-    served s now now o 0 made [] told told ms up is same refl (sym (append-none told)) leads short
+pub served_alone : (s now : Cache) (o : ℕ) (made : QueueAndCounts) (told : List (Event Body)) (kept : Bool) (ms : List Mark) → IsStrictlySortedBy nat_cmp (keys_of s.awaited) → s.sends < 2 ^ 64
+    → now ≡ once_made s made → (kept ≡ true → Leads ms s.queue now.queue) → (kept ≡ true → IsShort ms s.queue now.queue)
+    → HasHappened (serving s o made []) s o now told told kept ms
+served_alone s now o made told kept ms up few is leads short =
+    served s now now o 0 made [] told told kept ms up is same refl (sym (append-none told)) leads short
   where
     same : now ≡ record now { sends = plus now.sends 0 }
     same = is ∙ (ap (λ n. record (once_made s made) { sends = n }) (sym (plus-none s.sends few)) ∙ ap (λ (x : Cache). record x { sends = plus x.sends 0 }) (sym is))
@@ -164,44 +164,44 @@ stored_for_miss c s mid now o z is then =
     ∙ ap (λ k. record s { queue = (store c.policy s.queue o z).queue; counters = k }) (then_missed s.counters (store c.policy s.queue o z).counts z none.requests none.misses none.request_bytes))
 
 -- a request for an object that is on its way already
-pub coalesced : (c : Config) (p : ℕ) (s now : Cache) (t o z n : ℕ) (told : List (Event Body)) (ms : List Mark) → s.sends < 2 ^ 64 → is_stored s o ≡ false → waiting_for s o ≡ Some n → ms ≡ []
+pub coalesced : (c : Config) (p : ℕ) (s now : Cache) (t o z n : ℕ) (told : List (Event Body)) (kept : Bool) (ms : List Mark) → s.sends < 2 ^ 64 → is_stored s o ≡ false → waiting_for s o ≡ Some n → ms ≡ []
     → now ≡ record s { awaited = with_waiting s.awaited o (Some (waiting_more (waiting_for s o))); counters = sum_of s.counters (one_coalesced z) }
-    → HasHappened (request_happening c p s t o z) s o now told told ms
-coalesced c p s now t o z n told ms few new waits none is =
-    subst (λ b. HasHappened (cond b (serving s o (hit c.policy s.queue o z) []) (edge_miss c p s t o z (waiting_for s o))) s o now told told ms) (sym new)
-    (subst (λ w. HasHappened (edge_miss c p s t o z w) s o now told told ms) (sym waits)
+    → HasHappened (request_happening c p s t o z) s o now told told kept ms
+coalesced c p s now t o z n told kept ms few new waits none is =
+    subst (λ b. HasHappened (cond b (serving s o (hit c.policy s.queue o z) []) (edge_miss c p s t o z (waiting_for s o))) s o now told told kept ms) (sym new)
+    (subst (λ w. HasHappened (edge_miss c p s t o z w) s o now told told kept ms) (sym waits)
     (record {
       changed =
           is
           ∙ (ap (λ w. record s { awaited = with_waiting s.awaited o (Some (waiting_more w)); counters = sum_of s.counters (one_coalesced z) }) waits
           ∙ ap (λ m. record s { awaited = with_waiting s.awaited o (Some (plus n 1)); counters = sum_of s.counters (one_coalesced z); sends = m }) (sym (plus-none s.sends few)));
       sent = sym (append-none told);
-      leads = subst (Leads ms s.queue) (ap (λ (x : Cache). x.queue) (sym is)) (leads_nowhere ms s.queue none);
-      short = short_nowhere ms s.queue now.queue none;
+      leads = λ _. subst (Leads ms s.queue) (ap (λ (x : Cache). x.queue) (sym is)) (leads_nowhere ms s.queue none);
+      short = λ _. short_nowhere ms s.queue now.queue none;
     }))
 
 -- the first request for an object
-pub asked : (c : Config) (p : ℕ) (s now : Cache) (t o z : ℕ) (told out : List (Event Body)) (ms : List Mark) → is_stored s o ≡ false → waiting_for s o ≡ None → ms ≡ []
+pub asked : (c : Config) (p : ℕ) (s now : Cache) (t o z : ℕ) (told out : List (Event Body)) (kept : Bool) (ms : List Mark) → is_stored s o ≡ false → waiting_for s o ≡ None → ms ≡ []
     → now ≡ record s { awaited = with_waiting s.awaited o (Some (waiting_more (waiting_for s o))); counters = sum_of s.counters (one_miss z no_counts); sends = plus s.sends 1 }
     → out ≡ told ++ event_from p s (t + c.up) (origin_of c o) (Miss o z p) ∷ []
-    → HasHappened (request_happening c p s t o z) s o now told out ms
-asked c p s now t o z told out ms new waits none is sent =
-    subst (λ b. HasHappened (cond b (serving s o (hit c.policy s.queue o z) []) (edge_miss c p s t o z (waiting_for s o))) s o now told out ms) (sym new)
-    (subst (λ w. HasHappened (edge_miss c p s t o z w) s o now told out ms) (sym waits)
+    → HasHappened (request_happening c p s t o z) s o now told out kept ms
+asked c p s now t o z told out kept ms new waits none is sent =
+    subst (λ b. HasHappened (cond b (serving s o (hit c.policy s.queue o z) []) (edge_miss c p s t o z (waiting_for s o))) s o now told out kept ms) (sym new)
+    (subst (λ w. HasHappened (edge_miss c p s t o z w) s o now told out kept ms) (sym waits)
     (record {
       changed = is ∙ ap (λ w. record s { awaited = with_waiting s.awaited o (Some (waiting_more w)); counters = sum_of s.counters (one_miss z no_counts); sends = plus s.sends 1 }) waits;
       sent = sent;
-      leads = subst (Leads ms s.queue) (ap (λ (x : Cache). x.queue) (sym is)) (leads_nowhere ms s.queue none);
-      short = short_nowhere ms s.queue now.queue none;
+      leads = λ _. subst (Leads ms s.queue) (ap (λ (x : Cache). x.queue) (sym is)) (leads_nowhere ms s.queue none);
+      short = λ _. short_nowhere ms s.queue now.queue none;
     }))
 
 -- a fill
-pub filled : (c : Config) (s mid now : Cache) (o z m : ℕ) (told : List (Event Body)) (ms : List Mark) → s.sends < 2 ^ 64 → m ≡ unwrap_or (waiting_for s o) 0
+pub filled : (c : Config) (s mid now : Cache) (o z m : ℕ) (told : List (Event Body)) (kept : Bool) (ms : List Mark) → s.sends < 2 ^ 64 → m ≡ unwrap_or (waiting_for s o) 0
     → mid ≡ once_made (record s { awaited = with_waiting s.awaited o None }) (stored_if c.policy s.queue o z (is_stored s o))
     → now ≡ record mid { counters = sum_of mid.counters (with_late m no_counts) }
-    → Leads ms s.queue mid.queue → IsShort ms s.queue mid.queue
-    → HasHappened (fill_happening c s o z) s o now told told ms
-filled c s mid now o z m told ms few waited is then leads short =
+    → (kept ≡ true → Leads ms s.queue mid.queue) → (kept ≡ true → IsShort ms s.queue mid.queue)
+    → HasHappened (fill_happening c s o z) s o now told told kept ms
+filled c s mid now o z m told kept ms few waited is then leads short =
     record {
       changed =
           then
@@ -210,8 +210,8 @@ filled c s mid now o z m told ms few waited is then leads short =
           ∙ (ap (λ n. record done { counters = sum_of s.counters (with_late n made.counts) }) waited
           ∙ ap (λ n. record done { counters = sum_of s.counters (with_late (unwrap_or (waiting_for s o) 0) made.counts); sends = n }) (sym (plus-none s.sends few)))));
       sent = sym (append-none told);
-      leads = subst (Leads ms s.queue) (ap (λ (x : Cache). x.queue) (sym then)) leads;
-      short = subst (IsShort ms s.queue) (ap (λ (x : Cache). x.queue) (sym then)) short;
+      leads = λ k. subst (Leads ms s.queue) (ap (λ (x : Cache). x.queue) (sym then)) (leads k);
+      short = λ k. subst (IsShort ms s.queue) (ap (λ (x : Cache). x.queue) (sym then)) (short k);
     }
   where
     made : QueueAndCounts

@@ -1,5 +1,5 @@
 -- An event and then its undoing give back the cache.
-use Rattle.std.proofs.Common.{◌≡◌, ℕ, ◌^◌, ◌%◌, ◌<◌, List, Option, Some, None, refl, sym, ◌∙◌, ap, subst, arith, length, length-append, ◌+◌}
+use Rattle.std.proofs.Common.{◌≡◌, ℕ, ◌^◌, ◌%◌, ◌<◌, List, Option, Some, None, true, refl, sym, ◌∙◌, ap, subst, arith, length, length-append, ◌+◌}
 use Rattle.std.specs.List.Sorted.{IsStrictlySortedBy}
 use Rattle.std.specs.Map.{keys_of, lookup, remove_entry}
 use Rattle.std.specs.BTreeMap.{is_at}
@@ -43,11 +43,11 @@ made s t q a b c i = record { queue = q i; awaited = a i; sends = b i; counters 
 -- what happened is taken back by its record
 pub takes_back : (h : Happening) (s now : Cache) (e : Event Body) (told out : List (Event Body)) (u : Undo)
     → IsStrictlySortedBy nat_cmp (keys_of s.awaited) → s.sends < 2 ^ 64 → AreCounts s.counters
-    → HasHappened h s (object_of e.body) now told out u.change.trail
+    → HasHappened h s (object_of e.body) now told out true u.change.trail
     → u.change.counts ≡ difference_of now.counters s.counters → u.sent + length told ≡ length out → u.sent < 2 ^ 64 → u.waiting ≡ waiting_for s (object_of e.body)
     → TakesBack s e u now
 takes_back h s now e told out u up sends counters done counted sent few wait =
-    record { back = made (cache_before o u now) s done.leads.back awaited sent_back counters_back; leads = done.leads; short = done.short }
+    record { back = made (cache_before o u now) s (done.leads refl).back awaited sent_back counters_back; leads = done.leads refl; short = done.short refl }
   where
     o : ℕ
     o = object_of e.body

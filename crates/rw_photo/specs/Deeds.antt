@@ -1,5 +1,5 @@
 -- For the contracts inside the crate: what the code of an event does to a cache.
-use Rattle.std.specs.Prelude.{◌≡◌, ◌++◌, List, Bool, if◌then◌else◌}
+use Rattle.std.specs.Prelude.{◌≡◌, ◌++◌, List, Bool, true, if◌then◌else◌}
 use Rattle.rw_vt.specs.declared.event.Event.{Event}
 use Rattle.rw_numbers.specs.Words.{Object, Size}
 use Rattle.rw_blocks.specs.declared.Mark.{Mark}
@@ -23,12 +23,12 @@ abbrev pub stored_if : Policy → QueueState → Object → Size → Bool → Qu
 stored_if policy q o z there = if there then same_queue q no_counts else store policy q o z
 
 -- what happens to object o has been done: the cache has changed, what is sent stands behind what was sent before, and
--- the trail leads the queue back
+-- the marks lead the queue back, where they are kept
 pub record HasHappened
     (h : Happening) (before : Cache) (o : Object) (after : Cache) (told now : List (Event Body))
-    (ms : List Mark)
+    (kept : Bool) (ms : List Mark)
     : Type 0 where
   pub changed : after ≡ cache_after before o h
   pub sent : now ≡ told ++ h.sent
-  pub leads : Leads ms before.queue after.queue
-  pub short : IsShort ms before.queue after.queue
+  pub leads : kept ≡ true → Leads ms before.queue after.queue
+  pub short : kept ≡ true → IsShort ms before.queue after.queue

@@ -1,4 +1,4 @@
-ghost use Rattle.std.specs.Prelude.{◌≡◌, ◌≢◌, ◌+◌, ◌<◌, ◌≤◌, ◌^◌, ◌++◌, ◌∷◌, [], false, None, Some, OnOk, IfOk, unwrap_or};
+ghost use Rattle.std.specs.Prelude.{◌≡◌, true, ◌≢◌, ◌+◌, ◌<◌, ◌≤◌, ◌^◌, ◌++◌, ◌∷◌, [], false, None, Some, OnOk, IfOk, unwrap_or};
 ghost use Rattle.rw_blocks.specs.State.{row_at};
 ghost use Rattle.rw_blocks.specs.Loose.{IsWellFormedQueue};
 ghost use Rattle.rw_ripq.specs.Limits.{exhaustion};
@@ -6,7 +6,7 @@ ghost use Rattle.rw_ripq.specs.Trail.{IsRewindable, Leads, rewind_of};
 ghost use Rattle.rw_ripq.specs.Weight.{IsShort};
 ghost use Rattle.rw_ripq.specs.Work.{no_tally};
 ghost use Rattle.rw_photo.specs.Cache.{is_stored, waiting_more, start_in, waiting_for, with_waiting};
-ghost use Rattle.rw_photo.specs.Counts.{AreCounts, sum_of, minus, plus, difference_of};
+ghost use Rattle.rw_photo.specs.Counts.{AreCounts, no_counts, one_coalesced, one_miss, with_late, sum_of, minus, plus, difference_of};
 ghost use Rattle.rw_photo.specs.Deeds.{once_made, stored_if};
 ghost use Rattle.rw_photo.specs.Events.{event_from};
 ghost use Rattle.rw_photo.specs.Storing.{hit, purge_if_stored, store};
@@ -14,7 +14,7 @@ ghost use Rattle.rw_photo.specs.Storing.{hit, purge_if_stored, store};
 use crate::awaited::Awaited;
 use crate::body::Body;
 use crate::counters::Counters;
-use rw_ripq::{Change, Place, Policy, Queue, Shape, Tally, Trail};
+use rw_ripq::{Change, Marks, Place, Policy, Queue, Shape, Tally, Trail};
 use rw_vt::{Event, NoMemory, Refusal};
 use std::alloc::Global;
 use std::marker::Model;
@@ -140,23 +140,26 @@ impl CacheState {
 
     /// A hit, by a request for `size` bytes, of an object that is stored and whose row is `row`: it is promoted, and
     /// counted. `trail` has no mark yet.
-    pub(crate) fn hit(
+    pub(crate) fn hit<M: Marks>(
         &mut self,
         policy: Policy,
         object: u64,
         size: u64,
         row: Place,
-        trail: &mut Trail,
+        trail: &mut M,
     ) -> Result<(), NoMemory>
         requires well_formed { IsWellFormedQueue self.old.queue }
         requires stores { policy ≢ Policy.Off }
+        requires counts { AreCounts self.old.counters }
         requires row { row_at self.old.queue object ≡ Some row }
         requires fresh { self.old.queue.next < exhaustion }
-        requires none { trail.old ≡ [] }
+        requires none { M.list trail.old ≡ [] }
         ensures state { OnOk result
             (self.new ≡ once_made self.old (hit policy self.old.queue object size)) }
-        ensures leads { OnOk result (Leads trail.new self.old.queue self.new.queue) }
-        ensures short { OnOk result (IsShort trail.new self.old.queue self.new.queue) }
+        ensures leads { OnOk result (M.keeps ≡ true
+            → Leads (M.list trail.new) self.old.queue self.new.queue) }
+        ensures short { OnOk result (M.keeps ≡ true
+            → IsShort (M.list trail.new) self.old.queue self.new.queue) }
     {
         let promoted = rw_ripq::promote_with(&mut self.queue, trail, policy, object, row);
         let moved = match promoted {
@@ -164,37 +167,39 @@ impl CacheState {
             Err(Refusal::Memory) => return Err(NoMemory),
             Err(Refusal::Exhausted) => unreachable!(),
         };
-        self.count(&Counters::of_hit(moved, size));
+        self.counters.hit(moved, size);
         Ok(())
     }
 
     /// Stores an object of `size` bytes that is not stored, where it fits a block and the policy is not `Off`, and counts
     /// that. `change` has no mark and no count yet.
     #[tactic(auto, using(crate::proofs::Stores::store_laws))]
-    pub(crate) fn store(
+    pub(crate) fn store<M: Marks>(
         &mut self,
         policy: Policy,
         object: u64,
         size: u64,
-        change: &mut Change<Tally>,
+        change: &mut Change<Tally, M>,
     ) -> Result<(), NoMemory>
         requires well_formed { IsWellFormedQueue self.old.queue }
         requires counts { AreCounts self.old.counters }
         requires new { is_stored self.old object ≡ false }
         requires some { 1 ≤ size }
         requires fresh { self.old.queue.next < exhaustion }
-        requires none { change.old.trail ≡ [] }
+        requires none { M.list change.old.trail ≡ [] }
         requires uncounted { change.old.counts ≡ no_tally }
         ensures state { OnOk result
             (self.new ≡ once_made self.old (store policy self.old.queue object size)) }
-        ensures leads { OnOk result (Leads change.new.trail self.old.queue self.new.queue) }
-        ensures short { OnOk result (IsShort change.new.trail self.old.queue self.new.queue) }
+        ensures leads { OnOk result (M.keeps ≡ true
+            → Leads (M.list change.new.trail) self.old.queue self.new.queue) }
+        ensures short { OnOk result (M.keeps ≡ true
+            → IsShort (M.list change.new.trail) self.old.queue self.new.queue) }
     {
         if policy == Policy::Off {
             return Ok(());
         }
         if size > self.queue.block_size() {
-            self.count(&Counters::of_bypass());
+            self.counters.bypass();
             return Ok(());
         }
         let inserted = rw_ripq::insert_with(&mut self.queue, change, policy, object, size, 1);
@@ -203,28 +208,30 @@ impl CacheState {
             Err(Refusal::Memory) => return Err(NoMemory),
             Err(Refusal::Exhausted) => unreachable!(),
         }
-        self.count(&Counters::of_insertion(change.counts));
+        self.counters.insert(change.counts);
         Ok(())
     }
 
     /// [`CacheState::store`] of an object that may be stored already: it then stays as it is.
-    pub(crate) fn store_lacking(
+    pub(crate) fn store_lacking<M: Marks>(
         &mut self,
         policy: Policy,
         object: u64,
         size: u64,
-        change: &mut Change<Tally>,
+        change: &mut Change<Tally, M>,
     ) -> Result<(), NoMemory>
         requires well_formed { IsWellFormedQueue self.old.queue }
         requires counts { AreCounts self.old.counters }
         requires some { 1 ≤ size }
         requires fresh { self.old.queue.next < exhaustion }
-        requires none { change.old.trail ≡ [] }
+        requires none { M.list change.old.trail ≡ [] }
         requires uncounted { change.old.counts ≡ no_tally }
         ensures state { OnOk result (self.new ≡ once_made self.old
             (stored_if policy self.old.queue object size (is_stored self.old object))) }
-        ensures leads { OnOk result (Leads change.new.trail self.old.queue self.new.queue) }
-        ensures short { OnOk result (IsShort change.new.trail self.old.queue self.new.queue) }
+        ensures leads { OnOk result (M.keeps ≡ true
+            → Leads (M.list change.new.trail) self.old.queue self.new.queue) }
+        ensures short { OnOk result (M.keeps ≡ true
+            → IsShort (M.list change.new.trail) self.old.queue self.new.queue) }
     {
         if self.is_stored(object) {
             return Ok(());
@@ -234,20 +241,23 @@ impl CacheState {
     }
 
     /// Lets an object go, where it is stored, and counts the purge. `trail` has no mark yet.
-    pub(crate) fn purge(&mut self, object: u64, trail: &mut Trail) -> Result<(), NoMemory>
+    pub(crate) fn purge<M: Marks>(&mut self, object: u64, trail: &mut M) -> Result<(), NoMemory>
         requires well_formed { IsWellFormedQueue self.old.queue }
-        requires none { trail.old ≡ [] }
+        requires counts { AreCounts self.old.counters }
+        requires none { M.list trail.old ≡ [] }
         ensures state { OnOk result
             (self.new ≡ once_made self.old (purge_if_stored self.old.queue object)) }
-        ensures leads { OnOk result (Leads trail.new self.old.queue self.new.queue) }
-        ensures short { OnOk result (IsShort trail.new self.old.queue self.new.queue) }
+        ensures leads { OnOk result (M.keeps ≡ true
+            → Leads (M.list trail.new) self.old.queue self.new.queue) }
+        ensures short { OnOk result (M.keeps ≡ true
+            → IsShort (M.list trail.new) self.old.queue self.new.queue) }
     {
         if !self.is_stored(object) {
-            self.count(&Counters::of_purge(false));
+            self.counters.purge(false);
             return Ok(());
         }
         rw_ripq::purge_with(&mut self.queue, trail, object)?;
-        self.count(&Counters::of_purge(true));
+        self.counters.purge(true);
         Ok(())
     }
 
@@ -260,14 +270,34 @@ impl CacheState {
         rw_ripq::rewind(&mut self.queue, trail)
     }
 
-    /// Adds what an event counted.
-    pub(crate) fn count(&mut self, counted: &Counters)
-        ensures { self.new ≡ record self.old { counters = sum_of self.old.counters counted.now } }
+    /// Counts a miss by a request for `size` bytes.
+    pub(crate) fn count_miss(&mut self, size: u64)
+        requires { AreCounts self.old.counters }
+        ensures { self.new
+            ≡ record self.old { counters = sum_of self.old.counters (one_miss size no_counts) } }
     {
-        self.counters.add(counted);
+        self.counters.miss(size);
     }
 
-    /// Takes off what an event counted: undoes [`CacheState::count`].
+    /// Counts a miss by a request for `size` bytes, whose object is on its way already.
+    pub(crate) fn count_coalesced(&mut self, size: u64)
+        requires { AreCounts self.old.counters }
+        ensures { self.new
+            ≡ record self.old { counters = sum_of self.old.counters (one_coalesced size) } }
+    {
+        self.counters.coalesced(size);
+    }
+
+    /// Counts the requests that a fill answers.
+    pub(crate) fn count_late(&mut self, late: u64)
+        requires { AreCounts self.old.counters }
+        ensures { self.new
+            ≡ record self.old { counters = sum_of self.old.counters (with_late late no_counts) } }
+    {
+        self.counters.late(late);
+    }
+
+    /// Takes off what an event counted.
     pub(crate) fn take_off(&mut self, counted: &Counters)
         ensures { self.new
             ≡ record self.old { counters = difference_of self.old.counters counted.now } }

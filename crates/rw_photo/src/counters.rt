@@ -1,5 +1,5 @@
 ghost use Rattle.std.specs.Prelude.{◌≡◌};
-ghost use Rattle.rw_photo.specs.Counts.{sum_of, with_late, difference_of, one_bypassed, one_coalesced, one_hit, one_inserted, one_miss, one_purge};
+ghost use Rattle.rw_photo.specs.Counts.{AreCounts, no_counts, sum_of, with_late, difference_of, one_bypassed, one_coalesced, one_hit, one_inserted, one_miss, one_purge};
 
 use rw_ripq::Tally;
 
@@ -67,91 +67,77 @@ macro_rules! each_count {
     };
 }
 
+/// What one event counts, added in place: only the counts that grow are read and written.
 impl Counters {
     /// A hit by a request for `size` bytes, which moved its object to another place or not.
-    pub(crate) fn of_hit(moved: bool, size: u64) -> Counters
-        ensures { result ≡ one_hit moved size }
+    pub(crate) fn hit(&mut self, moved: bool, size: u64)
+        requires { AreCounts self.old }
+        ensures { self.new ≡ sum_of self.old (one_hit moved size) }
     {
-        Counters {
-            requests: 1,
-            hits: 1,
-            promoted: u64::from(moved),
-            hit_bytes: size,
-            request_bytes: size,
-            ..Counters::default()
-        }
+        self.requests = self.requests.wrapping_add(1);
+        self.hits = self.hits.wrapping_add(1);
+        self.promoted = self.promoted.wrapping_add(u64::from(moved));
+        self.hit_bytes = self.hit_bytes.wrapping_add(size);
+        self.request_bytes = self.request_bytes.wrapping_add(size);
     }
 
-    /// A purge, of an object that was stored or not.
-    pub(crate) fn of_purge(stored: bool) -> Counters
-        ensures { result ≡ one_purge stored }
+    /// A miss by a request for `size` bytes.
+    pub(crate) fn miss(&mut self, size: u64)
+        requires { AreCounts self.old }
+        ensures { self.new ≡ sum_of self.old (one_miss size no_counts) }
     {
-        Counters {
-            purges: 1,
-            purged: u64::from(stored),
-            ..Counters::default()
-        }
+        self.requests = self.requests.wrapping_add(1);
+        self.misses = self.misses.wrapping_add(1);
+        self.request_bytes = self.request_bytes.wrapping_add(size);
     }
 
     /// A miss by a request for `size` bytes, whose object is on its way already.
-    pub(crate) fn of_coalesced(size: u64) -> Counters
-        ensures { result ≡ one_coalesced size }
+    pub(crate) fn coalesced(&mut self, size: u64)
+        requires { AreCounts self.old }
+        ensures { self.new ≡ sum_of self.old (one_coalesced size) }
     {
-        Counters {
-            coalesced: 1,
-            ..Counters::default().with_miss(size)
-        }
+        self.requests = self.requests.wrapping_add(1);
+        self.misses = self.misses.wrapping_add(1);
+        self.coalesced = self.coalesced.wrapping_add(1);
+        self.request_bytes = self.request_bytes.wrapping_add(size);
     }
 
-    /// These counts, and a miss: one request, for `size` bytes, and one miss.
-    pub(crate) fn with_miss(self, size: u64) -> Counters
-        ensures { result ≡ one_miss size self }
+    /// A fill that answers `late` requests.
+    pub(crate) fn late(&mut self, late: u64)
+        requires { AreCounts self.old }
+        ensures { self.new ≡ sum_of self.old (with_late late no_counts) }
     {
-        Counters {
-            requests: 1,
-            misses: 1,
-            request_bytes: size,
-            ..self
-        }
+        self.late = self.late.wrapping_add(late);
     }
 
-    /// These counts, and those of a fill that answers `late` requests.
-    pub(crate) fn with_late(self, late: u64) -> Counters
-        ensures { result ≡ with_late late self }
+    /// A purge, of an object that was stored or not.
+    pub(crate) fn purge(&mut self, stored: bool)
+        requires { AreCounts self.old }
+        ensures { self.new ≡ sum_of self.old (one_purge stored) }
     {
-        Counters { late, ..self }
+        self.purges = self.purges.wrapping_add(1);
+        self.purged = self.purged.wrapping_add(u64::from(stored));
     }
 
     /// An object that is too large for a block.
-    pub(crate) fn of_bypass() -> Counters
-        ensures { result ≡ one_bypassed }
+    pub(crate) fn bypass(&mut self)
+        requires { AreCounts self.old }
+        ensures { self.new ≡ sum_of self.old one_bypassed }
     {
-        Counters {
-            bypassed: 1,
-            ..Counters::default()
-        }
+        self.bypassed = self.bypassed.wrapping_add(1);
     }
 
     /// An object that was stored, with what its insertion counted.
-    pub(crate) fn of_insertion(tally: Tally) -> Counters
-        ensures { result ≡ one_inserted tally }
+    pub(crate) fn insert(&mut self, tally: Tally)
+        requires { AreCounts self.old }
+        ensures { self.new ≡ sum_of self.old (one_inserted tally) }
     {
-        let Tally {
-            evicted,
-            reinserted,
-            writes,
-            splits,
-            merges,
-        } = tally;
-        Counters {
-            inserted: 1,
-            evicted,
-            reinserted,
-            writes,
-            splits,
-            merges,
-            ..Counters::default()
-        }
+        self.inserted = self.inserted.wrapping_add(1);
+        self.evicted = self.evicted.wrapping_add(tally.evicted);
+        self.reinserted = self.reinserted.wrapping_add(tally.reinserted);
+        self.writes = self.writes.wrapping_add(tally.writes);
+        self.splits = self.splits.wrapping_add(tally.splits);
+        self.merges = self.merges.wrapping_add(tally.merges);
     }
 
     /// Each count grows by what was counted, modulo 2^64. Takes no memory.

@@ -10,9 +10,8 @@ ghost use Rattle.rw_photo.specs.Events.{clears_of, miss_happening, fill_happenin
 use crate::body::Body;
 use crate::cache::CacheState;
 use crate::config::Config;
-use crate::counters::Counters;
 use crate::undo::Undo;
-use rw_ripq::{Change, EXHAUSTED, Policy, Tally};
+use rw_ripq::{Change, EXHAUSTED, Marks, NoMarks, Policy, Tally};
 use rw_trace::{MAX_SIZE, MAX_TIME};
 use rw_vt::{Event, Lookahead, Model as VtModel, NoMemory, Refusal};
 use std::alloc::Global;
@@ -74,27 +73,29 @@ impl Photo {
 }
 
 /// What each event does to the cache that it goes to, where it is valid: to the state, to `out`, to which what it sends is
-/// appended in order, and to `change`, which has no mark and no count yet and gets the marks of what it does to the queue.
+/// appended in order, and to `change`, which has no mark and no count yet and gets the marks of what it does to the queue, where
+/// it keeps them.
 impl Photo {
     /// Does what the event does, by its kind.
-    fn happen(
+    fn happen<M: Marks>(
         &self,
         process: u32,
         state: &mut CacheState,
         event: &Event<Body>,
-        change: &mut Change<Tally>,
+        change: &mut Change<Tally, M>,
         out: &mut Vec<Event<Body>>,
     ) -> Result<(), NoMemory>
         requires well_formed { IsWellFormed self.now.config process state.old }
         requires fresh { state.old.queue.next < exhaustion }
         requires valid { is_valid self.now.config event.now ≡ true }
         requires here { event.now.to ≡ process }
-        requires none { change.old.trail ≡ [] }
+        requires none { M.list change.old.trail ≡ [] }
         requires uncounted { change.old.counts ≡ no_tally }
         ensures { OnOk result (HasHappened
             (happening self.now.config process state.old event.now.time event.now.body)
             state.old (object_of event.now.body) state.new
-            out.old.items out.new.items change.new.trail) }
+            out.old.items out.new.items M.keeps
+            (M.list change.new.trail)) }
     {
         let time = event.time;
         match event.body {
@@ -115,35 +116,36 @@ impl Photo {
 
     /// A request at an edge. A hit promotes its object; a miss waits for it, beside the requests that do so already, and
     /// the first that waits asks the origin.
-    fn request(
+    fn request<M: Marks>(
         &self,
         process: u32,
         state: &mut CacheState,
         time: u64,
         object: u64,
         size: u64,
-        change: &mut Change<Tally>,
+        change: &mut Change<Tally, M>,
         out: &mut Vec<Event<Body>>,
     ) -> Result<(), NoMemory>
         requires well_formed { IsWellFormed self.now.config process state.old }
         requires fresh { state.old.queue.next < exhaustion }
         requires early { time < end_of_time }
         requires process { process < self.now.config.edges }
-        requires none { change.old.trail ≡ [] }
+        requires none { M.list change.old.trail ≡ [] }
         requires uncounted { change.old.counts ≡ no_tally }
         ensures { OnOk result (HasHappened
             (request_happening self.now.config process state.old time object size)
-            state.old object state.new out.old.items out.new.items change.new.trail) }
+            state.old object state.new out.old.items out.new.items M.keeps
+            (M.list change.new.trail)) }
     {
         if let Some(row) = state.row(object) {
             state.hit(self.config.policy, object, size, row, &mut change.trail)?;
             return Ok(());
         }
         if let Some(_others) = state.join(object)? {
-            state.count(&Counters::of_coalesced(size));
+            state.count_coalesced(size);
             return Ok(());
         }
-        state.count(&Counters::default().with_miss(size));
+        state.count_miss(size);
         let question = Body::Miss {
             object,
             size,
@@ -156,7 +158,7 @@ impl Photo {
 
     /// A miss at an origin. A hit promotes its object; what the origin lacks is fetched from the backend and stored.
     /// The edge is sent a fill.
-    fn miss(
+    fn miss<M: Marks>(
         &self,
         process: u32,
         state: &mut CacheState,
@@ -164,7 +166,7 @@ impl Photo {
         object: u64,
         size: u64,
         edge: u32,
-        change: &mut Change<Tally>,
+        change: &mut Change<Tally, M>,
         out: &mut Vec<Event<Body>>,
     ) -> Result<(), NoMemory>
         requires well_formed { IsWellFormed self.now.config process state.old }
@@ -172,11 +174,12 @@ impl Photo {
         requires early { time < end_of_time }
         requires process { process < self.now.config.edges + self.now.config.origins }
         requires some { 1 ≤ size }
-        requires none { change.old.trail ≡ [] }
+        requires none { M.list change.old.trail ≡ [] }
         requires uncounted { change.old.counts ≡ no_tally }
         ensures { OnOk result (HasHappened
             (miss_happening self.now.config process state.old time object size edge)
-            state.old object state.new out.old.items out.new.items change.new.trail) }
+            state.old object state.new out.old.items out.new.items M.keeps
+            (M.list change.new.trail)) }
     {
         let Config {
             policy,
@@ -191,33 +194,34 @@ impl Photo {
             return Ok(());
         }
         state.store(policy, object, size, change)?;
-        state.count(&Counters::default().with_miss(size));
+        state.count_miss(size);
         state.send(process, time + down + back, edge, answer, out)?;
         Ok(())
     }
 
     /// A fill at an edge. It answers the requests that wait for it, if any, and what the edge lacks is stored.
-    fn fill(
+    fn fill<M: Marks>(
         &self,
         process: u32,
         state: &mut CacheState,
         object: u64,
         size: u64,
-        change: &mut Change<Tally>,
+        change: &mut Change<Tally, M>,
         out: &mut Vec<Event<Body>>,
     ) -> Result<(), NoMemory>
         requires well_formed { IsWellFormed self.now.config process state.old }
         requires fresh { state.old.queue.next < exhaustion }
         requires some { 1 ≤ size }
-        requires none { change.old.trail ≡ [] }
+        requires none { M.list change.old.trail ≡ [] }
         requires uncounted { change.old.counts ≡ no_tally }
         ensures { OnOk result (HasHappened
             (fill_happening self.now.config state.old object size)
-            state.old object state.new out.old.items out.new.items change.new.trail) }
+            state.old object state.new out.old.items out.new.items M.keeps
+            (M.list change.new.trail)) }
     {
         let answered = state.answer(object);
         state.store_lacking(self.config.policy, object, size, change)?;
-        state.count(&Counters::default().with_late(answered));
+        state.count_late(answered);
         Ok(())
     }
 }
@@ -226,23 +230,24 @@ impl Photo {
 /// Requests that wait for it go on waiting, and a fill on its way is stored when it comes.
 impl Photo {
     /// A purge at an edge, which tells the origin.
-    fn purge(
+    fn purge<M: Marks>(
         &self,
         process: u32,
         state: &mut CacheState,
         time: u64,
         object: u64,
-        change: &mut Change<Tally>,
+        change: &mut Change<Tally, M>,
         out: &mut Vec<Event<Body>>,
     ) -> Result<(), NoMemory>
         requires well_formed { IsWellFormed self.now.config process state.old }
         requires early { time < end_of_time }
         requires process { process < self.now.config.edges }
-        requires none { change.old.trail ≡ [] }
+        requires none { M.list change.old.trail ≡ [] }
         requires uncounted { change.old.counts ≡ no_tally }
         ensures { OnOk result (HasHappened
             (happening self.now.config process state.old time (Body.Purge object))
-            state.old object state.new out.old.items out.new.items change.new.trail) }
+            state.old object state.new out.old.items out.new.items M.keeps
+            (M.list change.new.trail)) }
     {
         state.purge(object, &mut change.trail)?;
         let order = Body::Drop {
@@ -255,24 +260,25 @@ impl Photo {
     }
 
     /// A drop at an origin, which tells every edge but the one that told it.
-    fn drop_object(
+    fn drop_object<M: Marks>(
         &self,
         process: u32,
         state: &mut CacheState,
         time: u64,
         object: u64,
         edge: u32,
-        change: &mut Change<Tally>,
+        change: &mut Change<Tally, M>,
         out: &mut Vec<Event<Body>>,
     ) -> Result<(), NoMemory>
         requires well_formed { IsWellFormed self.now.config process state.old }
         requires early { time < end_of_time }
         requires process { process + 1 < 2 ^ 32 }
-        requires none { change.old.trail ≡ [] }
+        requires none { M.list change.old.trail ≡ [] }
         requires uncounted { change.old.counts ≡ no_tally }
         ensures { OnOk result (HasHappened
             (happening self.now.config process state.old time (Body.Drop object edge))
-            state.old object state.new out.old.items out.new.items change.new.trail) }
+            state.old object state.new out.old.items out.new.items M.keeps
+            (M.list change.new.trail)) }
     {
         state.purge(object, &mut change.trail)?;
         let first = state.sends();
@@ -283,20 +289,21 @@ impl Photo {
     }
 
     /// A clear at an edge, which tells nobody.
-    fn clear(
+    fn clear<M: Marks>(
         &self,
         process: u32,
         state: &mut CacheState,
         object: u64,
-        change: &mut Change<Tally>,
+        change: &mut Change<Tally, M>,
         out: &mut Vec<Event<Body>>,
     ) -> Result<(), NoMemory>
         requires well_formed { IsWellFormed self.now.config process state.old }
-        requires none { change.old.trail ≡ [] }
+        requires none { M.list change.old.trail ≡ [] }
         requires uncounted { change.old.counts ≡ no_tally }
         ensures { OnOk result (HasHappened
             (purge_happening state.old object [])
-            state.old object state.new out.old.items out.new.items change.new.trail) }
+            state.old object state.new out.old.items out.new.items M.keeps
+            (M.list change.new.trail)) }
     {
         state.purge(object, &mut change.trail)?;
         Ok(())
@@ -432,7 +439,7 @@ impl VtModel for Photo {
 
     fn advance(
         &self,
-        alloc: Global,
+        _alloc: Global,
         process: u32,
         state: &mut CacheState,
         event: &Event<Body>,
@@ -441,8 +448,11 @@ impl VtModel for Photo {
         if self.exhausted(state) {
             return Err(Refusal::Exhausted);
         }
-        let mut dropped = Change::new(alloc, Tally::default());
-        self.happen(process, state, event, &mut dropped, out)?;
+        let mut unmarked = Change {
+            trail: NoMarks,
+            counts: Tally::default(),
+        };
+        self.happen(process, state, event, &mut unmarked, out)?;
         Ok(())
     }
 

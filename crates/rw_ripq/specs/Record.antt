@@ -5,9 +5,7 @@ use Rattle.rw_blocks.specs.declared.Mark.{Mark}
 use Rattle.rw_blocks.specs.State.{QueueState, row_at}
 use Rattle.rw_blocks.specs.Loose.{IsLoose}
 use Rattle.rw_blocks.specs.Sums.{total}
-use Rattle.rw_ripq.specs.declared.Tally.{Tally}
-use Rattle.rw_ripq.specs.declared.change.Change.{Change}
-use Rattle.rw_ripq.specs.Work.{Work, work_of}
+use Rattle.rw_ripq.specs.Work.{Work}
 use Rattle.rw_ripq.specs.Evict.{displaced_rows}
 use Rattle.rw_ripq.specs.Trail.{Leads}
 use Rattle.rw_ripq.specs.Weight.{Spends}
@@ -17,10 +15,6 @@ use Rattle.rw_ripq.specs.Limits.{exhaustion}
 pub record Recorded (ms : List Mark) (w : Work) (ns : List Mark) (v : Work) : Type 0 where
   pub leads : (start : QueueState) → Leads ms start w.queue → Leads ns start v.queue
   pub spends : Spends (length ms) w (length ns) v
-
--- from one queue and the change so far to a later queue and the change then
-abbrev pub Extends : QueueState → Change Tally → QueueState → Change Tally → Type 0
-Extends q c q' c' = Recorded c.trail (work_of q c.counts) c'.trail (work_of q' c'.counts)
 
 -- the counts and serials of an eviction stay within 64 bits
 pub record HasHeadroom (w : Work) : Type 0 where

@@ -1,13 +1,13 @@
 // Adjust: evict, at most one merge of two sections with few bytes, evict, and at most one split of a section with many.
-ghost use Rattle.std.specs.Prelude.{◌≡◌, ◌<◌, ◌+◌, ◌^◌, length, OnOk};
+ghost use Rattle.std.specs.Prelude.{◌≡◌, true, ◌<◌, ◌+◌, ◌^◌, length, OnOk};
 ghost use Rattle.rw_blocks.specs.Loose.{IsLoose};
 ghost use Rattle.rw_ripq.specs.Work.{work_of};
 ghost use Rattle.rw_ripq.specs.Adjust.{is_light, light_pair, is_heavy, heavy_section, merge_once, split_once, adjust};
-ghost use Rattle.rw_ripq.specs.Record.{Extends, HasHeadroom};
+ghost use Rattle.rw_ripq.specs.Record.{Recorded, HasHeadroom};
 
 use crate::eviction::evict;
 use crate::putting::count_write;
-use crate::{Change, Tally};
+use crate::{Change, Marks, Tally};
 use rw_blocks::{Kind, Queue};
 use rw_vt::NoMemory;
 
@@ -48,13 +48,15 @@ fn heavy_section(queue: &Queue) -> Option<usize>
 }
 
 /// Merges the first pair of neighbours with few bytes, if there is one, and evicts.
-fn merge_once(queue: &mut Queue, change: &mut Change<Tally>) -> Result<(), NoMemory>
+fn merge_once<M: Marks>(queue: &mut Queue, change: &mut Change<Tally, M>) -> Result<(), NoMemory>
     requires loose { IsLoose queue.old }
     requires headroom { HasHeadroom (work_of queue.old change.old.counts) }
     requires first { change.old.counts.merges ≡ 0 }
     ensures effect { OnOk result (work_of queue.new change.new.counts
         ≡ merge_once (work_of queue.old change.old.counts)) }
-    ensures trail { OnOk result (Extends queue.old change.old queue.new change.new) }
+    ensures trail { OnOk result (M.keeps ≡ true
+        → Recorded (M.list change.old.trail) (work_of queue.old change.old.counts)
+        (M.list change.new.trail) (work_of queue.new change.new.counts)) }
     ensures kept { OnOk result (IsLoose queue.new) }
 {
     let Some(section) = light_pair(queue) else {
@@ -70,13 +72,15 @@ fn merge_once(queue: &mut Queue, change: &mut Change<Tally>) -> Result<(), NoMem
 }
 
 /// Splits the first section with many bytes, if there is one and the shape allows one section more.
-fn split_once(queue: &mut Queue, change: &mut Change<Tally>) -> Result<(), NoMemory>
+fn split_once<M: Marks>(queue: &mut Queue, change: &mut Change<Tally, M>) -> Result<(), NoMemory>
     requires loose { IsLoose queue.old }
     requires fresh { queue.old.next + 1 < 2 ^ 63 }
     requires first { change.old.counts.splits ≡ 0 }
     ensures effect { OnOk result (work_of queue.new change.new.counts
         ≡ split_once (work_of queue.old change.old.counts)) }
-    ensures trail { OnOk result (Extends queue.old change.old queue.new change.new) }
+    ensures trail { OnOk result (M.keeps ≡ true
+        → Recorded (M.list change.old.trail) (work_of queue.old change.old.counts)
+        (M.list change.new.trail) (work_of queue.new change.new.counts)) }
     ensures kept { OnOk result (IsLoose queue.new) }
 {
     if queue.sections() as u64 >= queue.allowed_sections() {
@@ -93,14 +97,16 @@ fn split_once(queue: &mut Queue, change: &mut Change<Tally>) -> Result<(), NoMem
 
 /// Adjusts the queue after a put that sealed a device block: evicts, merges at most one pair of sections, evicts
 /// again, and splits at most one section.
-pub fn adjust(queue: &mut Queue, change: &mut Change<Tally>) -> Result<(), NoMemory>
+pub fn adjust<M: Marks>(queue: &mut Queue, change: &mut Change<Tally, M>) -> Result<(), NoMemory>
     requires loose { IsLoose queue.old }
     requires headroom { HasHeadroom (work_of queue.old change.old.counts) }
     requires merges { change.old.counts.merges ≡ 0 }
     requires splits { change.old.counts.splits ≡ 0 }
     ensures effect { OnOk result (work_of queue.new change.new.counts
         ≡ adjust (work_of queue.old change.old.counts)) }
-    ensures trail { OnOk result (Extends queue.old change.old queue.new change.new) }
+    ensures trail { OnOk result (M.keeps ≡ true
+        → Recorded (M.list change.old.trail) (work_of queue.old change.old.counts)
+        (M.list change.new.trail) (work_of queue.new change.new.counts)) }
     ensures kept { OnOk result (IsLoose queue.new) }
 {
     evict(queue, change)?;

@@ -7,21 +7,27 @@ ghost use Rattle.rw_blocks.specs.Questions.{last_block};
 ghost use Rattle.rw_ripq.specs.Work.{work_of};
 ghost use Rattle.rw_ripq.specs.Evict.{leave, objects_placed, objects_homed, reinsert, evict_last, is_over, evict};
 ghost use Rattle.rw_ripq.specs.Victim.{IsVictim};
-ghost use Rattle.rw_ripq.specs.Record.{Extends, HasHeadroom};
+ghost use Rattle.rw_ripq.specs.Record.{Recorded, HasHeadroom};
 
 use crate::putting::{count_write, make_room};
 use crate::sealed::{clear, take_out};
-use crate::{Change, Tally};
+use crate::{Change, Marks, Tally};
 use rw_blocks::{Kind, Queue};
 use rw_vt::NoMemory;
 
 /// Removes the objects whose place is the block, the least first, and counts them as evicted.
-fn leave(queue: &mut Queue, change: &mut Change<Tally>, block: u64) -> Result<(), NoMemory>
+fn leave<M: Marks>(
+    queue: &mut Queue,
+    change: &mut Change<Tally, M>,
+    block: u64,
+) -> Result<(), NoMemory>
     requires loose { IsLoose queue.old }
     requires headroom { HasHeadroom (work_of queue.old change.old.counts) }
     ensures effect { OnOk result (work_of queue.new change.new.counts
         ≡ leave (work_of queue.old change.old.counts) (objects_placed queue.old block)) }
-    ensures trail { OnOk result (Extends queue.old change.old queue.new change.new) }
+    ensures trail { OnOk result (M.keeps ≡ true
+        → Recorded (M.list change.old.trail) (work_of queue.old change.old.counts)
+        (M.list change.new.trail) (work_of queue.new change.new.counts)) }
 {
     let objects = queue.placed(block)?;
     for object in &objects {
@@ -33,7 +39,11 @@ fn leave(queue: &mut Queue, change: &mut Change<Tally>, block: u64) -> Result<()
 }
 
 /// Writes an object again, into the section that holds its place; its place before is taken out where that empties it.
-fn reinsert(queue: &mut Queue, change: &mut Change<Tally>, object: u64) -> Result<(), NoMemory>
+fn reinsert<M: Marks>(
+    queue: &mut Queue,
+    change: &mut Change<Tally, M>,
+    object: u64,
+) -> Result<(), NoMemory>
     requires loose { IsLoose queue.old }
     requires resident { IsSome (row_at queue.old object) }
     requires fresh { queue.old.next < 2 ^ 63 }
@@ -41,7 +51,9 @@ fn reinsert(queue: &mut Queue, change: &mut Change<Tally>, object: u64) -> Resul
     requires writes { change.old.counts.writes < 2 ^ 63 }
     ensures effect { OnOk result (work_of queue.new change.new.counts
         ≡ reinsert (work_of queue.old change.old.counts) object) }
-    ensures trail { OnOk result (Extends queue.old change.old queue.new change.new) }
+    ensures trail { OnOk result (M.keeps ≡ true
+        → Recorded (M.list change.old.trail) (work_of queue.old change.old.counts)
+        (M.list change.new.trail) (work_of queue.new change.new.counts)) }
 {
     let row = queue.row(object).unwrap();
     let section = queue.section_of(row.place).unwrap();
@@ -55,12 +67,18 @@ fn reinsert(queue: &mut Queue, change: &mut Change<Tally>, object: u64) -> Resul
 }
 
 /// Writes the objects again whose home is the block, the least first.
-fn reinsert_all(queue: &mut Queue, change: &mut Change<Tally>, block: u64) -> Result<(), NoMemory>
+fn reinsert_all<M: Marks>(
+    queue: &mut Queue,
+    change: &mut Change<Tally, M>,
+    block: u64,
+) -> Result<(), NoMemory>
     requires victim { IsVictim block queue.old }
     requires headroom { HasHeadroom (work_of queue.old change.old.counts) }
     ensures effect { OnOk result (work_of queue.new change.new.counts
         ≡ fold reinsert (work_of queue.old change.old.counts) (objects_homed queue.old block)) }
-    ensures trail { OnOk result (Extends queue.old change.old queue.new change.new) }
+    ensures trail { OnOk result (M.keeps ≡ true
+        → Recorded (M.list change.old.trail) (work_of queue.old change.old.counts)
+        (M.list change.new.trail) (work_of queue.new change.new.counts)) }
 {
     let objects = queue.homed(block)?;
     for object in &objects {
@@ -71,13 +89,19 @@ fn reinsert_all(queue: &mut Queue, change: &mut Change<Tally>, block: u64) -> Re
 
 /// Evicts the last sealed block: the objects whose place it is leave, and the others whose home it is are written
 /// again. A virtual block is no object's home.
-fn evict_last(queue: &mut Queue, change: &mut Change<Tally>, block: u64) -> Result<(), NoMemory>
+fn evict_last<M: Marks>(
+    queue: &mut Queue,
+    change: &mut Change<Tally, M>,
+    block: u64,
+) -> Result<(), NoMemory>
     requires loose { IsLoose queue.old }
     requires last { option_map (λ b. b.0) (last_block queue.old) ≡ Some block }
     requires headroom { HasHeadroom (work_of queue.old change.old.counts) }
     ensures effect { OnOk result (work_of queue.new change.new.counts
         ≡ evict_last (work_of queue.old change.old.counts)) }
-    ensures trail { OnOk result (Extends queue.old change.old queue.new change.new) }
+    ensures trail { OnOk result (M.keeps ≡ true
+        → Recorded (M.list change.old.trail) (work_of queue.old change.old.counts)
+        (M.list change.new.trail) (work_of queue.new change.new.counts)) }
 {
     leave(queue, change, block)?;
     reinsert_all(queue, change, block)?;
@@ -101,12 +125,14 @@ fn victim(queue: &Queue) -> Option<u64>
 }
 
 /// Evicts from the tail until no more device blocks are sealed than the shape allows.
-pub fn evict(queue: &mut Queue, change: &mut Change<Tally>) -> Result<(), NoMemory>
+pub fn evict<M: Marks>(queue: &mut Queue, change: &mut Change<Tally, M>) -> Result<(), NoMemory>
     requires loose { IsLoose queue.old }
     requires headroom { HasHeadroom (work_of queue.old change.old.counts) }
     ensures effect { OnOk result (work_of queue.new change.new.counts
         ≡ evict (work_of queue.old change.old.counts)) }
-    ensures trail { OnOk result (Extends queue.old change.old queue.new change.new) }
+    ensures trail { OnOk result (M.keeps ≡ true
+        → Recorded (M.list change.old.trail) (work_of queue.old change.old.counts)
+        (M.list change.new.trail) (work_of queue.new change.new.counts)) }
     ensures kept { OnOk result (IsLoose queue.new) }
 {
     while let Some(block) = victim(queue) {

@@ -1,5 +1,5 @@
 // Insert: a miss puts an object at the target of its level, and the queue is adjusted where that sealed a device block.
-ghost use Rattle.std.specs.Prelude.{◌≡◌, ◌≤◌, ◌<◌, ◌+◌, ◌^◌, ◌≢◌, ◌↔◌, length, None, OnOk, IfOk, Err, []};
+ghost use Rattle.std.specs.Prelude.{◌≡◌, true, ◌≤◌, ◌<◌, ◌+◌, ◌^◌, ◌≢◌, ◌↔◌, length, None, OnOk, IfOk, Err, []};
 ghost use Rattle.rw_blocks.specs.State.{row_at, QueueState};
 ghost use Rattle.rw_blocks.specs.Loose.{IsWellFormedQueue};
 ghost use Rattle.rw_vt.specs.declared.refusal.Refusal.{Refusal};
@@ -16,7 +16,7 @@ ghost use Rattle.rw_ripq.specs.Weight.{Spends, IsShort};
 use crate::adjusting::adjust;
 use crate::levels::target;
 use crate::putting::make_room;
-use crate::{Change, EXHAUSTED, Policy, Tally, Trail};
+use crate::{Change, EXHAUSTED, Marks, Policy, Tally, Trail};
 use rw_blocks::{Kind, Queue};
 use rw_vt::{NoMemory, Refusal};
 use std::alloc::Global;
@@ -72,14 +72,15 @@ pub fn insert(
     Ok((trail, counts))
 }
 
-/// [`insert`] with a change of the caller's, which has no mark and no count yet.
+/// [`insert`] with a change of the caller's, which has no mark and no count yet. With [`crate::NoMarks`] it keeps none, and the
+/// insertion cannot be taken back.
 ///
 /// # Errors
 ///
 /// As [`insert`]. Nothing is said of the change then.
-pub fn insert_with(
+pub fn insert_with<M: Marks>(
     queue: &mut Queue,
-    change: &mut Change<Tally>,
+    change: &mut Change<Tally, M>,
     policy: Policy,
     object: u64,
     size: u64,
@@ -92,14 +93,16 @@ pub fn insert_with(
     requires small { size ≤ queue.old.shape.block }
     requires from_one { 1 ≤ level }
     requires to_highest { level ≤ highest_level policy }
-    requires none { change.old.trail ≡ [] }
+    requires none { M.list change.old.trail ≡ [] }
     requires uncounted { change.old.counts ≡ no_tally }
     ensures exhausted { (result ≡ Err Refusal.Exhausted) ↔ (exhaustion ≤ queue.old.next) }
     ensures effect { OnOk result (queue.new ≡ (insert policy queue.old object size level).queue) }
     ensures tally { OnOk result
         (change.new.counts ≡ (insert policy queue.old object size level).tally) }
-    ensures leads { OnOk result (Leads change.new.trail queue.old queue.new) }
-    ensures short { OnOk result (IsShort change.new.trail queue.old queue.new) }
+    ensures leads { OnOk result (M.keeps ≡ true
+        → Leads (M.list change.new.trail) queue.old queue.new) }
+    ensures short { OnOk result (M.keeps ≡ true
+        → IsShort (M.list change.new.trail) queue.old queue.new) }
     ensures kept { OnOk result (IsWellFormedQueue queue.new) }
     ensures sizes { OnOk result (KeepsSizes queue.old queue.new) }
     ensures adds { OnOk result (AddsOnly queue.old object size queue.new) }
@@ -118,9 +121,9 @@ pub fn insert_with(
 }
 
 /// Puts a new object into the section, and adjusts where that sealed a device block.
-fn insert_at(
+fn insert_at<M: Marks>(
     queue: &mut Queue,
-    change: &mut Change<Tally>,
+    change: &mut Change<Tally, M>,
     object: u64,
     size: u64,
     section: usize,
@@ -131,10 +134,12 @@ fn insert_at(
     requires none { change.old.counts ≡ no_tally }
     ensures effect { OnOk result (work_of queue.new change.new.counts
         ≡ insert_at queue.old object size section) }
-    ensures leads { OnOk result ((start : QueueState)
-        → Leads change.old.trail start queue.old → Leads change.new.trail start queue.new) }
-    ensures spends { OnOk result (Spends (length change.old.trail + 1) (work_before queue.old)
-        (length change.new.trail) (work_of queue.new change.new.counts)) }
+    ensures leads { OnOk result (M.keeps ≡ true → (start : QueueState)
+        → Leads (M.list change.old.trail) start queue.old
+        → Leads (M.list change.new.trail) start queue.new) }
+    ensures spends { OnOk result (M.keeps ≡ true
+        → Spends (length (M.list change.old.trail) + 1) (work_before queue.old)
+        (length (M.list change.new.trail)) (work_of queue.new change.new.counts)) }
 {
     if let Some(mark) = queue.add_within(object, size, section)? {
         change.trail.push(mark)?;

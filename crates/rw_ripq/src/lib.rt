@@ -3,7 +3,8 @@
 //! insertion, which may evict, merge and split, promotion on a hit, and purging an object.
 //!
 //! Each operation returns a [`Trail`], the undo log with which [`rewind`] reverses it as a whole
-//! (reverse computation: Carothers, Perumalla and Fujimoto, 1999).
+//! (reverse computation: Carothers, Perumalla and Fujimoto, 1999). The calls that end in `_with` are generic in what becomes of
+//! the marks: one that is never taken back keeps none ([`NoMarks`]).
 //!
 //! Worked examples: `rw_cache_tests/src/insertions.rt`.
 
@@ -15,6 +16,7 @@ mod change;
 mod eviction;
 mod insertion;
 mod levels;
+mod marks;
 mod promotion;
 mod purging;
 mod putting;
@@ -25,6 +27,7 @@ mod trail;
 pub use change::Change;
 pub use insertion::{insert, insert_with};
 pub use levels::{level_of, resident, target};
+pub use marks::{Marks, NoMarks};
 pub use promotion::{promote, promote_row, promote_with};
 pub use purging::{purge, purge_with};
 pub use rw_blocks::{Kind, Mark, Place, Queue, Shape};

@@ -1,5 +1,5 @@
 // Promote: a hit raises an object's priority by a virtual block, without writing it.
-ghost use Rattle.std.specs.Prelude.{◌≡◌, ◌≤◌, ◌<◌, ◌+◌, ◌^◌, ◌≢◌, ◌↔◌, length, not, nat_eq, OnOk, IfOk, IsSome, Some, Err, []};
+ghost use Rattle.std.specs.Prelude.{◌≡◌, true, ◌≤◌, ◌<◌, ◌+◌, ◌^◌, ◌≢◌, ◌↔◌, length, not, nat_eq, OnOk, IfOk, IsSome, Some, Err, []};
 ghost use Rattle.rw_blocks.specs.State.{row_at, row_or, QueueState};
 ghost use Rattle.rw_blocks.specs.Loose.{IsLoose, IsWellFormedQueue};
 ghost use Rattle.rw_blocks.specs.Sums.{total};
@@ -16,7 +16,7 @@ ghost use Rattle.rw_ripq.specs.Trail.{Leads};
 use crate::levels::{level_of_section, slru_target};
 use crate::putting::make_room;
 use crate::sealed::clear;
-use crate::{EXHAUSTED, Policy, Trail};
+use crate::{EXHAUSTED, Marks, Policy, Trail};
 use rw_blocks::{Kind, Place, Queue};
 use rw_vt::{NoMemory, Refusal};
 use std::alloc::Global;
@@ -109,14 +109,15 @@ pub fn promote_row(
     Ok((trail, changed))
 }
 
-/// [`promote_row`] with a trail of the caller's, which has no mark yet. Answers whether the place changed.
+/// [`promote_row`] with a trail of the caller's, which has no mark yet, or with [`crate::NoMarks`], which keeps none. Answers
+/// whether the place changed.
 ///
 /// # Errors
 ///
 /// As [`promote`]. Nothing is said of the trail then.
-pub fn promote_with(
+pub fn promote_with<M: Marks>(
     queue: &mut Queue,
-    trail: &mut Trail,
+    trail: &mut M,
     policy: Policy,
     object: u64,
     row: Place,
@@ -124,13 +125,15 @@ pub fn promote_with(
     requires well_formed { IsWellFormedQueue queue.old }
     requires row { row_at queue.old object ≡ Some row }
     requires stores { policy ≢ Policy.Off }
-    requires none { trail.old ≡ [] }
+    requires none { M.list trail.old ≡ [] }
     ensures exhausted { (result ≡ Err Refusal.Exhausted) ↔ (exhaustion ≤ queue.old.next) }
     ensures effect { OnOk result (queue.new ≡ promote policy queue.old object) }
     ensures changed { IfOk result (λ changed.
         changed ≡ not (nat_eq (row_or queue.new object).place (row_or queue.old object).place)) }
-    ensures leads { OnOk result (Leads trail.new queue.old queue.new) }
-    ensures short { OnOk result (IsShort trail.new queue.old queue.new) }
+    ensures leads { OnOk result (M.keeps ≡ true
+        → Leads (M.list trail.new) queue.old queue.new) }
+    ensures short { OnOk result (M.keeps ≡ true
+        → IsShort (M.list trail.new) queue.old queue.new) }
     ensures kept { OnOk result (IsWellFormedQueue queue.new) }
     ensures home { OnOk result (KeepsHome queue.old object queue.new) }
     ensures others { OnOk result (KeepsOthers queue.old object queue.new) }
@@ -149,9 +152,9 @@ pub fn promote_with(
 
 /// Makes the section's active virtual block the object's place, unless that is an active block of the section already.
 /// The object's place before is a block of the section `from`. Answers whether the place changed.
-fn promote_to(
+fn promote_to<M: Marks>(
     queue: &mut Queue,
-    trail: &mut Trail,
+    trail: &mut M,
     object: u64,
     row: Place,
     from: usize,
@@ -165,9 +168,10 @@ fn promote_to(
     ensures effect { OnOk result (queue.new ≡ promote_to queue.old object section) }
     ensures changed { IfOk result (λ changed.
         changed ≡ not (is_active_in queue.old (row_or queue.old object).place section)) }
-    ensures leads { OnOk result ((start : QueueState)
-        → Leads trail.old start queue.old → Leads trail.new start queue.new) }
-    ensures marks { OnOk result (length trail.new ≤ length trail.old + 3) }
+    ensures leads { OnOk result (M.keeps ≡ true → (start : QueueState)
+        → Leads (M.list trail.old) start queue.old → Leads (M.list trail.new) start queue.new) }
+    ensures marks { OnOk result (M.keeps ≡ true
+        → length (M.list trail.new) ≤ length (M.list trail.old) + 3) }
 {
     if row.place == queue.active(section, Kind::Device)
         || row.place == queue.active(section, Kind::Virtual)

@@ -1,5 +1,5 @@
 // Purge: an object leaves, whatever its priority.
-ghost use Rattle.std.specs.Prelude.{◌≡◌, ◌≤◌, length, None, OnOk, IfOk, IsSome, []};
+ghost use Rattle.std.specs.Prelude.{◌≡◌, true, ◌≤◌, length, None, OnOk, IfOk, IsSome, []};
 ghost use Rattle.rw_blocks.specs.State.{row_at};
 ghost use Rattle.rw_blocks.specs.Loose.{IsWellFormedQueue};
 ghost use Rattle.rw_ripq.specs.Purge.{purge};
@@ -7,8 +7,8 @@ ghost use Rattle.rw_ripq.specs.Trail.{Leads};
 ghost use Rattle.rw_ripq.specs.Laws.{KeepsOthers};
 ghost use Rattle.rw_ripq.specs.Order.{KeepsOrder};
 
-use crate::Trail;
 use crate::sealed::clear;
+use crate::{Marks, Trail};
 use rw_blocks::Queue;
 use rw_vt::NoMemory;
 use std::alloc::Global;
@@ -37,18 +37,19 @@ pub fn purge(alloc: Global, queue: &mut Queue, object: u64) -> Result<Trail, NoM
     Ok(trail)
 }
 
-/// [`purge`] with a trail of the caller's, which has no mark yet.
+/// [`purge`] with a trail of the caller's, which has no mark yet, or with [`crate::NoMarks`], which keeps none.
 ///
 /// # Errors
 ///
 /// As [`purge`]. Nothing is said of the trail then.
-pub fn purge_with(queue: &mut Queue, trail: &mut Trail, object: u64) -> Result<(), NoMemory>
+pub fn purge_with<M: Marks>(queue: &mut Queue, trail: &mut M, object: u64) -> Result<(), NoMemory>
     requires well_formed { IsWellFormedQueue queue.old }
     requires resident { IsSome (row_at queue.old object) }
-    requires none { trail.old ≡ [] }
+    requires none { M.list trail.old ≡ [] }
     ensures effect { OnOk result (queue.new ≡ purge queue.old object) }
-    ensures leads { OnOk result (Leads trail.new queue.old queue.new) }
-    ensures short { OnOk result (length trail.new ≤ 2) }
+    ensures leads { OnOk result (M.keeps ≡ true
+        → Leads (M.list trail.new) queue.old queue.new) }
+    ensures short { OnOk result (M.keeps ≡ true → length (M.list trail.new) ≤ 2) }
     ensures kept { OnOk result (IsWellFormedQueue queue.new) }
     ensures gone { OnOk result (row_at queue.new object ≡ None) }
     ensures others { OnOk result (KeepsOthers queue.old object queue.new) }

@@ -1,11 +1,11 @@
 // Room for an object in an active block.
-ghost use Rattle.std.specs.Prelude.{◌≡◌, ◌≤◌, ◌<◌, ◌+◌, ◌^◌, length, not, OnOk, IfOk};
+ghost use Rattle.std.specs.Prelude.{◌≡◌, true, ◌≤◌, ◌<◌, ◌+◌, ◌^◌, length, not, OnOk, IfOk};
 ghost use Rattle.rw_blocks.specs.Loose.{IsLoose};
 ghost use Rattle.rw_ripq.specs.Work.{work_before, one_if};
 ghost use Rattle.rw_ripq.specs.Put.{is_room, with_room};
 ghost use Rattle.rw_ripq.specs.Record.{Recorded};
 
-use crate::{Tally, Trail};
+use crate::{Marks, Tally};
 use rw_blocks::{Kind, Queue};
 use rw_vt::NoMemory;
 
@@ -20,9 +20,9 @@ pub fn count_write(tally: &mut Tally, written: bool)
 }
 
 /// Seals the section's active block of the kind where `size` bytes do not fit it. Answers whether it was sealed.
-pub fn make_room(
+pub fn make_room<M: Marks>(
     queue: &mut Queue,
-    trail: &mut Trail,
+    trail: &mut M,
     section: usize,
     kind: Kind,
     size: u64,
@@ -33,9 +33,11 @@ pub fn make_room(
     requires fresh { queue.old.next < 2 ^ 63 }
     ensures full { IfOk result (λ full. full ≡ not (is_room queue.old kind section size)) }
     ensures effect { OnOk result (queue.new ≡ with_room queue.old kind section size) }
-    ensures trail { OnOk result (Recorded trail.old (work_before queue.old)
-        trail.new (work_before queue.new)) }
-    ensures marks { OnOk result (length trail.new ≤ length trail.old + 1) }
+    ensures trail { OnOk result (M.keeps ≡ true
+        → Recorded (M.list trail.old) (work_before queue.old)
+        (M.list trail.new) (work_before queue.new)) }
+    ensures marks { OnOk result (M.keeps ≡ true
+        → length (M.list trail.new) ≤ length (M.list trail.old) + 1) }
     ensures kept { OnOk result (IsLoose queue.new) }
 {
     if queue.active_fill(section, kind) <= queue.block_size() - size {

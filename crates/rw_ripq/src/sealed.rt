@@ -7,7 +7,7 @@ ghost use Rattle.rw_ripq.specs.Work.{work_before};
 ghost use Rattle.rw_ripq.specs.Sealed.{is_sealed, sealed_section, sealed_position, without_block, is_emptied, without_if_emptied};
 ghost use Rattle.rw_ripq.specs.Record.{Recorded};
 
-use crate::Trail;
+use crate::Marks;
 use rw_blocks::{Kind, Queue};
 use rw_vt::NoMemory;
 
@@ -107,14 +107,16 @@ fn find_sealed(queue: &Queue, block: u64) -> Option<(usize, usize)>
 }
 
 /// Takes a sealed block out of its list. It is no row's home or place.
-pub fn take_out(queue: &mut Queue, trail: &mut Trail, block: u64) -> Result<(), NoMemory>
+pub fn take_out<M: Marks>(queue: &mut Queue, trail: &mut M, block: u64) -> Result<(), NoMemory>
     requires loose { IsLoose queue.old }
     requires sealed { is_sealed queue.old block ≡ true }
     requires free { IsFree queue.old block }
     ensures effect { OnOk result (queue.new ≡ without_block queue.old block) }
-    ensures trail { OnOk result (Recorded trail.old (work_before queue.old)
-        trail.new (work_before queue.new)) }
-    ensures marks { OnOk result (length trail.new ≤ length trail.old + 1) }
+    ensures trail { OnOk result (M.keeps ≡ true
+        → Recorded (M.list trail.old) (work_before queue.old)
+        (M.list trail.new) (work_before queue.new)) }
+    ensures marks { OnOk result (M.keeps ≡ true
+        → length (M.list trail.new) ≤ length (M.list trail.old) + 1) }
     ensures kept { OnOk result (IsLoose queue.new) }
 {
     let (section, position) = find_sealed(queue, block).unwrap();
@@ -146,12 +148,14 @@ fn is_emptied(queue: &Queue, block: u64) -> bool
 }
 
 /// Takes the block out where it is a sealed virtual one that no row has as its place.
-pub fn clear(queue: &mut Queue, trail: &mut Trail, block: u64) -> Result<(), NoMemory>
+pub fn clear<M: Marks>(queue: &mut Queue, trail: &mut M, block: u64) -> Result<(), NoMemory>
     requires { IsLoose queue.old }
     ensures effect { OnOk result (queue.new ≡ without_if_emptied queue.old block) }
-    ensures trail { OnOk result (Recorded trail.old (work_before queue.old)
-        trail.new (work_before queue.new)) }
-    ensures marks { OnOk result (length trail.new ≤ length trail.old + 1) }
+    ensures trail { OnOk result (M.keeps ≡ true
+        → Recorded (M.list trail.old) (work_before queue.old)
+        (M.list trail.new) (work_before queue.new)) }
+    ensures marks { OnOk result (M.keeps ≡ true
+        → length (M.list trail.new) ≤ length (M.list trail.old) + 1) }
     ensures kept { OnOk result (IsLoose queue.new) }
 {
     if is_emptied(queue, block) {

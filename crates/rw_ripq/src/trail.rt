@@ -1,8 +1,9 @@
 // The undo record of an operation: the marks of its primitives.
-ghost use Rattle.std.specs.Prelude.{◌≡◌, [], ◌∷◌, ◌++◌, OnOk, IfSome, IsNone, length};
+ghost use Rattle.std.specs.Prelude.{◌≡◌, true, [], ◌∷◌, ◌++◌, OnOk, IfSome, IsNone, length};
 ghost use Rattle.rw_blocks.specs.State.{QueueState};
 ghost use Rattle.rw_ripq.specs.Trail.{rewind_of, IsRewindable, Leads};
 
+use crate::Marks;
 use rw_blocks::{Mark, Queue};
 use rw_vt::NoMemory;
 use std::alloc::Global;
@@ -41,18 +42,6 @@ impl Trail {
         }
     }
 
-    /// Adds the mark of the last primitive.
-    pub(crate) fn push(&mut self, mark: Mark) -> Result<(), NoMemory>
-        ensures { OnOk result (self.new ≡ self.old ++ mark ∷ []) }
-    {
-        if self.first.is_none() {
-            self.first = Some(mark);
-            return Ok(());
-        }
-        self.others.push(mark)?;
-        Ok(())
-    }
-
     /// Takes the last mark.
     fn pop(&mut self) -> Option<Mark>
         ensures some { IfSome result (λ mark. self.old ≡ self.new ++ mark ∷ []) }
@@ -69,6 +58,23 @@ impl Trail {
         ensures { result ≡ length self.now }
     {
         usize::from(self.first.is_some()) + self.others.len()
+    }
+}
+
+impl Marks for Trail {
+    ghost keeps = { true };
+
+    ghost list = { λ trail. trail };
+
+    fn push(&mut self, mark: Mark) -> Result<(), NoMemory>
+        ensures { OnOk result (true ≡ true → self.new ≡ self.old ++ mark ∷ []) }
+    {
+        if self.first.is_none() {
+            self.first = Some(mark);
+            return Ok(());
+        }
+        self.others.push(mark)?;
+        Ok(())
     }
 }
 

@@ -5,14 +5,14 @@ use Rattle.rw_ripq.proofs.Headroom.{evict-room, evict-counts, merge_once-room, m
 use Rattle.rw_ripq.proofs.adjusting.adjust.Goals as goal
 
 pub merge_once-requires-clause-headroom : goal.merge_once-requires-clause-headroom
-merge_once-requires-clause-headroom c = rw c.in_ok-evict.ensures.effect (evict-room _ c.requires.loose c.requires.headroom)
+merge_once-requires-clause-headroom g c = rw c.in_ok-evict.ensures.effect (evict-room _ c.requires.loose c.requires.headroom)
 
 pub merge_once-requires-clause-first : goal.merge_once-requires-clause-first
-merge_once-requires-clause-first c =
+merge_once-requires-clause-first g c =
     ap (λ (w : Work). w.tally.merges) c.in_ok-evict.ensures.effect ∙ (evict-counts (work_of c.args.queue.now c.args.change.now.counts) c.requires.loose).merges ∙ c.requires.merges
 
 pub split_once-requires-clause-fresh : goal.split_once-requires-clause-fresh
-split_once-requires-clause-fresh c =
+split_once-requires-clause-fresh g c =
     let v : Work = work_of c.evict.new.queue c.evict.new.change.counts in
     let room : HasHeadroom v = rw c.in_ok-evict.ensures.effect (evict-room _ c.requires.loose c.requires.headroom) in
     let first = ap (λ (w : Work). w.tally.merges) c.in_ok-evict.ensures.effect ∙ (evict-counts (work_of c.args.queue.now c.args.change.now.counts) c.requires.loose).merges ∙ c.requires.merges in
@@ -21,7 +21,7 @@ split_once-requires-clause-fresh c =
     omega arith
 
 pub split_once-requires-clause-first : goal.split_once-requires-clause-first
-split_once-requires-clause-first c =
+split_once-requires-clause-first g c =
     let w : Work = work_of c.args.queue.now c.args.change.now.counts in
     let v : Work = work_of c.evict.new.queue c.evict.new.change.counts in
     let counts = evict-counts w c.requires.loose in

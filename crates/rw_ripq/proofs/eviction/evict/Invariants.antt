@@ -1,4 +1,4 @@
-use Rattle.std.proofs.Common.{◌≡◌}
+use Rattle.std.proofs.Common.{◌≡◌, true}
 use Rattle.rw_blocks.specs.Loose.{IsLoose}
 use Rattle.rw_ripq.specs.Work.{work_of}
 use Rattle.rw_ripq.specs.Evict.{evict}
@@ -7,13 +7,13 @@ use Rattle.rw_ripq.proofs.Folds.{measure}
 use Rattle.rw_ripq.proofs.eviction.evict.Given as goal
 
 abbrev pub invariant-loop-block : goal.invariant-loop-block
-invariant-loop-block l =
+invariant-loop-block g l =
     record {
       loose : IsLoose l.queue;
       room : HasHeadroom (work_of l.queue l.change.counts);
       effect : evict (work_of l.queue l.change.counts) ≡ evict (work_of l.fn.queue l.fn.change.counts);
-      trail : Recorded l.fn.change.trail (work_of l.fn.queue l.fn.change.counts) l.change.trail (work_of l.queue l.change.counts);
+      trail : g.M.Marks.keeps ≡ true → Recorded (g.M.Marks.list l.fn.change.trail) (work_of l.fn.queue l.fn.change.counts) (g.M.Marks.list l.change.trail) (work_of l.queue l.change.counts);
     }
 
 abbrev pub decreases-loop-block : goal.decreases-loop-block
-decreases-loop-block l = measure l.queue
+decreases-loop-block g l = measure l.queue

@@ -11,12 +11,12 @@ use Rattle.rw_ripq.proofs.Made.{replace-fits}
 use Rattle.rw_ripq.proofs.promotion.promote_to.Goals as goal
 
 pub make_room-requires-clause-small : goal.make_room-requires-clause-small
-make_room-requires-clause-small c =
+make_room-requires-clause-small g c =
     let same : c.replace_within.new.self ≡ c.args.queue.now = when_none (c.replace_within.new.self ≡ c.args.queue.now) c.in_ok-mark.field-0 c.in_default.is c.in_ok-mark.ensures.full in
     subst (λ (z : QueueState). c.args.row.size ≤ z.shape.block) (sym same) (row-small _ _ _ c.requires.loose c.requires.row)
 
 pub replace_row-requires-clause-fits : goal.replace_row-requires-clause-fits
-replace_row-requires-clause-fits c =
+replace_row-requires-clause-fits g c =
     let q : QueueState = c.replace_within.new.self in
     let same : q ≡ c.args.queue.now = when_none (q ≡ c.args.queue.now) c.in_ok-mark.field-0 c.in_default.is c.in_ok-mark.ensures.full in
     let loose : IsLoose q = subst IsLoose (sym same) c.requires.loose in
@@ -26,17 +26,17 @@ replace_row-requires-clause-fits c =
 
 -- the slow way, by room that is made first
 pub returns-clause-leads : goal.returns-clause-leads
-returns-clause-leads c =
+returns-clause-leads g c =
     let same : c.replace_within.new.self ≡ c.args.queue.now = when_none (c.replace_within.new.self ≡ c.args.queue.now) c.in_ok-mark.field-0 c.in_default.is c.in_ok-mark.ensures.full in
-    λ start l. c.in_ok-clear-2.ensures.trail.leads start (rw c.in_ok-push-2.ensures (Leads-push _ _ _ _ _ (c.in_ok-make_room.ensures.trail.leads start (subst (λ (z : QueueState). Leads c.args.trail.now start z) (sym same) l)) c.in_ok-mark-2.ensures.undoes))
+    λ kept start l. (c.in_ok-clear-2.ensures.trail kept).leads start (rw (c.in_ok-push-2.ensures kept) (Leads-push _ _ _ _ _ ((c.in_ok-make_room.ensures.trail kept).leads start (subst (λ (z : QueueState). Leads (g.M.Marks.list c.args.trail.now) start z) (sym same) l)) c.in_ok-mark-2.ensures.undoes))
 
 -- the size fits: one call does it
 pub returns-in_ok-clear-clause-leads : goal.returns-in_ok-clear-clause-leads
-returns-in_ok-clear-clause-leads c =
+returns-in_ok-clear-clause-leads g c =
     let undoes : Undoes c.in-Some.mark c.args.queue.now c.replace_within.new.self = at_some (λ d. Undoes d.0 c.args.queue.now c.replace_within.new.self) c.in_ok-mark.field-0 (c.in-Some.mark, c.in-Some.left) c.in-Some.is c.in_ok-mark.ensures.undoes in
-    λ start l. c.in_ok-clear.ensures.trail.leads start (rw c.in_ok-push.ensures (Leads-push _ _ _ _ _ l undoes))
+    λ kept start l. (c.in_ok-clear.ensures.trail kept).leads start (rw (c.in_ok-push.ensures kept) (Leads-push _ _ _ _ _ l undoes))
 
 pub returns-else-not-left-clause-leads : goal.returns-else-not-left-clause-leads
-returns-else-not-left-clause-leads c =
+returns-else-not-left-clause-leads g c =
     let undoes : Undoes c.in-Some.mark c.args.queue.now c.replace_within.new.self = at_some (λ d. Undoes d.0 c.args.queue.now c.replace_within.new.self) c.in_ok-mark.field-0 (c.in-Some.mark, c.in-Some.left) c.in-Some.is c.in_ok-mark.ensures.undoes in
-    λ start l. rw c.in_ok-push.ensures (Leads-push _ _ _ _ _ l undoes)
+    λ kept start l. rw (c.in_ok-push.ensures kept) (Leads-push _ _ _ _ _ l undoes)

@@ -1,20 +1,17 @@
 use Rattle.std.proofs.Common.{◌≡◌, Bool, ap, ◌∙◌}
 use Rattle.rw_blocks.specs.State.{QueueState}
 use Rattle.rw_ripq.specs.Promote.{promote}
-use Rattle.rw_photo.specs.declared.counters.Counters.{Counters}
-use Rattle.rw_photo.specs.Counts.{one_hit}
+use Rattle.rw_photo.specs.Counts.{one_hit, sum_of}
 use Rattle.rw_photo.specs.contracts.cache.CacheState.{the_view}
-use Rattle.rw_photo.specs.Deeds.{once_made}
 use Rattle.rw_photo.specs.Storing.{is_moved}
+use Rattle.rw_photo.proofs.Stores.{hit-made}
 use Rattle.rw_photo.proofs.cache.CacheState.hit.Goals as goal
 
 pub returns-clause-state : goal.returns-clause-state
-returns-clause-state c =
+returns-clause-state g c =
     let q = c.self.inside.queue in
     let o = c.args.object in
     let after = promote c.args.policy q o in
     let moved : c.in-Ok.moved ≡ is_moved q after o = c.in-Ok.ensures.changed ∙ ap (λ (x : QueueState). is_moved q x o) c.in-Ok.ensures.effect in
-    rw (← c.self.view_is)
-    (c.count.ensures
-    ∙ (ap (λ (x : QueueState). once_made (the_view c.self.inside) (record { queue = x; counts = c.of_hit.result })) c.in-Ok.ensures.effect
-    ∙ ap (λ (k : Counters). once_made (the_view c.self.inside) (record { queue = after; counts = k })) (c.of_hit.ensures ∙ ap (λ (m : Bool). one_hit m c.args.size) moved)))
+    hit-made (the_view c.self.inside) c.args.self.now c.args.policy o c.args.size c.promote_with-promoted.new.queue c.hit.new.self c.self.view_is c.in-Ok.ensures.effect
+    (c.hit.ensures ∙ ap (λ (m : Bool). sum_of c.self.inside.counters (one_hit m c.args.size)) moved)

@@ -1,28 +1,23 @@
-use Rattle.std.proofs.Common.{rules, ◌≡◌, ◌≤◌, sym, ap, ◌∙◌, subst}
-use Rattle.rw_blocks.specs.State.{QueueState}
+use Rattle.std.proofs.Common.{rules, ◌≡◌, ◌≤◌, sym, ap, ◌∙◌}
+use Rattle.rw_ripq.specs.declared.Tally.{Tally}
 use Rattle.rw_ripq.specs.Insert.{insert}
-use Rattle.rw_photo.specs.declared.counters.Counters.{Counters}
-use Rattle.rw_ripq.specs.Weight.{IsShort}
-use Rattle.rw_photo.specs.Cache.{Cache}
-use Rattle.rw_photo.specs.Counts.{one_inserted}
+use Rattle.rw_photo.specs.Counts.{one_inserted, sum_of}
 use Rattle.rw_photo.specs.contracts.cache.CacheState.{the_view}
-use Rattle.rw_photo.specs.Deeds.{once_made}
-use Rattle.rw_photo.specs.Storing.{insertion, store}
+use Rattle.rw_photo.specs.Storing.{QueueAndCounts, insertion, store}
 use Rattle.rw_photo.proofs.Stores.{stored-small}
 use Rattle.rw_photo.proofs.cache.CacheState.store.Goals as goal
 
 pub returns-clause-state : goal.returns-clause-state
-returns-clause-state c =
+returns-clause-state g c =
     let q = c.self.inside.queue in
+    let k = c.self.inside.counters in
     let small : c.args.size ≤ q.shape.block = search rules in
     let made : store c.args.policy q c.args.object c.args.size ≡ insertion (insert c.args.policy q c.args.object c.args.size 1) = stored-small c.args.policy q c.args.object c.args.size (search rules) small in
     rw (← c.self.view_is)
-    (c.count-2.ensures
-    ∙ (ap (λ (x : QueueState). once_made (the_view c.self.inside) (record { queue = x; counts = c.of_insertion.result })) c.in-Ok.ensures.effect
-    ∙ (ap (λ (k : Counters). once_made (the_view c.self.inside) (record { queue = (insert c.args.policy q c.args.object c.args.size 1).queue; counts = k })) (c.of_insertion.ensures ∙ ap one_inserted c.in-Ok.ensures.tally)
-    ∙ ap (once_made (the_view c.self.inside)) (sym made))))
+    (λ i. record (the_view c.self.inside) {
+      queue = (c.in-Ok.ensures.effect ∙ ap (λ (m : QueueAndCounts). m.queue) (sym made)) i;
+      counters = (c.insert.ensures ∙ (ap (λ (t : Tally). sum_of k (one_inserted t)) c.in-Ok.ensures.tally ∙ ap (λ (m : QueueAndCounts). sum_of k m.counts) (sym made))) i;
+    })
 
 pub returns-clause-short : goal.returns-clause-short
-returns-clause-short c =
-    rw (← c.self.view_is)
-    (subst (IsShort c.insert_with-inserted.new.change.trail c.self.inside.queue) (sym (ap (λ (x : Cache). x.queue) c.count-2.ensures)) c.in-Ok.ensures.short)
+returns-clause-short g c = rw (← c.self.view_is) c.in-Ok.ensures.short

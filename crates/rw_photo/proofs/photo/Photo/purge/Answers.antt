@@ -6,10 +6,10 @@ use Rattle.rw_photo.proofs.Happenings.{served}
 use Rattle.rw_photo.proofs.photo.Photo.purge.Goals as goal
 
 pub returns : goal.returns
-returns c =
+returns g c =
     let s = c.args.state.now in
     let k = c.args.self.now.config in
     let p = c.args.process in
     let o = c.args.object in
-    served s c.purge.new.self c.send.new.self o 1 (purge_if_stored s.queue o) (event_from p s (c.args.time + k.up) (origin_of k o) (Drop o p) ∷ []) _ _ _ c.requires.well_formed.ascending
+    served s c.purge.new.self c.send.new.self o 1 (purge_if_stored s.queue o) (event_from p s (c.args.time + k.up) (origin_of k o) (Drop o p) ∷ []) _ _ _ _ c.requires.well_formed.ascending
     c.in_ok-purge.ensures.state c.in_ok-send.ensures.count refl (search rules) c.in_ok-purge.ensures.leads c.in_ok-purge.ensures.short
