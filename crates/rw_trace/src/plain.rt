@@ -130,6 +130,7 @@ fn line_end(bytes: &[u8], at: usize) -> Option<usize>
 }
 
 /// The row that the line at a place writes, and where the next line begins.
+#[inline(always)]
 pub fn plain_row(bytes: &[u8], at: usize, version: Version, edges: u32) -> Option<(Row, usize)>
     requires { at ≤ length bytes.now }
     ensures { IfSome result (λ r. IsRowAt version edges bytes.now at r.0 r.1) }
