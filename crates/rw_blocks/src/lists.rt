@@ -59,6 +59,7 @@ impl Entry {
     /// # Errors
     ///
     /// [`AllocError`] where memory was refused; all is then as it was.
+    #[inline]
     fn add(&mut self, object: u64, bytes: Bytes) -> Result<bool, AllocError>
         requires homed_fit { self.old.bytes.homed + bytes.homed < 2 ^ 64 }
         requires placed_fit { self.old.bytes.placed + bytes.placed < 2 ^ 64 }
@@ -82,6 +83,7 @@ impl Entry {
     /// # Errors
     ///
     /// [`AllocError`] where memory was refused; all is then as it was.
+    #[inline]
     fn add_within(
         &mut self,
         object: u64,
@@ -110,6 +112,7 @@ impl Entry {
     }
 
     /// Bytes leave. The list stays.
+    #[inline]
     fn take(&mut self, bytes: Bytes)
         requires homed_there { bytes.homed ≤ self.old.bytes.homed }
         requires placed_there { bytes.placed ≤ self.old.bytes.placed }
@@ -195,6 +198,7 @@ impl Lists {
     /// # Errors
     ///
     /// [`AllocError`] where memory was refused; all is then as it was.
+    #[inline]
     pub fn add_within(
         &mut self,
         serial: u64,
@@ -230,6 +234,7 @@ impl Lists {
 
     /// Bytes leave the block. An object may stay in its list; the list goes with the last row. The bytes of the rows are
     /// given whose place the block still is.
+    #[inline]
     pub fn take(&mut self, serial: u64, bytes: Bytes) -> u64
         requires homed_there { bytes.homed ≤ homed_in self.old serial }
         requires placed_there { bytes.placed ≤ placed_in self.old serial }

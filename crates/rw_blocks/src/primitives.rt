@@ -89,6 +89,45 @@ impl Queue {
         })
     }
 
+    /// [`rehome`](Queue::rehome) of an object whose row is known, and the section of its place, where the size fits the
+    /// section's active device block. Otherwise nothing changes, and the answer is `None`.
+    ///
+    /// # Errors
+    ///
+    /// [`NoMemory`] where memory was refused.
+    pub fn rehome_within(
+        &mut self,
+        object: u64,
+        row: Place,
+        from: usize,
+        section: usize,
+    ) -> Result<Option<Mark>, NoMemory>
+        requires loose { IsLoose self.old }
+        requires there { section < length self.old.sections }
+        requires row { row_at self.old object ≡ Some row }
+        requires stands { StandsIn row.place from self.old.sections }
+        ensures effect { IfOk result (λ mark. IfSome mark (λ m.
+            self.new ≡ after_rehome self.old object section)) }
+        ensures undoes { IfOk result (λ mark. IfSome mark (λ m. Undoes m self.old self.new)) }
+        ensures kept { IfOk result (λ mark. IfSome mark (λ m. IsLoose self.new)) }
+        ensures fits { IfOk result (λ mark. IfSome mark (λ m.
+            HasRoom Kind.Device self.old section row.size)) }
+        ensures full { IfOk result (λ mark. IsNone mark → self.new ≡ self.old) }
+    {
+        let active = self.sections.active(section, Kind::Device);
+        let most = self.block_size();
+        if !self.rows.rehome_within(object, row, active, most)? {
+            return Ok(None);
+        }
+        self.bytes[from] -= row.size;
+        self.bytes[section] += row.size;
+        Ok(Some(Mark::Rehome {
+            object,
+            home: row.home,
+            place: row.place,
+        }))
+    }
+
     /// Raises an object's priority without writing it: its place becomes the section's active virtual block, and its
     /// home stays. The object is stored, and its size fits that block.
     ///

@@ -1,5 +1,5 @@
 // The rows by object.
-ghost use Rattle.std.specs.Prelude.{◌≡◌, [], OnOk, OnErr, None, Some};
+ghost use Rattle.std.specs.Prelude.{◌≡◌, [], OnOk, OnErr, IsSome, None, Some};
 ghost use Rattle.rw_blocks.specs.Rows.{row_in, rows_with, rows_without};
 
 use crate::Place;
@@ -61,6 +61,15 @@ impl RowMap {
         ensures rest { self.new ≡ rows_without self.old object }
     {
         self.rows.remove(&object)
+    }
+
+    /// The object, which has a row, has this one from now on.
+    pub fn set(&mut self, object: u64, row: Place)
+        requires { IsSome (row_in self.old object) }
+        ensures { self.new ≡ rows_with self.old object row }
+    {
+        let found = self.rows.get_mut(&object).unwrap();
+        *found = row;
     }
 
     /// The row of an object, which is `row`, gets another place.

@@ -213,6 +213,46 @@ impl Rows {
         Ok(Some(left != 0))
     }
 
+    /// The row of an object, which is `row`, gets a block as its home and its place, where that then holds at most `most`
+    /// bytes. Whether it got it; the rows are as they were where not.
+    ///
+    /// # Errors
+    ///
+    /// [`AllocError`] where memory was refused; the rows are then as they were.
+    pub fn rehome_within(
+        &mut self,
+        object: u64,
+        row: Place,
+        block: u64,
+        most: u64,
+    ) -> Result<bool, AllocError>
+        requires row { row_in self.old object ≡ Some row }
+        requires room { size_of (values_of self.old) + row.size < 2 ^ 64 }
+        ensures moved { IfOk result (λ came. IsTrue came
+            → self.new ≡ rows_with self.old object (row_homed row.size block)) }
+        ensures fits { IfOk result (λ came. IsTrue came
+            → bytes_of home_of block self.old + row.size ≤ most) }
+        ensures full { IfOk result (λ came. IsFalse came → self.new ≡ self.old) }
+        ensures same { OnErr result (self.new ≡ self.old) }
+    {
+        let bytes = Bytes {
+            homed: row.size,
+            placed: row.size,
+        };
+        let Some(wide) = self.lists.add_within(block, object, bytes, most)? else {
+            return Ok(false);
+        };
+        self.lists.remove_row(row);
+        let moved = Place {
+            size: row.size,
+            home: block,
+            place: block,
+        };
+        self.rows.set(object, moved);
+        self.trim(wide, block);
+        Ok(true)
+    }
+
     /// A row comes whose home is also its place, of an object that has none, where that block then holds at most `most`
     /// bytes. Whether it came; the rows are as they were where not.
     ///

@@ -177,6 +177,7 @@ impl Sections {
     }
 
     /// The section that has the block. `None` exactly where there is none.
+    #[inline]
     pub fn section_of(&self, serial: u64) -> Option<usize>
         ensures first { result ≡ position (has_block serial) self.now }
         ensures there { IfSome result (λ i. i < length self.now) }

@@ -3,7 +3,7 @@ use Rattle.std.proofs.Common.{◌≡◌, ℕ, ◌+◌, ◌≤◌, ◌<◌, List,
 use Rattle.std.specs.Prelude.{Some, None, IsSome, position, unwrap_or, not}
 use Rattle.std.specs.Option.{option_map}
 use Rattle.std.specs.List.{list_any, position_or_len}
-use Rattle.std.proofs.lemmas.Bool.{cases_Bool, cases_lt, eqb-true, and_parts, lt-ltb}
+use Rattle.std.proofs.lemmas.Bool.{cases_Bool, cases_lt, eqb-true, and_parts, lt-ltb, le-leb}
 use Rattle.std.proofs.lemmas.List.Sums.{position_or_len_is}
 use Rattle.rw_blocks.specs.declared.Kind.{Kind}
 use Rattle.rw_blocks.specs.declared.Kind.TheVariants.{Device, Virtual}
@@ -17,17 +17,18 @@ use Rattle.rw_ripq.proofs.Places.{any_get, none-any}
 use Rattle.rw_ripq.proofs.Measures.{sealed-there, position-there, sealed-virtual-there}
 use Rattle.rw_blocks.specs.Loose.{IsFree, IsHomed, IsLoose, IsPlaced, IsSized, count, is_sealed_virtual}
 use Rattle.rw_blocks.specs.Questions.{section_of}
-use Rattle.rw_blocks.specs.Sections.{no_section, has_serial}
+use Rattle.rw_blocks.specs.Sections.{no_section, active_of, has_serial}
 use Rattle.rw_blocks.specs.State.{QueueState, no_place, row_at, row_or, section_at}
 use Rattle.rw_blocks.specs.Sums.{bytes_held, rows_placed, total}
 use Rattle.std.specs.Ordering.{nat_cmp}
 use Rattle.std.specs.BTreeMap.{is_at}
 use Rattle.std.proofs.lemmas.Map.Entries.{sum_by-remove_entry}
 use Rattle.rw_ripq.specs.Work.{Work, work_of, one_if}
-use Rattle.rw_blocks.specs.Primitives.{after_rehome}
+use Rattle.rw_blocks.specs.Primitives.{HasRoom, after_rehome}
 use Rattle.rw_ripq.specs.Evict.{reinsert}
 use Rattle.rw_ripq.specs.declared.Policy.{Policy}
-use Rattle.rw_ripq.specs.Levels.{hit_target, hit_target_from}
+use Rattle.rw_ripq.specs.declared.Policy.TheVariants.{Off, Lru, Slru}
+use Rattle.rw_ripq.specs.Levels.{hit_level, hit_level_from, hit_target, hit_target_from, target}
 use Rattle.rw_ripq.specs.Put.{is_room, with_room}
 use Rattle.rw_ripq.specs.Sealed.{is_emptied, is_sealed, without_if_emptied, has_sealed, sealed_position, sealed_section, without_block, section_with}
 
@@ -101,11 +102,20 @@ section-within q o i r loose row is =
     let same : section_with q r.place ≡ i = ap (λ m. unwrap_or m 0) is in
     subst (λ i. i < length q.sections) same (section-there there.0 q r.place there.1)
 
+-- where the size fits, there is room
+pub room-is : (q : QueueState) (K : Kind) (i z : ℕ) → HasRoom K q i z → is_room q K i z ≡ true
+room-is q K i z fits = le-leb (bytes_held K q (active_of K (section_at q i)) + z) q.shape.block fits
+
+hit_level-is : (p : Policy) (q : QueueState) (o : ℕ) → hit_level p q o ≡ hit_level_from p q (section_with q (row_or q o).place)
+hit_level-is Off q o = refl
+hit_level-is Lru q o = refl
+hit_level-is (Slru levels) q o = refl
+
 -- the target of a hit, by the section that has the object's place
 pub hit_target-is : (p : Policy) (q : QueueState) (o i j : ℕ) (r : Place) → row_at q o ≡ Some r → section_of q r.place ≡ Some i → j ≡ hit_target_from p q i → j ≡ hit_target p q o
 hit_target-is p q o i j r row has is =
     let same : section_with q (row_or q o).place ≡ i = ap (λ m. section_with q (unwrap_or m no_place).place) row ∙ ap (λ m. unwrap_or m 0) has in
-    is ∙ ap (hit_target_from p q) (sym same)
+    is ∙ (ap (hit_target_from p q) (sym same) ∙ ap (target p q) (sym (hit_level-is p q o)))
 
 -- ---- an object is put again
 abbrev reinserted_to : Work → ℕ → Place → ℕ → Work

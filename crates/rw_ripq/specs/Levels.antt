@@ -16,7 +16,11 @@ abbrev pub level_of_section : Levels → QueueState → Section → Level
 level_of_section levels q i =
     1 + min (levels.segments - 1) (levels.segments * bytes_below q i / total q)
 
--- the level of the section that holds the row's place, and none where the object is not stored
+-- the level of the section that holds the row's place
+abbrev pub level : Levels → QueueState → Object → Level
+level levels q o = level_of_section levels q (section_with q (row_or q o).place)
+
+-- the same, and none where the object is not stored
 abbrev pub level_of : Levels → QueueState → Object → Option Level
 level_of levels q o =
     option_map (λ r. level_of_section levels q (section_with q r.place)) (row_at q o)
@@ -46,17 +50,18 @@ abbrev pub highest_level : Policy → Level
 highest_level (Slru levels) = levels.segments
 highest_level _ = 3
 
--- the level that a hit gives an object whose place is a block of the section: under segmented LRU one more than it has
+-- the level that a hit gives an object: under segmented LRU one more than it has
+abbrev pub hit_level : Policy → QueueState → Object → Level
+hit_level (Slru levels) q o = min levels.segments (level levels q o + 1)
+hit_level _ q o = 1
+
+abbrev pub hit_target : Policy → QueueState → Object → Section
+hit_target policy q o = target policy q (hit_level policy q o)
+
+-- the same of an object whose place is a block of the section
 abbrev pub hit_level_from : Policy → QueueState → Section → Level
 hit_level_from (Slru levels) q i = min levels.segments (level_of_section levels q i + 1)
 hit_level_from _ q i = 1
 
 abbrev pub hit_target_from : Policy → QueueState → Section → Section
 hit_target_from policy q i = target policy q (hit_level_from policy q i)
-
--- the level that a hit gives an object, and the section that it then goes to
-abbrev pub hit_level : Policy → QueueState → Object → Level
-hit_level policy q o = hit_level_from policy q (section_with q (row_or q o).place)
-
-abbrev pub hit_target : Policy → QueueState → Object → Section
-hit_target policy q o = target policy q (hit_level policy q o)

@@ -57,6 +57,12 @@ fn reinsert<M: Marks>(
 {
     let row = queue.row(object).unwrap();
     let section = queue.section_of(row.place).unwrap();
+    if let Some(mark) = queue.rehome_within(object, row, section, section)? {
+        change.trail.push(mark)?;
+        clear(queue, &mut change.trail, row.place)?;
+        change.counts.reinserted += 1;
+        return Ok(());
+    }
     let full = make_room(queue, &mut change.trail, section, Kind::Device, row.size)?;
     let mark = queue.rehome(object, section)?;
     change.trail.push(mark)?;

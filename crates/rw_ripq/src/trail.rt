@@ -66,6 +66,7 @@ impl Marks for Trail {
 
     ghost list = { λ trail. trail };
 
+    #[inline]
     fn push(&mut self, mark: Mark) -> Result<(), NoMemory>
         ensures { OnOk result (true ≡ true → self.new ≡ self.old ++ mark ∷ []) }
     {
