@@ -98,15 +98,6 @@ module _ {B : Type 0} where
       go (inr l) = l
 
   -- where there is a least time, and it is before another, an event that comes before all is before that too
-  pub before_some : (order : B → B → Ordering) (xs : List (Event B)) (found : Option ℕ) (until : ℕ) (test : Bool) → test ≡ true
-      → IfSome found (λ t. IsTrue test ↔ (t < until)) → IfNone found (test ≡ false) → IsLeastTime xs found
-      → (next : Option (Event B)) → IfSome next (λ e. All (AtMost (event_cmp order) e) xs) → IfSome next (λ e. e.time < until)
-  before_some order xs found until test passed some none least None h = tt
-  before_some order xs None until test passed some none least (Some e) h = absurd (true≢false (sym passed ∙ none))
-  before_some order xs (Some t) until test passed some none least (Some e) h =
-      let l = before_least xs e.time t (All-weaker (AtMost (event_cmp order) e) (λ f. e.time ≤ f.time) (λ f m. time_at_most order e f m) xs h) least in
-      let m = some.0 passed in
-      omega arith
 
   -- By time
 
@@ -203,6 +194,18 @@ module _ {B : Type 0} where
       go : (found : Option ℕ) → IsLeastTime xs found → t ≡ or_else never found → All (λ e. t ≤ e.time) xs
       go None least is = subst (All (λ e. t ≤ e.time)) (sym least) (All-nil (λ e. t ≤ e.time))
       go (Some s) least is = subst (λ n. All (λ e. n ≤ e.time) xs) (sym is) least.0
+
+  -- where that time is before another, so is a least event
+  pub before_least_or : (order : B → B → Ordering) {never t until : ℕ} (xs : List (Event B)) → IsLeastOr never xs t → t < until → until ≤ never
+      → (next : Option (Event B)) → IfSome next (λ e. All (AtMost (event_cmp order) e) xs) → IfSome next (λ e. e.time < until)
+  before_least_or order {never} {t} {until} xs least early within None h = tt
+  before_least_or order {never} {t} {until} xs least early within (Some e) h = go least.found least.least least.value
+    where
+      go : (found : Option ℕ) → IsLeastTime xs found → t ≡ or_else never found → e.time < until
+      go None least is = absurd (omega (arith, is, early, within))
+      go (Some s) least is =
+          let l = before_least xs e.time s (All-weaker (AtMost (event_cmp order) e) (λ f. e.time ≤ f.time) (λ f m. time_at_most order e f m) xs h) least in
+          omega (arith, l, is, early)
 
   -- where all are later, there are none
   pub least_or_past : {never t : ℕ} (xs : List (Event B)) → IsLeastOr never xs t → All (λ e. t < e.time) xs → xs ≡ []

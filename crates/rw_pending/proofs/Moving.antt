@@ -3,14 +3,14 @@ use Rattle.std.proofs.Common.{◌≡◌, ℕ, ◌+◌, ◌<◌, ◌≤◌, true,
 use Rattle.std.specs.List.{slice_get}
 use Rattle.std.specs.Option.{is_some, option_copied, option_map}
 use Rattle.std.specs.declared.cmp.Ordering.{Ordering}
-use Rattle.std.proofs.lemmas.List.Elements.{All-append, All-head, All-weaker}
+use Rattle.std.proofs.lemmas.List.Elements.{All-append, All-cons, All-head, All-nil, All-weaker}
 use Rattle.std.proofs.lemmas.List.Sorted.{All-permutation, IsPermutation-append_comm, IsPermutation-append_left, IsPermutation-append_right, IsPermutation-sym, IsPermutation-trans, length_permutation}
 use Rattle.rw_vt.specs.declared.event.Event.{Event}
 use Rattle.rw_vt.specs.Order.{AtMost, event_cmp}
 use Rattle.rw_vt.proofs.EventOrder.{time_at_most}
 use Rattle.rw_pending.specs.Later.{HasMoved, IsLeastTime}
 use Rattle.rw_pending.specs.Pending.{AreAround, HasMovedOn}
-use Rattle.rw_pending.proofs.ByTime.{All-back}
+use Rattle.rw_pending.proofs.ByTime.{All-back, All-front}
 
 -- All events move to the end of a list
 
@@ -60,6 +60,63 @@ module _ {B : Type 0} where
       → (at_hand ≡ []) × (others ≡ []) → length taken < count → left ++ (at_hand ++ others) ≡ []
   taken_enough {at_hand} {others} taken sent count enough gone fewer =
       ap (λ l. l ++ (at_hand ++ others)) (enough (omega arith)) ∙ ap (λ l. l ++ others) gone.0 ∙ gone.1
+
+-- The initial events are put with those that were sent for later
+
+module _ {B : Type 0} where
+  pub put_one_more : {whole initial left more : List (Event B)} (later : List (Event B)) (e : Event B) → initial ≡ e ∷ left → IsPermutation (later ++ e ∷ []) more → IsPermutation whole (initial ++ later) → IsPermutation whole (left ++ more)
+  put_one_more {whole} {initial} {left} {more} later e is put so_far =
+      IsPermutation-trans whole (e ∷ (left ++ later)) (left ++ more) (subst (λ l. IsPermutation whole (l ++ later)) is so_far)
+      (IsPermutation-trans (e ∷ (left ++ later)) ((left ++ later) ++ e ∷ []) (left ++ more) (IsPermutation-append_comm (e ∷ []) (left ++ later))
+      (subst (λ l. IsPermutation l (left ++ more)) (sym (append_assoc left later (e ∷ []))) (IsPermutation-append_right left (later ++ e ∷ []) more put)))
+
+  -- they are around the same time, whatever of them was put, and whatever was lost
+  pub around_rest : (t : ℕ) (gone : List (Event B)) {initial now later left rest all same : List (Event B)} → IsPermutation (initial ++ later) (left ++ all) → left ≡ gone ++ rest → same ≡ all
+      → All (λ e. t < e.time) initial → AreAround t initial now later → AreAround t rest now same
+  around_rest t gone {initial} {now} {later} {left} {rest} {all} {same} moved parts unchanged after around =
+      let past = All-permutation (λ e. t < e.time) (initial ++ later) (left ++ all) moved (All-append (λ e. t < e.time) initial later after around.later_past) in
+      let front = All-back (λ e. t < e.time) gone rest (subst (All (λ e. t < e.time)) parts (All-front (λ e. t < e.time) left all past)) in
+      record {
+        initial_from = All-weaker (λ e. t < e.time) (λ e. t ≤ e.time) (λ e m. omega arith) rest front;
+        now_at = around.now_at;
+        later_past = subst (All (λ e. t < e.time)) (sym unchanged) (All-back (λ e. t < e.time) left all past);
+      }
+
+  -- and those of another source come in their place
+  pub refilled : (initial now later all source : List (Event B)) → IsPermutation (initial ++ later) all → IsPermutation ((initial ++ (now ++ later)) ++ source) (source ++ (now ++ all))
+  refilled initial now later all source put =
+      IsPermutation-trans ((initial ++ (now ++ later)) ++ source) (source ++ (initial ++ (now ++ later))) (source ++ (now ++ all))
+      (IsPermutation-append_comm (initial ++ (now ++ later)) source)
+      (IsPermutation-append_right source (initial ++ (now ++ later)) (now ++ all)
+      (IsPermutation-trans (initial ++ (now ++ later)) (now ++ (initial ++ later)) (now ++ all) to_front (IsPermutation-append_right now (initial ++ later) all put)))
+    where
+      to_front : IsPermutation (initial ++ (now ++ later)) (now ++ (initial ++ later))
+      to_front =
+          subst (λ l. IsPermutation l (now ++ (initial ++ later))) (append_assoc initial now later)
+          (subst (IsPermutation ((initial ++ now) ++ later)) (append_assoc now initial later) (IsPermutation-append_left later (initial ++ now) (now ++ initial) (IsPermutation-append_comm initial now)))
+
+  -- where no event is of the time that is reached, none is at hand
+  pub none_of_time : (t : ℕ) (initial now later : List (Event B)) → AreAround t initial now later → All (λ e. t < e.time) (initial ++ (now ++ later)) → now ≡ []
+  none_of_time t initial [] later around after = refl
+  none_of_time t initial (e ∷ es) later around after =
+      let at = All-head (λ f. f.time ≡ t) e es around.now_at in
+      let past = All-head (λ f. t < f.time) e (es ++ later) (All-back (λ f. t < f.time) initial (e ∷ (es ++ later)) after) in
+      absurd (omega (arith, at, past))
+
+  -- so what waits is after time 0, whatever the new source gives
+  pub around_refilled : (t : ℕ) (initial now later all source : List (Event B)) → AreAround t initial now later → All (λ e. t < e.time) (initial ++ (now ++ later)) → IsPermutation (initial ++ later) all → AreAround 0 source now all
+  around_refilled t initial now later all source around after put =
+      let none = none_of_time t initial now later around after in
+      let past = All-permutation (λ e. t < e.time) (initial ++ later) all put (All-append (λ e. t < e.time) initial later (All-front (λ e. t < e.time) initial (now ++ later) after) around.later_past) in
+      record {
+        initial_from = All-any source;
+        now_at = subst (All (λ e. e.time ≡ 0)) (sym none) (All-nil (λ e. e.time ≡ 0));
+        later_past = All-weaker (λ e. t < e.time) (λ e. 0 < e.time) (λ e m. omega arith) all past;
+      }
+    where
+      All-any : (es : List (Event B)) → All (λ e. 0 ≤ e.time) es
+      All-any [] = All-nil (λ e. 0 ≤ e.time)
+      All-any (e ∷ es) = All-cons (λ e. 0 ≤ e.time) e es (omega arith) (All-any es)
 
 -- What is put back waits with what did
 

@@ -2,14 +2,14 @@ ghost use Rattle.std.specs.Prelude.{◌≡◌, ◌+◌, ◌<◌, ◌≤◌, ◌+
 ghost use Rattle.rw_vt.specs.Words.{Count, Time};
 ghost use Rattle.rw_vt.specs.Order.{event_cmp, AtMost};
 ghost use Rattle.rw_vt.specs.declared.event.Event.{Event};
-ghost use Rattle.rw_pending.specs.Later.{IsLeastTime, IsLeft};
+ghost use Rattle.rw_pending.specs.Later.{IsLeastOr, IsLeastTime, IsLeft, never};
 ghost use Rattle.rw_pending.specs.Pending.{AreAround, HasMovedOn, IsDue, IsNextEvent, IsReached, IsTakenFromOne, time_or};
 
 use crate::initial::Initial;
 use crate::later::Later;
 use crate::slice::Slice;
 use crate::source::Source;
-use crate::times::{earlier, is_before, is_time, time_of};
+use crate::times::{earlier, is_time, time_of};
 use rw_vt::Event;
 use std::alloc::{AllocError, Global};
 use std::marker::Model;
@@ -121,6 +121,23 @@ impl<B: Ord + Copy, S: Source<B>> Pending<B, S> {
         self.now.fill(&mut self.room)
     }
 
+    /// Adds the events of another source, from which initial events come from now on. What is left of the initial events waits with
+    /// those that were sent. No event is of the time that is reached.
+    ///
+    /// It costs a look at each initial event that is left, and none at those of the new source. After a refusal of memory some
+    /// events are lost.
+    pub fn refill(&mut self, source: S) -> Result<(), AllocError>
+        requires later { All (λ e. self.old.time < e.time) self.old.events }
+        ensures added { OnOk result
+            (IsPermutation (self.old.events ++ S.left source) self.new.events) }
+        ensures time { OnOk result (self.new.time ≡ 0) }
+    {
+        put_rest(&mut self.initial, &mut self.later)?;
+        self.time = 0;
+        self.initial = Initial::new(source);
+        Ok(())
+    }
+
     /// Takes a least event, whose time is then reached, and puts it into `next`. `None` only where there is none.
     ///
     /// After a refusal of memory nothing is said of what is there.
@@ -161,11 +178,22 @@ impl<B: Ord + Copy, S: Source<B>> Pending<B, S> {
             IsPermutation self.old.events (e ∷ self.new.events))) }
         ensures reached { OnOk result (IfSome next.new (λ e. self.new.time ≡ e.time)) }
     {
-        if !is_before(self.least_time(), until) {
+        if until <= self.least() {
             *next = None;
             return Ok(());
         }
         self.pop(next)
+    }
+
+    /// The least time of an event, or `u64::MAX` where there is no event.
+    #[inline(always)]
+    fn least(&self) -> u64
+        ensures { IsLeastOr never self.entry.now.events result }
+    {
+        if self.now.first().is_some() {
+            return self.time;
+        }
+        self.initial.least().min(self.later.least())
     }
 
     /// Adds an event that was sent. It is later than the time that is reached.
@@ -449,6 +477,26 @@ fn move_first<B: Ord + Copy, S: Source<B>>(
         missing = missing.saturating_sub(1);
     }
     Ok(())
+}
+
+/// Puts all initial events into `later`. Where memory is refused, some are lost.
+fn put_rest<B: Ord + Copy, S: Source<B>>(
+    initial: &mut Initial<B, S>,
+    later: &mut Later<B>,
+) -> Result<(), AllocError>
+    ensures none { OnOk result (initial.new ≡ []) }
+    ensures added { OnOk result (IsPermutation (initial.old ++ later.old) later.new) }
+    ensures around { (t : Time) (now : List (Event B)) → All (λ e. t < e.time) initial.old
+        → AreAround t initial.old now later.old → AreAround t initial.new now later.new }
+{
+    let mut next = None;
+    'events: loop {
+        initial.pop(&mut next);
+        let Some(event) = &next else {
+            return Ok(());
+        };
+        later.put(event)?;
+    }
 }
 
 /// Moves all initial events to the end of `taken`. Where memory is refused, some are lost.

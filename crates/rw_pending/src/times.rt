@@ -28,18 +28,6 @@ pub fn is_time(found: Option<u64>, time: u64) -> bool
     }
 }
 
-/// Whether there is a time, and it is before this one.
-#[inline(always)]
-pub fn is_before(found: Option<u64>, time: u64) -> bool
-    ensures some { IfSome found (λ t. IsTrue result ↔ (t < time)) }
-    ensures none { IfNone found (result ≡ false) }
-{
-    match found {
-        Some(found) => found < time,
-        None => false,
-    }
-}
-
 /// The earlier of two times, where there are any.
 #[inline]
 pub fn earlier(first: Option<u64>, second: Option<u64>) -> Option<u64>

@@ -20,6 +20,7 @@ mod config;
 mod counters;
 mod ordered_requests;
 mod photo;
+mod piece_requests;
 mod rows;
 mod undo;
 
@@ -29,6 +30,7 @@ pub use config::{Config, every_limit};
 pub use counters::Counters;
 pub use ordered_requests::OrderedRequests;
 pub use photo::Photo;
+pub use piece_requests::PieceRequests;
 pub use rows::{requests, requests_from};
 pub use rw_ripq::{Change, Levels, Policy, Shape, Trail};
 pub use rw_trace::{Kind, Row};

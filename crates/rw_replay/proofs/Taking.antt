@@ -1,8 +1,8 @@
 -- A run that takes rows in as they come: what it is once it has taken more in, and once it has gone on.
-use Rattle.std.proofs.Common.{◌≡◌, ℕ, ◌+◌, ◌≤◌, List, [], ◌∷◌, ◌++◌, true, refl, sym, ◌∙◌, ap, subst, arith, length, length-append, append_assoc, append-nil, zero-add, IsPermutation}
+use Rattle.std.proofs.Common.{◌≡◌, ℕ, ◌+◌, ◌<◌, ◌≤◌, List, [], ◌∷◌, ◌++◌, ◌⊎◌, inl, inr, true, refl, sym, ◌∙◌, ap, subst, arith, length, length-append, append_assoc, append-nil, zero-add, IsPermutation}
 use Rattle.std.specs.Prelude.{All}
-use Rattle.std.proofs.lemmas.List.Sorted.{All-permutation, IsPermutation-refl}
-use Rattle.std.proofs.lemmas.List.Elements.{All-append, All-cons, All-head, All-nil, All-tail}
+use Rattle.std.proofs.lemmas.List.Sorted.{All-permutation, IsPermutation-append_comm, IsPermutation-append_left, IsPermutation-append_right, IsPermutation-refl, IsPermutation-trans}
+use Rattle.std.proofs.lemmas.List.Elements.{All-append, All-cons, All-head, All-nil, All-tail, All-weaker}
 use Rattle.rw_vt.specs.declared.event.Event.{Event}
 use Rattle.rw_vt.specs.Moments.{HasReached}
 use Rattle.rw_vt.specs.Rest.{MayCome}
@@ -12,6 +12,7 @@ use Rattle.rw_vt.proofs.Moments.{reached_at_start, reached_further, reached_meet
 use Rattle.rw_vt.proofs.Runs.{IsLawful}
 use Rattle.rw_pending.proofs.Cited.{copies-IsPermutation}
 use Rattle.rw_serial.proofs.Permuted.{ready_permuted}
+use Rattle.rw_trace.specs.Pieces.{RiseFrom}
 use Rattle.rw_trace.specs.declared.Row.{Row}
 use Rattle.rw_photo.specs.declared.body.Body.{Body}
 use Rattle.rw_photo.specs.declared.config.Config.{Config}
@@ -22,8 +23,9 @@ use Rattle.rw_photo.specs.contracts.photo.PhotoVtModel.TheImpl as model
 use Rattle.rw_photo.specs.Cache.{Cache, is_exhausted}
 use Rattle.rw_photo.specs.Events.{event_of, is_valid}
 use Rattle.rw_photo.specs.Laws.{bodies_same, step_future, step_keeps, valid_ranges}
+use Rattle.rw_photo.specs.Rows.{AreInOrderFrom}
 use Rattle.rw_photo.specs.Simulation.{simulation, starts_of}
-use Rattle.rw_replay.specs.Run.{IsRunOn, RunState}
+use Rattle.rw_replay.specs.Run.{AreApart, IsRunOn, RunState}
 
 -- the caches at work
 abbrev pub caches : Photo → List Cache → List (Event Body) → System Cache Body
@@ -147,3 +149,35 @@ late_events t n (r ∷ rs) late =
 -- so is what waits in another order
 pub late_moved : (t : ℕ) (P E Q : List (Event Body)) → All (λ e. t ≤ e.time) P → All (λ e. t ≤ e.time) E → IsPermutation (P ++ E) Q → All (λ e. t ≤ e.time) Q
 late_moved t P E Q late more moved = All-permutation (λ e. t ≤ e.time) (P ++ E) Q moved (All-append (λ e. t ≤ e.time) P E late more)
+
+-- Rows in order of time, which come from a source
+
+pub in_order : (s t : ℕ) (rs : List Row) → s ≤ t → RiseFrom t rs → AreInOrderFrom s rs
+in_order s t [] l up = tt
+in_order s t (r ∷ rs) l up = let here = up.0 in (omega (arith, l, here), in_order r.time r.time rs (omega arith) up.1)
+
+-- all that waits is later than the time at which it was last taken
+pub all_later : (time last : ℕ) (P F : List (Event Body)) → AreApart time last F → All (λ e. time ≤ e.time) (P ++ F) → (P ++ F ≡ []) ⊎ (0 < time) → All (λ e. last < e.time) P
+all_later time last [] F apart late some = All-nil (λ (e : Event Body). last < e.time)
+all_later time last (e ∷ P) F apart late (inl none) = cc
+all_later time last (e ∷ P) F (inl start) late (inr some) = absurd (omega (arith, start, some))
+all_later time last (e ∷ P) F (inr past) late (inr some) =
+    let before = past.0 in
+    let same : (e ∷ P) ++ F ≡ e ∷ P = ap (λ l. (e ∷ P) ++ l) past.1 ∙ append-nil (e ∷ P) in
+    All-weaker (λ f. time ≤ f.time) (λ f. last < f.time) (λ f m. omega (arith, before, m)) (e ∷ P) (subst (All (λ f. time ≤ f.time)) same late)
+
+pub apart_after : (time last new : ℕ) (F : List (Event Body)) → AreApart time last F → new ≡ 0 → AreApart time new F
+apart_after time last new F (inl start) is = inl start
+apart_after time last new F (inr past) is = let before = past.0 in inr (omega (arith, before, is), past.1)
+
+-- events that are added in front of those that are kept apart
+pub added_in_front : (P Q F E : List (Event Body)) → IsPermutation (P ++ E) Q → IsPermutation ((P ++ F) ++ E) (Q ++ F)
+added_in_front P Q F E moved =
+    IsPermutation-trans ((P ++ F) ++ E) ((P ++ E) ++ F) (Q ++ F)
+    (subst (λ l. IsPermutation l ((P ++ E) ++ F)) (sym (append_assoc P F E)) (subst (IsPermutation (P ++ (F ++ E))) (sym (append_assoc P E F)) (IsPermutation-append_right P (F ++ E) (E ++ F) (IsPermutation-append_comm F E))))
+    (IsPermutation-append_left F (P ++ E) Q moved)
+
+-- where nothing waits, none is kept apart
+pub none_behind : (P F : List (Event Body)) → P ++ F ≡ [] → F ≡ []
+none_behind [] F none = none
+none_behind (e ∷ P) F none = cc

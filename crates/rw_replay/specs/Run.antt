@@ -29,8 +29,7 @@ pub record IsRunOn (rows : List Row) (r : RunState) : Type 0 where
   pub reached : HasReached (simulation r.config rows) r.time r.states r.waiting
 
 -- ---- how a run keeps what waits
--- at time 0 the events from outside are kept apart, and no other waits; later none is, and what waits was last taken at
--- a time before the one that is reached
-abbrev pub AreApart : Time → Time → List (Event Body) → List (Event Body) → Type 0
-AreApart time last waiting first =
-    ((time ≡ 0) × (waiting ≡ [])) ⊎ ((last < time) × (first ≡ []))
+-- at time 0 events from outside may be kept apart; later none is, and what waits was last taken at a time before the
+-- one that is reached
+abbrev pub AreApart : Time → Time → List (Event Body) → Type 0
+AreApart time last first = (time ≡ 0) ⊎ ((last < time) × (first ≡ []))

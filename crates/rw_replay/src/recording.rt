@@ -100,6 +100,39 @@ impl Recording {
         })
     }
 
+    /// Takes in more rows as [`take`](Self::take), where they stand in order of time.
+    ///
+    /// # Errors
+    ///
+    /// Those of `take`.
+    fn take_in_order(self, alloc: Global, rows: &[Row]) -> Result<Recording, NoMemory>
+        requires ranges { All (IsRow self.run.config.edges) rows.now }
+        requires rising { RiseFrom self.run.time rows.now }
+        requires few { self.run.taken + length rows.now ≤ 2 ^ 64 - 1 }
+        ensures config { IfOk result (λ r. r.run.config ≡ self.run.config) }
+        ensures time { IfOk result (λ r. r.run.time ≡ self.run.time) }
+        ensures count { IfOk result (λ r.
+            r.run.taken ≡ self.run.taken + length rows.now) }
+        ensures marks { IfOk result (λ r. (r.start ≡ self.start) × (r.every ≡ self.every)) }
+        ensures same { IfOk result (λ r. r.moments ≡ self.moments) }
+        ensures taken { IfOk result (λ r. (before : List Row) → IsRecordingOf before self
+            → IsRecordingOf (before ++ rows.now) r) }
+    {
+        let Recording {
+            run,
+            marks,
+            moments,
+            next,
+        } = self;
+        let run = run.take_in_order(alloc, rows)?;
+        Ok(Recording {
+            run,
+            marks,
+            moments,
+            next,
+        })
+    }
+
     /// Takes in rows that stand in order of time, none before the time that the run has reached, and goes on to the time of the last
     /// one. Each mark up to that one is passed on the way.
     ///
@@ -125,7 +158,7 @@ impl Recording {
             return Ok(self);
         }
         let until = latest(rows, self.run.time());
-        let mut recording = self.take(alloc, rows)?;
+        let mut recording = self.take_in_order(alloc, rows)?;
         'marks: while recording.next() <= until {
             recording = recording.record(alloc)?;
         }

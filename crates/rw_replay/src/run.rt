@@ -1,16 +1,19 @@
-ghost use Rattle.std.specs.Prelude.{◌≡◌, ◌<◌, ◌≤◌, ◌+◌, ◌-◌, ◌^◌, ◌++◌, ◌↔◌, [], false, All, IfErr, IfOk, IsPermutation, IsTrue, List, OnOk, length};
+ghost use Rattle.std.specs.Prelude.{◌≡◌, ◌<◌, ◌≤◌, ◌+◌, ◌-◌, ◌^◌, ◌++◌, ◌↔◌, ◌⊎◌, [], false, All, IfErr, IfOk, IsPermutation, IsTrue, List, OnOk, length};
 ghost use Rattle.rw_vt.specs.Limits.{end_of_time};
-ghost use Rattle.rw_vt.specs.System.{Meets};
+ghost use Rattle.rw_vt.specs.System.{Meets, map_from};
 ghost use Rattle.rw_trace.specs.Laws.{IsRow};
+ghost use Rattle.rw_trace.specs.Pieces.{RiseFrom};
 ghost use Rattle.rw_trace.specs.declared.Row.{Row};
 ghost use Rattle.rw_photo.specs.Cache.{is_exhausted};
+ghost use Rattle.rw_photo.specs.Events.{event_of};
+ghost use Rattle.rw_photo.specs.Rows.{AreInOrder};
 ghost use Rattle.rw_photo.specs.Simulation.{simulation};
 ghost use Rattle.rw_vt.specs.Words.{Time};
 ghost use Rattle.rw_replay.specs.Run.{AreApart, IsRunOn};
 
 use crate::replaying::starts;
-use rw_photo::{Body, CacheState, Config, NoMemory, Photo, requests_from};
-use rw_serial::{Pending, Source, run_until};
+use rw_photo::{Body, CacheState, Config, NoMemory, Photo, PieceRequests, requests_from};
+use rw_serial::{Pending, run_until};
 use rw_trace::Row;
 use rw_vt::{Event, Refusal};
 use std::alloc::Global;
@@ -23,8 +26,8 @@ use std::marker::Model;
 pub struct Run {
     photo: Photo,
     states: Vec<CacheState>,
-    pending: Pending<Body, NoSource>,
-    /// Until the run leaves time 0, the events from outside, in the order in which they came: they are sorted once.
+    pending: Pending<Body, PieceRequests>,
+    /// Until the run leaves time 0, events from outside that came in any order, or after others: they are sorted once.
     first: Vec<Event<Body>>,
     /// How many rows were taken in.
     taken: u64,
@@ -65,21 +68,7 @@ impl Model for Run {
     ghost invariant = { λ r.
         IsReady model.ghosts r.photo r.states.items (r.pending.events ++ r.first.items)
         × All (λ e. r.time ≤ e.time) (r.pending.events ++ r.first.items)
-        × AreApart r.time r.pending.time r.pending.events r.first.items };
-}
-
-/// No events: those from outside are taken in as they come.
-#[derive(Drop)]
-struct NoSource;
-
-impl Source<Body> for NoSource {
-    ghost use Rattle.std.specs.Prelude.{[]};
-
-    ghost left = { λ _. [] };
-
-    fn next(&mut self) -> Option<Event<Body>> {
-        None
-    }
+        × AreApart r.time r.pending.time r.first.items };
 }
 
 impl Run {
@@ -98,7 +87,7 @@ impl Run {
         Ok(Run {
             photo,
             states,
-            pending: Pending::new(alloc, NoSource),
+            pending: Pending::new(alloc, PieceRequests::none(alloc)),
             first: Vec::new(alloc),
             taken: 0,
             time: 0,
@@ -138,6 +127,50 @@ impl Run {
             taken: taken + rows.len() as u64,
             time,
         })
+    }
+
+    /// Takes in more rows as [`take`](Self::take), where they stand in order of time: each waits as it is until its turn comes.
+    ///
+    /// # Errors
+    ///
+    /// `NoMemory` only where memory was refused. The run is gone then.
+    pub fn take_in_order(self, alloc: Global, rows: &[Row]) -> Result<Run, NoMemory>
+        requires ranges { All (IsRow self.config.edges) rows.now }
+        requires rising { RiseFrom self.time rows.now }
+        requires few { self.taken + length rows.now ≤ 2 ^ 64 - 1 }
+        ensures config { IfOk result (λ run. run.config ≡ self.config) }
+        ensures time { IfOk result (λ run. run.time ≡ self.time) }
+        ensures count { IfOk result (λ run. run.taken ≡ self.taken + length rows.now) }
+        ensures taken { IfOk result (λ run. (before : List Row) → IsRunOn before self
+            → IsRunOn (before ++ rows.now) run) }
+    {
+        if !self.may_refill() {
+            return self.take(alloc, rows);
+        }
+        let Run {
+            photo,
+            states,
+            mut pending,
+            first,
+            taken,
+            time,
+        } = self;
+        refill(alloc, &mut pending, taken, rows)?;
+        Ok(Run {
+            photo,
+            states,
+            pending,
+            first,
+            taken: taken + rows.len() as u64,
+            time,
+        })
+    }
+
+    /// Whether rows in order of time may come from a source: nothing waits, or the run has left time 0.
+    fn may_refill(&self) -> bool
+        ensures { IsTrue result → ((self.now.waiting ≡ []) ⊎ (0 < self.now.time)) }
+    {
+        self.time > 0 || self.is_done()
     }
 
     /// Goes on to a time, in ticks: executes all events of earlier times, in order, and no other.
@@ -185,7 +218,7 @@ impl Run {
         ensures done { IsTrue result ↔ (self.now.waiting ≡ []) }
         ensures soon { result ≡ false → self.now.time < end_of_time }
     {
-        self.first.is_empty() && self.pending.least_time().is_none()
+        self.first.as_slice().is_empty() && self.pending.least_time().is_none()
     }
 
     /// The time that the run has reached, in ticks. Takes no memory.
@@ -205,18 +238,18 @@ impl Run {
 
 /// Adds events from outside, none of which is before the time that a run has reached, to those that wait.
 fn add(
-    pending: &mut Pending<Body, NoSource>,
+    pending: &mut Pending<Body, PieceRequests>,
     first: &mut Vec<Event<Body>>,
     events: &[Event<Body>],
     time: u64,
 ) -> Result<(), NoMemory>
-    requires apart { AreApart time pending.old.time pending.old.events first.old.items }
+    requires apart { AreApart time pending.old.time first.old.items }
     requires late { All (λ e. time ≤ e.time) events.now }
     ensures added { OnOk result (IsPermutation
         ((pending.old.events ++ first.old.items) ++ events.now)
         (pending.new.events ++ first.new.items)) }
     ensures apart { OnOk result
-        (AreApart time pending.new.time pending.new.events first.new.items) }
+        (AreApart time pending.new.time first.new.items) }
 {
     if time == 0 {
         first.extend_from_slice(events)?;
@@ -228,11 +261,11 @@ fn add(
 
 /// Puts the first events from outside to those that wait, when a run leaves time 0.
 fn hand_over(
-    pending: &mut Pending<Body, NoSource>,
+    pending: &mut Pending<Body, PieceRequests>,
     first: Vec<Event<Body>>,
     time: u64,
 ) -> Result<(), NoMemory>
-    requires apart { AreApart time pending.old.time pending.old.events first.items }
+    requires apart { AreApart time pending.old.time first.items }
     ensures moved { OnOk result
         (IsPermutation (pending.old.events ++ first.items) pending.new.events) }
     ensures before { OnOk result
@@ -241,5 +274,26 @@ fn hand_over(
     if time == 0 {
         pending.put_back(first)?;
     }
+    Ok(())
+}
+
+/// Adds the requests of a piece of a trace in order of time, of which the first row is row `first`, to those that wait: each is made
+/// when it is taken.
+#[inline(never)]
+fn refill(
+    alloc: Global,
+    pending: &mut Pending<Body, PieceRequests>,
+    first: u64,
+    rows: &[Row],
+) -> Result<(), NoMemory>
+    requires few { first + length rows.now ≤ 2 ^ 64 - 1 }
+    requires order { AreInOrder rows.now }
+    requires later { All (λ e. pending.old.time < e.time) pending.old.events }
+    ensures added { OnOk result (IsPermutation
+        (pending.old.events ++ map_from first event_of rows.now) pending.new.events) }
+    ensures time { OnOk result (pending.new.time ≡ 0) }
+{
+    let source = PieceRequests::new(alloc, first, rows)?;
+    pending.refill(source)?;
     Ok(())
 }

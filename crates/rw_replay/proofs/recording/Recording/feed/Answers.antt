@@ -11,11 +11,8 @@ use Rattle.rw_photo.specs.Cache.{is_exhausted}
 use Rattle.rw_photo.specs.Simulation.{simulation}
 use Rattle.rw_replay.specs.History.{IsRecordingOf, RecordingState, next_mark}
 use Rattle.rw_replay.specs.Run.{IsRunOn}
-use Rattle.rw_replay.proofs.Recorded.{goes_recorded, meets_sooner, records_on, rising_last, rising_late, some_rows, waits_for_some, within_latest}
+use Rattle.rw_replay.proofs.Recorded.{goes_recorded, meets_sooner, records_on, rising_last, some_rows, waits_for_some, within_latest}
 use Rattle.rw_replay.proofs.recording.Recording.feed.Goals as goal
-
-pub take-requires-clause-late : goal.take-requires-clause-late
-take-requires-clause-late c = rising_late c.args.self.run.time c.args.rows.now c.requires.rising
 
 pub marks-init : goal.marks-init
 marks-init c =
