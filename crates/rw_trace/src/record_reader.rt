@@ -45,7 +45,7 @@ enum Source<R: Read + Drop> {
     Lines(BufReader<R>),
     /// From `csv`, which begins with the first line that was not plain.
     Records(Records<R>),
-    /// From nowhere: memory was refused.
+    /// From nowhere, while one of the others gives way to the next.
     Nothing,
 }
 
