@@ -16,7 +16,7 @@ use Rattle.rw_blocks.specs.declared.Place.{Place}
 use Rattle.rw_blocks.specs.declared.lists.Lists.{Lists}
 use Rattle.rw_blocks.specs.Index.{weight_of, bytes_of, objects_of, home_of, place_of}
 use Rattle.rw_blocks.specs.Covering.{Covers, appended}
-use Rattle.rw_blocks.specs.Lists.{list_in, homed_in, placed_in, Gains, Loses, SameBytes, Same, Appends, HasCome, Stays, Grows, StaysCovered, IsFiled, IsListed}
+use Rattle.rw_blocks.specs.Lists.{list_in, homed_in, placed_in, Gains, Loses, SameBytes, Same, Appends, HasCome, Stays, Grows, StaysCovered, IsFiled, IsListed, SameRows}
 use Rattle.rw_blocks.proofs.Entries.{by_test, lookup-insert_entry, remove_entry-insert_entry, sorted-insert_entry}
 use Rattle.rw_blocks.proofs.Covering.{covers-with, covers-without, covers-kept, covers-empty, covers-wider, appended-within, contains-appended, appended-contains}
 
@@ -209,4 +209,18 @@ IsListed-same rows m n t h same =
       whole = h.whole;
       ordered = h.ordered;
       sized = h.sized;
+    }
+
+-- a row that came half-way and left again: its bytes are gone, and each list has all that it had
+pub taken-back : (m n k l : Lists) (b o z : ℕ)
+    → Gains (homed_in m) (homed_in n) b z → Gains (placed_in m) (placed_in n) b 0 → Appends m n b o
+    → Same n k
+    → Loses (homed_in k) (homed_in l) b z → Loses (placed_in k) (placed_in l) b 0 → Stays (homed_in l) k l → Stays (placed_in l) k l
+    → SameRows m l
+taken-back m n k l b o z homed placed list same homed_left placed_left homes places =
+    record {
+      homed = λ c. omega (arith, homed c, same.homed c, homed_left c);
+      placed = λ c. omega (arith, placed c, same.placed c, placed_left c);
+      homes_list = λ c some q h. subst (λ xs. Contains xs q) (sym (homes c some ∙ (same.list c ∙ list c))) (contains-appended b c (list_in m c) o q h);
+      places_list = λ c some q h. subst (λ xs. Contains xs q) (sym (places c some ∙ (same.list c ∙ list c))) (contains-appended b c (list_in m c) o q h);
     }

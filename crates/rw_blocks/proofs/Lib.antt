@@ -4,6 +4,8 @@ pub mod Cited
 pub mod Entries
 pub mod ByObject
 pub mod Bytes
+-- maps of blocks: an entry at a place
+pub mod Maps
 -- lists that cover blocks, and that the bytes and the lists of the blocks follow the rows
 pub mod Covering
 pub mod Follows

@@ -15,8 +15,11 @@ pub mod Questions
 pub mod RowMap
 -- what a list of objects that only grows says of a block
 pub mod Covering
--- the bytes and the lists of all blocks
+-- maps of blocks by their serials
+pub mod Maps
+-- the bytes and the lists of all blocks, and what lends an entry of them
 pub mod Lists
+pub mod Lending
 -- what the index of the blocks says, and what is asked of a change so that it follows
 pub mod Tags
 -- the bytes of each section

@@ -1,12 +1,11 @@
 -- What the index of the blocks by section says: each section has a tag of its own, and each block its section's tag.
 use Rattle.std.specs.Prelude.{◌≡◌, ◌<◌, ◌+◌, Bool, true, false, if◌then◌else◌, List, Option, Some, None, nat_eq, length, slice_index_or, not, ◌&&◌, ◌||◌, ◌⊎◌}
-use Rattle.std.specs.HashMap.{get, HashMap}
-use Rattle.std.specs.declared.hash.FoldHasher.{FoldHasher}
-use Rattle.std.specs.declared.hash.BuildHasherDefault.{BuildHasherDefault}
+use Rattle.std.specs.HashMap.{get}
 use Rattle.rw_blocks.specs.Words.{Tag}
 use Rattle.rw_numbers.specs.Words.{Position, Section, Serial}
 use Rattle.rw_blocks.specs.declared.Kind.{Kind}
 use Rattle.rw_blocks.specs.declared.Vanished.{Vanished}
+use Rattle.rw_blocks.specs.declared.owners.Owners.{Owners}
 use Rattle.rw_blocks.specs.Sections.{SectionState, section_in, sealed_in, active_of, has_block}
 use Rattle.rw_blocks.specs.Changes.{section_losing, section_joining, section_unsealing}
 
@@ -52,14 +51,10 @@ pub record IsTagged
   pub others : (b : Serial) → IsAbsent b ss → owner b ≡ None
 
 -- ---- how tags change
--- the tag of each block that has one
-abbrev pub Owners : Type 0
-Owners = HashMap Serial Tag (BuildHasherDefault FoldHasher)
-
 -- the blocks that pass the test get this tag, or none, and the others keep theirs
 abbrev pub Retags : Owners → Owners → (Serial → Bool) → (Serial → Option Tag) → Type 0
 Retags before after test tag =
-    (b : Serial) → get nat_eq after b ≡ (if test b then tag b else get nat_eq before b)
+    (b : Serial) → get nat_eq after.tags b ≡ (if test b then tag b else get nat_eq before.tags b)
 
 -- ---- how sections change
 -- the upper section has the blocks of the whole one that the lower does not have

@@ -11,8 +11,10 @@
 //!
 //! Worked examples: `rw_cache_tests/src/primitives.rt`.
 
+mod hints;
 mod listed;
 mod lists;
+mod owners;
 mod primitives;
 mod queue;
 mod row_map;

@@ -81,6 +81,13 @@ impl Listed {
         }
     }
 
+    /// All objects go.
+    pub fn clear(&mut self)
+        ensures { self.new ≡ [] }
+    {
+        self.objects.clear();
+    }
+
     /// An object comes.
     ///
     /// # Errors

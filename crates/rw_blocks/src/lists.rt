@@ -1,18 +1,24 @@
 // What each block has: bytes, and a list of objects.
-ghost use Rattle.std.specs.Prelude.{◌≡◌, ◌<◌, ◌≤◌, ◌+◌, ◌^◌, [], ◌∷◌, ◌++◌, OnOk, OnErr, IfOk, IfSome, IsNone};
+ghost use Rattle.std.specs.Prelude.{◌≡◌, ◌<◌, ◌≤◌, ◌+◌, ◌^◌, [], ◌∷◌, ◌++◌, OnOk, OnErr, IfOk, IfSome, IsNone, None, nat_eq, option_copied};
+ghost use Rattle.std.specs.Borrow.{sem};
+ghost use Rattle.std.specs.HashMap.{get};
+ghost use Rattle.std.specs.Option.{option_copied_mut};
 ghost use Rattle.rw_numbers.specs.Words.{Serial};
 ghost use Rattle.std.specs.Ordering.{nat_cmp};
 ghost use Rattle.std.specs.List.Sorted.{IsStrictlySortedBy};
 ghost use Rattle.std.specs.Map.{keys_of};
 ghost use Rattle.rw_blocks.specs.Index.{objects_of, home_of, place_of};
 ghost use Rattle.rw_blocks.specs.Covering.{key_of, Covers};
+ghost use Rattle.rw_blocks.specs.Lending.{LendsEntry};
+ghost use Rattle.rw_blocks.specs.Maps.{Sets};
 ghost use Rattle.rw_blocks.specs.Lists.{homed_in, placed_in, list_in, Gains, Loses, Same, SameBytes, SameRows, Appends, HasCome, Stays, StaysCovered};
 
 use crate::Place;
+use crate::hints::Hints;
 use crate::listed::{Listed, Role};
 use crate::row_map::RowMap;
+use indexmap::IndexMap;
 use std::alloc::{AllocError, Global};
-use std::collections::HashMap;
 
 /// The bytes of the rows whose home a block is, and of those whose place it is.
 #[derive(Clone, Copy)]
@@ -38,11 +44,11 @@ pub struct Entry {
 }
 
 impl Entry {
-    /// No row.
-    fn new(alloc: Global) -> Entry
+    /// No row, and this list, which has no object.
+    fn new(objects: Listed) -> Entry
         ensures homed { result.bytes.homed ≡ 0 }
         ensures placed { result.bytes.placed ≡ 0 }
-        ensures objects { result.objects ≡ [] }
+        ensures objects { result.objects ≡ objects }
     {
         Entry {
             bytes: Bytes {
@@ -50,7 +56,7 @@ impl Entry {
                 placed: 0,
             },
             named: 0,
-            objects: Listed::new(alloc),
+            objects,
         }
     }
 
@@ -59,7 +65,7 @@ impl Entry {
     /// # Errors
     ///
     /// [`AllocError`] where memory was refused; all is then as it was.
-    #[inline]
+    #[inline(always)]
     fn add(&mut self, object: u64, bytes: Bytes) -> Result<bool, AllocError>
         requires homed_fit { self.old.bytes.homed + bytes.homed < 2 ^ 64 }
         requires placed_fit { self.old.bytes.placed + bytes.placed < 2 ^ 64 }
@@ -83,7 +89,7 @@ impl Entry {
     /// # Errors
     ///
     /// [`AllocError`] where memory was refused; all is then as it was.
-    #[inline]
+    #[inline(always)]
     fn add_within(
         &mut self,
         object: u64,
@@ -112,7 +118,7 @@ impl Entry {
     }
 
     /// Bytes leave. The list stays.
-    #[inline]
+    #[inline(always)]
     fn take(&mut self, bytes: Bytes)
         requires homed_there { bytes.homed ≤ self.old.bytes.homed }
         requires placed_there { bytes.placed ≤ self.old.bytes.placed }
@@ -126,11 +132,17 @@ impl Entry {
     }
 }
 
-/// The entries of the blocks that have any row. A block that has none takes no memory.
+/// How many lists are kept for blocks to come.
+const SPARE: usize = 4;
+
+/// The entries of the blocks that have any row.
 #[derive(Drop)]
 pub struct Lists {
     alloc: Global,
-    blocks: HashMap<u64, Entry>,
+    blocks: IndexMap<u64, Entry>,
+    hints: Hints,
+    /// Lists of blocks that have no row any more, for blocks to come.
+    spare: Vec<Listed>,
 }
 
 #[tactic(auto, unfolding(crate::specs::Lists::homed_in, crate::specs::Lists::placed_in, crate::specs::Lists::list_in))]
@@ -142,7 +154,53 @@ impl Lists {
     {
         Lists {
             alloc,
-            blocks: HashMap::new(alloc),
+            blocks: IndexMap::new(alloc),
+            hints: Hints::new(alloc),
+            spare: Vec::new(alloc),
+        }
+    }
+
+    /// What the block has, if it has any row.
+    #[inline(always)]
+    fn entry(&self, serial: u64) -> Option<&Entry>
+        ensures { option_copied result ≡ get nat_eq self.now.blocks serial }
+    {
+        self.hints.get(&self.blocks, serial)
+    }
+
+    /// What the block has, if it has any row, to change.
+    #[inline(always)]
+    fn entry_mut(&mut self, serial: u64) -> Option<&mut Entry>
+        ensures* writes_back { sem 𝓛 (LendsEntry self.entry serial result) }
+        ensures value { option_copied_mut result ≡ get nat_eq self.old.blocks serial }
+    {
+        let place = self.hints.find(&self.blocks, serial)?;
+        self.blocks.get_index_mut(place)
+    }
+
+    /// A list that has no object.
+    fn list(&mut self) -> Listed
+        ensures list { result ≡ [] }
+        ensures blocks { self.new.blocks ≡ self.old.blocks }
+    {
+        match self.spare.pop() {
+            Some(mut list) => {
+                list.clear();
+                list
+            }
+            None => Listed::new(self.alloc),
+        }
+    }
+
+    /// The block's entry goes, if it has one. Its list is kept where few are.
+    #[inline(never)]
+    fn remove(&mut self, serial: u64)
+        ensures { Sets (get nat_eq self.old.blocks) (get nat_eq self.new.blocks) serial None }
+    {
+        if let Some(entry) = self.hints.remove(&mut self.blocks, serial) {
+            if self.spare.len() < SPARE {
+                let _kept = self.spare.push(entry.objects);
+            }
         }
     }
 
@@ -150,7 +208,7 @@ impl Lists {
     pub fn homed(&self, serial: u64) -> u64
         ensures { result ≡ homed_in self.now serial }
     {
-        match self.blocks.get(&serial) {
+        match self.entry(serial) {
             Some(entry) => entry.bytes.homed,
             None => 0,
         }
@@ -160,7 +218,7 @@ impl Lists {
     pub fn placed(&self, serial: u64) -> u64
         ensures { result ≡ placed_in self.now serial }
     {
-        match self.blocks.get(&serial) {
+        match self.entry(serial) {
             Some(entry) => entry.bytes.placed,
             None => 0,
         }
@@ -181,12 +239,12 @@ impl Lists {
         ensures list { OnOk result (Appends self.old self.new serial object) }
         ensures same { OnErr result (Same self.old self.new) }
     {
-        match self.blocks.get_mut(&serial) {
+        match self.entry_mut(serial) {
             Some(entry) => entry.add(object, bytes),
             None => {
-                let mut entry = Entry::new(self.alloc);
+                let mut entry = Entry::new(self.list());
                 let wide = entry.add(object, bytes)?;
-                self.blocks.insert(serial, entry)?;
+                self.hints.insert(&mut self.blocks, serial, entry)?;
                 Ok(wide)
             }
         }
@@ -198,7 +256,7 @@ impl Lists {
     /// # Errors
     ///
     /// [`AllocError`] where memory was refused; all is then as it was.
-    #[inline]
+    #[inline(always)]
     pub fn add_within(
         &mut self,
         serial: u64,
@@ -219,14 +277,14 @@ impl Lists {
         ensures full { IfOk result (λ wide. IsNone wide → Same self.old self.new) }
         ensures same { OnErr result (Same self.old self.new) }
     {
-        match self.blocks.get_mut(&serial) {
+        match self.entry_mut(serial) {
             Some(entry) => entry.add_within(object, bytes, most),
             None => {
-                let mut entry = Entry::new(self.alloc);
+                let mut entry = Entry::new(self.list());
                 let Some(wide) = entry.add_within(object, bytes, most)? else {
                     return Ok(None);
                 };
-                self.blocks.insert(serial, entry)?;
+                self.hints.insert(&mut self.blocks, serial, entry)?;
                 Ok(Some(wide))
             }
         }
@@ -234,7 +292,7 @@ impl Lists {
 
     /// Bytes leave the block. An object may stay in its list; the list goes with the last row. The bytes of the rows are
     /// given whose place the block still is.
-    #[inline]
+    #[inline(always)]
     pub fn take(&mut self, serial: u64, bytes: Bytes) -> u64
         requires homed_there { bytes.homed ≤ homed_in self.old serial }
         requires placed_there { bytes.placed ≤ placed_in self.old serial }
@@ -248,12 +306,12 @@ impl Lists {
             homed: 0,
             placed: 0,
         };
-        if let Some(entry) = self.blocks.get_mut(&serial) {
+        if let Some(entry) = self.entry_mut(serial) {
             entry.take(bytes);
             left = entry.bytes;
         }
         if left.homed == 0 && left.placed == 0 {
-            self.blocks.remove(&serial);
+            self.remove(serial);
         }
         left.placed
     }
@@ -265,7 +323,7 @@ impl Lists {
         ensures homes_list { StaysCovered home_of rows.now self.old self.new }
         ensures places_list { StaysCovered place_of rows.now self.old self.new }
     {
-        if let Some(entry) = self.blocks.get_mut(&serial) {
+        if let Some(entry) = self.entry_mut(serial) {
             if entry.objects.is_wide(entry.named) {
                 entry.objects.settle(rows, serial);
             }
@@ -283,7 +341,7 @@ impl Lists {
         ensures { IfOk result (λ objects.
             objects.items ≡ objects_of (key_of role) serial rows.now) }
     {
-        match self.blocks.get(&serial) {
+        match self.entry(serial) {
             Some(entry) => entry.objects.sorted(rows, role, serial),
             None => Ok(Vec::new(self.alloc)),
         }

@@ -184,6 +184,7 @@ impl Queue {
     /// # Errors
     ///
     /// [`NoMemory`] where memory was refused.
+    #[inline(always)]
     pub fn add_within(
         &mut self,
         object: u64,
@@ -219,6 +220,7 @@ impl Queue {
     /// # Errors
     ///
     /// [`NoMemory`] where memory was refused.
+    #[inline(always)]
     pub fn replace_within(
         &mut self,
         object: u64,

@@ -145,6 +145,7 @@ impl Queue {
     }
 
     /// The serial of the section's active block of the kind.
+    #[inline(always)]
     pub fn active(&self, section: usize, kind: Kind) -> u64
         requires { section < length self.now.sections }
         ensures { result ≡ active_of kind (section_at self.now section) }
@@ -189,6 +190,7 @@ impl Queue {
     }
 
     /// The section that has the block with the serial, active or sealed. `None` exactly where there is no such block.
+    #[inline(always)]
     pub fn section_of(&self, serial: u64) -> Option<usize>
         ensures section { result ≡ section_of self.now serial }
         ensures stands { IfSome result (λ i. StandsIn serial i self.now.sections) }
@@ -197,6 +199,7 @@ impl Queue {
     }
 
     /// Where the object lies. `None` exactly where it is not stored.
+    #[inline(always)]
     pub fn row(&self, object: u64) -> Option<Place>
         ensures { result ≡ row_at self.now object }
     {

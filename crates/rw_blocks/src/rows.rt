@@ -49,6 +49,7 @@ impl Rows {
     }
 
     /// The row of an object. `None` exactly where it has none.
+    #[inline(always)]
     pub fn get(&self, object: u64) -> Option<Place>
         ensures { result ≡ row_in self.now object }
     {
@@ -107,6 +108,7 @@ impl Rows {
     }
 
     /// Where a list has grown wide, and it is the one of this block, it gives way to what counts in it.
+    #[inline(always)]
     fn trim(&mut self, wide: bool, serial: u64)
         ensures { self.new ≡ self.old }
     {
@@ -181,6 +183,7 @@ impl Rows {
     /// # Errors
     ///
     /// [`AllocError`] where memory was refused; the rows are then as they were.
+    #[inline(always)]
     pub fn replace_within(
         &mut self,
         object: u64,
@@ -219,6 +222,7 @@ impl Rows {
     /// # Errors
     ///
     /// [`AllocError`] where memory was refused; the rows are then as they were.
+    #[inline(always)]
     pub fn rehome_within(
         &mut self,
         object: u64,
@@ -259,6 +263,7 @@ impl Rows {
     /// # Errors
     ///
     /// [`AllocError`] where memory was refused; the rows are then as they were.
+    #[inline(always)]
     pub fn add_within(
         &mut self,
         object: u64,

@@ -5,10 +5,10 @@ ghost use Rattle.std.specs.List.{list_any};
 ghost use Rattle.rw_blocks.specs.Changes.{sections_changing, section_sealing, section_losing, upper_of, joined_at, section_unsealing, section_gaining, lower_of, parted_at};
 ghost use Rattle.rw_blocks.specs.Tags.{IsAbsent, IsOnlyIn, Retags, Parts, ComesFrom, JoinsNext, is_vanishing, IsGoneOnceUnsealed, IsOnceIn};
 
+use crate::owners::Owners;
 use crate::section::Section;
 use crate::{Kind, Seam, Vanished};
 use std::alloc::{AllocError, Global};
-use std::collections::HashMap;
 use std::marker::Model;
 use std::mem;
 
@@ -21,7 +21,7 @@ pub struct Sections {
     alloc: Global,
     list: Vec<Section>,
     tags: Vec<u64>,
-    owners: HashMap<u64, u64>,
+    owners: Owners,
 }
 
 impl Model for Sections {
@@ -36,7 +36,7 @@ impl Model for Sections {
     ghost view = { λ s. s.list.items };
 
     ghost invariant = { λ s. 0 < length s.list.items
-        → IsTagged s.list.items s.tags.items (λ b. get nat_eq s.owners b) };
+        → IsTagged s.list.items s.tags.items (λ b. get nat_eq s.owners.tags b) };
 }
 
 /// The least number that is none of `tags`.
@@ -69,7 +69,7 @@ fn place_of(tags: &[u64], tag: u64) -> Option<usize>
 /// # Errors
 ///
 /// [`AllocError`] where memory was refused; nothing is said of the tags then. `tag_sealed` and `retag` say the same.
-fn tag_all(owners: &mut HashMap<u64, u64>, section: &Section, tag: u64) -> Result<(), AllocError>
+fn tag_all(owners: &mut Owners, section: &Section, tag: u64) -> Result<(), AllocError>
     ensures { OnOk result
         (Retags owners.old owners.new (λ b. has_block b section.now) (λ b. Some tag)) }
 {
@@ -80,7 +80,7 @@ fn tag_all(owners: &mut HashMap<u64, u64>, section: &Section, tag: u64) -> Resul
 }
 
 /// Each sealed block of the section gets the tag.
-fn tag_sealed(owners: &mut HashMap<u64, u64>, section: &Section, tag: u64) -> Result<(), AllocError>
+fn tag_sealed(owners: &mut Owners, section: &Section, tag: u64) -> Result<(), AllocError>
     ensures { OnOk result (Retags owners.old owners.new
         (λ b. list_any (has_serial b) section.now.sealed) (λ b. Some tag)) }
 {
@@ -93,7 +93,7 @@ fn tag_sealed(owners: &mut HashMap<u64, u64>, section: &Section, tag: u64) -> Re
 
 /// Each block of the section gets the tag, but for the active ones that vanish: they get none.
 fn retag(
-    owners: &mut HashMap<u64, u64>,
+    owners: &mut Owners,
     section: &Section,
     tag: u64,
     vanished: Vanished,
@@ -113,11 +113,11 @@ fn retag(
 }
 
 /// The block gets no tag, where it vanishes.
-fn untag(owners: &mut HashMap<u64, u64>, serial: u64, vanishes: bool)
+fn untag(owners: &mut Owners, serial: u64, vanishes: bool)
     ensures { Retags owners.old owners.new (λ b. vanishes && nat_eq serial b) (λ b. None) }
 {
     if vanishes {
-        owners.remove(&serial);
+        owners.remove(serial);
     }
 }
 
@@ -177,7 +177,7 @@ impl Sections {
     }
 
     /// The section that has the block. `None` exactly where there is none.
-    #[inline]
+    #[inline(always)]
     pub fn section_of(&self, serial: u64) -> Option<usize>
         ensures first { result ≡ position (has_block serial) self.now }
         ensures there { IfSome result (λ i. i < length self.now) }
@@ -188,7 +188,7 @@ impl Sections {
         if self.list.is_empty() {
             return None;
         }
-        let tag = *self.owners.get(&serial)?;
+        let tag = self.owners.get(serial)?;
         place_of(&self.tags, tag)
     }
 }
@@ -203,7 +203,7 @@ impl Sections {
     pub fn new(alloc: Global, device: u64, virtual_block: u64) -> Result<Sections, AllocError>
         ensures { IfOk result (λ s. s ≡ new_section device virtual_block ∷ []) }
     {
-        let mut owners = HashMap::new(alloc);
+        let mut owners = Owners::new(alloc);
         let section = Section::new(alloc, device, virtual_block);
         tag_all(&mut owners, &section, 0)?;
         let mut list = Vec::new(alloc);
@@ -243,7 +243,7 @@ impl Sections {
     {
         let active = self.list[section].active(kind);
         self.list[section].unseal(kind);
-        self.owners.remove(&active);
+        self.owners.remove(active);
     }
 
     /// Takes a sealed block out of its list, whose serial no other block of the section has.
@@ -255,7 +255,7 @@ impl Sections {
         ensures rest { self.new ≡ sections_changing self.old section (section_losing position) }
     {
         let (serial, kind) = self.list[section].take_out(position);
-        self.owners.remove(&serial);
+        self.owners.remove(serial);
         (serial, kind)
     }
 

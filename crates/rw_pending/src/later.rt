@@ -117,7 +117,7 @@ impl<B: Copy> Lane<B> {
     }
 
     /// Adds an event, than which none is later, at the end. Where memory is refused, nothing has changed.
-    #[inline]
+    #[inline(always)]
     fn push(&mut self, event: &Event<B>) -> Result<(), AllocError>
         requires { All (λ e. e.time ≤ event.now.time) self.old }
         ensures added { OnOk result (self.new ≡ self.old ++ event.now ∷ []) }
@@ -214,7 +214,7 @@ impl<B: Copy, R: Store<B>> Store<B> for TwoLanes<B, R> {
         self.first.is_empty() && self.second.is_empty() && self.others.is_empty()
     }
 
-    #[inline]
+    #[inline(always)]
     fn put(&mut self, event: &Event<B>) -> Result<(), AllocError>
         ensures added { OnOk result (IsPermutation (self.old ++ event.now ∷ []) self.new) }
         ensures unchanged { OnErr result (self.new ≡ self.old) }
@@ -310,6 +310,7 @@ impl<B: Ord + Copy> Later<B> {
     }
 
     /// Adds an event. Where memory is refused, nothing has changed.
+    #[inline(always)]
     pub fn put(&mut self, event: &Event<B>) -> Result<(), AllocError>
         ensures added { OnOk result (IsPermutation (self.old ++ event.now ∷ []) self.new) }
         ensures unchanged { OnErr result (self.new ≡ self.old) }

@@ -140,6 +140,7 @@ impl CacheState {
 
     /// A hit, by a request for `size` bytes, of an object that is stored and whose row is `row`: it is promoted, and
     /// counted. `trail` has no mark yet.
+    #[inline(always)]
     pub(crate) fn hit<M: Marks>(
         &mut self,
         policy: Policy,
@@ -307,6 +308,7 @@ impl CacheState {
 
     /// Sends an event from process `process`: it is appended to `out`, with the number of events that the process has
     /// sent before, and counted.
+    #[inline(always)]
     pub(crate) fn send(
         &mut self,
         process: u32,

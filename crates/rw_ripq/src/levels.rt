@@ -1,9 +1,9 @@
 // Which section a level goes to, and the level of a row.
-ghost use Rattle.std.specs.Prelude.{◌≡◌, ◌≤◌, ◌<◌, ◌≢◌, length, is_some, IfSome, Some};
+ghost use Rattle.std.specs.Prelude.{◌≡◌, ◌≤◌, ◌<◌, ◌≢◌, ◌*◌, ◌^◌, length, is_some, nat_le, IfSome, Some};
 ghost use Rattle.rw_blocks.specs.State.{row_at};
 ghost use Rattle.rw_blocks.specs.Sums.{total};
 ghost use Rattle.rw_blocks.specs.Loose.{IsLoose};
-ghost use Rattle.rw_ripq.specs.Levels.{level_of_section, level_of, reaches, slru_target, target, highest_level};
+ghost use Rattle.rw_ripq.specs.Levels.{level_of_section, level_of, slru_target, target, highest_level};
 
 use crate::{Levels, Policy};
 use rw_blocks::{Place, Queue};
@@ -42,14 +42,13 @@ pub fn level_of_section(queue: &Queue, levels: Levels, section: usize) -> u8
     1 + (segments * queue.below(section) / queue.total()).min(segments - 1) as u8
 }
 
-/// Whether the section and those nearer the tail together hold `level` segments of all bytes.
-fn reaches(queue: &Queue, levels: Levels, level: u8, section: usize) -> bool
-    requires loose { IsLoose queue.now }
-    requires there { section < length queue.now.sections }
-    ensures { result ≡ reaches levels queue.now level section }
+/// Whether `held` bytes of `total` are `level` segments or more.
+fn reaches(levels: Levels, level: u8, held: u64, total: u64) -> bool
+    requires held { held ≤ 2 ^ 53 }
+    requires total { total ≤ 2 ^ 48 }
+    ensures { result ≡ nat_le (level * total) (levels.segments * held) }
 {
-    let held = queue.bytes(section) + queue.below(section);
-    level as u64 * queue.total() <= levels.segments as u64 * held
+    level as u64 * total <= levels.segments as u64 * held
 }
 
 /// The section, counted from 0 at the head, that an object of `level` goes to. Under `Lru` it is the head. Under `Slru`
@@ -70,7 +69,7 @@ pub fn target(queue: &Queue, policy: Policy, level: u8) -> u32
     }
 }
 
-/// The target of a level under segmented LRU.
+/// The target of a level under segmented LRU, found in one walk over the sections from the tail.
 pub fn slru_target(queue: &Queue, levels: Levels, level: u8) -> usize
     requires { IsLoose queue.now }
     ensures target { result ≡ slru_target levels queue.now level }
@@ -79,9 +78,12 @@ pub fn slru_target(queue: &Queue, levels: Levels, level: u8) -> usize
     if level >= levels.segments {
         return 0;
     }
+    let total = queue.total();
     let mut section = queue.sections() - 1;
-    while section > 0 && !reaches(queue, levels, level, section) {
+    let mut held = queue.bytes(section);
+    while section > 0 && !reaches(levels, level, held, total) {
         section -= 1;
+        held += queue.bytes(section);
     }
     section
 }

@@ -115,6 +115,7 @@ pub fn promote_row(
 /// # Errors
 ///
 /// As [`promote`]. Nothing is said of the trail then.
+#[inline(always)]
 pub fn promote_with<M: Marks>(
     queue: &mut Queue,
     trail: &mut M,
@@ -152,6 +153,7 @@ pub fn promote_with<M: Marks>(
 
 /// Makes the section's active virtual block the object's place, unless that is an active block of the section already.
 /// The object's place before is a block of the section `from`. Answers whether the place changed.
+#[inline(always)]
 fn promote_to<M: Marks>(
     queue: &mut Queue,
     trail: &mut M,

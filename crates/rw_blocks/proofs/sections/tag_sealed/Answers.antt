@@ -23,5 +23,5 @@ loop-position-preserved c = λ b.
     let is : (get_or sealed i (0, Device)).0 ≡ x = let e : get_or sealed i (0, Device) ≡ c.sealed_at-serial.result = cc in ap (λ (y : ℕ × Kind). y.0) e in
     let more : list_any (has_serial b) (take (i + 1) sealed) ≡ (list_any (has_serial b) (take i sealed) || nat_eq x b) =
     list_any_more (has_serial b) sealed i (0, Device) within ∙ ap (λ (y : ℕ). list_any (has_serial b) (take i sealed) || nat_eq y b) is in
-    rw (c.in_ok-insert.ensures.updates.0 b, c.loop-position.invariant b, more)
-    (tag_more x b c.args.tag (list_any (has_serial b) (take i sealed)) (get nat_eq c.args.owners.now b))
+    rw (c.in_ok-insert.ensures.updates b, c.loop-position.invariant b, more)
+    (tag_more x b c.args.tag (list_any (has_serial b) (take i sealed)) (get nat_eq c.args.owners.now.tags b))

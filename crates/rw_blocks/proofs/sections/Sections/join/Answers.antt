@@ -17,7 +17,7 @@ invariant_of-self-2 c = λ some.
     let i : ℕ = c.args.section in
     let view : ss ≡ c.args.self.now = c.self.view_is in
     let within : i + 1 < length ss = let there = c.requires.there in omega (arith, ap (λ (zs : List SectionState). length zs) view) in
-    let t : IsTagged ss tags (λ b. get nat_eq c.self.inside.owners b) = c.self.invariant (omega arith) in
+    let t : IsTagged ss tags (λ b. get nat_eq c.self.inside.owners.tags b) = c.self.invariant (omega arith) in
     let long = t.long in
     let u : SectionState = section_in ss i in
     let l : SectionState = section_in ss (i + 1) in
@@ -35,12 +35,12 @@ invariant_of-self-2 c = λ some.
     c.in_ok-join.ensures ∙ (ap (λ (z : SectionState). section_joining c.args.vanished z c.remove-lower.result) upper ∙ ap (λ (z : SectionState). section_joining c.args.vanished u z) lower) in
     let joins : Joins u l gone (section_joining c.args.vanished u l) =
     subst (λ (zs : List SectionState). Joins (section_in zs i) (section_in zs (i + 1)) (is_vanishing c.args.vanished (section_in zs (i + 1))) (section_joining c.args.vanished (section_in zs i) (section_in zs (i + 1)))) (sym view) c.requires.joins in
-    let owner : (b : ℕ) → get nat_eq c.retag.new.owners b ≡ cond (has_block b l) (cond (gone b) None (Some (tag_in tags i))) (get nat_eq c.self.inside.owners b) =
+    let owner : (b : ℕ) → get nat_eq c.retag.new.owners.tags b ≡ cond (has_block b l) (cond (gone b) None (Some (tag_in tags i))) (get nat_eq c.self.inside.owners.tags b) =
     λ b. c.in_ok-retag.ensures b
-    ∙ (ap (λ (z : SectionState). cond (has_block b z) (cond (is_vanishing c.args.vanished z b) None (Some c.index-tag.result.now)) (get nat_eq c.self.inside.owners b)) lower
-    ∙ ap (λ (y : ℕ). cond (has_block b l) (cond (gone b) None (Some y)) (get nat_eq c.self.inside.owners b)) tag) in
+    ∙ (ap (λ (z : SectionState). cond (has_block b z) (cond (is_vanishing c.args.vanished z b) None (Some c.index-tag.result.now)) (get nat_eq c.self.inside.owners.tags b)) lower
+    ∙ ap (λ (y : ℕ). cond (has_block b l) (cond (gone b) None (Some y)) (get nat_eq c.self.inside.owners.tags b)) tag) in
     rw (list, is, new-tags)
-    (IsTagged-join ss tags (λ b. get nat_eq c.self.inside.owners b) (λ b. get nat_eq c.retag.new.owners b) gone i (section_joining c.args.vanished u l) t within joins owner)
+    (IsTagged-join ss tags (λ b. get nat_eq c.self.inside.owners.tags b) (λ b. get nat_eq c.retag.new.owners.tags b) gone i (section_joining c.args.vanished u l) t within joins owner)
 
 pub remove-lower-requires : goal.remove-lower-requires
 remove-lower-requires c = let there = c.requires.there in omega (arith, ap length (ap (λ v. v.items) c.replace-list.ensures.value ∙ c.self.view_is))

@@ -85,7 +85,7 @@ invariant_of-self-2 c = λ some.
     let i : ℕ = c.args.section in
     let view : ss ≡ c.args.self.now = c.self.view_is in
     let within : i < length ss = let there = c.requires.there in omega (arith, ap (λ (zs : List SectionState). length zs) view) in
-    let t : IsTagged ss tags (λ b. get nat_eq c.self.inside.owners b) = c.self.invariant (omega arith) in
+    let t : IsTagged ss tags (λ b. get nat_eq c.self.inside.owners.tags b) = c.self.invariant (omega arith) in
     let s : SectionState = section_in ss i in
     let u : SectionState = upper_of c.args.seam.upper_sealed s in
     let l : SectionState = lower_of c.args.seam s in
@@ -97,6 +97,6 @@ invariant_of-self-2 c = λ some.
     let from : ComesFrom l s ss =
     subst (λ (zs : List SectionState). ComesFrom (lower_of c.args.seam (section_in zs i)) (section_in zs i) zs) (sym view) c.requires.from in
     let fresh : list_any (nat_eq c.free_tag-tag.result) tags ≡ false = subst (λ ts. list_any (nat_eq c.free_tag-tag.result) ts ≡ false) c.deref.ensures.value c.free_tag-tag.ensures in
-    let owner : (b : ℕ) → get nat_eq c.tag_all.new.owners b ≡ cond (has_block b l) (Some c.free_tag-tag.result) (get nat_eq c.self.inside.owners b) =
-    λ b. c.in_ok-tag_all.ensures b ∙ ap (λ (z : SectionState). cond (has_block b z) (Some c.free_tag-tag.result) (get nat_eq c.self.inside.owners b)) below in
-    rw (list, new-tags) (IsTagged-part ss tags (λ b. get nat_eq c.self.inside.owners b) (λ b. get nat_eq c.tag_all.new.owners b) i c.free_tag-tag.result u l t within fresh parts from owner)
+    let owner : (b : ℕ) → get nat_eq c.tag_all.new.owners.tags b ≡ cond (has_block b l) (Some c.free_tag-tag.result) (get nat_eq c.self.inside.owners.tags b) =
+    λ b. c.in_ok-tag_all.ensures b ∙ ap (λ (z : SectionState). cond (has_block b z) (Some c.free_tag-tag.result) (get nat_eq c.self.inside.owners.tags b)) below in
+    rw (list, new-tags) (IsTagged-part ss tags (λ b. get nat_eq c.self.inside.owners.tags b) (λ b. get nat_eq c.tag_all.new.owners.tags b) i c.free_tag-tag.result u l t within fresh parts from owner)

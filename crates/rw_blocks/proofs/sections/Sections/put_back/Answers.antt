@@ -33,18 +33,18 @@ invariant_of-self-2 c = λ some.
     let i : ℕ = c.args.section in
     let view : ss ≡ c.args.self.now = c.self.view_is in
     let within : i < length ss = let there = c.requires.there in omega (arith, ap (λ (zs : List SectionState). length zs) view) in
-    let t : IsTagged ss tags (λ b. get nat_eq c.self.inside.owners b) = c.self.invariant (omega arith) in
+    let t : IsTagged ss tags (λ b. get nat_eq c.self.inside.owners.tags b) = c.self.invariant (omega arith) in
     let s : SectionState = section_in ss i in
     let x : ℕ = c.args.serial in
     let items : c.replace-list.result.items ≡ ss = ap (λ v. v.items) c.replace-list.ensures.value in
     let absent : IsAbsent x ss = subst (λ (zs : List SectionState). IsAbsent x zs) (sym view) c.requires.absent in
     let is : c.put_back.new.self ≡ record s { sealed = insert s.sealed c.args.position (x, c.args.kind) } = changed c in
     let tag : c.index.result.now ≡ tag_in tags i = let long = t.long in c.index.ensures ∙ get_or_default tags i c.index.result.now 0 (omega arith) in
-    let P : List SectionState → Type 0 = λ zs. IsTagged (set zs i c.put_back.new.self) tags (λ b. get nat_eq c.insert.new.self b) in
+    let P : List SectionState → Type 0 = λ zs. IsTagged (set zs i c.put_back.new.self) tags (λ b. get nat_eq c.insert.new.self.tags b) in
     subst P (sym items)
-    (IsTagged-claim ss tags (λ b. get nat_eq c.self.inside.owners b) (λ b. get nat_eq c.insert.new.self b) i x c.put_back.new.self t within absent
+    (IsTagged-claim ss tags (λ b. get nat_eq c.self.inside.owners.tags b) (λ b. get nat_eq c.insert.new.self.tags b) i x c.put_back.new.self t within absent
     (λ b. ap (has_block b) is ∙ has_block-insert b s c.args.position (x, c.args.kind))
-    (λ b. let h = c.in_ok-insert.ensures.updates.0 b in rw (← tag) h))
+    (λ b. let h = c.in_ok-insert.ensures.updates b in rw (← tag) h))
 
 pub index_mut-requires : goal.index_mut-requires
 index_mut-requires c = let there = c.requires.there in omega (arith, ap length (ap (λ v. v.items) c.replace-list.ensures.value ∙ c.self.view_is))

@@ -11,17 +11,17 @@ pub returns-clause-first : goal.returns-clause-first
 returns-clause-first c =
     let ss : List SectionState = c.self.inside.list.items in
     let some : 0 < length ss = grind (arith, common_steps) in
-    let own : get nat_eq c.self.inside.owners c.args.serial ≡ Some c.in_ok-tag.field-0.now = grind (arith, common_steps) in
-    let h = position-tagged ss c.self.inside.tags.items (λ b. get nat_eq c.self.inside.owners b) c.args.serial c.in_ok-tag.field-0.now (c.self.invariant some) own in
-    let found : c.place_of.result ≡ position (λ u. nat_eq u c.in_ok-tag.field-0.now) c.self.inside.tags.items = cc in
+    let own : get nat_eq c.self.inside.owners.tags c.args.serial ≡ Some c.in_ok-tag.tag = grind (arith, common_steps) in
+    let h = position-tagged ss c.self.inside.tags.items (λ b. get nat_eq c.self.inside.owners.tags b) c.args.serial c.in_ok-tag.tag (c.self.invariant some) own in
+    let found : c.place_of.result ≡ position (λ u. nat_eq u c.in_ok-tag.tag) c.self.inside.tags.items = cc in
     found ∙ (h ∙ ap (λ (zs : List SectionState). position (has_block c.args.serial) zs) c.self.view_is)
 
 pub returns-in_err-tag-clause-first : goal.returns-in_err-tag-clause-first
 returns-in_err-tag-clause-first c =
     let ss : List SectionState = c.self.inside.list.items in
     let some : 0 < length ss = grind (arith, common_steps) in
-    let own : get nat_eq c.self.inside.owners c.args.serial ≡ None = grind (arith, common_steps) in
-    let h = position-untagged ss c.self.inside.tags.items (λ b. get nat_eq c.self.inside.owners b) c.args.serial (c.self.invariant some) own in
+    let own : get nat_eq c.self.inside.owners.tags c.args.serial ≡ None = grind (arith, common_steps) in
+    let h = position-untagged ss c.self.inside.tags.items (λ b. get nat_eq c.self.inside.owners.tags b) c.args.serial (c.self.invariant some) own in
     c.from_residual.ensures ∙ (h ∙ ap (λ (zs : List SectionState). position (has_block c.args.serial) zs) c.self.view_is)
 
 pub returns-clause-only : goal.returns-clause-only
@@ -29,7 +29,7 @@ returns-clause-only c =
     let ss : List SectionState = c.self.inside.list.items in
     let some : 0 < length ss = grind (arith, common_steps) in
     let P : Option ℕ → List SectionState → Type 0 = λ o zs. IfSome o (λ i. IsOnlyIn i c.args.serial zs) in
-    let h = only_at-position ss c.self.inside.tags.items (λ b. get nat_eq c.self.inside.owners b) c.args.serial (c.self.invariant some) in
+    let h = only_at-position ss c.self.inside.tags.items (λ b. get nat_eq c.self.inside.owners.tags b) c.args.serial (c.self.invariant some) in
     subst (λ (o : Option ℕ). P o c.args.self.now) (sym (returns-clause-first c))
     (subst (λ (zs : List SectionState). P (position (has_block c.args.serial) zs) zs) c.self.view_is h)
 

@@ -19,7 +19,7 @@ invariant_of-self c = λ some.
     let i : ℕ = c.args.section in
     let view : ss ≡ c.args.self.now = c.self.view_is in
     let within : i < length ss = let there = c.requires.there in omega (arith, ap (λ (zs : List SectionState). length zs) view) in
-    let t : IsTagged ss tags (λ b. get nat_eq c.self.inside.owners b) = c.self.invariant (omega arith) in
+    let t : IsTagged ss tags (λ b. get nat_eq c.self.inside.owners.tags b) = c.self.invariant (omega arith) in
     let s : SectionState = section_in ss i in
     let p : ℕ = c.args.position in
     let inside : p < length s.sealed = subst (λ (zs : List SectionState). p < length (section_in zs i).sealed) (sym view) c.requires.sealed in
@@ -33,7 +33,7 @@ invariant_of-self c = λ some.
     subst (λ (zs : List SectionState). has_block (get_or (section_in zs i).sealed p (0, Device)).0 (record (section_in zs i) { sealed = remove (section_in zs i).sealed p }) ≡ false) (sym view) c.requires.once in
     let x : ℕ = c.take_out-serial.result.0 in
     let rest : SectionState = record s { sealed = remove s.sealed p } in
-    IsTagged-release ss tags (λ b. get nat_eq c.self.inside.owners b) (λ b. get nat_eq c.remove.new.self b) i x c.take_out-serial.new.self t within
+    IsTagged-release ss tags (λ b. get nat_eq c.self.inside.owners.tags b) (λ b. get nat_eq c.remove.new.self.tags b) i x c.take_out-serial.new.self t within
     (λ b. has_block-remove b s p (0, Device) inside ∙ (ap (λ (y : ℕ). nat_eq y b || has_block b rest) (sym serial) ∙ ap (λ (z : SectionState). nat_eq x b || has_block b z) (sym is)))
     (ap (λ (z : SectionState). has_block x z) is ∙ (ap (λ (y : ℕ). has_block y rest) serial ∙ once))
-    (λ b. c.remove.ensures.updates.0 b)
+    (λ b. c.remove.ensures.updates b)

@@ -17,7 +17,7 @@ invariant_of-self c = λ some.
     let i : ℕ = c.args.section in
     let view : ss ≡ c.args.self.now = c.self.view_is in
     let within : i < length ss = let there = c.requires.there in omega (arith, ap (λ (zs : List SectionState). length zs) view) in
-    let t : IsTagged ss tags (λ b. get nat_eq c.self.inside.owners b) = c.self.invariant (omega arith) in
+    let t : IsTagged ss tags (λ b. get nat_eq c.self.inside.owners.tags b) = c.self.invariant (omega arith) in
     let s : SectionState = section_in ss i in
     let first : c.active-active.result ≡ active_of c.args.kind s = grind (arith, common_steps, get_or_default {X = SectionState}) in
     let is : c.unseal.new.self ≡ section_unsealing c.args.kind s = grind (arith, common_steps, get_or_default {X = SectionState}) in
@@ -26,7 +26,7 @@ invariant_of-self c = λ some.
     subst (λ (zs : List SectionState). has_block (active_of c.args.kind (section_in zs i)) (section_unsealing c.args.kind (section_in zs i)) ≡ false) (sym view) c.requires.gone in
     let x : ℕ = c.active-active.result in
     let rest : SectionState = section_unsealing c.args.kind s in
-    IsTagged-release ss tags (λ b. get nat_eq c.self.inside.owners b) (λ b. get nat_eq c.remove.new.self b) i x c.unseal.new.self t within
+    IsTagged-release ss tags (λ b. get nat_eq c.self.inside.owners.tags b) (λ b. get nat_eq c.remove.new.self.tags b) i x c.unseal.new.self t within
     (λ b. has_block-unsealing c.args.kind b s full ∙ (ap (λ (y : ℕ). nat_eq y b || has_block b rest) (sym first) ∙ ap (λ (z : SectionState). nat_eq x b || has_block b z) (sym is)))
     (ap (λ (z : SectionState). has_block x z) is ∙ (ap (λ (y : ℕ). has_block y rest) first ∙ gone))
-    (λ b. c.remove.ensures.updates.0 b)
+    (λ b. c.remove.ensures.updates b)
