@@ -212,6 +212,7 @@ impl<B: Ord + Copy, S: Source<B>> Pending<B, S> {
     /// Adds events that were sent, in any order. They are later than the time that is reached.
     ///
     /// After a refusal of memory nothing is said of what is there.
+    #[inline(always)]
     pub fn extend(&mut self, sent: &[Event<B>]) -> Result<(), AllocError>
         requires { All (λ e. self.old.time < e.time) sent.now }
         ensures added { OnOk result (IsPermutation (self.old.events ++ sent.now) self.new.events) }

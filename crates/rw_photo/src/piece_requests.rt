@@ -1,4 +1,4 @@
-ghost use Rattle.std.specs.Prelude.{◌≡◌, ◌≤◌, ◌+◌, ◌-◌, ◌^◌, [], true, All, IfOk, length};
+ghost use Rattle.std.specs.Prelude.{◌≡◌, ◌≤◌, ◌+◌, ◌-◌, ◌^◌, [], true, All, length};
 ghost use Rattle.rw_vt.specs.System.{map_from};
 ghost use Rattle.rw_trace.specs.Laws.{IsRow};
 ghost use Rattle.rw_photo.specs.Events.{event_of, is_valid};
@@ -9,7 +9,7 @@ use crate::config::Config;
 use crate::rows::event_of;
 use rw_pending::Source;
 use rw_trace::Row;
-use rw_vt::{Event, NoMemory};
+use rw_vt::Event;
 use std::alloc::Global;
 use std::marker::Model;
 use std::vec::IntoIter;
@@ -55,23 +55,18 @@ impl PieceRequests {
 
     /// The requests of a piece of a trace, of which the first row is row `first`.
     ///
-    /// Rows in the ranges of a trace of the configuration's edges give valid events.
-    ///
-    /// # Errors
-    ///
-    /// `NoMemory` only where memory was refused.
-    pub fn new(alloc: Global, first: u64, rows: &[Row]) -> Result<PieceRequests, NoMemory>
-        requires few { first + length rows.now ≤ 2 ^ 64 - 1 }
-        requires order { AreInOrder rows.now }
-        ensures events { IfOk result (λ events. events ≡ map_from first event_of rows.now) }
-        ensures valid { IfOk result (λ events. (c : Config)
-            → All (IsRow c.edges) rows.now → All (λ e. is_valid c e ≡ true) events) }
+    /// Rows in the ranges of a trace of the configuration's edges give valid events. Takes no memory.
+    pub fn new(first: u64, rows: Vec<Row>) -> PieceRequests
+        requires few { first + length rows.items ≤ 2 ^ 64 - 1 }
+        requires order { AreInOrder rows.items }
+        ensures events { result ≡ map_from first event_of rows.items }
+        ensures valid { (c : Config)
+            → All (IsRow c.edges) rows.items → All (λ e. is_valid c e ≡ true) result }
     {
-        let rows = Vec::from_slice(alloc, rows)?;
-        Ok(PieceRequests {
+        PieceRequests {
             rows: rows.into_iter(),
             number: first,
-        })
+        }
     }
 }
 

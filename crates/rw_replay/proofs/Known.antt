@@ -11,7 +11,7 @@ use Rattle.rw_output.specs.declared.sim_fault.SimFault.{SimFault}
 use Rattle.rw_output.specs.declared.sim_fault.SimFault.TheVariants as sim
 use Rattle.rw_photo.specs.declared.config.Config.{Config}
 use Rattle.rw_replay.specs.declared.intervals.Outlook.{Outlook}
-use Rattle.rw_replay.specs.Replay.{HasBegunToStream, HasBegunToTellOfRows, HasStreamed, HasToldOfRows, IsRowsTellingFault, IsStreamingFault, TellsOfRows, TellsOfStream}
+use Rattle.rw_replay.specs.Replay.{HasBegunToStream, HasBegunToTellOfRows, HasStreamed, HasToldOfRows, IsReportOf, IsRowsTellingFault, IsStreamingFault, TellsOfRows, TellsOfStream}
 use Rattle.rw_replay.specs.Streams.{IsExhaustingFirst}
 
 -- what a reader has to give is what its bytes say, where they are known
@@ -63,3 +63,18 @@ told_known c o ahead known is before after h = (h.0, tells_known c o ahead known
 
 pub begun_known : (c : Config) (o : Outlook) (ahead : Ahead) (known : Option Text) → Opened c known ahead → (before after : Option Text) → HasBegunToTellOfRows c o ahead before after → HasBegunToStream c o known before after
 begun_known c o ahead known is before after h = (h.0, tells_known c o ahead known is h.0 h.1, h.2)
+
+-- what is told of the rows of a trace in memory, where nothing else is asked for, is its report
+pub report_known : (c : Config) (o : Outlook) (edges : ℕ) (ahead : Ahead) (bytes : Text) → o.warm_up ≡ None → o.every ≡ None → edges ≡ c.edges → ahead ≡ Some (ordered_trace_of edges (2 ^ 24) (records_of bytes))
+    → (text : Text) → TellsOfRows c o ahead text → IsReportOf c bytes text
+report_known c o edges ahead bytes no_warm_up no_every same is text h =
+    let run = h.tells.report no_warm_up no_every in
+    let known = is ∙ ap (λ n. Some (ordered_trace_of n (2 ^ 24) (records_of bytes))) same in
+    record {
+      rows = h.rows;
+      journals = run.journals;
+      states = run.states;
+      accepted = (ordered_accepted c.edges (2 ^ 24) (records_of bytes) h.rows (subst (λ a. AreAll a h.rows) known h.given)).0;
+      outcome = run.outcome;
+      told = run.told;
+    }

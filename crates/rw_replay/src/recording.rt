@@ -105,18 +105,18 @@ impl Recording {
     /// # Errors
     ///
     /// Those of `take`.
-    fn take_in_order(self, alloc: Global, rows: &[Row]) -> Result<Recording, NoMemory>
-        requires ranges { All (IsRow self.run.config.edges) rows.now }
-        requires rising { RiseFrom self.run.time rows.now }
-        requires few { self.run.taken + length rows.now ≤ 2 ^ 64 - 1 }
+    fn take_in_order(self, alloc: Global, rows: Vec<Row>) -> Result<Recording, NoMemory>
+        requires ranges { All (IsRow self.run.config.edges) rows.items }
+        requires rising { RiseFrom self.run.time rows.items }
+        requires few { self.run.taken + length rows.items ≤ 2 ^ 64 - 1 }
         ensures config { IfOk result (λ r. r.run.config ≡ self.run.config) }
         ensures time { IfOk result (λ r. r.run.time ≡ self.run.time) }
         ensures count { IfOk result (λ r.
-            r.run.taken ≡ self.run.taken + length rows.now) }
+            r.run.taken ≡ self.run.taken + length rows.items) }
         ensures marks { IfOk result (λ r. (r.start ≡ self.start) × (r.every ≡ self.every)) }
         ensures same { IfOk result (λ r. r.moments ≡ self.moments) }
         ensures taken { IfOk result (λ r. (before : List Row) → IsRecordingOf before self
-            → IsRecordingOf (before ++ rows.now) r) }
+            → IsRecordingOf (before ++ rows.items) r) }
     {
         let Recording {
             run,
@@ -154,10 +154,34 @@ impl Recording {
             → Meets (simulation self.run.config (before ++ rows.now))
             (last_time self.run.time rows.now) is_exhausted) }
     {
-        if rows.is_empty() {
+        let piece = Vec::from_slice(alloc, rows)?;
+        self.feed_piece(alloc, piece)
+    }
+
+    /// Takes in rows as [`feed`](Self::feed), which are not copied.
+    ///
+    /// # Errors
+    ///
+    /// Those of `feed`.
+    pub fn feed_piece(self, alloc: Global, rows: Vec<Row>) -> Result<Recording, Refusal>
+        requires ranges { All (IsRow self.run.config.edges) rows.items }
+        requires rising { RiseFrom self.run.time rows.items }
+        requires few { self.run.taken + length rows.items ≤ 2 ^ 64 - 1 }
+        ensures config { IfOk result (λ r. r.run.config ≡ self.run.config) }
+        ensures marks { IfOk result (λ r. (r.start ≡ self.start) × (r.every ≡ self.every)) }
+        ensures time { IfOk result (λ r. r.run.time ≡ last_time self.run.time rows.items) }
+        ensures fed { IfOk result (λ r. (before : List Row) → IsRecordingOf before self
+            → IsRecordingOf (before ++ rows.items) r) }
+        ensures exhausted { IfErr result (λ e. e ≡ Refusal.Exhausted
+            → (before : List Row) → IsRecordingOf before self
+            → Meets (simulation self.run.config (before ++ rows.items))
+            (last_time self.run.time rows.items) is_exhausted) }
+    {
+        let piece = rows.as_slice();
+        if piece.is_empty() {
             return Ok(self);
         }
-        let until = latest(rows, self.run.time());
+        let until = latest(piece, self.run.time());
         let mut recording = self.take_in_order(alloc, rows)?;
         'marks: while recording.next() <= until {
             recording = recording.record(alloc)?;

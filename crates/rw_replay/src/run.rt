@@ -134,18 +134,18 @@ impl Run {
     /// # Errors
     ///
     /// `NoMemory` only where memory was refused. The run is gone then.
-    pub fn take_in_order(self, alloc: Global, rows: &[Row]) -> Result<Run, NoMemory>
-        requires ranges { All (IsRow self.config.edges) rows.now }
-        requires rising { RiseFrom self.time rows.now }
-        requires few { self.taken + length rows.now ≤ 2 ^ 64 - 1 }
+    pub fn take_in_order(self, alloc: Global, rows: Vec<Row>) -> Result<Run, NoMemory>
+        requires ranges { All (IsRow self.config.edges) rows.items }
+        requires rising { RiseFrom self.time rows.items }
+        requires few { self.taken + length rows.items ≤ 2 ^ 64 - 1 }
         ensures config { IfOk result (λ run. run.config ≡ self.config) }
         ensures time { IfOk result (λ run. run.time ≡ self.time) }
-        ensures count { IfOk result (λ run. run.taken ≡ self.taken + length rows.now) }
+        ensures count { IfOk result (λ run. run.taken ≡ self.taken + length rows.items) }
         ensures taken { IfOk result (λ run. (before : List Row) → IsRunOn before self
-            → IsRunOn (before ++ rows.now) run) }
+            → IsRunOn (before ++ rows.items) run) }
     {
         if !self.may_refill() {
-            return self.take(alloc, rows);
+            return self.take(alloc, rows.as_slice());
         }
         let Run {
             photo,
@@ -155,13 +155,14 @@ impl Run {
             taken,
             time,
         } = self;
-        refill(alloc, &mut pending, taken, rows)?;
+        let count = rows.len() as u64;
+        refill(&mut pending, taken, rows)?;
         Ok(Run {
             photo,
             states,
             pending,
             first,
-            taken: taken + rows.len() as u64,
+            taken: taken + count,
             time,
         })
     }
@@ -281,19 +282,17 @@ fn hand_over(
 /// when it is taken.
 #[inline(never)]
 fn refill(
-    alloc: Global,
     pending: &mut Pending<Body, PieceRequests>,
     first: u64,
-    rows: &[Row],
+    rows: Vec<Row>,
 ) -> Result<(), NoMemory>
-    requires few { first + length rows.now ≤ 2 ^ 64 - 1 }
-    requires order { AreInOrder rows.now }
+    requires few { first + length rows.items ≤ 2 ^ 64 - 1 }
+    requires order { AreInOrder rows.items }
     requires later { All (λ e. pending.old.time < e.time) pending.old.events }
     ensures added { OnOk result (IsPermutation
-        (pending.old.events ++ map_from first event_of rows.now) pending.new.events) }
+        (pending.old.events ++ map_from first event_of rows.items) pending.new.events) }
     ensures time { OnOk result (pending.new.time ≡ 0) }
 {
-    let source = PieceRequests::new(alloc, first, rows)?;
-    pending.refill(source)?;
+    pending.refill(PieceRequests::new(first, rows))?;
     Ok(())
 }

@@ -1,4 +1,4 @@
-ghost use Rattle.std.specs.Prelude.{◌≡◌, ◌≢◌, ◌≤◌, ◌^◌, ◌↔◌, Err, IfOk, IfErr, OnOk};
+ghost use Rattle.std.specs.Prelude.{◌≡◌, ◌≢◌, ◌≤◌, ◌^◌, ◌↔◌, Err, IfOk, IfErr, IfSome, OnOk};
 ghost use Rattle.std.specs.Io.KnownBytes.{Appends};
 ghost use Rattle.rw_output.specs.Sink.{AppendsBeginning};
 ghost use Rattle.rw_replay.specs.Replay.{HasBegunToReport, HasBegunToStream, HasBegunToTell, HasBegunToTellOfRows, HasReported, HasStreamed, HasTold, HasToldOfRows, IsReplayFault, IsReportOf, IsRowsTellingFault, IsRowsTextFault, IsStreamingFault, IsTellingFault, IsTextFault, IsWritingFault, TellsOfRows, TellsOfTrace};
@@ -10,8 +10,8 @@ use crate::streaming::{record_rows, record_stream};
 use crate::telling::Telling;
 use rw_output::{Out, SimFault};
 use rw_photo::Config;
-use rw_progress::Progress;
-use rw_trace::{MAX_STREAMED_ROWS, OrderedRows, RowSource, read};
+use rw_progress::{Progress, Silent};
+use rw_trace::{MAX_ROWS, MAX_STREAMED_ROWS, OrderedRows, PlainRows, RowSource, read};
 use std::alloc::Global;
 use std::io::{Read, Write};
 
@@ -47,8 +47,11 @@ pub fn replay<W: Write, P: Progress>(
     }
 }
 
-/// The report of a run on one thread. The requests of a trace whose rows stand in order of time are not there all at once, and
-/// `progress` is told how far such a run has come, in ticks of the trace's virtual time.
+/// The report of a run on one thread. Tells `progress` how far it has come, in ticks of the trace's virtual time.
+///
+/// A trace whose lines are plain and stand in order of time is read as it is run: beside the text that takes the memory of a few
+/// thousand rows, of the caches and of what is on its way. Another one is read whole, once the first way has come to what it cannot
+/// read, and its requests are not all there at once where its rows stand in order of time.
 ///
 /// # Errors
 ///
@@ -63,9 +66,33 @@ pub fn report_of_trace<P: Progress>(
     ensures text { IfOk result (λ text. IsReportOf config.now bytes.now text.items) }
     ensures fault { IfErr result (IsReplayFault config.now bytes.now) }
 {
+    if let Some(text) = report_in_order(alloc, bytes, config, progress) {
+        return Ok(text);
+    }
     let trace = read(alloc, bytes, config.edges())?;
     let states = last_states_and_tell(alloc, trace.as_slice(), config, progress)?;
     Ok(report_of_states(alloc, config, states.as_slice())?)
+}
+
+/// The report of a run of a trace of plain lines in order of time, which is read as it is run. `None` makes no claim: it may be
+/// another trace, or no trace, or the run was refused.
+#[inline(never)]
+fn report_in_order<P: Progress>(
+    alloc: Global,
+    bytes: &[u8],
+    config: &Config,
+    progress: &mut P,
+) -> Option<Vec<u8>>
+    ensures { IfSome result (λ text. IsReportOf config.now bytes.now text.items) }
+{
+    let mut rows = PlainRows::open(bytes, config.edges(), MAX_ROWS)?;
+    let (from, to) = rows.span()?;
+    progress.begin(from, to);
+    let outlook = Outlook {
+        warm_up: None,
+        every: None,
+    };
+    text_of_rows(alloc, &mut rows, config, outlook, progress).ok()
 }
 
 /// Runs a trace on one thread as [`replay`] does, and writes what `outlook` asks for. Tells `progress` how far it has come, as
@@ -171,17 +198,18 @@ pub fn replay_rows<S: RowSource, W: Write, P: Progress>(
     ensures nothing { IfErr result (λ e. e ≢ SimFault.Output → out.new ≡ out.old) }
 {
     rows.progress.begin(0, u64::MAX);
-    let text = text_of_rows(alloc, rows, config, outlook)?;
+    let text = text_of_rows(alloc, rows, config, outlook, &mut Silent)?;
     rows.progress.about_to_write();
     write_whole(text.as_slice(), out)
 }
 
-/// What `outlook` asks for of a run of rows that a source gives.
-fn text_of_rows<S: RowSource>(
+/// What `outlook` asks for of a run of rows that a source gives. Tells `progress` how far the run has come, in ticks.
+fn text_of_rows<S: RowSource, P: Progress>(
     alloc: Global,
     rows: &mut S,
     config: &Config,
     outlook: Outlook,
+    progress: &mut P,
 ) -> Result<Vec<u8>, SimFault>
     requires edges { (S.rest rows.old).edges ≡ config.now.edges }
     requires begins { (S.rest rows.old).latest ≡ 0 }
@@ -193,7 +221,7 @@ fn text_of_rows<S: RowSource>(
     let Some(marks) = outlook.marks() else {
         return Err(SimFault::Plan);
     };
-    let moments = record_stream(alloc, rows, config, marks)?;
+    let moments = record_stream(alloc, rows, config, marks, progress)?;
     Ok(tell(alloc, config, outlook, moments.as_slice())?)
 }
 

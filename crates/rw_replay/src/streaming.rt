@@ -17,25 +17,27 @@ use rw_output::SimFault;
 use rw_photo::Config;
 use rw_progress::Progress;
 use rw_trace::{Row, RowSource, next_piece};
-use rw_vt::Refusal;
+use rw_vt::{NoMemory, Refusal};
 use std::alloc::Global;
 
 /// How many rows are read and taken in at a time.
-const PIECE: usize = 1 << 14;
+const PIECE: usize = 1 << 12;
 
 /// What the caches have counted by each mark of a run of rows that are read as the run goes on, so that it needs the memory of a few
-/// thousand rows, of the caches and of what is on its way, however many rows there are.
+/// thousand rows, of the caches and of what is on its way, however many rows there are. Tells `progress` the time of the first row of
+/// each piece, in ticks.
 ///
 /// # Errors
 ///
 /// `Trace` with the first fault of the rows, in the order of reading, and `Read` where a reader underneath answers an error;
 /// `Exhausted` only where the run of the rows read so far comes to a cache that can take no further event; and `Memory` only where
 /// memory was refused.
-pub fn record_stream<S: RowSource>(
+pub fn record_stream<S: RowSource, P: Progress>(
     alloc: Global,
     rows: &mut S,
     config: &Config,
     marks: Marks,
+    progress: &mut P,
 ) -> Result<Vec<Moment>, SimFault>
     requires edges { (S.rest rows.old).edges ≡ config.now.edges }
     requires begins { (S.rest rows.old).latest ≡ 0 }
@@ -44,15 +46,22 @@ pub fn record_stream<S: RowSource>(
         (S.rest rows.old).ahead moments.items) }
     ensures fault { IfErr result (IsStreamFault config.now (S.rest rows.old).ahead) }
 {
-    let mut piece = Vec::new(alloc);
     let mut recording = Recording::new(alloc, config, marks)?;
     'pieces: loop {
+        let mut piece = room_for_piece(alloc)?;
         next_piece(rows, PIECE, &mut piece)?;
-        recording = recording.feed(alloc, piece.as_slice())?;
-        if piece.len() < PIECE {
+        reach(piece.as_slice(), progress);
+        let count = piece.len();
+        recording = recording.feed_piece(alloc, piece)?;
+        if count < PIECE {
             return Ok(recording.finish(alloc)?);
         }
     }
+}
+
+/// Room for a piece.
+fn room_for_piece(alloc: Global) -> Result<Vec<Row>, NoMemory> {
+    Ok(Vec::with_capacity(alloc, PIECE)?)
 }
 
 /// What the caches have counted by each mark of a run of these rows, which are in the ranges of a trace of the configuration's edges.

@@ -370,10 +370,12 @@ nothing-left : records_left default_config st.StartRecord (Some []) ≡ []
 unfolding next_record
 nothing-left = left-none default_config st.StartRecord [] refl
 
+pub none-at : (text : List ℕ) (at : ℕ) → length text ≤ at → records_at text at ≡ []
+none-at text at ended = ap (λ xs. records_left default_config st.StartRecord (Some xs)) (drop_all at text ended) ∙ nothing-left
+
 pub all-read : (version : Version) (edges : ℕ) (text : List ℕ) (from at : ℕ) (rows : List Row) → AreRead version edges text from at rows → length text ≤ at → WriteRows version edges (records_at text from) rows
 all-read version edges text from at rows h ended =
-    let ends : records_at text at ≡ [] = ap (λ xs. records_left default_config st.StartRecord (Some xs)) (drop_all at text ended) ∙ nothing-left in
-    let all : records_at text from ≡ h.body = h.parts ∙ ap (λ rs. h.body ++ rs) ends ∙ append-nil h.body in
+    let all : records_at text from ≡ h.body = h.parts ∙ ap (λ rs. h.body ++ rs) (none-at text at ended) ∙ append-nil h.body in
     subst (λ rs. WriteRows version edges rs rows) (sym all) h.written
 
 -- the headers as lines, with each end

@@ -13,6 +13,7 @@
 mod parts;
 mod pieces;
 mod plain;
+mod plain_rows;
 mod reading;
 mod record_reader;
 mod row_source;
@@ -30,6 +31,7 @@ use csv::{ByteRecord, Reader};
 pub use parts::read_in_parts;
 pub use pieces::{OrderedRows, RowsFault, read_record};
 use plain::plain_trace;
+pub use plain_rows::PlainRows;
 pub use reading::{next_record, open_records};
 pub use row_source::{RowSource, next_piece};
 use std::alloc::{AllocError, Global};

@@ -10,7 +10,6 @@ use Rattle.rw_photo.specs.contracts.photo.PhotoVtModel.TheImpl as model
 use Rattle.rw_photo.specs.Cache.{is_exhausted}
 use Rattle.rw_photo.specs.Events.{event_of}
 use Rattle.rw_photo.specs.Simulation.{simulation, starts_of}
-use Rattle.rw_replay.specs.History.{IsRecordingOf}
 use Rattle.rw_replay.specs.Streams.{IsStreamFault}
 use Rattle.rw_replay.proofs.Failing.{handed-on}
 use Rattle.rw_replay.proofs.Recorded.{history_of, last_early}
@@ -33,7 +32,6 @@ returns-in_err-recording-2-clause-fault g c =
     let told = c.in_ok-next_piece.ensures in
     let piece : List Row = c.next_piece.new.piece.items in
     let e = c.in_err-recording-2.field-0.0 in
-    let same : c.as_slice.result.now ≡ piece = c.as_slice.ensures.value in
     let until = last_time r.run.time piece in
     let at = ap (λ t. last_time t piece) (inv.5 ∙ inv.4) in
     let last = last_on 0 inv.0 piece in
@@ -42,11 +40,11 @@ returns-in_err-recording-2-clause-fault g c =
       rows = inv.0 ++ piece;
       rest = (g.S.RowSource.rest c.next_piece.new.source).ahead;
       until = until;
-      first = first_or_all 16384 ahead (g.S.RowSource.rest c.pieces.rows).ahead (g.S.RowSource.rest c.next_piece.new.source).ahead inv.0 piece inv.2 told.few told.first told.all;
+      first = first_or_all 4096 ahead (g.S.RowSource.rest c.pieces.rows).ahead (g.S.RowSource.rest c.next_piece.new.source).ahead inv.0 piece inv.2 told.few told.first told.all;
       rising = rise_on 0 inv.0 piece inv.3 (subst (λ t. RiseFrom t piece) inv.4 told.rising);
       soon = inl (omega (arith, at, last));
       met = subst (λ (k : Config). Meets (simulation k (inv.0 ++ piece)) until is_exhausted) inv.9
-          (subst (λ ps. Meets (simulation r.run.config (inv.0 ++ ps)) (last_time r.run.time ps) is_exhausted) same (c.in_err-recording-2.ensures.exhausted is inv.0 inv.1));
+          (c.in_err-recording-2.ensures.exhausted is inv.0 inv.1);
     }))
 
 pub finish-requires : goal.finish-requires
@@ -54,7 +52,7 @@ finish-requires g c =
     let inv = c.pieces.invariant in
     let r = c.pieces.recording in
     let piece : List Row = c.next_piece.new.piece.items in
-    let time = c.in_ok-recording-2.ensures.time ∙ ap (last_time r.run.time) c.as_slice.ensures.value in
+    let time = c.in_ok-recording-2.ensures.time in
     let early = last_early r.run.time (g.S.RowSource.rest c.pieces.rows).edges piece (omega (arith, inv.5, inv.6)) c.in_ok-next_piece.ensures.ranges in
     omega (arith, time, early)
 
@@ -67,9 +65,9 @@ returns-in_err-finish-clause-fault g c =
     let told = c.in_ok-next_piece.ensures in
     let piece : List Row = c.next_piece.new.piece.items in
     let e = c.in_err-finish.field-0.0 in
-    let short : length piece < 16384 = omega (arith, c.if-len-lt-PIECE.true, c.len.ensures) in
+    let short : length piece < 4096 = omega (arith, c.if-count-lt-PIECE.true, c.len-count.ensures) in
     let all = first_end ahead (g.S.RowSource.rest c.pieces.rows).ahead inv.0 piece inv.2 (told.all short) in
-    let is_all = subst (λ ps. IsRecordingOf (inv.0 ++ ps) after) c.as_slice.ensures.value (c.in_ok-recording-2.ensures.fed inv.0 inv.1) in
+    let is_all = c.in_ok-recording-2.ensures.fed inv.0 inv.1 in
     handed-on c.from_residual-in_err-finish.result (sim_refusal_of e) (IsStreamFault c.args.config.now ahead) c.from_residual-in_err-finish.ensures.1
     (run_fault c.args.config.now ahead e (λ is. record {
       rows = inv.0 ++ piece;
@@ -81,17 +79,17 @@ returns-in_err-finish-clause-fault g c =
       met = subst (λ (k : Config). Meets (simulation k (inv.0 ++ piece)) end_of_time is_exhausted) (c.in_ok-recording-2.ensures.config ∙ inv.9) (c.in_err-finish.ensures.exhausted is (inv.0 ++ piece) is_all);
     }))
 
-pub returns-then-len-lt-PIECE-clause-streamed : goal.returns-then-len-lt-PIECE-clause-streamed
-returns-then-len-lt-PIECE-clause-streamed g c =
+pub returns-then-count-lt-PIECE-clause-streamed : goal.returns-then-count-lt-PIECE-clause-streamed
+returns-then-count-lt-PIECE-clause-streamed g c =
     let ahead = (g.S.RowSource.rest c.args.rows.now).ahead in
     let inv = c.pieces.invariant in
     let after = c.in_ok-recording-2.recording in
     let ran = c.in_ok-recording-2.ensures in
     let told = c.in_ok-next_piece.ensures in
     let piece : List Row = c.next_piece.new.piece.items in
-    let short : length piece < 16384 = omega (arith, c.if-len-lt-PIECE.true, c.len.ensures) in
+    let short : length piece < 4096 = omega (arith, c.if-count-lt-PIECE.true, c.len-count.ensures) in
     let all = first_end ahead (g.S.RowSource.rest c.pieces.rows).ahead inv.0 piece inv.2 (told.all short) in
-    let is_all = subst (λ ps. IsRecordingOf (inv.0 ++ ps) after) c.as_slice.ensures.value (ran.fed inv.0 inv.1) in
+    let is_all = ran.fed inv.0 inv.1 in
     let ms = c.in_ok-finish.field-0.items in
     record {
       rows = inv.0 ++ piece;
@@ -111,9 +109,9 @@ pieces-preserved g c =
     let told = c.in_ok-next_piece.ensures in
     let next = g.S.RowSource.rest c.next_piece.new.source in
     let piece : List Row = c.next_piece.new.piece.items in
-    let full : length piece ≡ 16384 = omega (arith, c.if-len-lt-PIECE.false, c.len.ensures, told.few) in
-    let is_all = subst (λ ps. IsRecordingOf (inv.0 ++ ps) after) c.as_slice.ensures.value (ran.fed inv.0 inv.1) in
-    let time = ran.time ∙ ap (last_time r.run.time) c.as_slice.ensures.value in
+    let full : length piece ≡ 4096 = omega (arith, c.if-count-lt-PIECE.false, c.len-count.ensures, told.few) in
+    let is_all = ran.fed inv.0 inv.1 in
+    let time = ran.time in
     let at = ap (λ t. last_time t piece) inv.5 in
     let early = last_early (g.S.RowSource.rest c.pieces.rows).latest (g.S.RowSource.rest c.pieces.rows).edges piece inv.6 told.ranges in
     let latest = told.latest in

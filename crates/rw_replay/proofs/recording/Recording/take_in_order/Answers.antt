@@ -12,7 +12,7 @@ returns-clause-taken c = λ before recording.
     let was = c.self.inside in
     let r : RecordingState = record { run = was.run; start = was.marks.start; every = was.marks.every; moments = was.moments.items } in
     let is = subst (IsRecordingOf before) (sym c.self.view_is) recording in
-    let late = rising_late was.run.time c.args.rows.now (subst (λ (v : RecordingState). RiseFrom v.run.time c.args.rows.now) (sym c.self.view_is) c.requires.rising) in
-    let ranges = subst (λ (v : RecordingState). All (IsRow v.run.config.edges) c.args.rows.now) (sym c.self.view_is) c.requires.ranges in
-    let few = subst (λ (v : RecordingState). v.run.taken + length c.args.rows.now ≤ 2 ^ 64 - 1) (sym c.self.view_is) c.requires.few in
-    takes_recorded r before c.args.rows.now is (valid-rows was.run.config was.run.taken c.args.rows.now (omega (arith, few)) ranges) late (passed was.run.time was.marks.start was.marks.every was.next was.moments.items c.self.invariant.0 c.self.invariant.2) c.in_ok-run.run' c.in_ok-run.ensures.config (c.in_ok-run.ensures.taken before is.run)
+    let late = rising_late was.run.time c.args.rows.items (subst (λ (v : RecordingState). RiseFrom v.run.time c.args.rows.items) (sym c.self.view_is) c.requires.rising) in
+    let ranges = subst (λ (v : RecordingState). All (IsRow v.run.config.edges) c.args.rows.items) (sym c.self.view_is) c.requires.ranges in
+    let few = subst (λ (v : RecordingState). v.run.taken + length c.args.rows.items ≤ 2 ^ 64 - 1) (sym c.self.view_is) c.requires.few in
+    takes_recorded r before c.args.rows.items is (valid-rows was.run.config was.run.taken c.args.rows.items (omega (arith, few)) ranges) late (passed was.run.time was.marks.start was.marks.every was.next was.moments.items c.self.invariant.0 c.self.invariant.2) c.in_ok-run.run' c.in_ok-run.ensures.config (c.in_ok-run.ensures.taken before is.run)

@@ -1,5 +1,5 @@
-use Rattle.std.proofs.Common.{◌≡◌, ◌≤◌, ◌<◌, ◌+◌, ◌-◌, ◌^◌, ◌++◌, ◌⊎◌, [], arith, length, refl, sym, subst}
-use Rattle.std.specs.Prelude.{All, IsPermutation}
+use Rattle.std.proofs.Common.{◌≡◌, ◌∙◌, ◌≤◌, ◌<◌, ◌+◌, ◌-◌, ◌^◌, ◌++◌, ◌⊎◌, ℕ, [], arith, length, refl, sym, subst}
+use Rattle.std.specs.Prelude.{All}
 use Rattle.rw_vt.specs.System.{map_from}
 use Rattle.rw_trace.specs.Laws.{IsRow}
 use Rattle.rw_trace.specs.Pieces.{RiseFrom}
@@ -11,11 +11,12 @@ use Rattle.rw_replay.proofs.Taking.{added_in_front, all_later, apart_after, in_o
 use Rattle.rw_replay.proofs.run.Run.take_in_order.Goals as goal
 
 pub take-requires-clause-late : goal.take-requires-clause-late
-take-requires-clause-late c = rising_late c.args.self.time c.args.rows.now c.requires.rising
+take-requires-clause-late c =
+    subst (λ rs. All (λ row. c.args.self.time ≤ row.time) rs) (sym c.as_slice.ensures.value) (rising_late c.args.self.time c.args.rows.items c.requires.rising)
 
 pub refill-requires-clause-order : goal.refill-requires-clause-order
 refill-requires-clause-order c =
-    in_order 0 c.args.self.time c.args.rows.now (omega arith) c.requires.rising
+    in_order 0 c.args.self.time c.args.rows.items (omega arith) c.requires.rising
 
 pub refill-requires-clause-later : goal.refill-requires-clause-later
 refill-requires-clause-later c =
@@ -28,13 +29,13 @@ invariant_of-result c =
     let was = c.self.inside in
     let waiting = was.pending.events ++ was.first.items in
     let after = c.refill.new.pending.events ++ was.first.items in
-    let events = map_from was.taken event_of c.args.rows.now in
-    let rising = subst (λ (v : RunState). RiseFrom v.time c.args.rows.now) (sym c.self.view_is) c.requires.rising in
-    let ranges = subst (λ (v : RunState). All (IsRow v.config.edges) c.args.rows.now) (sym c.self.view_is) c.requires.ranges in
-    let few = subst (λ (v : RunState). v.taken + length c.args.rows.now ≤ 2 ^ 64 - 1) (sym c.self.view_is) c.requires.few in
+    let events = map_from was.taken event_of c.args.rows.items in
+    let rising = subst (λ (v : RunState). RiseFrom v.time c.args.rows.items) (sym c.self.view_is) c.requires.rising in
+    let ranges = subst (λ (v : RunState). All (IsRow v.config.edges) c.args.rows.items) (sym c.self.view_is) c.requires.ranges in
+    let few = subst (λ (v : RunState). v.taken + length c.args.rows.items ≤ 2 ^ 64 - 1) (sym c.self.view_is) c.requires.few in
     let moved = added_in_front was.pending.events c.refill.new.pending.events was.first.items events c.in_ok-refill.ensures.added in
-    let late_ones = late_events was.time was.taken c.args.rows.now (rising_late was.time c.args.rows.now rising) in (
-      ready_more was.photo was.states.items waiting events after c.self.invariant.0 (valid-rows was.photo.config was.taken c.args.rows.now (omega (arith, few)) ranges) moved,
+    let late_ones = late_events was.time was.taken c.args.rows.items (rising_late was.time c.args.rows.items rising) in (
+      ready_more was.photo was.states.items waiting events after c.self.invariant.0 (valid-rows was.photo.config was.taken c.args.rows.items (omega (arith, few)) ranges) moved,
       late_moved was.time waiting events after c.self.invariant.1 late_ones moved,
       apart_after was.time was.pending.time c.refill.new.pending.time was.first.items c.self.invariant.2 c.in_ok-refill.ensures.time,
     )
@@ -44,10 +45,12 @@ returns-clause-taken c = λ before run.
     let was = c.self.inside in
     let waiting = was.pending.events ++ was.first.items in
     let after = c.refill.new.pending.events ++ was.first.items in
-    let events = map_from was.taken event_of c.args.rows.now in
+    let events = map_from was.taken event_of c.args.rows.items in
     let r : RunState = record { config = was.photo.config; time = was.time; taken = was.taken; states = was.states.items; waiting = waiting } in
-    let rising = subst (λ (v : RunState). RiseFrom v.time c.args.rows.now) (sym c.self.view_is) c.requires.rising in
-    let ranges = subst (λ (v : RunState). All (IsRow v.config.edges) c.args.rows.now) (sym c.self.view_is) c.requires.ranges in
-    let few = subst (λ (v : RunState). v.taken + length c.args.rows.now ≤ 2 ^ 64 - 1) (sym c.self.view_is) c.requires.few in
+    let rising = subst (λ (v : RunState). RiseFrom v.time c.args.rows.items) (sym c.self.view_is) c.requires.rising in
+    let ranges = subst (λ (v : RunState). All (IsRow v.config.edges) c.args.rows.items) (sym c.self.view_is) c.requires.ranges in
+    let few = subst (λ (v : RunState). v.taken + length c.args.rows.items ≤ 2 ^ 64 - 1) (sym c.self.view_is) c.requires.few in
     let moved = added_in_front was.pending.events c.refill.new.pending.events was.first.items events c.in_ok-refill.ensures.added in
-    takes r before c.args.rows.now events after (subst (IsRunOn before) (sym c.self.view_is) run) refl (valid-rows was.photo.config was.taken c.args.rows.now (omega (arith, few)) ranges) (rising_late was.time c.args.rows.now rising) moved
+    let longer : ℕ → RunState = λ n. record { config = was.photo.config; time = was.time; taken = was.taken + n; states = was.states.items; waiting = after } in
+    subst (λ n. IsRunOn (before ++ c.args.rows.items) (longer n)) (sym (c.len-count.ensures ∙ c.args.rows.ok.0))
+    (takes r before c.args.rows.items events after (subst (IsRunOn before) (sym c.self.view_is) run) refl (valid-rows was.photo.config was.taken c.args.rows.items (omega (arith, few)) ranges) (rising_late was.time c.args.rows.items rising) moved)

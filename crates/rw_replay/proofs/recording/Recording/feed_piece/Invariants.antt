@@ -1,7 +1,7 @@
 use Rattle.std.proofs.Common.{◌≡◌, ◌≤◌, ◌+◌, ◌-◌, ◌++◌, List}
 use Rattle.rw_trace.specs.declared.Row.{Row}
 use Rattle.rw_replay.specs.History.{IsRecordingOf, next_mark}
-use Rattle.rw_replay.proofs.recording.Recording.feed.Given as goal
+use Rattle.rw_replay.proofs.recording.Recording.feed_piece.Given as goal
 
 abbrev pub invariant-marks : goal.invariant-marks
 invariant-marks l = record {
@@ -9,7 +9,7 @@ invariant-marks l = record {
   start : l.recording.start ≡ l.fn.self.start;
   every : l.recording.every ≡ l.fn.self.every;
   time : l.recording.run.time ≤ l.until;
-  fed : (before : List Row) → IsRecordingOf before l.fn.self → IsRecordingOf (before ++ l.rows) l.recording;
+  fed : (before : List Row) → IsRecordingOf before l.fn.self → IsRecordingOf (before ++ l.fn.rows.items) l.recording;
 }
 
 abbrev pub decreases-marks : goal.decreases-marks

@@ -1,4 +1,4 @@
-use Rattle.std.proofs.Common.{◌≡◌, ◌≤◌, ◌++◌, ℕ, List, Result, Ok, Err, subst, ◌∙◌, ap, arith}
+use Rattle.std.proofs.Common.{◌≡◌, ◌≤◌, ◌<◌, ◌++◌, ℕ, List, Result, Ok, Err, append-nil, length, subst, sym, ◌∙◌, ap, arith}
 use Rattle.std.specs.Prelude.{IfErr, IfOk}
 use Rattle.std.proofs.lemmas.Result.{err_from_is_err_and}
 use Rattle.rw_vt.specs.System.{Meets}
@@ -12,13 +12,19 @@ use Rattle.rw_photo.specs.Simulation.{simulation}
 use Rattle.rw_replay.specs.History.{IsRecordingOf, RecordingState, next_mark}
 use Rattle.rw_replay.specs.Run.{IsRunOn}
 use Rattle.rw_replay.proofs.Recorded.{goes_recorded, meets_sooner, records_on, rising_last, some_rows, waits_for_some, within_latest}
-use Rattle.rw_replay.proofs.recording.Recording.feed.Goals as goal
+use Rattle.rw_replay.proofs.Streamed.{none_left}
+use Rattle.rw_replay.proofs.recording.Recording.feed_piece.Goals as goal
+
+pub returns-then-is_empty-clause-fed : goal.returns-then-is_empty-clause-fed
+returns-then-is_empty-clause-fed c = λ before is.
+    let none = sym c.as_slice-piece.ensures.value ∙ none_left c.is_empty.result c.as_slice-piece.result.now c.is_empty.ensures c.if-is_empty.true in
+    subst (λ rs. IsRecordingOf (before ++ rs) c.args.self) (sym none) (subst (λ rs. IsRecordingOf rs c.args.self) (sym (append-nil before)) is)
 
 pub marks-init : goal.marks-init
 marks-init c =
     let now = c.time.ensures ∙ ap (λ (v : RecordingState). v.run.time) c.self.view_is in
-    let until = c.latest-until.ensures ∙ ap (λ t. last_time t c.args.rows.now) now in
-    let later = rising_last c.args.self.run.time c.args.rows.now c.requires.rising in
+    let until = c.latest-until.ensures ∙ ap (last_time c.time.result) c.as_slice-piece.ensures.value ∙ ap (λ t. last_time t c.args.rows.items) now in
+    let later = rising_last c.args.self.run.time c.args.rows.items c.requires.rising in
     record {
       config = c.in_ok-recording.ensures.config;
       start = c.in_ok-recording.ensures.marks.0;
@@ -30,16 +36,16 @@ marks-init c =
 pub record-requires : goal.record-requires
 record-requires c =
     let now = c.time.ensures ∙ ap (λ (v : RecordingState). v.run.time) c.self.view_is in
-    let until = c.latest-until.ensures ∙ ap (λ t. last_time t c.args.rows.now) now in
-    let some = some_rows c.is_empty.result c.args.rows.now c.is_empty.ensures c.if-is_empty.false in
-    let within = within_latest c.args.self.run.time c.args.self.run.config.edges c.args.rows.now some c.requires.ranges in
+    let until = c.latest-until.ensures ∙ ap (last_time c.time.result) c.as_slice-piece.ensures.value ∙ ap (λ t. last_time t c.args.rows.items) now in
+    let some = subst (λ rs. 0 < length rs) c.as_slice-piece.ensures.value (some_rows c.is_empty.result c.as_slice-piece.result.now c.is_empty.ensures c.if-is_empty.false) in
+    let within = within_latest c.args.self.run.time c.args.self.run.config.edges c.args.rows.items some c.requires.ranges in
     omega (arith, c.marks.invariant.time, until, within)
 
 pub returns-in_err-recording-2-clause-exhausted : goal.returns-in_err-recording-2-clause-exhausted
 returns-in_err-recording-2-clause-exhausted c =
     let now = c.time.ensures ∙ ap (λ (v : RecordingState). v.run.time) c.self.view_is in
-    let until = c.latest-until.ensures ∙ ap (λ t. last_time t c.args.rows.now) now in
-    let rows = c.args.rows.now in
+    let until = c.latest-until.ensures ∙ ap (last_time c.time.result) c.as_slice-piece.ensures.value ∙ ap (λ t. last_time t c.args.rows.items) now in
+    let rows = c.args.rows.items in
     let inv = c.marks.invariant in
     let r = c.marks.recording in
     let last = last_time c.args.self.run.time rows in
@@ -53,12 +59,12 @@ returns-in_err-recording-2-clause-exhausted c =
 pub marks-preserved : goal.marks-preserved
 marks-preserved c =
     let now = c.time.ensures ∙ ap (λ (v : RecordingState). v.run.time) c.self.view_is in
-    let until = c.latest-until.ensures ∙ ap (λ t. last_time t c.args.rows.now) now in
-    let rows = c.args.rows.now in
+    let until = c.latest-until.ensures ∙ ap (last_time c.time.result) c.as_slice-piece.ensures.value ∙ ap (λ t. last_time t c.args.rows.items) now in
+    let rows = c.args.rows.items in
     let inv = c.marks.invariant in
     let r = c.marks.recording in
     let told = c.in_ok-recording-2.ensures in
-    let some = some_rows c.is_empty.result rows c.is_empty.ensures c.if-is_empty.false in
+    let some = subst (λ rs. 0 < length rs) c.as_slice-piece.ensures.value (some_rows c.is_empty.result c.as_slice-piece.result.now c.is_empty.ensures c.if-is_empty.false) in
     let soon : next_mark r ≤ last_time c.args.self.run.time rows = omega (arith, c.next.ensures.mark, c.marks-test.true, until) in
     record {
       config = told.config ∙ inv.config;
@@ -86,10 +92,10 @@ module _ (self r : RecordingState) (rows : List Row) (fed : (before : List Row) 
       subst (λ (k : Config). Meets (simulation k (before ++ rows)) last is_exhausted) config (subst (λ t. Meets (simulation r.run.config (before ++ rows)) t is_exhausted) same (h is (before ++ rows) all.run))
 
 pub returns-clause-fed : goal.returns-clause-fed
-returns-clause-fed c = on c.args.self c.marks.recording c.args.rows.now c.marks.invariant.fed c.run_until.result c.run_until.ensures.config c.run_until.ensures.marks c.run_until.ensures.same c.run_until.ensures.run
+returns-clause-fed c = on c.args.self c.marks.recording c.args.rows.items c.marks.invariant.fed c.run_until.result c.run_until.ensures.config c.run_until.ensures.marks c.run_until.ensures.same c.run_until.ensures.run
 
 pub returns-clause-exhausted : goal.returns-clause-exhausted
 returns-clause-exhausted c =
     let now = c.time.ensures ∙ ap (λ (v : RecordingState). v.run.time) c.self.view_is in
-    let until = c.latest-until.ensures ∙ ap (λ t. last_time t c.args.rows.now) now in
-    met c.args.self c.marks.recording c.args.rows.now c.marks.invariant.fed c.marks.invariant.config c.latest-until.result (last_time c.args.self.run.time c.args.rows.now) until c.run_until.result c.run_until.ensures.exhausted
+    let until = c.latest-until.ensures ∙ ap (last_time c.time.result) c.as_slice-piece.ensures.value ∙ ap (λ t. last_time t c.args.rows.items) now in
+    met c.args.self c.marks.recording c.args.rows.items c.marks.invariant.fed c.marks.invariant.config c.latest-until.result (last_time c.args.self.run.time c.args.rows.items) until c.run_until.result c.run_until.ensures.exhausted
