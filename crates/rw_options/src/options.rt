@@ -276,7 +276,7 @@ pub(crate) const PARTS: [Argument; 2] = [
 ];
 
 /// What is drawn of a table.
-pub(crate) const DRAWING: [Argument; 4] = [
+pub(crate) const DRAWING: [Argument; 5] = [
     Argument {
         name: "table",
         value: Value::File("TABLE"),
@@ -303,6 +303,12 @@ pub(crate) const DRAWING: [Argument; 4] = [
         value: Value::Word("CACHES", &["edges", "origins", "all"]),
         given: Given::Maybe,
         help: "Of which caches; by default all, and of serial over time a line for each of the three",
+    },
+    Argument {
+        name: "x",
+        value: Value::Word("FLASH", &["edge", "origin", "total"]),
+        given: Given::Maybe,
+        help: "Whose flash is on the x axis; by default total, and where both block counts vary that of one cache",
     },
     Argument {
         name: "ticks-a-second",

@@ -1,2 +1,3 @@
--- what public contracts say
+-- what contracts say
 pub mod Escape
+pub mod Names

@@ -2,10 +2,14 @@
 
 use crate::chart::Chart;
 use crate::dots::Dots;
+use crate::escaping::{escape, readable};
+use crate::frame::{Frame, MOST_ENTRIES};
 use crate::labels::{Pixels, PointValue, Size};
-use crate::legend::{Legend, MOST_ENTRIES, bottom_of, open_group, write_rest};
+use crate::legend::{Legend, open_group};
+use crate::looks::{Look, looks_of};
 use crate::series::{AllSeries, Extent, Varying};
 use crate::subject::Subject;
+use crate::x_axis::XAxis;
 use rw_tables::{Configuration, Sample};
 use std::alloc::Global;
 use std::io::{self, Write};
@@ -25,6 +29,8 @@ text{font:12px system-ui,-apple-system,Segoe UI,Roboto,Helvetica,Arial,sans-seri
 .dashes1 .line{stroke-dasharray:7 3}
 .dashes2 .line{stroke-dasharray:2 3}
 .dashes3 .line{stroke-dasharray:9 3 2 3}
+.dashes4 .line{stroke-dasharray:14 6}
+.dashes5 .line{stroke-dasharray:9 3 2 3 2 3}
 .colour0{color:#0072b2}
 .colour1{color:#d55e00}
 .colour2{color:#009e73}
@@ -47,20 +53,28 @@ text{fill:#eee}
 </style>
 ";
 
-/// The least height of the picture, in hundredths of a pixel.
-const LEAST_HEIGHT: u32 = 560_00;
+/// About how wide the name of a table may be, in tenths of a pixel.
+const TABLE_ROOM: u32 = 7_600;
 
-/// Writes the beginning of the picture: its size, its title and how it looks.
-fn write_head(out: &mut Vec<u8>, many: usize, subject: Subject) -> io::Result<()> {
-    let height = Pixels(bottom_of(many).max(LEAST_HEIGHT));
+/// Writes the beginning of the picture, which is so high: its size, its title and how it looks.
+fn write_head(out: &mut Vec<u8>, height: Pixels, subject: Subject, table: &[u8]) -> io::Result<()> {
     write!(
         out,
         "<svg xmlns=\"http://www.w3.org/2000/svg\" viewBox=\"0 0 960 {height}\" role=\"img\">\
-         <title>{subject}</title>\n\
+         <title>{subject}: "
+    )?;
+    out.extend_from_slice(table)?;
+    write!(
+        out,
+        "</title>\n\
          {STYLE}\
          <rect class=\"paper\" width=\"960\" height=\"{height}\"/>\n\
-         <text class=\"head\" x=\"96\" y=\"36\">{subject}</text>\n"
-    )
+         <text class=\"head\" x=\"96\" y=\"36\">{subject}</text>\n\
+         <text class=\"name\" x=\"96\" y=\"58\">"
+    )?;
+    out.extend_from_slice(table)?;
+    out.extend_from_slice(b"</text>\n")?;
+    Ok(())
 }
 
 /// Writes where a point stands.
@@ -94,7 +108,7 @@ fn write_point(
     )?;
     out.extend_from_slice(title)?;
     write_value(out, chart.subject, point)?;
-    write_where(out, point)?;
+    write_where(out, chart.subject.x, point)?;
     if let Some(configuration) = point.configuration {
         write_configuration(out, configuration)?;
     }
@@ -113,15 +127,19 @@ fn write_value(out: &mut Vec<u8>, subject: Subject, point: &Sample) -> io::Resul
 }
 
 /// Writes the interval of a point, or the flash over which it stands.
-fn write_where(out: &mut Vec<u8>, point: &Sample) -> io::Result<()> {
+fn write_where(out: &mut Vec<u8>, x: XAxis, point: &Sample) -> io::Result<()> {
     if let Some(interval) = point.interval {
         let from = interval.from;
         let to = interval.to;
-        return write!(out, "; from tick {from} to {to}");
+        write!(out, "; from tick {from} to {to}")?;
     }
-    let flash = point.figures.flash_bytes;
-    let size = Size(u128::from(flash));
-    write!(out, "; flash {size} ({flash} bytes)")
+    if let XAxis::Flash(flash) = x {
+        let whose = flash.whose();
+        let bytes = flash.bytes(point);
+        let size = Size(u128::from(bytes));
+        write!(out, "; flash {whose} {size} ({bytes} bytes)")?;
+    }
+    Ok(())
 }
 
 /// Writes the configuration of a point.
@@ -161,10 +179,11 @@ fn write_all_series(
     all: &AllSeries,
     chart: &Chart,
     legend: Legend,
+    looks: &[Look],
 ) -> io::Result<()> {
-    for (place, (name, points)) in all.iter().enumerate() {
+    for ((name, points), look) in all.iter().zip(looks) {
         let title = legend.full_name(alloc, name)?;
-        open_group(out, place)?;
+        open_group(out, *look)?;
         write_line(out, chart, points.as_slice())?;
         write_points(out, chart, legend.dots, title.as_slice(), points.as_slice())?;
         out.extend_from_slice(b"</g>\n")?;
@@ -178,12 +197,13 @@ fn write_legend(
     out: &mut Vec<u8>,
     all: &AllSeries,
     legend: Legend,
+    looks: &[Look],
 ) -> io::Result<()> {
-    for (place, name) in all.keys().enumerate() {
+    for (place, (name, look)) in all.keys().zip(looks).enumerate() {
         if place >= MOST_ENTRIES {
-            return write_rest(out, all.len().saturating_sub(MOST_ENTRIES));
+            return legend.write_rest(out, all.len().saturating_sub(MOST_ENTRIES));
         }
-        legend.write_entry(alloc, out, place, name)?;
+        legend.write_entry(alloc, out, place, *look, name)?;
     }
     Ok(())
 }
@@ -198,31 +218,42 @@ fn dots_of(subject: Subject, most_points: usize) -> Dots {
     }
 }
 
-/// Writes the picture of some polylines.
+/// Writes the picture of some polylines; the name of their table is escaped already.
 fn write_picture(
     alloc: Global,
     out: &mut Vec<u8>,
     all: &AllSeries,
     subject: Subject,
+    table: &[u8],
 ) -> io::Result<()> {
     let extent = Extent::of(all, subject);
-    let chart = Chart::new(&extent, subject);
+    let frame = Frame::for_series(all.len());
+    let chart = Chart::new(&extent, subject, frame);
     let legend = Legend {
         layout: subject.layout,
         varying: Varying::among(all),
         dots: dots_of(subject, extent.most_points),
+        frame,
     };
-    write_head(out, all.len(), subject)?;
+    let looks = looks_of(alloc, all, legend.varying)?;
+    write_head(out, Pixels(frame.height(all.len())), subject, table)?;
     chart.write(out)?;
-    write_all_series(alloc, out, all, &chart, legend)?;
-    write_legend(alloc, out, all, legend)?;
+    write_all_series(alloc, out, all, &chart, legend, looks.as_slice())?;
+    write_legend(alloc, out, all, legend, looks.as_slice())?;
     out.extend_from_slice(b"</svg>\n")?;
     Ok(())
 }
 
-/// The picture of some polylines.
-pub(crate) fn draw(alloc: Global, all: &AllSeries, subject: Subject) -> io::Result<Vec<u8>> {
+/// The picture of some polylines, of a table with this name.
+pub(crate) fn draw(
+    alloc: Global,
+    all: &AllSeries,
+    subject: Subject,
+    table: &str,
+) -> io::Result<Vec<u8>> {
+    let table = readable(alloc, table.as_bytes(), TABLE_ROOM)?;
+    let table = escape(alloc, table.as_bytes())?;
     let mut out = Vec::new(alloc);
-    write_picture(alloc, &mut out, all, subject)?;
+    write_picture(alloc, &mut out, all, subject, table.as_slice())?;
     Ok(out)
 }

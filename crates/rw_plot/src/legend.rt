@@ -1,32 +1,16 @@
-//! The names of the polylines, to the right of them.
+//! The names of the polylines, above the chart or beside it.
 
 use crate::dots::Dots;
 use crate::escaping::{escape, readable};
+use crate::frame::{Frame, MOST_ENTRIES};
 use crate::labels::{Pixels, Size};
+use crate::looks::Look;
 use crate::scale::Hundredths;
 use crate::series::{Name, Varying};
 use crate::subject::caches_name;
 use rw_tables::Layout;
 use std::alloc::Global;
 use std::io::{self, Write};
-
-/// The most lines of a legend.
-pub(crate) const MOST_ENTRIES: usize = 60;
-
-/// The left end of the legend.
-const LEGEND_LEFT: Hundredths = 680_00;
-
-/// How far from the top the first line of the legend stands.
-const LEGEND_TOP: Hundredths = 72_00;
-
-/// How far apart the lines of the legend stand.
-const LEGEND_STEP: Hundredths = 20_00;
-
-/// How many colours there are.
-const COLOURS: usize = 7;
-
-/// How many kinds of dashes there are.
-const DASHES: usize = 4;
 
 /// About how wide a policy may be in the legend, in tenths of a pixel.
 const POLICY_ROOM: u32 = 1_100;
@@ -43,6 +27,8 @@ pub(crate) struct Legend {
     pub(crate) varying: Varying,
     /// How their points look.
     pub(crate) dots: Dots,
+    /// Where the names stand.
+    pub(crate) frame: Frame,
 }
 
 impl Legend {
@@ -61,7 +47,7 @@ impl Legend {
 
     /// The name of a polyline as it stands in the legend.
     fn short_name(self, alloc: Global, name: &Name) -> io::Result<Vec<u8>> {
-        let policy_room = if self.varying.is_any() {
+        let policy_room = if self.varying.is_any_number() {
             POLICY_ROOM
         } else {
             LABEL_ROOM
@@ -112,11 +98,12 @@ impl Legend {
         alloc: Global,
         out: &mut Vec<u8>,
         place: usize,
+        look: Look,
         name: &Name,
     ) -> io::Result<()> {
-        open_group(out, place)?;
+        open_group(out, look)?;
         self.write_title(alloc, out, name)?;
-        self.write_sample(out, height_of(place))?;
+        self.write_sample(out, place)?;
         self.write_label(alloc, out, name)
     }
 
@@ -130,26 +117,27 @@ impl Legend {
     }
 
     /// Writes how a polyline and its points look, and where its label begins.
-    fn write_sample(self, out: &mut Vec<u8>, height: Hundredths) -> io::Result<()> {
+    fn write_sample(self, out: &mut Vec<u8>, place: usize) -> io::Result<()> {
+        let (left, height) = self.frame.entry(place);
         let y = Pixels(height);
         let base = Pixels(height.saturating_add(4_00));
-        let from = Pixels(LEGEND_LEFT);
-        let to = Pixels(LEGEND_LEFT + 28_00);
-        let text_x = Pixels(LEGEND_LEFT + 36_00);
+        let from = Pixels(left);
+        let to = Pixels(left.saturating_add(40_00));
+        let text_x = Pixels(left.saturating_add(48_00));
         write!(
             out,
             "<polyline class=\"line\" points=\"{from},{y} {to},{y}\"/>"
         )?;
-        self.write_dot(out, y)?;
+        self.write_dot(out, left, y)?;
         write!(out, "<text x=\"{text_x}\" y=\"{base}\">")
     }
 
     /// Writes how the points of a polyline look.
-    fn write_dot(self, out: &mut Vec<u8>, y: Pixels) -> io::Result<()> {
+    fn write_dot(self, out: &mut Vec<u8>, left: Hundredths, y: Pixels) -> io::Result<()> {
         let Some(radius) = self.dots.radius() else {
             return Ok(());
         };
-        let middle = Pixels(LEGEND_LEFT + 14_00);
+        let middle = Pixels(left.saturating_add(20_00));
         write!(
             out,
             "<circle class=\"dot\" cx=\"{middle}\" cy=\"{y}\" r=\"{radius}\"/>"
@@ -163,32 +151,22 @@ impl Legend {
         out.extend_from_slice(b"</text></g>\n")?;
         Ok(())
     }
+
+    /// Writes how many polylines the legend leaves out.
+    pub(crate) fn write_rest(self, out: &mut Vec<u8>, left_out: usize) -> io::Result<()> {
+        let (left, height) = self.frame.entry(MOST_ENTRIES);
+        let base = Pixels(height.saturating_add(4_00));
+        let text_x = Pixels(left.saturating_add(48_00));
+        write!(
+            out,
+            "<text x=\"{text_x}\" y=\"{base}\">and {left_out} more</text>\n"
+        )
+    }
 }
 
 /// Writes the beginning of the group of a polyline or of its line in the legend: its colour and dashes.
-pub(crate) fn open_group(out: &mut Vec<u8>, place: usize) -> io::Result<()> {
-    let colour = place % COLOURS;
-    let dashes = place / COLOURS % DASHES;
+pub(crate) fn open_group(out: &mut Vec<u8>, look: Look) -> io::Result<()> {
+    let colour = look.colour;
+    let dashes = look.dashes;
     write!(out, "<g class=\"colour{colour} dashes{dashes}\">")
-}
-
-/// How far from the top a line of the legend stands.
-fn height_of(place: usize) -> Hundredths {
-    let place = u32::try_from(place.min(MOST_ENTRIES)).unwrap_or(0);
-    LEGEND_TOP.saturating_add(LEGEND_STEP.saturating_mul(place))
-}
-
-/// How far down a legend of so many polylines reaches.
-pub(crate) fn bottom_of(many: usize) -> Hundredths {
-    height_of(many).saturating_add(LEGEND_STEP)
-}
-
-/// Writes how many polylines the legend leaves out.
-pub(crate) fn write_rest(out: &mut Vec<u8>, left_out: usize) -> io::Result<()> {
-    let base = Pixels(height_of(MOST_ENTRIES).saturating_add(4_00));
-    let text_x = Pixels(LEGEND_LEFT + 36_00);
-    write!(
-        out,
-        "<text x=\"{text_x}\" y=\"{base}\">and {left_out} more</text>\n"
-    )
 }

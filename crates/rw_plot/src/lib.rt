@@ -2,7 +2,8 @@
 //! Draws a table as an SVG: CSV text in, the bytes of the picture out.
 //!
 //! [`plot`] draws one measure of the rows that [`rw_tables::read`] gives: over the size of the flash
-//! for a sweep, or over time for intervals. `specs/Escape.antt` defines how text is escaped.
+//! for a sweep, or over time for intervals. `specs/Escape.antt` defines how text is escaped, and
+//! `specs/Names.antt` what the name of a line keeps of its rows.
 //!
 //! Worked examples: `rw_program_tests/src/plots.rt`.
 
@@ -15,41 +16,57 @@ mod chart;
 mod dots;
 mod drawing;
 mod escaping;
+mod frame;
 mod labels;
 mod legend;
+mod looks;
 mod scale;
 mod series;
 mod subject;
 mod time_axis;
+mod x_axis;
 
 pub use escaping::escape;
-pub use rw_tables::{Caches, Drawing, Measure, PlotFault};
+pub use rw_tables::{Caches, Drawing, FlashOf, Measure, PlotFault};
 use rw_tables::{Table, read};
 use std::alloc::Global;
 use subject::Subject;
+use x_axis::XAxis;
 
-/// An SVG of one measure of a table, which is a sweep's, one over time, or a sweep's over time.
+/// An SVG of one measure of a table, which is a sweep's, one over time, or a sweep's over time. `name` is what the picture calls
+/// the table.
 ///
-/// Of a sweep each policy has a polyline over the size of the flash, which is on a logarithmic axis; where the rows differ in the
-/// number of sections or the size of a block, each policy has one for each of these too. Over time, which is on a linear axis, a
-/// point stands at the middle of its interval; there is a polyline for each configuration, and of a table of one configuration
-/// for each kind of caches. Of which caches the rows are that are drawn, [`Drawing::caches`] says. Ratios are drawn as they
-/// stand; bytes and requests over time per second: what was counted, times the ticks of a second, divided by those of the
-/// interval, rounded down: bytes to whole ones, requests to thousandths.
+/// A line joins rows that differ only in what the x axis tells; its name has whatever else varies. Over time, the x axis is linear,
+/// and a point stands at the middle of its interval: there is a line for each configuration and, of a table of one configuration,
+/// for each kind of caches. Of a sweep, the x axis is logarithmic, and is the flash that [`Drawing::x`] names:
 ///
-/// Any text of the file may be a policy: it goes out escaped, see [`escape`].
+/// - `Edge`: the flash of one edge cache. A line joins sizes of edges, at one size of origins.
+/// - `Origin`: the flash of one origin cache. A line joins sizes of origins, at one size of edges.
+/// - `Total`: the flash of all caches of which the rows tell. A line joins the same rows as with `Edge` in rows of edges, and the
+///   same as with `Origin` in rows of origins; in rows of all caches the same as with `Edge`, or as with `Origin` where only the
+///   size of origins varies.
+/// - `None`: `Total` where at most one of the two sizes varies. Where both vary, `Edge`, or `Origin` in rows of origins. Where only
+///   the size of the caches varies of which the rows do not tell, theirs.
+///
+/// Of which caches the rows are that are drawn, [`Drawing::caches`] says. Ratios are drawn as they stand; bytes and requests over
+/// time per second: what was counted, times the ticks of a second, divided by those of the interval, rounded down: bytes to whole
+/// ones, requests to thousandths.
+///
+/// Any text of the file may be a policy, and any text the name: they go out escaped, see [`escape`].
 ///
 /// # Errors
 ///
 /// Those of [`rw_tables::read`]: the first fault of the table. `Memory` where a request for memory was refused; nothing is said
 /// of the table then.
-pub fn plot(alloc: Global, bytes: &[u8], drawing: Drawing) -> Result<Vec<u8>, PlotFault>
+pub fn plot(alloc: Global, name: &str, bytes: &[u8], drawing: Drawing) -> Result<Vec<u8>, PlotFault>
     ensures drawn { OnOk result (IsOk (table_of drawing (records_of bytes.now))) }
     ensures fault { IfErr result (λ e.
         e ≢ fault.Memory → table_of drawing (records_of bytes.now) ≡ Err e) }
 {
     let Table { layout, lines } = read(alloc, bytes, drawing)?;
-    let all = series::by_name(alloc, layout, lines)?;
+    let x = XAxis::new(layout, drawing, lines.as_slice());
+    let all = series::by_name(alloc, x, lines)?;
+    let subject = Subject { layout, drawing, x };
     // A text in memory is refused only for want of memory.
-    drawing::draw(alloc, &all, Subject { layout, drawing }).map_err(|_| PlotFault::Memory)
+    drawing::draw(alloc, &all, subject, name).map_err(|_| PlotFault::Memory)
 }

@@ -1,9 +1,13 @@
+ghost use Rattle.std.specs.Prelude.{◌≡◌, ◌⊎◌};
+ghost use Rattle.rw_plot.specs.Names.{sizes_of_row};
+
 use crate::subject::Subject;
-use rw_tables::{Caches, Configuration, Layout, Line, Sample};
+use crate::x_axis::{Along, XAxis, sizes_of};
+use rw_tables::{Caches, Line, Sample};
 use std::alloc::{AllocError, Global};
 use std::collections::BTreeMap;
 
-/// What the points of a polyline have in common.
+/// What the points of a polyline have in common: all but what the x axis tells.
 #[derive(PartialEq, Eq, PartialOrd, Ord, Drop)]
 pub(crate) struct Name {
     /// The text of the policy, which may be any bytes; none in a table of one configuration.
@@ -14,38 +18,45 @@ pub(crate) struct Name {
     pub(crate) sections: u64,
     /// The size of a block, in bytes.
     pub(crate) block: u64,
-    /// The blocks of an edge cache; 0 where points stand over the size of the flash, which these make.
+    /// The blocks of an edge cache; 0 where these change along the line.
     pub(crate) edge_blocks: u64,
-    /// The blocks of an origin cache; 0 where points stand over the size of the flash, which these make.
+    /// The blocks of an origin cache; 0 where these change along the line.
     pub(crate) origin_blocks: u64,
 }
 
 /// The points of each polyline, from the left.
 pub(crate) type AllSeries = BTreeMap<Name, Vec<Sample>>;
 
-/// The name of the polyline in which a row stands.
-fn name_of(layout: Layout, policy: Vec<u8>, sample: &Sample) -> Name {
-    let sizes = sample.configuration.unwrap_or(Configuration {
-        sections: 0,
-        block: 0,
-        edge_blocks: 0,
-        origin_blocks: 0,
-    });
-    let is_over_time = layout.is_over_time();
+/// The name of the polyline in which a row stands. So rows of one name differ at most in one of the two block counts, and over time
+/// in none.
+fn name_of(x: XAxis, policy: Vec<u8>, sample: &Sample) -> Name
+    ensures policy { result.policy ≡ policy }
+    ensures caches { result.caches ≡ sample.now.caches }
+    ensures sections { result.sections ≡ (sizes_of_row sample.now).sections }
+    ensures block { result.block ≡ (sizes_of_row sample.now).block }
+    ensures counts { (result.edge_blocks ≡ (sizes_of_row sample.now).edge_blocks)
+        ⊎ (result.origin_blocks ≡ (sizes_of_row sample.now).origin_blocks) }
+{
+    let sizes = sizes_of(sample);
+    let (edge_blocks, origin_blocks) = match x.along() {
+        None => (sizes.edge_blocks, sizes.origin_blocks),
+        Some(Along::Edges) => (0, sizes.origin_blocks),
+        Some(Along::Origins) => (sizes.edge_blocks, 0),
+    };
     Name {
         policy,
         caches: sample.caches,
         sections: sizes.sections,
         block: sizes.block,
-        edge_blocks: if is_over_time { sizes.edge_blocks } else { 0 },
-        origin_blocks: if is_over_time { sizes.origin_blocks } else { 0 },
+        edge_blocks,
+        origin_blocks,
     }
 }
 
 /// Puts a row to the points of its polyline.
-fn add(alloc: Global, layout: Layout, all: &mut AllSeries, line: Line) -> Result<(), AllocError> {
+fn add(alloc: Global, x: XAxis, all: &mut AllSeries, line: Line) -> Result<(), AllocError> {
     let Line { policy, sample } = line;
-    let name = name_of(layout, policy, &sample);
+    let name = name_of(x, policy, &sample);
     let entry = all.entry(name).map_err(AllocError::from)?;
     entry.or_insert(Vec::new(alloc)).push(sample)?;
     Ok(())
@@ -54,39 +65,74 @@ fn add(alloc: Global, layout: Layout, all: &mut AllSeries, line: Line) -> Result
 /// Puts rows to the points of their polylines, in their order.
 fn add_all(
     alloc: Global,
-    layout: Layout,
+    x: XAxis,
     all: &mut AllSeries,
     lines: Vec<Line>,
 ) -> Result<(), AllocError> {
     for line in lines {
-        add(alloc, layout, all, line)?;
+        add(alloc, x, all, line)?;
     }
     Ok(())
 }
 
 /// By what the points of a polyline stand from left to right: the beginning of the interval, else the flash.
-fn order_of(sample: &Sample) -> u64 {
+fn order_of(x: XAxis, sample: &Sample) -> u64 {
     match sample.interval {
         Some(interval) => interval.from,
-        None => sample.figures.flash_bytes,
+        None => x.flash_bytes(sample),
     }
 }
 
 /// The rows by the polyline in which they stand, in each from the left.
 pub(crate) fn by_name(
     alloc: Global,
-    layout: Layout,
+    x: XAxis,
     mut lines: Vec<Line>,
 ) -> Result<AllSeries, AllocError> {
-    lines.sort_by_key(|line| order_of(&line.sample))?;
+    lines.sort_by_key(|line| order_of(x, &line.sample))?;
     let mut all = BTreeMap::new(alloc);
-    add_all(alloc, layout, &mut all, lines)?;
+    add_all(alloc, x, &mut all, lines)?;
     Ok(all)
+}
+
+/// A part of a name.
+#[derive(Clone, Copy)]
+pub(crate) enum Part {
+    /// The policy.
+    Policy,
+    /// The caches.
+    Caches,
+    /// The number of sections.
+    Sections,
+    /// The size of a block.
+    Block,
+    /// How many blocks an edge cache has.
+    EdgeBlocks,
+    /// How many blocks an origin cache has.
+    OriginBlocks,
+}
+
+impl Part {
+    /// Whether two names have it in common.
+    pub(crate) fn is_same(self, a: &Name, b: &Name) -> bool {
+        match self {
+            Part::Policy => a.policy == b.policy,
+            Part::Caches => a.caches == b.caches,
+            Part::Sections => a.sections == b.sections,
+            Part::Block => a.block == b.block,
+            Part::EdgeBlocks => a.edge_blocks == b.edge_blocks,
+            Part::OriginBlocks => a.origin_blocks == b.origin_blocks,
+        }
+    }
 }
 
 /// Which parts of a name differ among some names.
 #[derive(Clone, Copy)]
 pub(crate) struct Varying {
+    /// The policy does.
+    policies: bool,
+    /// The caches do.
+    caches: bool,
     /// The number of sections does.
     pub(crate) sections: bool,
     /// The size of a block does.
@@ -101,6 +147,8 @@ impl Varying {
     /// Which parts differ among the names of these polylines.
     pub(crate) fn among(all: &AllSeries) -> Varying {
         let mut varying = Varying {
+            policies: false,
+            caches: false,
             sections: false,
             blocks: false,
             edge_blocks: false,
@@ -110,6 +158,8 @@ impl Varying {
             return varying;
         };
         for name in all.keys() {
+            varying.policies = varying.policies || name.policy != first.policy;
+            varying.caches = varying.caches || name.caches != first.caches;
             varying.sections = varying.sections || name.sections != first.sections;
             varying.blocks = varying.blocks || name.block != first.block;
             varying.edge_blocks = varying.edge_blocks || name.edge_blocks != first.edge_blocks;
@@ -119,9 +169,28 @@ impl Varying {
         varying
     }
 
-    /// Whether any part does.
-    pub(crate) fn is_any(self) -> bool {
+    /// Whether a number that stands behind the policy does.
+    pub(crate) fn is_any_number(self) -> bool {
         self.sections || self.blocks || self.edge_blocks || self.origin_blocks
+    }
+
+    /// The first part that does; the policy where none does.
+    pub(crate) fn first(self) -> Part {
+        match self {
+            Varying { policies: true, .. } => Part::Policy,
+            Varying { caches: true, .. } => Part::Caches,
+            Varying { sections: true, .. } => Part::Sections,
+            Varying { blocks: true, .. } => Part::Block,
+            Varying {
+                edge_blocks: true,
+                ..
+            } => Part::EdgeBlocks,
+            Varying {
+                origin_blocks: true,
+                ..
+            } => Part::OriginBlocks,
+            _ => Part::Policy,
+        }
     }
 }
 
@@ -164,7 +233,7 @@ impl Extent {
         let mut extent = self;
         extent.most_points = extent.most_points.max(points.len());
         for point in points {
-            let flash_bytes = point.figures.flash_bytes;
+            let flash_bytes = subject.x.flash_bytes(point);
             extent.least_flash = extent.least_flash.min(flash_bytes);
             extent.most_flash = extent.most_flash.max(flash_bytes);
             if let Some(interval) = point.interval {

@@ -1,6 +1,7 @@
 // What a picture shows: how its values are counted and named, and what the value of a row is.
 ghost use Rattle.std.specs.Prelude.{◌≡◌, ◌*◌, ◌/◌, ◌-◌, ◌<◌, ◌^◌};
 
+use crate::x_axis::XAxis;
 use rw_tables::{Caches, Drawing, Interval, Layout, Measure, Sample};
 use std::fmt;
 
@@ -24,6 +25,8 @@ pub(crate) struct Subject {
     pub(crate) layout: Layout,
     /// What is asked for.
     pub(crate) drawing: Drawing,
+    /// What stands on the x axis.
+    pub(crate) x: XAxis,
 }
 
 impl Subject {

@@ -187,6 +187,30 @@ fn a_list_that_is_none_is_told(rt: HostRuntime) {
     }
 }
 
+/// Plots that are refused for their words alone, each with what is told of it.
+const NO_PLOTS: [(&str, &str); 2] = [
+    (
+        "ripqwarp plot --of backend_requests --caches edges nothing",
+        "error: --of backend_requests: edges never ask the backend; give --caches origins or --caches all\n",
+    ),
+    (
+        "ripqwarp plot --of backend_bytes --caches edges nothing",
+        "error: --of backend_bytes: edges never ask the backend; give --caches origins or --caches all\n",
+    ),
+];
+
+// They are told before the table is read.
+#[test]
+fn a_plot_of_what_edges_never_ask_is_told(rt: HostRuntime) {
+    let alloc = rt.alloc();
+    for (words, told) in &NO_PLOTS {
+        assert!(rt;
+            is_answered(&rt, alloc, words, TRACE, (2, 0), told),
+            "for {words}"
+        );
+    }
+}
+
 /// A log of two rows, of which the second is half a unit behind the first.
 const LOG: &[u8] = b"10,a,5\n10.5,b,6\n";
 

@@ -1,6 +1,6 @@
 // Pictures of tables: the fault of each text that is refused, and pieces of what is drawn.
 use crate::shown::is_shown;
-use rw_plot::{Caches, Drawing, Measure, PlotFault, escape, plot};
+use rw_plot::{Caches, Drawing, FlashOf, Measure, PlotFault, escape, plot};
 use std::alloc::{AllocError, Global};
 
 /// The header of a sweep.
@@ -22,18 +22,22 @@ fn behind(alloc: Global, header: &[u8], body: &[u8]) -> Result<Vec<u8>, AllocErr
     Ok(text)
 }
 
-/// A drawing of a measure, of the caches that are drawn by default, at a thousand ticks a second.
+/// What the tables are called.
+const NAME: &str = "a&b.csv";
+
+/// A drawing of a measure, of the caches and the flash that are drawn by default, at a thousand ticks a second.
 fn drawing_of(measure: Measure) -> Drawing {
     Drawing {
         measure,
         caches: None,
+        x: None,
         ticks_a_second: 1000,
     }
 }
 
 /// Whether a text is not drawn, with this line.
 fn is_refused(alloc: Global, text: &[u8], line: &str) -> bool {
-    matches!(plot(alloc, text, drawing_of(Measure::HitRatio)), Err(fault) if is_shown(&fault, line))
+    matches!(plot(alloc, NAME, text, drawing_of(Measure::HitRatio)), Err(fault) if is_shown(&fault, line))
 }
 
 /// Whether a body behind a header is not drawn, with this line.
@@ -161,7 +165,7 @@ fn each_fault_over_time_has_its_line(rt: HostRuntime) {
 
 #[test]
 fn a_sweep_does_not_tell_the_bytes_of_the_backend(rt: HostRuntime) {
-    let answer = plot(rt.alloc(), HEADER, drawing_of(Measure::BackendBytes));
+    let answer = plot(rt.alloc(), NAME, HEADER, drawing_of(Measure::BackendBytes));
     assert!(rt; matches!(answer, Err(PlotFault::NoBackendBytes)));
     assert!(rt; is_shown(&PlotFault::NoBackendBytes, "sweep: no column backend_bytes"));
 }
@@ -176,7 +180,7 @@ fn another_header_is_refused(rt: HostRuntime) {
 /// What is drawn of a body behind a header, as text.
 fn drawn(alloc: Global, header: &[u8], body: &[u8], drawing: Drawing) -> Option<String> {
     let text = behind(alloc, header, body).ok()?;
-    let picture = plot(alloc, text.as_slice(), drawing).ok()?;
+    let picture = plot(alloc, NAME, text.as_slice(), drawing).ok()?;
     String::from_utf8(picture).ok()
 }
 
@@ -190,12 +194,16 @@ const POINT: &[u8] =
     b"a<b,8,1024,4,6,all,1,2,3,4,5,6,7,8,9,10,11,12,13,14,15,0.500000,1.000000,65536,20480,1500000\n";
 
 /// What is drawn of it, by what is measured.
-const PIECES: [(Measure, &str); 4] = [
+const PIECES: [(Measure, &str); 5] = [
     (
         Measure::HitRatio,
-        "a&lt;b: Hit ratio 0.500000; flash 64 KiB (65536 bytes); 8 sections",
+        "a&lt;b: Hit ratio 0.500000; flash of all caches 64 KiB (65536 bytes); 8 sections",
     ),
     (Measure::HitRatio, ">64 KiB</text>"),
+    (
+        Measure::HitRatio,
+        "<title>Hit ratio by flash size, all caches: a&amp;b.csv</title>",
+    ),
     (Measure::BackendRequests, ">1.4 M</text>"),
     (Measure::FlashWrites, ">20 KiB</text>"),
 ];
@@ -216,7 +224,10 @@ const SECONDS: &[u8] =
 
 /// What is drawn of them, by what is measured.
 const TIME_PIECES: [(Measure, &str); 8] = [
-    (Measure::HitRatio, "<title>Hit ratio over time</title>"),
+    (
+        Measure::HitRatio,
+        "<title>Hit ratio over time: a&amp;b.csv</title>",
+    ),
     (
         Measure::HitRatio,
         "edge caches: Hit ratio 0.600000; from tick 0 to 2000</title>",
@@ -262,6 +273,7 @@ fn edges_at(ticks_a_second: u32) -> Drawing {
     Drawing {
         measure: Measure::FlashWrites,
         caches: Some(Caches::Edges),
+        x: None,
         ticks_a_second,
     }
 }
@@ -270,7 +282,7 @@ fn edges_at(ticks_a_second: u32) -> Drawing {
 const EDGE_PIECES: [(u32, &str); 4] = [
     (
         1,
-        "<title>Bytes written to flash per second over time, edge caches</title>",
+        "<title>Bytes written to flash per second over time, edge caches: a&amp;b.csv</title>",
     ),
     (1, "edge caches: Bytes written to flash per second 1 bytes;"),
     (1, ">Time (minutes)</text>"),
@@ -306,7 +318,7 @@ const DAY: &[u8] =
 
 /// What is drawn of their hit ratios.
 const DAY_PIECES: [&str; 4] = [
-    "<title>Hit ratio over time, all caches</title>",
+    "<title>Hit ratio over time, all caches: a&amp;b.csv</title>",
     ">lru, 4 edge blocks</text>",
     "lru, 8 edge blocks: Hit ratio 0.700000; from tick 0 to 86400000; 8 sections, blocks of 1024 bytes, 8 edge blocks, 6 origin blocks</title>",
     ">Time (hours)</text>",
@@ -318,6 +330,111 @@ fn configurations_have_lines_of_their_own(rt: HostRuntime) {
         let drawing = drawing_of(Measure::HitRatio);
         assert!(rt;
             is_drawn(rt.alloc(), SWEEP_TIME_HEADER, DAY, drawing, piece),
+            "for {piece}"
+        );
+    }
+}
+
+/// A sweep of two sizes of the edges' flash and two of the origins', at two edges and one origin. Its rows are out of order.
+const GRID: &[u8] =
+    b"lru,8,1024,8,16,all,10,7,3,1,0,0,3,0,0,0,2,0,0,700,1000,0.700000,0.700000,32768,2048,2\nlru,8,1024,4,32,all,10,6,4,1,0,0,3,0,0,0,2,0,0,600,1000,0.600000,0.600000,40960,2048,3\nlru,8,1024,4,16,all,10,5,5,1,0,0,3,0,0,0,2,0,0,500,1000,0.500000,0.500000,24576,2048,4\nlru,8,1024,8,32,all,10,8,2,1,0,0,3,0,0,0,2,0,0,800,1000,0.800000,0.800000,49152,2048,1\n";
+
+/// Rows of the grid whose origins have one size.
+const ONE_ORIGIN: &[u8] =
+    b"lru,8,1024,8,16,all,10,7,3,1,0,0,3,0,0,0,2,0,0,700,1000,0.700000,0.700000,32768,2048,2\nlru,8,1024,4,16,all,10,5,5,1,0,0,3,0,0,0,2,0,0,500,1000,0.500000,0.500000,24576,2048,4\n";
+
+/// Hit ratios over some flash.
+fn hits_over(x: Option<FlashOf>) -> Drawing {
+    Drawing {
+        measure: Measure::HitRatio,
+        caches: None,
+        x,
+        ticks_a_second: 1000,
+    }
+}
+
+/// What is drawn of the grid: with the edges' flash on the axis, also by default, lines of one size of the origins' each; and the
+/// other way round.
+const GRID_PIECES: [(Option<FlashOf>, &str); 11] = [
+    (None, ">Flash of an edge (log scale)</text>"),
+    (None, ">lru, 16 origin blocks</text>"),
+    (
+        Some(FlashOf::Edge),
+        "<polyline class=\"line\" points=\"96.00,261.50 928.00,156.50 \"/>",
+    ),
+    (
+        Some(FlashOf::Edge),
+        "<polyline class=\"line\" points=\"96.00,209.00 928.00,104.00 \"/>",
+    ),
+    (
+        Some(FlashOf::Edge),
+        "; flash of an edge 8 KiB (8192 bytes); 8 sections",
+    ),
+    (
+        Some(FlashOf::Origin),
+        ">Flash of an origin (log scale)</text>",
+    ),
+    (Some(FlashOf::Origin), ">lru, 4 edge blocks</text>"),
+    (
+        Some(FlashOf::Origin),
+        "<polyline class=\"line\" points=\"96.00,261.50 928.00,209.00 \"/>",
+    ),
+    (
+        Some(FlashOf::Origin),
+        "<polyline class=\"line\" points=\"96.00,156.50 928.00,104.00 \"/>",
+    ),
+    (
+        Some(FlashOf::Total),
+        ">Flash of all caches (log scale)</text>",
+    ),
+    (Some(FlashOf::Total), ">lru, 32 origin blocks</text>"),
+];
+
+#[test]
+fn a_line_joins_rows_that_differ_in_one_size_alone(rt: HostRuntime) {
+    for (x, piece) in &GRID_PIECES {
+        assert!(rt;
+            is_drawn(rt.alloc(), HEADER, GRID, hits_over(*x), piece),
+            "for {piece}"
+        );
+    }
+}
+
+#[test]
+fn one_size_that_varies_needs_no_names(rt: HostRuntime) {
+    let alloc = rt.alloc();
+    let label = ">Flash of all caches (log scale)</text>";
+    assert!(rt; is_drawn(alloc, HEADER, ONE_ORIGIN, hits_over(None), label));
+    assert!(rt; is_drawn(alloc, HEADER, ONE_ORIGIN, hits_over(None), ">lru</text>"));
+}
+
+#[test]
+fn time_leaves_no_axis_to_the_flash(rt: HostRuntime) {
+    let alloc = rt.alloc();
+    let line = "sweep: --x: expected a table by flash size, found one over time; leave --x out";
+    for x in [FlashOf::Edge, FlashOf::Origin, FlashOf::Total] {
+        let answer = plot(alloc, NAME, TIME_HEADER, hits_over(Some(x)));
+        assert!(rt; matches!(answer, Err(fault) if is_shown(&fault, line)));
+    }
+}
+
+/// Two policies under two numbers of sections.
+const LOOKS: &[u8] =
+    b"lru,4,1024,4,16,all,10,5,5,1,0,0,3,0,0,0,2,0,0,500,1000,0.500000,0.500000,24576,2048,4\nlru,8,1024,4,16,all,10,5,5,1,0,0,3,0,0,0,2,0,0,500,1000,0.600000,0.500000,24576,2048,4\nslru3,4,1024,4,16,all,10,5,5,1,0,0,3,0,0,0,2,0,0,500,1000,0.700000,0.500000,24576,2048,4\nslru3,8,1024,4,16,all,10,5,5,1,0,0,3,0,0,0,2,0,0,500,1000,0.800000,0.500000,24576,2048,4\n";
+
+/// How their lines look, in the legend.
+const LOOK_PIECES: [&str; 4] = [
+    "<g class=\"colour0 dashes0\"><title>lru, 4 sections</title>",
+    "<g class=\"colour0 dashes1\"><title>lru, 8 sections</title>",
+    "<g class=\"colour1 dashes0\"><title>slru3, 4 sections</title>",
+    "<g class=\"colour1 dashes1\"><title>slru3, 8 sections</title>",
+];
+
+#[test]
+fn colours_tell_policies(rt: HostRuntime) {
+    for piece in &LOOK_PIECES {
+        assert!(rt;
+            is_drawn(rt.alloc(), HEADER, LOOKS, hits_over(None), piece),
             "for {piece}"
         );
     }

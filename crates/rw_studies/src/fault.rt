@@ -48,6 +48,9 @@ pub enum Fault {
         /// The command's name.
         command: &'static str,
     },
+    /// What edges ask of the backend is to be drawn, and they never ask it.
+    #[error("error: --of {0}: edges never ask the backend; give --caches origins or --caches all")]
+    NotOfEdges(&'static str),
     /// The lists have too many combinations.
     #[error("error: more than {0} combinations")]
     Combinations(u64),
@@ -75,6 +78,7 @@ impl Fault {
             | Fault::OnlyWith { .. }
             | Fault::Part
             | Fault::NotTaken { .. }
+            | Fault::NotOfEdges(_)
             | Fault::Combinations(_)
             | Fault::Schedule(ScheduleFault::Word(_)) => 2,
             Fault::Schedule(ScheduleFault::Memory)

@@ -5,7 +5,7 @@ ghost use Rattle.rw_studies.specs.Status.{status_of_fault};
 use crate::fault::Fault;
 use clap::ArgMatches;
 use rw_console::{CommandFault, Out, Source, read, write};
-use rw_plot::{Caches, Drawing, Measure};
+use rw_plot::{Caches, Drawing, FlashOf, Measure};
 use std::alloc::Global;
 use std::io::Write;
 
@@ -13,8 +13,8 @@ use std::io::Write;
 ///
 /// # Errors
 ///
-/// What the source answers, a [`PlotFault`](rw_plot::PlotFault), and `Memory`: nothing was written then. `Output` exactly where the
-/// writer failed.
+/// `NotOfEdges` where the edges' part of what reached the backend is asked for; what the source answers, a
+/// [`PlotFault`](rw_plot::PlotFault), and `Memory`: nothing was written then. `Output` exactly where the writer failed.
 pub fn plot<S: Source, W: Write>(
     alloc: Global,
     options: &ArgMatches<'_>,
@@ -26,8 +26,11 @@ pub fn plot<S: Source, W: Write>(
     ensures nothing { IfErr result (λ e. status_of_fault e ≢ 8 → out.new ≡ out.old) }
 {
     let drawing = drawing(options).ok_or(CommandFault::Plan)?;
+    if let Some(measure) = edges_never(drawing) {
+        return Err(Fault::NotOfEdges(measure));
+    }
     let table = read(alloc, options, "table", source)?;
-    let picture = rw_plot::plot(alloc, table.as_slice(), drawing)?;
+    let picture = rw_plot::plot(alloc, table_name(options), table.as_slice(), drawing)?;
     Ok(write(picture.as_slice(), out)?)
 }
 
@@ -36,6 +39,7 @@ fn drawing(options: &ArgMatches<'_>) -> Option<Drawing> {
     Some(Drawing {
         measure: measure(options)?,
         caches: caches(options)?,
+        x: flash(options)?,
         ticks_a_second: options.get_one("ticks-a-second")?,
     })
 }
@@ -60,5 +64,33 @@ fn caches(options: &ArgMatches<'_>) -> Option<Option<Caches>> {
         Some("origins") => Some(Some(Caches::Origins)),
         Some("all") => Some(Some(Caches::All)),
         Some(_) => None,
+    }
+}
+
+/// Whose flash is on the x axis, if the option is there; None where it is none of the words that the command line takes.
+fn flash(options: &ArgMatches<'_>) -> Option<Option<FlashOf>> {
+    match options.get_str("x") {
+        None => Some(None),
+        Some("edge") => Some(Some(FlashOf::Edge)),
+        Some("origin") => Some(Some(FlashOf::Origin)),
+        Some("total") => Some(Some(FlashOf::Total)),
+        Some(_) => None,
+    }
+}
+
+/// The word of the measure where it is one of the backend's, of edges: these ask an origin, so it is 0 throughout.
+fn edges_never(drawing: Drawing) -> Option<&'static str> {
+    match (drawing.measure, drawing.caches) {
+        (Measure::BackendRequests, Some(Caches::Edges)) => Some("backend_requests"),
+        (Measure::BackendBytes, Some(Caches::Edges)) => Some("backend_bytes"),
+        _ => None,
+    }
+}
+
+/// What the picture calls the table: its file, as it was named.
+fn table_name<'a>(options: &ArgMatches<'a>) -> &'a str {
+    match options.get_str("table") {
+        None | Some("-") => "standard input",
+        Some(path) => path,
     }
 }

@@ -1,9 +1,9 @@
--- No fault of a row is that of the header, nor is that of a measure that a table lacks.
+-- No fault of a row is that of the header, nor is that of a measure or an axis that a table lacks.
 use Rattle.std.proofs.Common.{◌≡◌, ◌+◌, ◌==◌, ◌↔◌, ◌∙◌, ℕ, List, [], ◌∷◌, Bool, true, false, Option, Some, None, Result, Ok, Err, refl, sym, subst, if◌then◌else◌}
 use Rattle.std.specs.Prelude.{◌≢◌, nat_lt}
 use Rattle.std.specs.Result.{IfErr, IsErrAnd}
 use Rattle.rw_tables.specs.Layouts.{caches_column, is_layout, layout_of}
-use Rattle.rw_tables.specs.Tables.{DrawnRow, OrPlotFault, backend_bytes_of, caches_of_column, configuration_of, count_of_column, drawn_before, drawn_caches, drawn_of, drawn_row, figures_of, five_counts, flash_of_column, has_table_header, interval_of, is_drawn, lacks_measure, most_lines, or_plot_fault, policy_of_fields, ratio_of_column, rows_drawn, sample_of, sizes_of, some_count, some_rows, table_of, ticks_of, ◌>>=◌}
+use Rattle.rw_tables.specs.Tables.{DrawnRow, OrPlotFault, backend_bytes_of, caches_of_column, configuration_of, count_of_column, drawn_before, drawn_caches, drawn_of, drawn_row, figures_of, five_counts, flash_of_column, has_table_header, interval_of, is_drawn, lacks_flash_axis, lacks_measure, most_lines, or_plot_fault, policy_of_fields, ratio_of_column, rows_drawn, sample_of, sizes_of, some_count, some_rows, table_of, ticks_of, ◌>>=◌}
 use Rattle.rw_tables.specs.declared.layout.Layout.{Layout}
 use Rattle.rw_tables.specs.declared.layout.Layout.TheVariants.{Sweep, OverTime, SweepOverTime}
 use Rattle.rw_tables.specs.declared.measure.Caches.{Caches}
@@ -137,7 +137,8 @@ unfolding rows_drawn
 rows-other drawing rs layout =
     let drawn = drawn_caches layout drawing.caches in
     if-other (lacks_measure layout drawing.measure) _ _ (err-other fault.NoBackendBytes (λ q. cc))
-    (bind-other (drawn_of layout drawn most_lines 0 rs) some_rows (rows-left-other layout drawn most_lines 0 rs) some-other)
+    (if-other (lacks_flash_axis layout drawing.x) _ _ (err-other fault.NoFlashAxis (λ q. cc))
+    (bind-other (drawn_of layout drawn most_lines 0 rs) some_rows (rows-left-other layout drawn most_lines 0 rs) some-other))
 
 pub header-told : (drawing : Drawing) (recs : List (List (List ℕ))) → (table_of drawing recs ≡ Err fault.Header) ↔ (has_table_header recs ≡ false)
 unfolding table_of

@@ -1,15 +1,16 @@
 -- What is drawn of a table: the policies and numbers of its rows, or the first fault, from the list of its records.
-use Rattle.std.specs.Prelude.{◌↔◌, ◌≡◌, ℕ, ◌+◌, ◌^◌, ◌==◌, ◌&&◌, if◌then◌else◌, nat_lt, Bool, true, false, List, [], ◌∷◌, length, take, drop, slice_index, codes, Option, Some, None, Result, Ok, Err, unwrap_or}
+use Rattle.std.specs.Prelude.{ℕ, ◌+◌, ◌^◌, ◌==◌, ◌&&◌, if◌then◌else◌, nat_lt, Bool, true, false, List, [], ◌∷◌, length, take, drop, slice_index, codes, Option, Some, None, Result, Ok, Err, unwrap_or}
 use Rattle.csv.specs.Records.{field_at}
 use Rattle.rw_numbers.specs.Words.{Count, Position, Size, Time}
 use Rattle.rw_trace.specs.Trace.{is_text_at, number_in, number_of}
 use Rattle.rw_trace.specs.Words.{Text, Fields}
-use Rattle.rw_tables.specs.Layouts.{caches_column, is_layout, layout_of, layout_of_table, table_width}
+use Rattle.rw_tables.specs.Layouts.{caches_column, is_layout, layout_of, layout_of_table, table_width, tells_intervals}
 use Rattle.rw_tables.specs.declared.layout.Layout.{Layout}
 use Rattle.rw_tables.specs.declared.layout.Layout.TheVariants as layouts
 use Rattle.rw_tables.specs.declared.measure.Caches.{Caches}
 use Rattle.rw_tables.specs.declared.measure.Caches.TheVariants as whose
 use Rattle.rw_tables.specs.declared.measure.Drawing.{Drawing}
+use Rattle.rw_tables.specs.declared.measure.FlashOf.{FlashOf}
 use Rattle.rw_tables.specs.declared.measure.Measure.{Measure}
 use Rattle.rw_tables.specs.declared.measure.Measure.TheVariants as measures
 use Rattle.rw_tables.specs.declared.sample.Configuration.{Configuration}
@@ -243,10 +244,16 @@ abbrev pub lacks_measure : Layout → Measure → Bool
 lacks_measure layouts.Sweep measures.BackendBytes = true
 lacks_measure _ _ = false
 
+-- whether the flash is asked for on the x axis of a table whose x axis is the time
+abbrev pub lacks_flash_axis : Layout → Option FlashOf → Bool
+lacks_flash_axis layout None = false
+lacks_flash_axis layout (Some x) = tells_intervals layout
+
 -- what is drawn of the rows below a header, or the first fault
 unfoldable pub rows_drawn : Drawing → List Fields → Layout → OrPlotFault (List DrawnRow)
 rows_drawn drawing rs layout =
     if lacks_measure layout drawing.measure then Err fault.NoBackendBytes
+    else if lacks_flash_axis layout drawing.x then Err fault.NoFlashAxis
     else drawn_of layout (drawn_caches layout drawing.caches) most_lines 0 rs >>= some_rows
 
 -- what is drawn of a table, or its first fault

@@ -1,8 +1,8 @@
 ghost use Rattle.std.specs.Prelude.{◌≡◌, ◌<◌};
 ghost use Rattle.rw_tables.specs.Layouts.{caches_column, table_width, tells_intervals};
-ghost use Rattle.rw_tables.specs.Tables.{lacks_measure};
+ghost use Rattle.rw_tables.specs.Tables.{lacks_flash_axis, lacks_measure};
 
-use crate::measure::Measure;
+use crate::measure::{FlashOf, Measure};
 
 /// Which of the tables that are drawn one is.
 #[derive(Clone, Copy)]
@@ -46,6 +46,16 @@ impl Layout {
         match (self, measure) {
             (Layout::Sweep, Measure::BackendBytes) => true,
             _ => false,
+        }
+    }
+
+    /// Whether the flash is asked for on its x axis, which is the time.
+    pub(crate) fn lacks_flash_axis(self, x: Option<FlashOf>) -> bool
+        ensures { result ≡ lacks_flash_axis self x }
+    {
+        match x {
+            None => false,
+            Some(_) => self.is_over_time(),
         }
     }
 

@@ -20,7 +20,7 @@ mod sample;
 mod table;
 
 pub use layout::Layout;
-pub use measure::{Caches, Drawing, Measure};
+pub use measure::{Caches, Drawing, FlashOf, Measure};
 pub use plot_fault::PlotFault;
 pub use sample::{Configuration, Figures, Interval, Line, Sample, Table};
 pub use table::{MAX_LINES, read};

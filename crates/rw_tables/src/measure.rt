@@ -24,6 +24,17 @@ pub enum Caches {
     All,
 }
 
+/// Whose flash stands on the x axis of a sweep's table.
+#[derive(Clone, Copy)]
+pub enum FlashOf {
+    /// That of one edge cache: `edge_blocks` times `block`.
+    Edge,
+    /// That of one origin cache: `origin_blocks` times `block`.
+    Origin,
+    /// That of all caches of which a row tells: the column `flash_bytes`.
+    Total,
+}
+
 /// What is asked for of a table.
 #[derive(Clone, Copy)]
 pub struct Drawing {
@@ -32,6 +43,9 @@ pub struct Drawing {
     /// Of which caches the rows are that are drawn. `None`: in a table of one configuration over time those of all three kinds,
     /// a line for each; in other tables those of `All`.
     pub caches: Option<Caches>,
+    /// Whose flash stands on the x axis. `None`: the one that tells the rows apart. A table over time takes none, since its x axis
+    /// is the time.
+    pub x: Option<FlashOf>,
     /// How many ticks of a table over time are a second, from 1 to 10^9; 0 is taken as 1. Of no use to a sweep's table.
     pub ticks_a_second: u32,
 }

@@ -22,6 +22,9 @@ pub enum PlotFault {
     /// The bytes asked of the backend are to be drawn, and the table is a sweep's, which has no such column.
     #[error("sweep: no column backend_bytes")]
     NoBackendBytes,
+    /// The flash is asked for on the x axis, and the table is one over time, whose x axis is the time.
+    #[error("sweep: --x: expected a table by flash size, found one over time; leave --x out")]
+    NoFlashAxis,
     /// No row is of the caches that are asked for.
     #[error("sweep: nothing to plot")]
     Nothing,

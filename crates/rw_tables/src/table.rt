@@ -149,6 +149,9 @@ fn lines_below(
     if layout.lacks(drawing.measure) {
         return Err(PlotFault::NoBackendBytes);
     }
+    if layout.lacks_flash_axis(drawing.x) {
+        return Err(PlotFault::NoFlashAxis);
+    }
     let drawn = caches_drawn(layout, drawing.caches);
     lines_left(alloc, reader, fields, layout, drawn, lines)?;
     if lines.is_empty() {
@@ -189,7 +192,7 @@ fn lines_of_table(
 /// # Errors
 ///
 /// `Header` where the first record is the header of no table; else `NoBackendBytes` where these are asked for of a sweep's table;
-/// else the first fault of the rows: that of the first faulty row, within it first its length and then its columns from the
+/// else `NoFlashAxis` where the x axis of a table over time is to be the flash; else the first fault of the rows: that of the first faulty row, within it first its length and then its columns from the
 /// left. `TooManyRows` for more than [`MAX_LINES`] rows. `Nothing` where no row is of the caches that are drawn. `Memory` where a
 /// request for memory was refused; nothing is said of the table then.
 pub fn read(alloc: Global, bytes: &[u8], drawing: Drawing) -> Result<Table, PlotFault>
