@@ -9,18 +9,20 @@ ghost use Rattle.rw_ripq.specs.declared.Policy.TheVariants.{Off};
 use crate::queue_text::must_read;
 use rw_ripq::{
     Kind, Levels, NoMemory, Policy, Queue, Refusal, Shape, Tally, Trail, insert, level_of, promote,
-    purge, resident, rewind, target,
+    purge, purge_with, resident, rewind, target,
 };
 use std::alloc::Global;
 use std::process::Abort;
 use std::test::Fail;
 
-/// A call: an insertion of an object of that size at level 1, a promotion, or a purge.
+/// A call: an insertion of an object of that size at level 1, a promotion, a purge, or a purge that also takes out the
+/// sealed block that it leaves without objects.
 #[derive(Clone, Copy)]
 enum Call {
     Insert(u64, u64),
     Promote(u64),
     Purge(u64),
+    Reclaim(u64),
 }
 
 /// What a call answers beside its trail: rows that left, rows written again, block writes, splits and merges, or
@@ -81,6 +83,12 @@ fn make(
         }
         Call::Purge(object) if resident(queue, object) => {
             let trail = purge(alloc, queue, object)?;
+            let answer = Answer::Nothing;
+            Ok(Some(Done { trail, answer }))
+        }
+        Call::Reclaim(object) if resident(queue, object) => {
+            let mut trail = Trail::new(alloc);
+            purge_with(queue, &mut trail, object, true)?;
             let answer = Answer::Nothing;
             Ok(Some(Done { trail, answer }))
         }
@@ -279,6 +287,48 @@ const PURGES_ROW: [Example; 1] = [Example {
     answer: Answer::Nothing,
     marks: 1,
 }];
+
+/// From the same queue: a purge that also takes out the home, which is the home of no object then, and one whose place
+/// is active, so that the home alone goes.
+const RECLAIMS: [Example; 2] = [
+    Example {
+        call: Call::Reclaim(1),
+        after: "S0 {3, 4, [2d]}, 2 (6, 2, 4), 3 (6, 3, 3), next 5",
+        answer: Answer::Nothing,
+        marks: 3,
+    },
+    Example {
+        call: Call::Reclaim(2),
+        after: "S0 {3, 4, []}, 3 (6, 3, 3), next 5",
+        answer: Answer::Nothing,
+        marks: 2,
+    },
+];
+
+/// And one of the object in the active device block, which stays.
+const RECLAIMS_ROW: [Example; 1] = [Example {
+    call: Call::Reclaim(3),
+    after: "S0 {3, 4, [1v, 2d, 0d]}, 1 (6, 0, 1), 2 (6, 2, 4), next 5",
+    answer: Answer::Nothing,
+    marks: 1,
+}];
+
+/// From a queue whose sealed device block is the home of two objects: it stays while it is the home of one, and goes
+/// with the last one.
+const RECLAIMS_LAST: [Example; 2] = [
+    Example {
+        call: Call::Reclaim(1),
+        after: "S0 {3, 2, [0d]}, 2 (4, 0, 0), next 4",
+        answer: Answer::Nothing,
+        marks: 2,
+    },
+    Example {
+        call: Call::Reclaim(2),
+        after: "S0 {3, 2, []}, next 4",
+        answer: Answer::Nothing,
+        marks: 2,
+    },
+];
 
 /// Four insertions, two of which split the head.
 const SPLITS: [Example; 4] = [
@@ -510,6 +560,31 @@ fn a_purge_takes_an_emptied_block_out(rt: HostRuntime) -> Result<(), Fail> {
 fn a_purge_leaves_an_active_block(rt: HostRuntime) -> Result<(), Fail> {
     let queue = promoted(&rt, rt.alloc())?;
     to_and_fro(&rt, rt.alloc(), Policy::Lru, PROMOTED, &PURGES_ROW, queue)
+}
+
+#[test]
+fn a_purge_takes_an_abandoned_home_out(rt: HostRuntime) -> Result<(), Fail> {
+    let queue = promoted(&rt, rt.alloc())?;
+    to_and_fro(&rt, rt.alloc(), Policy::Lru, PROMOTED, &RECLAIMS, queue)
+}
+
+#[test]
+fn a_reclaiming_purge_leaves_an_active_block(rt: HostRuntime) -> Result<(), Fail> {
+    let queue = promoted(&rt, rt.alloc())?;
+    to_and_fro(&rt, rt.alloc(), Policy::Lru, PROMOTED, &RECLAIMS_ROW, queue)
+}
+
+#[test]
+fn a_reclaiming_purge_leaves_a_home(rt: HostRuntime) -> Result<(), Fail> {
+    let queue = with_sealed_virtual(rt.alloc())?;
+    to_and_fro(
+        &rt,
+        rt.alloc(),
+        Policy::Lru,
+        SEALED_BOTH,
+        &RECLAIMS_LAST,
+        queue,
+    )
 }
 
 #[test]

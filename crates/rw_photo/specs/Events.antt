@@ -133,8 +133,8 @@ clears_of c p n time o g =
     (edges_but c g)
 
 -- an object is to leave a cache, where it is stored; who waits for it goes on waiting
-abbrev pub purge_happening : Cache → Object → List (Event Body) → Happening
-purge_happening s o sent = serving s o (purge_if_stored s.queue o) sent
+abbrev pub purge_happening : Config → Cache → Object → List (Event Body) → Happening
+purge_happening c s o sent = serving s o (purge_if_stored c.reclaim s.queue o) sent
 
 -- what happens at process p at time t
 abbrev pub happening : Config → Process → Cache → Time → Body → Happening
@@ -142,9 +142,9 @@ happening c p s t (Request o z) = request_happening c p s t o z
 happening c p s t (Miss o z g) = miss_happening c p s t o z g
 happening c p s t (Fill o z) = fill_happening c s o z
 happening c p s t (Purge o) =
-    purge_happening s o (event_from p s (t + c.up) (origin_of c o) (Drop o p) ∷ [])
-happening c p s t (Drop o g) = purge_happening s o (clears_of c p s.sends (t + c.down) o g)
-happening c p s t (Clear o) = purge_happening s o []
+    purge_happening c s o (event_from p s (t + c.up) (origin_of c o) (Drop o p) ∷ [])
+happening c p s t (Drop o g) = purge_happening c s o (clears_of c p s.sends (t + c.down) o g)
+happening c p s t (Clear o) = purge_happening c s o []
 
 -- the cache after what happens to object o
 abbrev pub cache_after : Cache → Object → Happening → Cache

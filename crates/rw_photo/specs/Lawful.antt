@@ -113,14 +113,14 @@ hit-at c p q o z at there =
     }
 
 purged-at : (c : Config) (p : ℕ) (q : QueueState) (o : ℕ) → IsQueueAt c p q
-    → IsQueueAt c p (purge_if_stored q o).queue
+    → IsQueueAt c p (purge_if_stored c.reclaim q o).queue
 purged-at c p q o at = go (is_some (row_at q o)) refl
   where
-    go : (b : Bool) → is_some (row_at q o) ≡ b → IsQueueAt c p (purge_if_stored q o).queue
+    go : (b : Bool) → is_some (row_at q o) ≡ b → IsQueueAt c p (purge_if_stored c.reclaim q o).queue
     go false new = rw new at
     go true there =
         let found = some-stored (row_at q o) there in
-        let laws = purge-laws q o found.0 at.well_formed found.1 in
+        let laws = purge-laws c.reclaim q o found.0 at.well_formed found.1 in
         rw there (record {
           well_formed = laws.well_formed;
           shape = laws.shape ∙ at.shape;
@@ -300,7 +300,7 @@ filled-fine c p s t o z false is w v =
     }
 
 purged-fine : (c : Config) (p : ℕ) (s : Cache) (t o : ℕ) (sent : List (Event Body))
-    → IsWellFormed c p s → All (Follows c p t) sent → IsFine c p t (purge_happening s o sent)
+    → IsWellFormed c p s → All (Follows c p t) sent → IsFine c p t (purge_happening c s o sent)
 purged-fine c p s t o sent w follow =
     record {
       queue = purged-at c p s.queue o (queue-at c p s w);

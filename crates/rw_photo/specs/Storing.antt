@@ -7,7 +7,7 @@ use Rattle.rw_ripq.specs.declared.Policy.TheVariants.{Off}
 use Rattle.rw_ripq.specs.Work.{Work}
 use Rattle.rw_ripq.specs.Insert.{insert}
 use Rattle.rw_ripq.specs.Promote.{promote}
-use Rattle.rw_ripq.specs.Purge.{purge}
+use Rattle.rw_ripq.specs.Purge.{purge_by}
 use Rattle.rw_photo.specs.declared.counters.Counters.{Counters}
 use Rattle.rw_photo.specs.Counts.{no_counts, one_hit, one_bypassed, one_inserted, one_purge}
 
@@ -43,8 +43,8 @@ store policy q o z =
     then same_queue q one_bypassed
     else insertion (insert policy q o z 1)
 
--- an object leaves, where it is stored
-abbrev pub purge_if_stored : QueueState → Object → QueueAndCounts
-purge_if_stored q o =
+-- an object leaves, where it is stored; its home is taken out too where that is asked for and it has no object then
+abbrev pub purge_if_stored : Bool → QueueState → Object → QueueAndCounts
+purge_if_stored reclaim q o =
     let stored = is_some (row_at q o) in
-    record { queue = if stored then purge q o else q; counts = one_purge stored }
+    record { queue = if stored then purge_by reclaim q o else q; counts = one_purge stored }

@@ -241,13 +241,19 @@ impl CacheState {
         Ok(())
     }
 
-    /// Lets an object go, where it is stored, and counts the purge. `trail` has no mark yet.
-    pub(crate) fn purge<M: Marks>(&mut self, object: u64, trail: &mut M) -> Result<(), NoMemory>
+    /// Lets an object go, where it is stored, and counts the purge. With `reclaim` the sealed block that it leaves without
+    /// objects is taken out too. `trail` has no mark yet.
+    pub(crate) fn purge<M: Marks>(
+        &mut self,
+        object: u64,
+        reclaim: bool,
+        trail: &mut M,
+    ) -> Result<(), NoMemory>
         requires well_formed { IsWellFormedQueue self.old.queue }
         requires counts { AreCounts self.old.counters }
         requires none { M.list trail.old ≡ [] }
         ensures state { OnOk result
-            (self.new ≡ once_made self.old (purge_if_stored self.old.queue object)) }
+            (self.new ≡ once_made self.old (purge_if_stored reclaim self.old.queue object)) }
         ensures leads { OnOk result (M.keeps ≡ true
             → Leads (M.list trail.new) self.old.queue self.new.queue) }
         ensures short { OnOk result (M.keeps ≡ true
@@ -257,7 +263,7 @@ impl CacheState {
             self.counters.purge(false);
             return Ok(());
         }
-        rw_ripq::purge_with(&mut self.queue, trail, object)?;
+        rw_ripq::purge_with(&mut self.queue, trail, object, reclaim)?;
         self.counters.purge(true);
         Ok(())
     }

@@ -1,4 +1,4 @@
-ghost use Rattle.std.specs.Prelude.{◌≡◌, ◌+◌, ◌≤◌, ◌<◌, ◌%◌, IsSome, IsTrue, IfSome, ◌↔◌};
+ghost use Rattle.std.specs.Prelude.{◌≡◌, false, ◌+◌, ◌≤◌, ◌<◌, ◌%◌, IsSome, IsTrue, IfSome, ◌↔◌};
 ghost use Rattle.rw_photo.specs.Limits.{longest_delay, most_edges, most_origins};
 ghost use Rattle.rw_photo.specs.Ranges.{IsConfig, IsDelay};
 
@@ -23,6 +23,8 @@ pub struct Config {
     pub down: u64,
     /// From an origin to the backend and back, in ticks, 1 to 1048576.
     pub back: u64,
+    /// Whether a purge also takes out the sealed block that it leaves without objects.
+    pub reclaim: bool,
     ghost in_range: { IsConfig edges origins up down back },
 }
 
@@ -36,7 +38,8 @@ impl Config {
     /// The longest delay, in ticks.
     pub const MAX_DELAY: u64 = 1_048_576;
 
-    /// A configuration; `None` exactly where a number is out of its range. Takes no memory.
+    /// A configuration; `None` exactly where a number is out of its range. A purge leaves sealed blocks as they are, unless
+    /// [`with_reclaim`](Config::with_reclaim) says otherwise. Takes no memory.
     pub fn new(
         edges: u32,
         origins: u32,
@@ -56,6 +59,7 @@ impl Config {
         ensures up { IfSome result (λ c. c.up ≡ up) }
         ensures down { IfSome result (λ c. c.down ≡ down) }
         ensures back { IfSome result (λ c. c.back ≡ back) }
+        ensures reclaim { IfSome result (λ c. c.reclaim ≡ false) }
     {
         let counts = (1..=Self::MAX_EDGES).contains(&edges)
             && (1..=Self::MAX_ORIGINS).contains(&origins);
@@ -70,10 +74,20 @@ impl Config {
                 up,
                 down,
                 back,
+                reclaim: false,
             })
         } else {
             None
         }
+    }
+
+    /// The configuration in which a purge also takes out the sealed block that it leaves without objects, or does not. Takes
+    /// no memory.
+    pub fn with_reclaim(mut self, reclaim: bool) -> Config
+        ensures { result ≡ record self { reclaim = reclaim } }
+    {
+        self.reclaim = reclaim;
+        self
     }
 
     /// How many edges there are. Takes no memory.

@@ -249,7 +249,7 @@ impl Photo {
             state.old object state.new out.old.items out.new.items M.keeps
             (M.list change.new.trail)) }
     {
-        state.purge(object, &mut change.trail)?;
+        state.purge(object, self.config.reclaim, &mut change.trail)?;
         let order = Body::Drop {
             object,
             edge: process,
@@ -280,7 +280,7 @@ impl Photo {
             state.old object state.new out.old.items out.new.items M.keeps
             (M.list change.new.trail)) }
     {
-        state.purge(object, &mut change.trail)?;
+        state.purge(object, self.config.reclaim, &mut change.trail)?;
         let first = state.sends();
         let time = time + self.config.down;
         let sent = self.send_clears(process, first, time, object, edge, out)?;
@@ -301,11 +301,11 @@ impl Photo {
         requires none { M.list change.old.trail ≡ [] }
         requires uncounted { change.old.counts ≡ no_tally }
         ensures { OnOk result (HasHappened
-            (purge_happening state.old object [])
+            (purge_happening self.now.config state.old object [])
             state.old object state.new out.old.items out.new.items M.keeps
             (M.list change.new.trail)) }
     {
-        state.purge(object, &mut change.trail)?;
+        state.purge(object, self.config.reclaim, &mut change.trail)?;
         Ok(())
     }
 

@@ -98,12 +98,12 @@ devices-without_block q b there =
     let s : SectionState = section_at q (sealed_section q b) in
     omega (arith, sum_by-set devices_in q.sections (sealed_section q b) (record s { sealed = remove s.sealed (sealed_position q b) }) no_section t.0, sum_by-remove (λ (e : ℕ × Kind). cond (is_kind Device e.1) 1 0) s.sealed (sealed_position q b) (0, Device) t.1)
 
-devices-clear : (t : Bool) (q : QueueState) (b : ℕ) → (t ≡ true → is_sealed_virtual q b ≡ true) → sealed_devices (without_block_if t q b) ≤ sealed_devices q
-devices-clear true q b there = devices-without_block q b (sealed-virtual-there q b (there refl))
+pub devices-clear : (t : Bool) (q : QueueState) (b : ℕ) → (t ≡ true → is_sealed q b ≡ true) → sealed_devices (without_block_if t q b) ≤ sealed_devices q
+devices-clear true q b there = devices-without_block q b (there refl)
 devices-clear false q b there = omega arith
 
 pub devices-cleared : (q : QueueState) (b : ℕ) → sealed_devices (without_if_emptied q b) ≤ sealed_devices q
-devices-cleared q b = devices-clear (is_emptied q b) q b (λ e. (and_parts (is_sealed_virtual q b) _ e).0)
+devices-cleared q b = devices-clear (is_emptied q b) q b (λ e. sealed-virtual-there q b (and_parts (is_sealed_virtual q b) _ e).0)
 
 devices-unless : (t : Bool) (q : QueueState) (o i : ℕ) → i < length q.sections → sealed_devices (moved_unless t q o i) ≤ sealed_devices q
 devices-unless true q o i within = omega arith

@@ -17,7 +17,7 @@ use Rattle.rw_ripq.proofs.Falls.{sealed_at, counted}
 use Rattle.rw_ripq.proofs.Places.{get-at, any-at, any_get}
 use Rattle.rw_blocks.specs.Questions.{is_placed}
 
-and-false : (t u : Bool) → t ≡ false → (t && u) ≡ false
+pub and-false : (t u : Bool) → t ≡ false → (t && u) ≡ false
 and-false t u h = rw h refl
 
 and-true : (t u : Bool) → u ≡ true → t ≡ (t && u)
@@ -42,7 +42,7 @@ virtual-there Device q b i e loose within serial kind any =
     absurd (omega (arith, (counted q (b, Device) (omega arith)).1, virtual-counts q b t, loose.distinct b)))
     (λ f. f)
 
-same-kind : (K : Kind) → is_kind K K ≡ true
+pub same-kind : (K : Kind) → is_kind K K ≡ true
 same-kind Device = refl
 same-kind Virtual = refl
 

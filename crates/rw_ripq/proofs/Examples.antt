@@ -1,5 +1,5 @@
 -- The worked examples, computed by the definitions.
-use Rattle.std.proofs.Common.{◌≡◌, ℕ, List, [], ◌∷◌, refl, arith}
+use Rattle.std.proofs.Common.{◌≡◌, ℕ, List, [], ◌∷◌, refl, arith, true}
 use Rattle.std.specs.Prelude.{Option, Some, None, map, fold}
 use Rattle.std.specs.List.{range_with_len}
 use Rattle.rw_blocks.specs.declared.Kind.{Kind}
@@ -16,7 +16,7 @@ use Rattle.rw_ripq.specs.Words.{IsSegmentCount}
 use Rattle.rw_ripq.specs.Work.{Work}
 use Rattle.rw_ripq.specs.Levels.{level_of, target}
 use Rattle.rw_ripq.specs.Promote.{promote}
-use Rattle.rw_ripq.specs.Purge.{purge}
+use Rattle.rw_ripq.specs.Purge.{purge, purge_by}
 use Rattle.rw_ripq.specs.Insert.{insert}
 
 abbrev limits : ℕ → ℕ → ℕ → ShapeState
@@ -92,6 +92,13 @@ leaves_blocks = refl
 
 holds_nothing : fill (purge twice 102) 3 ≡ 0
 holds_nothing = refl
+
+-- ---- a purge that also takes out the home that it leaves without rows, and one that leaves a home
+reclaims : purge_by true twice 100 ≡ queue four (section 3 4 ((2, Device) ∷ []) ∷ []) ((101, row 6 2 4) ∷ (102, row 6 3 3) ∷ []) 5
+reclaims = refl
+
+leaves_a_home : purge_by true sealed_twice 100 ≡ queue one (section 3 2 ((0, Device) ∷ []) ∷ []) ((101, row 4 0 0) ∷ []) 4
+leaves_a_home = refl
 
 -- ---- splits and a merge
 abbrev many : ShapeState

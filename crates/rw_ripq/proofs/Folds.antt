@@ -30,7 +30,7 @@ pub sealed_count-if : (t : Bool) (q : QueueState) (i b : ℕ) → i < length q.s
 sealed_count-if true q i b within = omega arith
 sealed_count-if false q i b within = sealed_count-after_seal q i Device b within
 
-sealed_count-without_block_if : (t : Bool) (q : QueueState) (p b : ℕ) → (t ≡ true → is_sealed_virtual q p ≡ true) → (p ≡ b → ⊥) → sealed_count b (without_block_if t q p) ≡ sealed_count b q
+pub sealed_count-without_block_if : (t : Bool) (q : QueueState) (p b : ℕ) → (t ≡ true → is_sealed_virtual q p ≡ true) → (p ≡ b → ⊥) → sealed_count b (without_block_if t q p) ≡ sealed_count b q
 sealed_count-without_block_if true q p b h apart =
     let s = sealed-there q p (sealed-virtual-there q p (h refl)) in
     sealed_count-after_take_out q (sealed_section q p) (sealed_position q p) b s.0 s.1 (λ e. apart (sym s.2 ∙ e))

@@ -1,5 +1,5 @@
 -- The laws of an insertion into a well-formed queue, and of a promotion and a purge in one.
-use Rattle.std.proofs.Common.{◌≡◌, ℕ, ◌+◌, ◌≤◌, ◌<◌, arith, length, nat_eq}
+use Rattle.std.proofs.Common.{◌≡◌, ℕ, ◌+◌, ◌≤◌, ◌<◌, arith, length, nat_eq, subst, sym, Bool, true}
 use Rattle.std.specs.Prelude.{Some, None, IsSome}
 use Rattle.rw_ripq.proofs.Basics.{of_some}
 use Rattle.rw_blocks.specs.Loose.{IsLoose, IsWellFormedQueue}
@@ -9,18 +9,18 @@ use Rattle.rw_ripq.specs.Record.{IsInsertable}
 use Rattle.rw_ripq.proofs.Found.{target-there}
 use Rattle.rw_ripq.proofs.Leaving.{insert-leaves}
 use Rattle.rw_ripq.proofs.Promotes.{promote-home, promote-order, promote-others, promote-place, promote-stays}
-use Rattle.rw_ripq.proofs.Purges.{purge-gone, purge-order, purge-others, purge-shape}
+use Rattle.rw_ripq.proofs.Purges.{purge-gone, purge-order, purge-others, purge-reclaims, purge_by-shape}
 use Rattle.rw_ripq.proofs.Serials.{total-room}
 use Rattle.rw_ripq.proofs.Shapes.{insert-shape, promote-shape}
 use Rattle.rw_ripq.proofs.Sizes.{insert-adds, insert-rows, insert-sizes}
 use Rattle.rw_ripq.proofs.Tails.{insert-order, insert-tail}
-use Rattle.rw_ripq.proofs.WellFormed.{insert-well_formed, promote-well_formed, purge-well_formed}
+use Rattle.rw_ripq.proofs.WellFormed.{insert-well_formed, promote-well_formed, purge_by-well_formed}
 use Rattle.rw_ripq.specs.Insert.{insert, insert_at}
-use Rattle.rw_ripq.specs.Laws.{AddsOnly, KeepsHome, KeepsOthers, KeepsSizes, LeavesWithBlock}
+use Rattle.rw_ripq.specs.Laws.{AddsOnly, IsReclaimed, KeepsHome, KeepsOthers, KeepsSizes, LeavesWithBlock}
 use Rattle.rw_ripq.specs.Levels.{hit_level, hit_target, target}
 use Rattle.rw_ripq.specs.Order.{KeepsOrder, LeavesFromTail}
 use Rattle.rw_ripq.specs.Promote.{is_active_in, promote, promote_to}
-use Rattle.rw_ripq.specs.Purge.{purge}
+use Rattle.rw_ripq.specs.Purge.{purge_by}
 use Rattle.rw_ripq.specs.Work.{Work}
 use Rattle.rw_ripq.specs.declared.Policy.{Policy}
 
@@ -98,14 +98,14 @@ pub record PurgeLaws (old : QueueState) (o : ℕ) (now : QueueState) : Type 0 wh
   pub others : KeepsOthers old o now
   pub order : KeepsOrder old now
 
-pub purge-laws : (q : QueueState) (o : ℕ) (r : Place) → IsWellFormedQueue q → row_at q o ≡ Some r → PurgeLaws q o (purge q o)
-purge-laws q o r well is =
+pub purge-laws : (t : Bool) (q : QueueState) (o : ℕ) (r : Place) → IsWellFormedQueue q → row_at q o ≡ Some r → PurgeLaws q o (purge_by t q o)
+purge-laws t q o r well is =
     record {
-      well_formed = purge-well_formed q o r well is;
-      shape = purge-shape q o;
-      gone = purge-gone q o well.loose;
-      others = purge-others q o;
-      order = purge-order q o well.loose;
+      well_formed = purge_by-well_formed t q o r well is;
+      shape = purge_by-shape t q o;
+      gone = purge-gone t q o well.loose;
+      others = purge-others t q o;
+      order = purge-order t q o well.loose;
     }
 
 -- ---- what the code makes
@@ -123,7 +123,12 @@ promotion-changed q v o i loose within resident made =
     let row = of_some (row_at q o) resident in
     rw made (promote-place q o i row.0 loose within row.1)
 
-pub purged : (q v : QueueState) (o : ℕ) → IsWellFormedQueue q → IsSome (row_at q o) → v ≡ purge q o → PurgeLaws q o v
-purged q v o well resident made =
+pub purged : (t : Bool) (q v : QueueState) (o : ℕ) → IsWellFormedQueue q → IsSome (row_at q o) → v ≡ purge_by t q o → PurgeLaws q o v
+purged t q v o well resident made =
     let row = of_some (row_at q o) resident in
-    rw made (purge-laws q o row.0 well row.1)
+    rw made (purge-laws t q o row.0 well row.1)
+
+pub reclaimed : (q v : QueueState) (o : ℕ) → IsWellFormedQueue q → IsSome (row_at q o) → v ≡ purge_by true q o → IsReclaimed q (row_or q o).home v
+reclaimed q v o well resident made =
+    let row = of_some (row_at q o) resident in
+    subst (IsReclaimed q (row_or q o).home) (sym made) (purge-reclaims q o row.0 well.loose row.1)

@@ -45,6 +45,7 @@ pub mod Orders
 pub mod Tails
 -- what a promotion and a purge keep
 pub mod Promotes
+pub mod Abandoned
 pub mod Purges
 -- why a trail leads back, and why it is short
 pub mod Trails

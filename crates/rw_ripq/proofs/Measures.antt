@@ -1,6 +1,6 @@
 -- What an eviction lowers: the rows whose place is unlike their home, and the sealed blocks.
 use Rattle.std.proofs.Common.{◌≡◌, ℕ, ◌+◌, ◌≤◌, ◌<◌, List, [], ◌∷◌, refl, arith, Bool, true, false, cond, length, get_or, nat_eq, suc}
-use Rattle.std.specs.Prelude.{Some, count_by, not, remove, ◌&&◌}
+use Rattle.std.specs.Prelude.{Some, count_by, not, remove}
 use Rattle.std.specs.List.{list_any, position_or_len}
 use Rattle.std.specs.Ordering.{nat_cmp}
 use Rattle.std.specs.Cmp.{nat_cmp_total}
@@ -12,7 +12,7 @@ use Rattle.std.proofs.lemmas.Map.Entries.{sum_by-insert_entry, sum_by-remove_ent
 use Rattle.rw_blocks.specs.Loose.{IsLoose, count, count_in, is_sealed_virtual}
 use Rattle.rw_blocks.specs.Changes.{section_sealing}
 use Rattle.rw_blocks.specs.Primitives.{after_rehome, after_remove, after_seal, after_take_out}
-use Rattle.rw_blocks.specs.Sections.{SectionState, no_section, has_serial, is_kind}
+use Rattle.rw_blocks.specs.Sections.{SectionState, no_section, has_serial, is_block, is_kind}
 use Rattle.rw_blocks.specs.State.{QueueState, row_at, row_or, section_at}
 use Rattle.rw_blocks.specs.declared.Kind.{Kind}
 use Rattle.rw_blocks.specs.declared.Kind.TheVariants.{Device, Virtual}
@@ -108,10 +108,17 @@ any-wider p r (x ∷ xs) w h =
     (λ t. rw (w x t) refl)
     (λ f. by_bool (r x) (λ t. rw t refl) (λ g. rw g (any-wider p r xs w (rw f at h))))
 
-pub sealed-virtual-there : (q : QueueState) (b : ℕ) → is_sealed_virtual q b ≡ true → list_any (has_sealed b) q.sections ≡ true
-sealed-virtual-there q b h =
+-- whether a block of the kind is sealed
+abbrev pub is_sealed_of : Kind → QueueState → ℕ → Bool
+is_sealed_of K q b = list_any (λ s. list_any (is_block K b) s.sealed) q.sections
+
+pub sealed_of-there : (K : Kind) (q : QueueState) (b : ℕ) → is_sealed_of K q b ≡ true → list_any (has_sealed b) q.sections ≡ true
+sealed_of-there K q b h =
     any-wider _ (has_sealed b) q.sections
-    (λ s t. any-wider (λ e. nat_eq e.0 b && is_kind Virtual e.1) (has_serial b) s.sealed (λ e u. (and_parts (nat_eq e.0 b) (is_kind Virtual e.1) u).0) t) h
+    (λ s t. any-wider (is_block K b) (has_serial b) s.sealed (λ e u. (and_parts (nat_eq e.0 b) (is_kind K e.1) u).0) t) h
+
+pub sealed-virtual-there : (q : QueueState) (b : ℕ) → is_sealed_virtual q b ≡ true → list_any (has_sealed b) q.sections ≡ true
+sealed-virtual-there q b h = sealed_of-there Virtual q b h
 
 -- ---- a sealed virtual block with no rows is free
 pub any-counts : {X : Type 0} (p : X → Bool) (xs : List X) → list_any p xs ≡ true → 1 ≤ count_by p xs
@@ -121,14 +128,17 @@ any-counts p (x ∷ xs) h =
     (λ t. let e = sum_by-cons (λ x. cond (p x) 1 0) x xs in let n : ℕ = cond (p x) 1 0 in let f : n ≡ 1 = rw t refl in omega (arith, e, f))
     (λ g. let e = sum_by-cons (λ x. cond (p x) 1 0) x xs in omega (arith, e, any-counts p xs (rw g at h)))
 
-pub virtual-counts : (q : QueueState) (b : ℕ) → is_sealed_virtual q b ≡ true → 1 ≤ count Virtual q b
-virtual-counts q b h =
-    let test : SectionState → Bool = λ s. list_any (λ e. nat_eq e.0 b && is_kind Virtual e.1) s.sealed in
+pub kind-counts : (K : Kind) (q : QueueState) (b : ℕ) → is_sealed_of K q b ≡ true → 1 ≤ count K q b
+kind-counts K q b h =
+    let test : SectionState → Bool = λ s. list_any (is_block K b) s.sealed in
     let t = position-there test q.sections no_section h in
     let i : ℕ = position_or_len test q.sections in
     let s : SectionState = get_or q.sections i no_section in
-    let c : 1 ≤ count_by (λ e. nat_eq e.0 b && is_kind Virtual e.1) s.sealed = any-counts _ s.sealed t.1 in
-    let e = sum_by-cons (λ e. cond (nat_eq e.0 b && is_kind Virtual e.1) 1 0) (s.active_device, Device) ((s.active_virtual, Virtual) ∷ s.sealed) in
-    let f = sum_by-cons (λ e. cond (nat_eq e.0 b && is_kind Virtual e.1) 1 0) (s.active_virtual, Virtual) s.sealed in
-    let inside : count_in Virtual b s ≤ count Virtual q b = get_or-le-sum_by (count_in Virtual b) q.sections i no_section t.0 in
+    let c : 1 ≤ count_by (is_block K b) s.sealed = any-counts _ s.sealed t.1 in
+    let e = sum_by-cons (λ e. cond (is_block K b e) 1 0) (s.active_device, Device) ((s.active_virtual, Virtual) ∷ s.sealed) in
+    let f = sum_by-cons (λ e. cond (is_block K b e) 1 0) (s.active_virtual, Virtual) s.sealed in
+    let inside : count_in K b s ≤ count K q b = get_or-le-sum_by (count_in K b) q.sections i no_section t.0 in
     omega (arith, c, e, f, inside)
+
+pub virtual-counts : (q : QueueState) (b : ℕ) → is_sealed_virtual q b ≡ true → 1 ≤ count Virtual q b
+virtual-counts q b h = kind-counts Virtual q b h

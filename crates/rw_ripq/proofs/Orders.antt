@@ -98,14 +98,14 @@ kept-without_block q b x c loose h k =
     let s = sealed-there q b h in
     kept-after_take_out q (sealed_section q b) (sealed_position q b) x c loose s.0 s.1 k
 
-kept-without_block_if : (t : Bool) (q : QueueState) (b x c : ℕ) → (t ≡ true → is_sealed_virtual q b ≡ true) → IsLoose q → Kept x c q → Kept x c (without_block_if t q b)
-kept-without_block_if true q b x c h loose k = kept-without_block q b x c loose (sealed-virtual-there q b (h refl)) k
+pub kept-without_block_if : (t : Bool) (q : QueueState) (b x c : ℕ) → (t ≡ true → list_any (has_sealed b) q.sections ≡ true) → IsLoose q → Kept x c q → Kept x c (without_block_if t q b)
+kept-without_block_if true q b x c h loose k = kept-without_block q b x c loose (h refl) k
 kept-without_block_if false q b x c h loose k = k
 
 pub kept-cleared : (q : QueueState) (b x c : ℕ) → IsLoose q → Kept x c q → Kept x c (without_if_emptied q b)
 kept-cleared q b x c loose k =
     kept-without_block_if (is_sealed_virtual q b && nat_eq (length (rows_placed q b)) 0) q b x c
-    (λ e. (and_parts (is_sealed_virtual q b) (nat_eq (length (rows_placed q b)) 0) e).0) loose k
+    (λ e. sealed-virtual-there q b (and_parts (is_sealed_virtual q b) (nat_eq (length (rows_placed q b)) 0) e).0) loose k
 
 kept-if : (t : Bool) (q : QueueState) (K : Kind) (i x c : ℕ) → i < length q.sections → Kept x c q → Kept x c (seal_unless t q i K)
 kept-if true q K i x c within k = k

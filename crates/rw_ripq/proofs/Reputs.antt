@@ -22,7 +22,7 @@ use Rattle.rw_ripq.proofs.Measures.{displaced-after_rehome, displaced-with_room,
 use Rattle.rw_ripq.proofs.Rooms.{fits-with_room, rows-with_room, sections-with_room, shape-with_room}
 use Rattle.rw_ripq.specs.Evict.{displaced_rows}
 use Rattle.rw_ripq.specs.Put.{is_room, put_again, with_room}
-use Rattle.rw_ripq.specs.Sealed.{without_if_emptied, sealed_blocks, sealed_position, sealed_section, section_with}
+use Rattle.rw_ripq.specs.Sealed.{without_if_emptied, has_sealed, sealed_blocks, sealed_position, sealed_section, section_with}
 
 -- ---- a block that is cleared is free
 pub free-virtual : (q : QueueState) (b : ℕ) → IsLoose q → is_sealed_virtual q b ≡ true → length (rows_placed q b) ≡ 0 → IsFree q b
@@ -37,16 +37,19 @@ free-virtual q b loose v none k d lt =
           absurd (omega (arith, f, g, none, length-filter (λ (x : Place). nat_eq x.place b) (values_of q.rows)))),
     )
 
-loose-without_block_if : (t : Bool) (q : QueueState) (b : ℕ) → (t ≡ true → (is_sealed_virtual q b ≡ true) × (length (rows_placed q b) ≡ 0)) → IsLoose q → IsLoose (without_block_if t q b)
+pub loose-without_block_if : (t : Bool) (q : QueueState) (b : ℕ) → (t ≡ true → (list_any (has_sealed b) q.sections ≡ true) × IsFree q b) → IsLoose q → IsLoose (without_block_if t q b)
 loose-without_block_if true q b h loose =
-    let s = sealed-there q b (sealed-virtual-there q b (h refl).0) in
-    IsLoose-after_take_out q (sealed_section q b) (sealed_position q b) loose s.0 s.1 (subst (λ n. IsFree q n) (sym s.2) (free-virtual q b loose (h refl).0 (h refl).1))
+    let s = sealed-there q b (h refl).0 in
+    IsLoose-after_take_out q (sealed_section q b) (sealed_position q b) loose s.0 s.1 (subst (λ n. IsFree q n) (sym s.2) (h refl).1)
 loose-without_block_if false q b h loose = loose
 
 pub IsLoose-cleared : (q : QueueState) (b : ℕ) → IsLoose q → IsLoose (without_if_emptied q b)
 IsLoose-cleared q b loose =
     loose-without_block_if (is_sealed_virtual q b && nat_eq (length (rows_placed q b)) 0) q b
-    (λ e. let p = and_parts (is_sealed_virtual q b) (nat_eq (length (rows_placed q b)) 0) e in (p.0, eqb-true _ _ p.1)) loose
+    (λ e.
+    let p = and_parts (is_sealed_virtual q b) (nat_eq (length (rows_placed q b)) 0) e in
+    (sealed-virtual-there q b p.0, free-virtual q b loose p.0 (eqb-true _ _ p.1)))
+    loose
 
 blocks-without_block_if : (t : Bool) (q : QueueState) (b : ℕ) → (t ≡ true → is_sealed_virtual q b ≡ true) → sealed_blocks (without_block_if t q b) ≤ sealed_blocks q
 blocks-without_block_if true q b h = omega (arith, sealed_blocks-without_block q b (sealed-virtual-there q b (h refl)))
@@ -57,7 +60,7 @@ sealed_blocks-cleared q b =
     blocks-without_block_if (is_sealed_virtual q b && nat_eq (length (rows_placed q b)) 0) q b
     (λ e. (and_parts (is_sealed_virtual q b) (nat_eq (length (rows_placed q b)) 0) e).0)
 
-rows-without_block_if : (t : Bool) (q : QueueState) (b : ℕ) → (without_block_if t q b).rows ≡ q.rows
+pub rows-without_block_if : (t : Bool) (q : QueueState) (b : ℕ) → (without_block_if t q b).rows ≡ q.rows
 rows-without_block_if true q b = refl
 rows-without_block_if false q b = refl
 

@@ -1,11 +1,12 @@
 -- Where a sealed block stands, found by the section that has it.
-use Rattle.std.proofs.Common.{◌≡◌, ℕ, ◌+◌, ◌≤◌, ◌<◌, List, ◌∷◌, refl, sym, ap, ◌∙◌, arith, subst, Bool, true, false, cond, length, get_or, inl, inr}
+use Rattle.std.proofs.Common.{◌≡◌, ℕ, ◌+◌, ◌≤◌, ◌<◌, List, ◌∷◌, refl, sym, ap, ◌∙◌, arith, subst, Bool, true, false, cond, length, get_or, nat_eq, inl, inr}
 use Rattle.std.specs.Prelude.{Some, None, position, sum_by, count_by, remove, IsNone}
 use Rattle.std.specs.List.{position_or_len}
-use Rattle.std.proofs.lemmas.Bool.{ltb-true, or_parts, lt-ltb, cases_order}
+use Rattle.std.proofs.lemmas.Bool.{ltb-true, or_parts, lt-ltb, cases_order, eq-eqb, eqb-true}
 use Rattle.std.proofs.lemmas.List.Sums.{position_or_len_is, get_or-le-sum_by, sum_by-remove}
 use Rattle.std.proofs.lemmas.List.Edits.{get_or-remove_below, length-remove}
 use Rattle.std.proofs.lemmas.List.Quantifiers.{position-Some}
+use Rattle.rw_blocks.specs.declared.Kind.{Kind}
 use Rattle.rw_blocks.specs.declared.Kind.TheVariants.{Device, Virtual}
 use Rattle.rw_blocks.specs.Sections.{SectionState, no_section, blocks_of, has_block, has_serial}
 use Rattle.rw_blocks.specs.State.{QueueState, section_at}
@@ -16,6 +17,8 @@ use Rattle.rw_blocks.proofs.Cited.{has-times, kinds, serials-cons, times}
 use Rattle.rw_ripq.proofs.Moves.{stands-nowhere, position-none}
 use Rattle.rw_ripq.specs.Sealed.{has_sealed, is_sealed}
 use Rattle.rw_ripq.proofs.Basics.{by_bool}
+use Rattle.rw_ripq.proofs.Places.{none-at}
+use Rattle.rw_ripq.specs.Promote.{is_active_in}
 
 -- what a test counts in a list, at two places
 two_places : {X : Type 0} (f : X → ℕ) (xs : List X) (k i : ℕ) (d : X) → k < i → i < length xs → f (get_or xs k d) + f (get_or xs i d) ≤ sum_by f xs
@@ -87,3 +90,43 @@ nowhere-here q b i loose is none =
       ]
     ])
     (omega arith)
+
+-- an active block is not sealed
+active-counts : (q : QueueState) (i b : ℕ) → is_active_in q b i ≡ true → 1 ≤ cond (has_serial b ((section_at q i).active_device, Device)) 1 0 + cond (has_serial b ((section_at q i).active_virtual, Virtual)) 1 0
+active-counts q i b active =
+    let s : SectionState = section_at q i in
+    let n : ℕ = cond (has_serial b (s.active_device, Device)) 1 0 in
+    let m : ℕ = cond (has_serial b (s.active_virtual, Virtual)) 1 0 in
+    by_bool (nat_eq b s.active_device)
+    (λ t. let one : n ≡ 1 = rw (eq-eqb s.active_device b (sym (eqb-true b s.active_device t))) refl in omega (arith, one))
+    (λ f.
+    let shadow : nat_eq b s.active_virtual ≡ true = rw f at active in
+    let one : m ≡ 1 = rw (eq-eqb s.active_virtual b (sym (eqb-true b s.active_virtual shadow))) refl in
+    omega (arith, one))
+
+active-apart : (q : QueueState) (i b : ℕ) → IsLoose q → i < length q.sections → is_active_in q b i ≡ true → count_by (has_serial b) (section_at q i).sealed ≡ 0
+active-apart q i b loose lt active =
+    let s : SectionState = section_at q i in
+    omega (
+      arith,
+      active-counts q i b active,
+      loose.distinct b,
+      get_or-le-sum_by (count_in Device b) q.sections i no_section lt,
+      get_or-le-sum_by (count_in Virtual b) q.sections i no_section lt,
+      kinds b (blocks_of s),
+      serials-cons b (s.active_device, Device) ((s.active_virtual, Virtual) ∷ s.sealed),
+      serials-cons b (s.active_virtual, Virtual) s.sealed,
+    )
+
+pub active-unsealed : (q : QueueState) (b i : ℕ) → IsLoose q → Some i ≡ section_of q b → is_active_in q b i ≡ true → is_sealed q b ≡ false
+active-unsealed q b i loose is active =
+    let es : List (ℕ × Kind) = (section_at q i).sealed in
+    nowhere-here q b i loose is
+    (none-at (has_serial b) es (length es) (0, Device)
+    (λ k lt.
+    by_bool (has_serial b (get_or es k (0, Device)))
+    (λ t.
+    let one : cond {A = ℕ} (has_serial b (get_or es k (0, Device))) 1 0 ≡ 1 = rw t refl in
+    absurd (omega (arith, one, active-apart q i b loose (section-within q b i is) active, get_or-le-sum_by (λ e. cond {A = ℕ} (has_serial b e) 1 0) es k (0, Device) lt)))
+    (λ f. f))
+    (omega arith))

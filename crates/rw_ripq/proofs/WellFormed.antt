@@ -8,8 +8,9 @@ use Rattle.rw_blocks.specs.State.{ShapeState, QueueState, no_place, row_at, row_
 use Rattle.rw_blocks.specs.Sums.{rows_placed}
 use Rattle.rw_blocks.specs.declared.Kind.TheVariants.{Device, Virtual}
 use Rattle.rw_blocks.specs.declared.Place.{Place}
-use Rattle.rw_ripq.proofs.Cases.{moved_unless, reinserted_from}
-use Rattle.rw_ripq.specs.Sealed.{is_emptied, section_with}
+use Rattle.rw_ripq.proofs.Abandoned.{IsLoose-reclaimed, abandoned-there, devices-reclaimed}
+use Rattle.rw_ripq.proofs.Cases.{moved_unless, reinserted_from, without_block_if}
+use Rattle.rw_ripq.specs.Sealed.{is_abandoned, is_emptied, is_sealed, section_with}
 use Rattle.rw_ripq.proofs.Adjusts.{KeepsAll, insert-good, put_row}
 use Rattle.rw_ripq.specs.Record.{IsInsertable}
 use Rattle.rw_ripq.proofs.Devices.{devices-cleared, insert-devices, promote-devices}
@@ -22,7 +23,7 @@ use Rattle.rw_ripq.proofs.Used.{Or, UsedBut, placed-length, used-added, used-aft
 use Rattle.rw_ripq.proofs.Walks.{KeepsBy}
 use Rattle.rw_ripq.specs.Insert.{insert_at}
 use Rattle.rw_ripq.specs.Promote.{is_active_in, promote_to}
-use Rattle.rw_ripq.specs.Purge.{purge}
+use Rattle.rw_ripq.specs.Purge.{purge, purge_by}
 use Rattle.rw_ripq.specs.Put.{put_again, put_new, with_room}
 use Rattle.rw_ripq.specs.Work.{Work}
 
@@ -135,4 +136,20 @@ purge-well_formed q o r well is =
       loose = IsLoose-cleared q1 p loose;
       used = used-to (purge q o) (used-cleared None_of q1 p loose used);
       few_devices = omega (arith, well.few_devices, devices-cleared q1 p, ap (λ (s : ShapeState). s.blocks) (shape-clear (is_emptied q1 p) q1 p));
+    }
+
+used-reclaimed : (t : Bool) (q : QueueState) (b : ℕ) → (t ≡ true → is_sealed q b ≡ true) → IsLoose q → UsedBut None_of q → UsedBut None_of (without_block_if t q b)
+used-reclaimed true q b there loose used c some = used-without_block None_of q b loose (there refl) (weaken None_of q b used) c some
+used-reclaimed false q b there loose used c some = used c some
+
+pub purge_by-well_formed : (t : Bool) (q : QueueState) (o : ℕ) (r : Place) → IsWellFormedQueue q → row_at q o ≡ Some r → IsWellFormedQueue (purge_by t q o)
+purge_by-well_formed false q o r well is = purge-well_formed q o r well is
+purge_by-well_formed true q o r well is =
+    let h : ℕ = (row_or q o).home in
+    let q1 : QueueState = purge q o in
+    let well1 : IsWellFormedQueue q1 = purge-well_formed q o r well is in
+    record {
+      loose = IsLoose-reclaimed q1 h well1.loose;
+      used = used-to (purge_by true q o) (used-reclaimed (is_abandoned q1 h) q1 h (abandoned-there q1 h) well1.loose (used-from q1 well1.used));
+      few_devices = omega (arith, well1.few_devices, devices-reclaimed q1 h, ap (λ (s : ShapeState). s.blocks) (shape-clear (is_abandoned q1 h) q1 h));
     }

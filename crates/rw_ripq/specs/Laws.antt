@@ -1,9 +1,11 @@
--- What an insertion and a promotion leave of the queue before.
-use Rattle.std.specs.Prelude.{◌≡◌, Some, None, ◌⊎◌}
-use Rattle.rw_numbers.specs.Words.{Object, Size}
+-- What an insertion, a promotion and a purge leave of the queue before.
+use Rattle.std.specs.Prelude.{◌≡◌, ◌≤◌, Some, None, ◌⊎◌, length, true}
+use Rattle.rw_numbers.specs.Words.{Object, Serial, Size}
 use Rattle.rw_blocks.specs.declared.Place.{Place}
 use Rattle.rw_blocks.specs.State.{QueueState, row_at}
 use Rattle.rw_blocks.specs.Questions.{section_of}
+use Rattle.rw_blocks.specs.Sums.{rows_homed}
+use Rattle.rw_ripq.specs.Sealed.{is_sealed}
 
 -- no row's size changes
 abbrev pub KeepsSizes : QueueState → QueueState → Type 0
@@ -35,3 +37,9 @@ KeepsHome before object after =
 abbrev pub KeepsOthers : QueueState → Object → QueueState → Type 0
 KeepsOthers before object after =
     (o : Object) → (o ≡ object → ⊥) → row_at after o ≡ row_at before o
+
+-- the block is gone where it was sealed, or it is still the home of a row
+abbrev pub IsReclaimed : QueueState → Serial → QueueState → Type 0
+IsReclaimed before block after =
+    is_sealed before block ≡ true
+    → (section_of after block ≡ None) ⊎ (1 ≤ length (rows_homed after block))

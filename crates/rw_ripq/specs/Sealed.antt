@@ -3,9 +3,10 @@ use Rattle.std.specs.Prelude.{Bool, if◌then◌else◌, ◌&&◌, length, nat_e
 use Rattle.std.specs.List.{list_any, position_or_len}
 use Rattle.rw_vt.specs.Words.{Count, Position}
 use Rattle.rw_numbers.specs.Words.{Section, Serial}
-use Rattle.rw_blocks.specs.Sections.{SectionState, has_serial}
+use Rattle.rw_blocks.specs.declared.Kind.TheVariants.{Device}
+use Rattle.rw_blocks.specs.Sections.{SectionState, has_serial, is_block}
 use Rattle.rw_blocks.specs.State.{QueueState, section_at}
-use Rattle.rw_blocks.specs.Sums.{rows_placed}
+use Rattle.rw_blocks.specs.Sums.{rows_homed, rows_placed}
 use Rattle.rw_blocks.specs.Loose.{is_sealed_virtual}
 use Rattle.rw_blocks.specs.Primitives.{after_take_out}
 use Rattle.rw_blocks.specs.Questions.{section_of}
@@ -43,3 +44,15 @@ is_emptied q b = is_sealed_virtual q b && nat_eq (length (rows_placed q b)) 0
 -- a sealed virtual block without rows is taken out
 abbrev pub without_if_emptied : QueueState → Serial → QueueState
 without_if_emptied q b = if is_emptied q b then without_block q b else q
+
+-- whether it is a sealed device block
+abbrev pub is_sealed_device : QueueState → Serial → Bool
+is_sealed_device q b = list_any (λ s. list_any (is_block Device b) s.sealed) q.sections
+
+-- whether it is a sealed device block that is the home of no row
+abbrev pub is_abandoned : QueueState → Serial → Bool
+is_abandoned q b = is_sealed_device q b && nat_eq (length (rows_homed q b)) 0
+
+-- a sealed device block that is the home of no row is taken out
+abbrev pub without_if_abandoned : QueueState → Serial → QueueState
+without_if_abandoned q b = if is_abandoned q b then without_block q b else q

@@ -4,7 +4,8 @@ ghost use Rattle.rw_blocks.specs.State.{section_at};
 ghost use Rattle.rw_blocks.specs.Sections.{has_serial, is_virtual};
 ghost use Rattle.rw_blocks.specs.Loose.{IsLoose, IsFree};
 ghost use Rattle.rw_ripq.specs.Work.{work_before};
-ghost use Rattle.rw_ripq.specs.Sealed.{is_sealed, sealed_section, sealed_position, without_block, is_emptied, without_if_emptied};
+ghost use Rattle.rw_ripq.specs.Sealed.{is_sealed, sealed_section, sealed_position, without_block, is_abandoned, is_emptied, without_if_abandoned, without_if_emptied};
+ghost use Rattle.rw_ripq.specs.Promote.{is_active_in};
 ghost use Rattle.rw_ripq.specs.Record.{Recorded};
 
 use crate::Marks;
@@ -89,7 +90,16 @@ fn position_in(queue: &Queue, section: usize, block: u64) -> Option<usize>
     None
 }
 
-/// Where a sealed block stands, as section and position; `None` exactly where no sealed block has the serial.
+/// Whether the block is one of the section's two active ones.
+fn is_active_in(queue: &Queue, block: u64, section: usize) -> bool
+    requires { section < length queue.now.sections }
+    ensures { result ≡ is_active_in queue.now block section }
+{
+    block == queue.active(section, Kind::Device) || block == queue.active(section, Kind::Virtual)
+}
+
+/// Where a sealed block stands, as section and position; `None` exactly where no sealed block has the serial. An active
+/// block is not searched for.
 fn find_sealed(queue: &Queue, block: u64) -> Option<(usize, usize)>
     requires { IsLoose queue.now }
     ensures sealed { IfSome result (λ at. is_sealed queue.now block ≡ true) }
@@ -100,6 +110,9 @@ fn find_sealed(queue: &Queue, block: u64) -> Option<(usize, usize)>
     let Some(section) = queue.section_of(block) else {
         return None;
     };
+    if is_active_in(queue, block, section) {
+        return None;
+    }
     let Some(position) = position_in(queue, section, block) else {
         return None;
     };
@@ -159,6 +172,39 @@ pub fn clear<M: Marks>(queue: &mut Queue, trail: &mut M, block: u64) -> Result<(
     ensures kept { OnOk result (IsLoose queue.new) }
 {
     if is_emptied(queue, block) {
+        take_out(queue, trail, block)?;
+    }
+    Ok(())
+}
+
+/// Whether the block is a sealed device one that is the home of no row.
+fn is_abandoned(queue: &Queue, block: u64) -> bool
+    requires { IsLoose queue.now }
+    ensures { result ≡ is_abandoned queue.now block }
+{
+    // each row has some bytes
+    if queue.fill(block) != 0 {
+        return false;
+    }
+    let Some((section, position)) = find_sealed(queue, block) else {
+        return false;
+    };
+    let (_, kind) = queue.sealed_at(section, position);
+    !is_virtual(kind)
+}
+
+/// Takes the block out where it is a sealed device one that is the home of no row.
+pub fn clear_home<M: Marks>(queue: &mut Queue, trail: &mut M, block: u64) -> Result<(), NoMemory>
+    requires { IsLoose queue.old }
+    ensures effect { OnOk result (queue.new ≡ without_if_abandoned queue.old block) }
+    ensures trail { OnOk result (M.keeps ≡ true
+        → Recorded (M.list trail.old) (work_before queue.old)
+        (M.list trail.new) (work_before queue.new)) }
+    ensures marks { OnOk result (M.keeps ≡ true
+        → length (M.list trail.new) ≤ length (M.list trail.old) + 1) }
+    ensures kept { OnOk result (IsLoose queue.new) }
+{
+    if is_abandoned(queue, block) {
         take_out(queue, trail, block)?;
     }
     Ok(())

@@ -1,5 +1,4 @@
-use Rattle.std.proofs.Common.{arith, ◌*◌}
-use Rattle.std.proofs.lemmas.Nat.{mul-le}
+use Rattle.std.proofs.Common.{arith}
 use Rattle.rw_ripq.proofs.Fitting.{segments-fit}
 use Rattle.rw_ripq.proofs.levels.reaches.Goals as goal
 

@@ -1,4 +1,4 @@
-use Rattle.std.proofs.Common.{◌≡◌, ℕ, ◌∙◌, ◌+◌, ◌-◌, ◌*◌, sym, ap, arith, inl, inr}
+use Rattle.std.proofs.Common.{ℕ, ◌∙◌, ◌+◌, ◌-◌, ◌*◌, sym, ap, arith, inl, inr}
 use Rattle.std.specs.Prelude.{nat_le}
 use Rattle.rw_blocks.specs.Sums.{section_bytes, bytes_below}
 use Rattle.rw_ripq.proofs.Fitting.{bytes-fit, below-fit}

@@ -9,5 +9,5 @@ returns g c =
     let s = c.args.state.now in
     let k = c.args.self.now.config in
     let o = c.args.object in
-    served s c.purge.new.self c.count_sends.new.self o _ (purge_if_stored s.queue o) (clears_of k c.args.process s.sends (c.args.time + k.down) o c.args.edge) _ _ _ _ c.requires.well_formed.ascending
+    served s c.purge.new.self c.count_sends.new.self o _ (purge_if_stored k.reclaim s.queue o) (clears_of k c.args.process s.sends (c.args.time + k.down) o c.args.edge) _ _ _ _ c.requires.well_formed.ascending
     c.in_ok-purge.ensures.state c.count_sends.ensures (search rules) (search rules) c.in_ok-purge.ensures.leads c.in_ok-purge.ensures.short

@@ -11,5 +11,5 @@ returns g c =
     let k = c.args.self.now.config in
     let p = c.args.process in
     let o = c.args.object in
-    served s c.purge.new.self c.send.new.self o 1 (purge_if_stored s.queue o) (event_from p s (c.args.time + k.up) (origin_of k o) (Drop o p) ∷ []) _ _ _ _ c.requires.well_formed.ascending
+    served s c.purge.new.self c.send.new.self o 1 (purge_if_stored k.reclaim s.queue o) (event_from p s (c.args.time + k.up) (origin_of k o) (Drop o p) ∷ []) _ _ _ _ c.requires.well_formed.ascending
     c.in_ok-purge.ensures.state c.in_ok-send.ensures.count refl (search rules) c.in_ok-purge.ensures.leads c.in_ok-purge.ensures.short

@@ -1,4 +1,4 @@
-use Rattle.std.proofs.Common.{◌≡◌, ◌+◌, ◌<◌, ◌^◌, ◌∷◌, List, arith, length, refl, subst, sym}
+use Rattle.std.proofs.Common.{◌+◌, ◌<◌, ◌^◌, List, arith, length, refl, subst, sym}
 use Rattle.std.specs.Prelude.{All}
 use Rattle.std.specs.Vec.Iter.{into_iter_items}
 use Rattle.rw_vt.specs.Order.{AtMost, event_cmp}
