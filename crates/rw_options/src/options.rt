@@ -2,7 +2,7 @@
 use rw_arguments::{Argument, Given, QUIET, TRACE, TRACE_HELP, Value};
 use rw_import::MAX_TICKS;
 use rw_photo::Config;
-use rw_runs::{BACK, DOWN, EDGES, EVERY, ORIGINS, STREAM, UP, WARM_UP};
+use rw_runs::{BACK, DOWN, EDGES, EVERY, ORIGINS, RECLAIM, STREAM, UP, WARM_UP};
 use rw_sweep::MAX_CONFIGURATIONS;
 use rw_vt::END;
 
@@ -189,7 +189,7 @@ pub(crate) const LOG: [Argument; 15] = [
 ];
 
 /// What a sweep varies, as lists, and what all its runs have in common.
-pub(crate) const GRID: [Argument; 22] = [
+pub(crate) const GRID: [Argument; 23] = [
     Argument {
         name: "trace",
         value: Value::File("TRACE"),
@@ -257,6 +257,7 @@ pub(crate) const GRID: [Argument; 22] = [
     UP,
     DOWN,
     BACK,
+    RECLAIM,
 ];
 
 /// The parts of a sweep.

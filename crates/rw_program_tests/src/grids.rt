@@ -27,6 +27,7 @@ pub fn axes(
         up: 3,
         down: 3,
         back: 10,
+        reclaim: false,
         policies,
         sections,
         blocks,

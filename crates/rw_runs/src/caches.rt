@@ -9,7 +9,7 @@ pub const POLICIES: [&str; 9] = [
 
 /// How many caches there are, what they keep, how large they are, and how long what is sent is on
 /// its way.
-pub const CACHES: [Argument; 10] = [
+pub const CACHES: [Argument; 11] = [
     EDGES,
     ORIGINS,
     Argument {
@@ -45,6 +45,7 @@ pub const CACHES: [Argument; 10] = [
     UP,
     DOWN,
     BACK,
+    RECLAIM,
 ];
 
 /// How many edge caches there are.
@@ -85,4 +86,12 @@ pub const BACK: Argument = Argument {
     value: Value::Ticks(Config::MAX_DELAY as i64),
     given: Given::Or("10"),
     help: "Ticks from an origin to the backend and back, 1 to 1048576",
+};
+
+/// Whether a purge also takes out the sealed block that it leaves without objects.
+pub const RECLAIM: Argument = Argument {
+    name: "reclaim",
+    value: Value::Flag,
+    given: Given::Maybe,
+    help: "Let a purge also free the flash of a block that it leaves without objects",
 };

@@ -15,7 +15,7 @@ mod over_time;
 mod running;
 mod values;
 
-pub use caches::{BACK, CACHES, DOWN, EDGES, ORIGINS, POLICIES, UP};
+pub use caches::{BACK, CACHES, DOWN, EDGES, ORIGINS, POLICIES, RECLAIM, UP};
 pub use over_time::{EVERY, OUTLOOK, STREAM, WARM_UP, outlook};
 pub use running::{SERIAL_ABOUT, serial, serial_alone};
 pub use values::{config, policy};

@@ -9,7 +9,7 @@ pub fn config(options: &ArgMatches<'_>) -> Option<Config> {
     let block = options.get_one("block")?;
     let edge_shape = Shape::new(sections, block, options.get_one("edge-blocks")?)?;
     let origin_shape = Shape::new(sections, block, options.get_one("origin-blocks")?)?;
-    Config::new(
+    let config = Config::new(
         options.get_one("edges")?,
         options.get_one("origins")?,
         policy(options.get_str("policy")?)?,
@@ -18,7 +18,8 @@ pub fn config(options: &ArgMatches<'_>) -> Option<Config> {
         options.get_one("up")?,
         options.get_one("down")?,
         options.get_one("back")?,
-    )
+    )?;
+    Some(config.with_reclaim(options.get_flag("reclaim")))
 }
 
 /// The policy of this name.

@@ -179,6 +179,7 @@ fn axes(alloc: Global, options: &ArgMatches<'_>) -> Result<Axes, Fault>
         up: options.get_one("up").ok_or(CommandFault::Plan)?,
         down: options.get_one("down").ok_or(CommandFault::Plan)?,
         back: options.get_one("back").ok_or(CommandFault::Plan)?,
+        reclaim: options.get_flag("reclaim"),
         policies: listed("policy", policies(alloc, list))?,
         sections: numbers_of(alloc, options, "sections", Shape::MAX_SECTIONS)?,
         blocks: numbers_of(alloc, options, "block", Shape::MAX_BLOCK)?,

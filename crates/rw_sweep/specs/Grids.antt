@@ -50,3 +50,4 @@ pub record IsConfigOf (a : Axes) (x : Choice) (c : Config) : Type 0 where
   pub up : c.up ≡ a.up
   pub down : c.down ≡ a.down
   pub back : c.back ≡ a.back
+  pub reclaim : c.reclaim ≡ a.reclaim

@@ -13,6 +13,8 @@ pub struct Axes {
     pub down: u64,
     /// From an origin to the backend and back, in ticks, 1 to 1048576.
     pub back: u64,
+    /// Whether a purge also takes out the sealed block that it leaves without objects.
+    pub reclaim: bool,
     /// What is stored, and where it goes.
     pub policies: Vec<Policy>,
     /// The sections of each queue, each 1 to 16.

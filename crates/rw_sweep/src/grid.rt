@@ -149,7 +149,7 @@ fn config_of(axes: &Axes, choice: Choice) -> Option<Config>
 {
     let edge_shape = Shape::new(choice.sections, choice.block, choice.edge_blocks)?;
     let origin_shape = Shape::new(choice.sections, choice.block, choice.origin_blocks)?;
-    Config::new(
+    let config = Config::new(
         axes.edges,
         axes.origins,
         choice.policy,
@@ -158,7 +158,8 @@ fn config_of(axes: &Axes, choice: Choice) -> Option<Config>
         axes.up,
         axes.down,
         axes.back,
-    )
+    )?;
+    Some(config.with_reclaim(axes.reclaim))
 }
 
 /// Each choice with its configuration.
