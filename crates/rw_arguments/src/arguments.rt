@@ -30,6 +30,8 @@ pub enum Value {
     Size(i64),
     /// How long something takes: a number of ticks from 1 to this.
     Ticks(i64),
+    /// So many of a hundred: a number from 0 to 100.
+    Percent,
     /// Nothing: that it is named says all.
     Flag,
 }
@@ -86,6 +88,10 @@ impl Argument {
             Value::Ticks(most) => {
                 let parser = value_parser!(u64).range(1..=most);
                 self.option(alloc, "TICKS").value_parser(parser)
+            }
+            Value::Percent => {
+                let parser = value_parser!(u64).range(0..=100);
+                self.option(alloc, "PERCENT").value_parser(parser)
             }
             Value::Flag => Arg::new(alloc, self.name)
                 .long(self.name)

@@ -1,5 +1,5 @@
 -- Where columns stand, and what is known of them.
-use Rattle.std.proofs.Common.{◌≡◌, ◌≢◌, ℕ, Option, Some, None, Result, Ok, Err, refl, sym, ap, ◌∙◌}
+use Rattle.std.proofs.Common.{◌≡◌, ◌≢◌, ℕ, Bool, Option, Some, None, Result, Ok, Err, refl, sym, ap, ◌∙◌}
 use Rattle.std.specs.Prelude.{IfErr, false, is_some}
 use Rattle.std.specs.List.{position}
 use Rattle.std.specs.Option.{ok_or}
@@ -42,6 +42,21 @@ edge-found header l p e none =
     edge_of_result : Result Places ImportFault → Option ℕ
     edge_of_result (Ok q) = q.edge
     edge_of_result (Err f) = None
+
+-- whether times have to be whole is as the layout says
+pub whole-found : (header : Fields) (l : Layout) (p : Places) → places_in header l ≡ Ok p → p.whole_times ≡ l.whole_times
+unfolding places_in
+whole-found header l p e =
+    let (time, _, e1) = bind-ok (place_in header part.Time l.time) _ p e in
+    let (edge, _, e2) = bind-ok (place_if header part.Edge l.edge) _ p e1 in
+    let (object, _, e3) = bind-ok (place_in header part.Object l.object) _ p e2 in
+    let (size, _, e4) = bind-ok (place_in header part.Size l.size) _ p e3 in
+    let (kind, _, e5) = bind-ok (place_if header part.Kind l.kind) _ p e4 in
+    sym (ap whole_of_result e5)
+  where
+    whole_of_result : Result Places ImportFault → Bool
+    whole_of_result (Ok q) = q.whole_times
+    whole_of_result (Err f) = false
 
 kind-asked : (header : Fields) (column : Option Column) (p : Option ℕ) → place_if header part.Kind column ≡ Ok p → column ≡ None → p ≡ None
 kind-asked header None p e none = cc
@@ -103,6 +118,9 @@ of-log (fault.Order n) a b c = tt
 of-log fault.Memory a b c = absurd (a refl)
 of-log fault.Read a b c = absurd (b refl)
 of-log fault.Output a b c = absurd (c refl)
+of-log (fault.OpenQuote n) a b c = tt
+of-log (fault.TooFewKept t) a b c = tt
+of-log (fault.Format f) a b c = tt
 
 -- the edges of a log that names none are those that are asked for
 pub edges-behind : (header : Fields) (l : Layout) (o : Options) (p : Places) (edges : ℕ) → places_in header l ≡ Ok p → edges ≡ edges_of l o → p.edge ≡ None → o.edges ≡ edges

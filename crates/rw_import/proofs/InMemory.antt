@@ -1,11 +1,11 @@
 -- A reader of bytes in memory: what is known of any reader tells all of it.
-use Rattle.std.proofs.Common.{◌≡◌, ◌≢◌, List, Bool, true, false, Option, Some, None, Ok, Err, refl, sym, ap, subst, ◌∙◌}
+use Rattle.std.proofs.Common.{◌≡◌, ◌≢◌, List, Bool, true, false, Option, Some, None, Ok, refl, sym, ap, subst, ◌∙◌}
 use Rattle.std.specs.Prelude.{IfSome}
 use Rattle.csv.specs.Reading.{has_failed}
 use Rattle.rw_trace.specs.Pieces.{MayRead, ReadsEach, records_ahead}
 use Rattle.rw_trace.specs.Unread.{Bytes, Steady, source, unread}
 use Rattle.rw_trace.specs.Words.{Fields, Text}
-use Rattle.rw_import.specs.Csv.{columns_found, rows_under}
+use Rattle.rw_import.specs.Csv.{columns_found, have_their_lines, rows_under}
 use Rattle.rw_import.specs.CsvStream.{FindsColumns}
 use Rattle.rw_import.specs.Streamed.{IsOfLog}
 use Rattle.rw_import.specs.declared.fault.ImportFault.{ImportFault}
@@ -57,28 +57,30 @@ record IsFound (l : Layout) (records : List Fields) (p : Places) (after : Option
   rest : after ≡ Some rows
   places : columns_found l records ≡ Ok p
   under : rows_under l records ≡ rows
+  lines : have_their_lines l.quotes records ≡ have_their_lines l.quotes rows
 
 found : (l : Layout) (records : List Fields) (p : Places) (after : Option (List Fields)) → FindsColumns l (Some records) p after → IsFound l records p after
 found l records p None h = absurd h
-found l records p (Some rows) h = record { rows = rows; rest = refl; places = h.0; under = h.1 }
+found l records p (Some rows) h = record { rows = rows; rest = refl; places = h.0; under = h.1; lines = h.2 }
 
 -- a reader in memory behind the header
 pub record IsBehindHeader (l : Layout) (a b : Bytes) (p : Places) : Type 0 where
   pub steady : Steady b
   pub places : columns_found l (unread a) ≡ Ok p
   pub rows : rows_under l (unread a) ≡ unread b
+  pub lines : have_their_lines l.quotes (unread a) ≡ have_their_lines l.quotes (unread b)
 
 pub behind-header : (l : Layout) (a b : Bytes) (p : Places) → Steady a → MayRead b → FindsColumns l (ahead a) p (ahead b) → IsBehindHeader l a b p
 behind-header l a b p steady may h =
     let f = found l (unread a) p (ahead b) (subst (λ (o : Option (List Fields)). FindsColumns l o p (ahead b)) (steady-known a steady) h) in
     let k = known-steady b f.rows may f.rest in
-    record { steady = k.0; places = f.places; rows = f.under ∙ sym k.1 }
+    record { steady = k.0; places = f.places; rows = f.under ∙ sym k.1; lines = f.lines ∙ ap (λ (rs : List Fields). have_their_lines l.quotes rs) (sym k.1) }
 
 -- a fault that a reader in memory answers is of the log, or of memory
-pub refused-in-memory : (l : Layout) (a : Bytes) (e f : ImportFault) → Steady a → (IsOfLog e → IfSome (ahead a) (λ rs. columns_found l rs ≡ Err e)) → e ≢ fault.Output
-    → (e ≢ fault.Read → f ≡ e) → (e ≡ fault.Read → f ≡ fault.Memory) → f ≢ fault.Memory → columns_found l (unread a) ≡ Err f
-refused-in-memory l a e f steady of written other read some =
+pub refused-in-memory : (P : List Fields → ImportFault → Type 0) (a : Bytes) (e f : ImportFault) → Steady a → (IsOfLog e → IfSome (ahead a) (λ rs. P rs e)) → e ≢ fault.Output → (e ≢ fault.Read → f ≡ e) → (e ≡ fault.Read → f ≡ fault.Memory)
+    → f ≢ fault.Memory → P (unread a) f
+refused-in-memory P a e f steady of written other read some =
     let not_read : e ≢ fault.Read = λ is. some (read is) in
     let same : f ≡ e = other not_read in
     let log : IsOfLog e = of-log e (λ is. some (same ∙ is)) not_read written in
-    subst (λ (o : Option (List Fields)). IfSome o (λ rs. columns_found l rs ≡ Err e)) (steady-known a steady) (of log) ∙ ap (λ (x : ImportFault). Err x) (sym same)
+    subst (λ (x : ImportFault). P (unread a) x) (sym same) (subst (λ (o : Option (List Fields)). IfSome o (λ rs. P rs e)) (steady-known a steady) (of log))

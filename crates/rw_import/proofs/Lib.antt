@@ -1,5 +1,7 @@
 pub mod Collecting
 pub mod Columns
+pub mod OneLine
+pub mod Counting
 pub mod CsvStreams
 pub mod CsvWritten
 pub mod Digits
@@ -10,6 +12,10 @@ pub mod OracleWritten
 pub mod Pieces
 pub mod Reread
 pub mod Sheets
+pub mod SpreadLaws
+pub mod SpreadParts
+pub mod Spreads
 pub mod Streams
 pub mod Texts
+pub mod Whole
 pub mod Written

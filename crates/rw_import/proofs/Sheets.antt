@@ -1,5 +1,5 @@
 -- How what has been collected of a log grows by a row.
-use Rattle.std.proofs.Common.{◌≡◌, ◌≤◌, ◌<◌, ◌+◌, ◌-◌, ◌*◌, ◌%◌, ℕ, zero, suc, List, [], ◌∷◌, ◌++◌, length, map, Bool, true, false, Option, Some, None, Ok, Err, cond, zero-add, refl, arith, ◌∙◌, sym, ap, subst}
+use Rattle.std.proofs.Common.{◌≡◌, ◌≤◌, ◌<◌, ◌+◌, ◌-◌, ◌*◌, ◌%◌, ℕ, zero, suc, List, [], ◌∷◌, ◌++◌, All, length, map, Bool, true, false, Option, Some, None, Ok, Err, cond, zero-add, refl, arith, ◌∙◌, sym, ap, subst}
 use Rattle.std.specs.Prelude.{◌≢◌, count_by, drop, nat_eq, nat_lt}
 use Rattle.byteorder.specs.Endian.{little_number}
 use Rattle.rw_trace.specs.declared.Kind.TheVariants.{Get}
@@ -7,11 +7,13 @@ use Rattle.std.specs.List.{range_with_len}
 use Rattle.std.specs.Result.{is_ok, result_ok}
 use Rattle.std.proofs.lemmas.List.{length_push, map-append}
 use Rattle.std.proofs.lemmas.Simd.{map-map}
-use Rattle.std.proofs.lemmas.List.Elements.{All-push, All-nil, filter_map-append}
+use Rattle.std.proofs.lemmas.List.Elements.{All-push, All-nil, All-weaker, filter_map-append}
 use Rattle.std.proofs.lemmas.List.Sums.{fold_push}
 use Rattle.std.proofs.lemmas.Grind.{common_steps}
 use Rattle.rw_trace.specs.Laws.{IsRow}
-use Rattle.rw_trace.specs.Limits.{most_rows}
+use Rattle.rw_trace.specs.Limits.{latest_time, most_rows}
+use Rattle.rw_import.specs.Spread.{spread_if}
+use Rattle.rw_import.proofs.Whole.{room-told, spread-count, spread-ranges}
 use Rattle.rw_trace.specs.declared.Row.{Row}
 use Rattle.rw_import.specs.declared.entry.LeftOut.{LeftOut}
 use Rattle.rw_import.specs.declared.fault.Flaw.{Flaw}
@@ -26,9 +28,9 @@ use Rattle.rw_import.specs.declared.options.Dealing.{Dealing}
 use Rattle.rw_import.specs.declared.options.Dealing.TheVariants.{ByObject, ByRow}
 use Rattle.rw_import.specs.declared.options.Options.{Options}
 use Rattle.rw_import.specs.declared.sheet.Sheet.{Sheet}
-use Rattle.rw_import.specs.Log.{IsRowsFault, Said, Saying, billion, dealt_edge, edge_for, first_time, in_time, is_cut_off, is_flawed_in, kept_in, left_out_of, mixed, row_for, rows_for}
+use Rattle.rw_import.specs.Log.{IsErrorOfLosses, IsRowsFault, row_counts, clamped_in, Said, Saying, billion, dealt_edge, edge_for, first_time, in_time, is_cut_off, is_flawed_in, kept_in, left_out_of, mixed, room_for, row_for, rows_for}
 use Rattle.rw_import.specs.Oracle.{judged_all, oracle_rows, oracle_said, oracle_told, piece_at, piece_said}
-use Rattle.rw_import.specs.Sheet.{AddsRow, IsEdgeIn, IsKeepable, IsSheetOf, RefusesRow, counts_with, no_counts_yet, numbered_by}
+use Rattle.rw_import.specs.Sheet.{AddsRow, IsEdgeIn, IsKeepable, IsSheetOf, RefusesRow, clamped_with, counts_in, counts_with, no_counts_yet, numbered_by}
 
 -- one more kept row has its row behind the others
 pub rows-push : {O : Type 0} (o : Options) (least : ℕ) (number : O → ℕ) (place : ℕ) (ss : List (Said O)) (s : Said O) (m : ℕ) → place + length ss ≡ m
@@ -56,6 +58,14 @@ left-push xs (Column c part.Kind) = let x = Err (Column c part.Kind) in rw (coun
 -- the counts with one more row kept
 pub left-kept : {O : Type 0} (xs : List (Saying O)) (s : Said O) → left_out_of (xs ++ Ok s ∷ []) ≡ left_out_of xs
 left-kept xs s = rw (count-no is_cut_off xs (Ok s) refl, count-no (is_flawed_in part.Time) xs (Ok s) refl, count-no (is_flawed_in part.Edge) xs (Ok s) refl, count-no (is_flawed_in part.Object) xs (Ok s) refl, count-no (is_flawed_in part.Size) xs (Ok s) refl, count-no (is_flawed_in part.Kind) xs (Ok s) refl) refl
+
+-- one more kept row, clamped or not
+pub clamped-push : {O : Type 0} (kept : List (Said O)) (s : Said O) → clamped_in (kept ++ s ∷ []) ≡ clamped_with (clamped_in kept) s.0.clamped
+clamped-push {O} kept s = by s.0.clamped refl
+  where
+    by : (b : Bool) → s.0.clamped ≡ b → clamped_in (kept ++ s ∷ []) ≡ clamped_with (clamped_in kept) s.0.clamped
+    by true e = count-yes (λ (x : Said O). x.0.clamped) kept s e ∙ ap (λ (b : Bool). clamped_with (clamped_in kept) b) (sym e)
+    by false e = count-no (λ (x : Said O). x.0.clamped) kept s e ∙ ap (λ (b : Bool). clamped_with (clamped_in kept) b) (sym e)
 
 -- an edge that is dealt is one of those there are
 dealt-below : (d : Dealing) (edges place object : ℕ) → 1 ≤ edges → dealt_edge d edges place object < edges
@@ -93,6 +103,7 @@ sheet-more number edges o least done old new (Ok s) k fine h =
       rows = rw kept (h.0 ∙ ap (λ (t : List Row). t ++ row ∷ []) rows ∙ sym pushed);
       count = rw (kept, h.0, length_push, length_push) (ap (λ (n : ℕ). n + 1) count);
       left_out = h.1 ∙ k.left_out ∙ sym (left-kept done s);
+      clamped = rw kept (h.3 ∙ ap (λ (n : ℕ). clamped_with n s.0.clamped) k.clamped ∙ sym (clamped-push (kept_in done) s));
       few = rw (kept, length_push) (omega (arith, h.2));
       strict = λ e. All-push (λ x. is_ok x ≡ true) done (Ok s) (k.strict e) refl;
       ranges = λ some. rw h.0 (All-push (IsRow edges) old.rows.items row (k.ranges some) (row-fine edges o least (length old.rows.items) (s.0, number s.1) some fine));
@@ -104,19 +115,21 @@ sheet-more number edges o least done old new (Err f) k fine h =
       rows = rw (kept, plain) (h.0 ∙ k.rows);
       count = rw (kept, plain, h.0) k.count;
       left_out = h.1 ∙ ap (λ (l : LeftOut). counts_with l f) k.left_out ∙ sym (left-push done f);
+      clamped = rw (kept, plain) (h.3 ∙ k.clamped);
       few = rw (kept, plain) k.few;
       strict = λ e. let both : true ≡ false = sym e ∙ h.2 in cc;
       ranges = λ some. rw h.0 (k.ranges some);
     }
 
 -- nothing yet
-pub sheet-none : {O : Type 0} (number : O → ℕ) (edges : ℕ) (o : Options) (least : ℕ) (sheet : Sheet) → sheet.rows.items ≡ [] → sheet.left_out ≡ no_counts_yet
+pub sheet-none : {O : Type 0} (number : O → ℕ) (edges : ℕ) (o : Options) (least : ℕ) (sheet : Sheet) → sheet.rows.items ≡ [] → sheet.left_out ≡ no_counts_yet → sheet.clamped ≡ 0
     → IsSheetOf number edges o least [] sheet
 unfolding rows_for
-sheet-none number edges o least sheet rows counts = record {
+sheet-none number edges o least sheet rows counts clamped = record {
   rows = rows;
   count = rw rows refl;
   left_out = counts;
+  clamped = clamped;
   few = omega arith;
   strict = λ e. All-nil (λ x. is_ok x ≡ true);
   ranges = λ some. rw rows (All-nil (IsRow edges));
@@ -171,7 +184,7 @@ length-places f a (suc n) = ap (λ (k : ℕ). suc k) (length-places f (a + 1) n)
 
 -- with the least time what becomes of each record is what becomes of the log's
 pub told-all : (o : Options) (bytes : List ℕ) → judged_all o (first_time (oracle_said bytes)) bytes ≡ oracle_told o bytes
-told-all o bytes = sym (map-map (in_time o.ticks (first_time (oracle_said bytes)) 0) (λ n. piece_said (piece_at bytes n)) (range_with_len 0 _))
+told-all o bytes = sym (map-map (in_time o (first_time (oracle_said bytes)) 0) (λ n. piece_said (piece_at bytes n)) (range_with_len 0 _))
 
 -- the same, as a call tells it
 pub row-told : (edges : ℕ) (o : Options) (least row : ℕ) (done after all : List (Saying ℕ)) (old : Sheet) (s : Saying ℕ) (e : ImportFault) → IsSheetOf itself edges o least done old → length done ≡ row
@@ -195,9 +208,15 @@ sheet-whole edges o bytes least sheet h k =
 
 -- its text is a trace of the log's rows
 pub sheet-trace : (o : Options) (bytes text : List ℕ) (sheet : Sheet) → 1 ≤ o.edges → o.edges ≤ 256 → IsSheetOf itself o.edges o (first_time (oracle_said bytes)) (oracle_told o bytes) sheet
-    → WritesTrace most_rows text sheet.rows.items → trace_of o.edges most_rows (records_of text) ≡ Ok (oracle_rows o bytes)
+    → WritesTrace most_rows text (spread_if o sheet.rows.items) → trace_of o.edges most_rows (records_of text) ≡ Ok (oracle_rows o bytes)
 sheet-trace o bytes text sheet some few k w =
-    w o.edges (omega arith) (k.ranges some) (omega (arith, k.count, k.few)) ∙ ap (λ (rs : List Row). Ok rs) k.rows
+    let room : All (λ (r : Row). r.time + room_for o ≤ latest_time) sheet.rows.items =
+    subst (λ (rs : List Row). All (λ (r : Row). r.time + room_for o ≤ latest_time) rs) (sym k.rows) (room-told o (first_time (oracle_said bytes)) 0 (λ n. n) 0 (oracle_said bytes)) in
+    w o.edges (omega arith) (spread-ranges o o.edges sheet.rows.items o.some_ticks (k.ranges some) room) (omega (arith, spread-count o sheet.rows.items, k.count, k.few)) ∙ ap (λ (rs : List Row). Ok (spread_if o rs)) k.rows
+
+-- each row stands at a time of a trace
+pub sheet-times : {O : Type 0} {number : O → ℕ} {edges : ℕ} {o : Options} {least : ℕ} {done : List (Saying O)} {sheet : Sheet} → IsSheetOf number edges o least done sheet → All (λ (r : Row). r.time ≤ latest_time) sheet.rows.items
+sheet-times {edges = edges} {o = o} {sheet = sheet} k = All-weaker (IsRow edges) (λ (r : Row). r.time ≤ latest_time) (λ r h. h.time) sheet.rows.items (k.ranges o.some_edges)
 
 -- each row has the object of its record
 pub rows-objects : (o : Options) (least place : ℕ) (ss : List (Said ℕ)) → map (λ r. r.object) (rows_for o least (λ n. n) place ss) ≡ map (λ s. s.1) ss
@@ -207,9 +226,17 @@ rows-objects o least place (s ∷ ss) = ap (λ (t : List ℕ). s.1 ∷ t) (rows-
 
 -- what a record says of which each number is read
 pub piece-told : (piece : List ℕ) (time size object : ℕ) → 24 ≤ length piece → 1 ≤ size → time ≡ little_number 4 piece → size ≡ little_number 4 (drop 12 piece) → object ≡ little_number 8 (drop 4 piece)
-    → Ok (record { time = time * billion; edge = None; size = size; kind = Get }, object) ≡ piece_said piece
+    → Ok (record { time = time * billion; edge = None; size = size; clamped = false; kind = Get }, object) ≡ piece_said piece
 unfolding piece_said
 piece-told piece time size object long some is_time is_size is_object =
     let enough : nat_lt (length piece) 24 ≡ false = grind (arith, common_steps) in
     let not_none : nat_eq size 0 ≡ false = grind (arith, common_steps) in
     rw (enough, ap (λ (n : ℕ). nat_eq n 0) (sym is_size) ∙ not_none, is_time, is_size, is_object) refl
+
+-- what has come of the rows of a sheet
+pub sheet-counts : {O : Type 0} {number : O → ℕ} {edges : ℕ} {o : Options} {least : ℕ} {done : List (Saying O)} {sheet : Sheet} → IsSheetOf number edges o least done sheet → counts_in sheet ≡ row_counts done
+sheet-counts k i = record { kept = k.count i; clamped = k.clamped i; left_out = k.left_out i }
+
+-- too few rows are kept
+pub rows-lost : {O : Type 0} (o : Options) (said : List (Saying O)) (e : ImportFault) → IsErrorOfLosses o (row_counts said) e → IsRowsFault o said e
+rows-lost o said e (t, is, few) = rw is few

@@ -17,8 +17,8 @@ use Rattle.rw_trace.specs.declared.Row.{Row}
 use Rattle.rw_import.specs.Csv.{beside}
 use Rattle.rw_import.specs.Lines.{row_line, trace_header, trace_lines}
 use Rattle.rw_import.specs.Log.{Said, Saying, fault_at, kept_in, row_for, rows_for, ticks_from}
-use Rattle.rw_import.specs.Sheet.{IsEdgeIn, IsKeepable, counts_with, numbered_by}
-use Rattle.rw_import.specs.Stream.{AddsLine, AreAllRead, IsFresh, IsStreamOf, AreWholeLines, KeepsCounts, KeepsLine, LeavesOut, ReadsUpTo, RefusesLine, SendsAllOrNone, entry_since}
+use Rattle.rw_import.specs.Sheet.{AreCountsOf, IsEdgeIn, IsKeepable, clamped_with, counts_with, numbered_by}
+use Rattle.rw_import.specs.Stream.{AddsLine, AreAllRead, AreLinesCounted, IsFresh, IsStreamOf, AreWholeLines, KeepsCounts, KeepsLine, LeavesOut, ReadsUpTo, RefusesLine, SendsAllOrNone, entry_since}
 use Rattle.rw_import.specs.Streamed.{IsOfLog, IsRefusedBehind, StandInOrder, epoch_of, is_timely, last_log_time, or_said, since, told_since}
 use Rattle.rw_import.specs.Written.{NamesPurges, is_purging}
 use Rattle.rw_import.specs.declared.entry.Entry.{Entry}
@@ -30,7 +30,7 @@ use Rattle.rw_import.specs.declared.fault.ImportFault.{ImportFault}
 use Rattle.rw_import.specs.declared.fault.ImportFault.TheVariants as fault
 use Rattle.rw_import.specs.declared.options.Options.{Options}
 use Rattle.rw_import.specs.declared.stream.Stream.{Stream}
-use Rattle.rw_import.proofs.Sheets.{left-kept, left-push}
+use Rattle.rw_import.proofs.Sheets.{clamped-push, left-kept, left-push}
 
 -- ---- the epoch
 -- an epoch that is known stays
@@ -206,6 +206,7 @@ stream-none {O} edges o s fresh = record {
   kept = fresh.kept;
   latest = fresh.latest;
   left_out = fresh.left_out;
+  clamped = fresh.clamped;
   ranges = λ some. All-nil (IsRow edges);
   named = All-nil (λ (r : Row). is_purging r.kind ≡ true → s.kinds ≡ true);
   whole = record { none = λ _. refl; some = λ begun. let no = fresh.begun in absurd (cc (no, begun)) };
@@ -237,6 +238,7 @@ module _ {O : Type 0} (edges : ℕ) (o : Options) (rows : List Row) (told : List
         kept = rw (kept, length_push) (h.kept ∙ ap (λ (n : ℕ). n + 1) k.kept);
         latest = rw kept (h.latest ∙ sym (last-push 0 (kept_in told) (e, x)));
         left_out = h.left_out ∙ k.left_out ∙ sym (left-kept told (e, x));
+        clamped = rw kept (h.clamped ∙ ap (λ (n : ℕ). clamped_with n e.clamped) k.clamped ∙ sym (clamped-push (kept_in told) (e, x)));
         ranges = λ some. All-push (IsRow edges) rows row (k.ranges some) (fine some);
         whole = whole-stays h.begun h.kinds k.whole;
         named = subst (λ (b : Bool). NamesPurges b (rows ++ row ∷ [])) kinds (All-push (λ (r : Row). is_purging r.kind ≡ true → old.kinds ≡ true) rows row k.named named);
@@ -256,6 +258,7 @@ module _ {O : Type 0} (edges : ℕ) (o : Options) (rows : List Row) (told : List
         kept = rw kept (h.kept ∙ k.kept);
         latest = rw kept (h.latest ∙ k.latest);
         left_out = h.left_out ∙ ap (λ (l : LeftOut). counts_with l f) k.left_out ∙ sym (left-push told f);
+        clamped = rw kept (h.clamped ∙ k.clamped);
         ranges = k.ranges;
         whole = whole-stays h.begun h.kinds k.whole;
         named = subst (λ (b : Bool). NamesPurges b rows) kinds k.named;
@@ -269,6 +272,7 @@ module _ {O : Type 0} (edges : ℕ) (o : Options) (rows : List Row) (told : List
     kept = h.kept ∙ k.kept;
     latest = h.latest ∙ k.latest;
     left_out = h.left_out ∙ k.left_out;
+    clamped = h.clamped ∙ k.clamped;
     ranges = k.ranges;
     whole = whole-stays begun h.kinds k.whole;
     named = subst (λ (b : Bool). NamesPurges b rows) (sym h.kinds) k.named;
@@ -287,6 +291,7 @@ module _ {O : Type 0} (edges : ℕ) (o : Options) (rows : List Row) (told : List
           kept = all.same.kept ∙ k.kept;
           latest = all.same.latest ∙ k.latest;
           left_out = all.same.left_out ∙ k.left_out;
+          clamped = all.same.clamped ∙ k.clamped;
           ranges = k.ranges;
           whole = record {
             none = λ off. let on = all.begun in absurd (cc (on, off));
@@ -310,9 +315,13 @@ pub adds-same : (o : Options) (old new : Stream) (s : Saying ℕ) → AddsLine o
 adds-same o old new (Ok s) h = (h.epoch, h.kinds, h.begun)
 adds-same o old new (Err f) h = (h.epoch, h.kinds, h.begun)
 
-pub sends-same : (before after : Option Text) (old new : Stream) → SendsAllOrNone before after old new → (new.epoch ≡ old.epoch) × (new.kinds ≡ old.kinds) × (new.left_out ≡ old.left_out)
-sends-same before after old new (inl all) = (all.epoch, all.same.kinds, all.same.left_out)
-sends-same before after old new (inr none) = (ap (λ (s : Stream). s.epoch) none.0, ap (λ (s : Stream). s.kinds) none.0, ap (λ (s : Stream). s.left_out) none.0)
+pub sends-same : (before after : Option Text) (old new : Stream) → SendsAllOrNone before after old new → (new.epoch ≡ old.epoch) × (new.kinds ≡ old.kinds)
+sends-same before after old new (inl all) = (all.epoch, all.same.kinds)
+sends-same before after old new (inr none) = (ap (λ (s : Stream). s.epoch) none.0, ap (λ (s : Stream). s.kinds) none.0)
+
+pub sends-counted : (n : ℕ) (before after : Option Text) (old new : Stream) → SendsAllOrNone before after old new → AreLinesCounted n old → AreLinesCounted n new
+sends-counted n before after old new (inl all) h = (subst (λ (l : LeftOut). AreCountsOf n l) (sym all.same.left_out) h.0, subst (λ (m : ℕ). m ≤ n) (sym all.same.clamped) h.1)
+sends-counted n before after old new (inr none) h = subst (λ (s : Stream). AreLinesCounted n s) (sym none.0) h
 
 -- ---- what a row is to have
 edge-in : (edges : ℕ) (o : Options) (place x : Option ℕ) → MatchOption x (place ≡ None) (λ k. k < edges) → (place ≡ None → o.edges ≡ edges) → IsEdgeIn edges o x

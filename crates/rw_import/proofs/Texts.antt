@@ -195,3 +195,17 @@ none-passes p xs d never =
     let at : position_or_len p xs ≡ length xs = position_or_len_is p xs (length xs) d (omega arith) never (λ less. absurd (omega arith)) in
     let past : nat_lt (length xs) (length xs) ≡ false = grind (arith, common_steps) in
     rw (at, past) refl
+
+or-right : (b c : Bool) → c ≡ true → (b || c) ≡ true
+or-right true c h = refl
+or-right false c h = h
+
+-- a test that passes somewhere, or nowhere
+pub any-at : {X : Type 0} (p : X → Bool) (d : X) (xs : List X) (i : ℕ) → i < length xs → p (slice_index_or xs i d) ≡ true → list_any p xs ≡ true
+any-at p d [] i less h = absurd (omega (arith, less))
+any-at p d (x ∷ xs) zero less h = ap (λ (b : Bool). b || list_any p xs) h
+any-at p d (x ∷ xs) (suc i) less h = or-right (p x) (list_any p xs) (any-at p d xs i (omega (arith, less)) h)
+
+pub any-nowhere : {X : Type 0} (p : X → Bool) (d : X) (xs : List X) → ((k : ℕ) → k < length xs → p (slice_index_or xs k d) ≡ false) → list_any p xs ≡ false
+any-nowhere p d [] never = refl
+any-nowhere p d (x ∷ xs) never = ap (λ (b : Bool). b || list_any p xs) (never 0 (omega arith)) ∙ any-nowhere p d xs (λ k less. never (suc k) (omega (arith, less)))

@@ -1,6 +1,6 @@
 -- The lines that a stream has written are a trace of its rows.
-use Rattle.std.proofs.Common.{◌≡◌, ◌≤◌, ◌+◌, ◌-◌, ◌*◌, ◌/◌, ◌∙◌, ℕ, suc, List, [], ◌∷◌, ◌++◌, Bool, Option, Some, None, Result, Ok, Err, length, refl, ap, subst, arith}
-use Rattle.std.specs.Prelude.{◌≢◌, IfErr, IfSome, IsOk, OnOk, codes, true, false}
+use Rattle.std.proofs.Common.{◌≡◌, ◌≤◌, ◌+◌, ◌-◌, ◌*◌, ◌/◌, ◌∙◌, ℕ, suc, List, [], ◌∷◌, ◌++◌, Bool, Option, Some, None, Result, Ok, Err, length, refl, ap, subst, sym, arith, ◌⊎◌, inl, inr}
+use Rattle.std.specs.Prelude.{◌≢◌, IfErr, IfOk, IfSome, IsOk, OnOk, codes, true, false}
 use Rattle.std.specs.Io.KnownBytes.{Appends}
 use Rattle.std.proofs.lemmas.List.{append-nil}
 use Rattle.std.proofs.lemmas.Nat.{mul-le}
@@ -10,12 +10,13 @@ use Rattle.rw_trace.specs.Pieces.{RiseFrom}
 use Rattle.rw_trace.specs.Words.{Text}
 use Rattle.rw_trace.specs.declared.Row.{Row}
 use Rattle.rw_import.specs.Lines.{trace_lines}
-use Rattle.rw_import.specs.Log.{Said, Saying, billion, kept_in, rows_for, ticks_from}
-use Rattle.rw_import.specs.Stream.{HasSentWhole, IsStreamOf, fault_line}
+use Rattle.rw_import.specs.Log.{AreEnough, Said, row_counts, Saying, billion, kept_in, rows_for, ticks_from}
+use Rattle.rw_import.specs.Stream.{AreWholeLines, HasSentWhole, IsStreamOf, counts_so_far, fault_line}
 use Rattle.rw_import.specs.Streamed.{GainsNoTrace, GainsTrace, StandInOrder}
 use Rattle.rw_import.specs.Written.{NamesPurges}
 use Rattle.rw_trace.specs.Trace.{trace_of}
 use Rattle.rw_trace.specs.Unread.{records_of}
+use Rattle.rw_import.specs.declared.entry.Counts.{Counts}
 use Rattle.rw_import.specs.declared.fault.ImportFault.{ImportFault}
 use Rattle.rw_import.specs.declared.fault.ImportFault.TheVariants as fault
 use Rattle.rw_import.specs.declared.options.Options.{Options}
@@ -81,6 +82,16 @@ pub on-ok : {A E P : Type 0} (r : Result A E) → IsOk r → OnOk r P → P
 on-ok (Ok x) is h = h
 on-ok (Err e) is h = absurd (cc is)
 
+-- what has come of a stream's rows
+pub counts-told : {O : Type 0} {edges : ℕ} {o : Options} {rows : List Row} {told : List (Saying O)} {gone : Text} {s : Stream} → IsStreamOf edges o rows told gone s → counts_so_far s ≡ row_counts told
+counts-told k i = record { kept = k.kept i; clamped = k.clamped i; left_out = k.left_out i }
+
+-- enough of them are kept
+pub enough-counted : {A : Type 0} (judged : Result A ImportFault) (result : Result Counts ImportFault) (o : Options) (s : Stream) → (IsOk result → IsOk judged) → OnOk judged (AreEnough o s.kept s.left_out) → IfOk result (λ c. c ≡ counts_so_far s)
+    → IfOk result (λ c. AreEnough o c.kept c.left_out)
+enough-counted judged (Ok c) o s whole has is = subst (λ (x : Counts). AreEnough o x.kept x.left_out) (sym is) (on-ok judged (whole refl) has)
+enough-counted judged (Err e) o s whole has is = tt
+
 -- what has gone out before any fault
 pub sent-before : {A : Type 0} (r : Result A ImportFault) (edges : ℕ) (begun kinds : Bool) (before after : Option Text) → HasSentWhole edges begun kinds before after → IfErr r (λ e. e ≢ fault.Output → HasSentWhole edges begun kinds before after)
 sent-before (Ok x) edges begun kinds before after h = tt
@@ -114,6 +125,18 @@ pub answer-cut-off : {A B : Type 0} (edges : ℕ) (begun kinds : Bool) (before m
 answer-cut-off edges begun kinds before mid after read (Ok x) small handed sent last = tt
 answer-cut-off edges begun kinds before mid after read (Err e) small handed sent last = λ other.
     cut-off-gains edges begun kinds before mid after small (IfErr-at_err _ (handed other) sent other) (last other)
+
+-- what has gone out once the log is read to its end
+pub whole-read : {O : Type 0} (edges : ℕ) (o : Options) (rows : List Row) (told : List (Saying O)) (gone : Text) (old new : Stream) (before mid : Option Text) → Appends before mid gone → IsStreamOf edges o rows told gone new → new.kinds ≡ old.kinds
+    → HasSentWhole edges new.begun old.kinds before mid
+whole-read edges o rows told gone old new before mid gained k kinds = record { gone = gone; gained = gained; whole = subst (λ (b : Bool). AreWholeLines edges new.begun b gone) kinds k.whole }
+
+-- of a log that is read to its end or up to a fault, and then judged
+pub judged-cut-off : {A B H P : Type 0} (Q : ImportFault → Type 0) (read : Result A ImportFault) (judged : Result B ImportFault) → IfErr read (λ e. e ≢ fault.Output → P) → OnOk read H → (H → P)
+    → IfErr judged (λ e. (read ≡ Err e) ⊎ (IsOk read × Q e)) → IfErr judged (λ e. e ≢ fault.Output → P)
+judged-cut-off Q read (Ok x) sent has whole judges = tt
+judged-cut-off Q read (Err e) sent has whole (inl is) = λ other. IfErr-at_err _ is sent other
+judged-cut-off Q read (Err e) sent has whole (inr lost) = λ _. whole (on-ok read lost.0 has)
 
 -- and of a fault before anything has gone out
 pub nothing-before : {A : Type 0} (r : Result A ImportFault) (known : Option Text) → IfErr r (λ e. e ≢ fault.Output → GainsNoTrace known known)

@@ -1,5 +1,5 @@
 -- What the records of a log of fields say, and where its columns stand.
-use Rattle.std.specs.Prelude.{◌≡◌, ◌↔◌, ◌<◌, ◌+◌, ◌*◌, ◌==◌, ◌&&◌, ◌||◌, if◌then◌else◌, ℕ, List, [], ◌∷◌, ◌++◌, Bool, true, false, not, Result, Ok, Err, Option, Some, None, codes, drop, fold, length, map, nat_eq, nat_le, nat_lt, option_map, replicate, slice_index, slice_index_or, take, unwrap_or}
+use Rattle.std.specs.Prelude.{◌≡◌, ◌↔◌, ◌⊎◌, ◌<◌, ◌+◌, ◌*◌, ◌%◌, ◌==◌, ◌&&◌, ◌||◌, if◌then◌else◌, ℕ, List, [], ◌∷◌, ◌++◌, Bool, true, false, not, Result, Ok, Err, Option, Some, None, codes, drop, fold, length, map, min, nat_eq, nat_le, nat_lt, option_map, replicate, slice_index, slice_index_or, take, unwrap_or}
 use Rattle.std.specs.Char.{is_ascii_digit}
 use Rattle.std.specs.Cmp.Lexicographic.{pointwise}
 use Rattle.std.specs.List.{list_all, list_any, position, position_or_len}
@@ -7,6 +7,7 @@ use Rattle.std.specs.Option.{ok_or}
 use Rattle.std.specs.Str.{str_eq_ignore_ascii_case}
 use Rattle.csv.specs.Reading.{default_config, records, strip_bom}
 use Rattle.csv.specs.Records.{field_at}
+use Rattle.csv.specs.declared.parser.Config.{Config}
 use Rattle.rw_numbers.specs.Words.{Count, Object, Position, Size, Time}
 use Rattle.rw_trace.specs.Limits.{greatest_size}
 use Rattle.rw_trace.specs.Trace.{number_of}
@@ -25,8 +26,11 @@ use Rattle.rw_import.specs.declared.layout.Layout.{Layout}
 use Rattle.rw_import.specs.declared.layout.Column.{Column}
 use Rattle.rw_import.specs.declared.layout.Column.TheVariants.{At, Named}
 use Rattle.rw_import.specs.declared.layout.Places.{Places}
+use Rattle.rw_import.specs.declared.layout.Quotes.{Quotes}
+use Rattle.rw_import.specs.declared.layout.Quotes.TheVariants.{OneLine, Plain}
 use Rattle.rw_import.specs.declared.options.Options.{Options}
 use Rattle.rw_import.specs.Limits.{most_log_edges}
+use Rattle.rw_import.specs.Spread.{spread_if}
 use Rattle.rw_import.specs.Log.{Edge, IsRowsFault, LogTime, Saying, billion, first_time, in_time, kept_in, rows_for, told_apart}
 
 infixl 10 ◌>>=◌
@@ -81,6 +85,15 @@ time_at text (Some n) = time_with (number_of (take n text)) (fraction_of (drop (
 unfoldable pub time_of : Text → Option LogTime
 time_of text = time_at text (position (λ b. b == 46) text)
 
+-- whether a time is a whole number of units
+abbrev pub is_whole : LogTime → Bool
+is_whole time = time % billion == 0
+
+-- a time, if there is one, and if it is whole, where it has to be
+abbrev pub whole_time : Bool → Option LogTime → Option LogTime
+whole_time wanted None = None
+whole_time wanted (Some t) = if wanted && not (is_whole t) then None else Some t
+
 -- a number below another, if there is one
 abbrev pub below : ℕ → Option ℕ → Option ℕ
 below most None = None
@@ -93,10 +106,25 @@ edge_in edges fields (Some n) =
     ok_or (option_map (λ e. Some e) (below edges (number_of (field_in fields n))))
     (flaw.Column n part.Edge)
 
--- a size in its range, if there is one
-abbrev pub some_size : Option Size → Option Size
-some_size None = None
-some_size (Some n) = if nat_le 1 n && nat_le n greatest_size then Some n else None
+-- whether there is a number, and it is 0
+abbrev pub is_zero : Option Size → Bool
+is_zero None = false
+is_zero (Some n) = n == 0
+
+-- whether a field names no size: it is empty, `-` or 0
+unfoldable pub is_missing : Text → Bool
+is_missing text =
+    (length text == 0) || is_same_text text (codes "-") || is_zero (number_of text)
+
+-- a size, if it is not 0; one over the greatest is taken as the greatest, and is clamped
+abbrev pub clamped : Option Size → Option (Size × Bool)
+clamped None = None
+clamped (Some n) =
+    if nat_le 1 n then Some (min n greatest_size, nat_lt greatest_size n) else None
+
+-- the size that a field names, or else the one that stands for a missing one, if there is one
+unfoldable pub size_in : Option Size → Text → Option (Size × Bool)
+size_in missing text = clamped (if is_missing text then missing else number_of text)
 
 -- the kind that a text names, in capitals or not
 abbrev pub kind_named : Text → Option Kind
@@ -120,12 +148,13 @@ some_text (b ∷ bs) = Some (b ∷ bs)
 unfoldable pub entry_of : Places → Count → Fields → Result Entry Flaw
 entry_of p edges fields =
     if has_places fields p then (do
-      time ← ok_or (time_of (field_in fields p.time)) (flaw.Column p.time part.Time)
+      time ← ok_or (whole_time p.whole_times (time_of (field_in fields p.time)))
+          (flaw.Column p.time part.Time)
       edge ← edge_in edges fields p.edge
       _ ← ok_or (some_text (field_in fields p.object)) (flaw.Column p.object part.Object)
-      size ← ok_or (some_size (number_of (field_in fields p.size))) (flaw.Column p.size part.Size)
+      size ← ok_or (size_in p.missing_size (field_in fields p.size)) (flaw.Column p.size part.Size)
       kind ← kind_in fields p.kind
-      Ok (record { time = time; edge = edge; size = size; kind = kind }))
+      Ok (record { time = time; edge = edge; size = size.0; clamped = size.1; kind = kind }))
     else Err flaw.Length
 
 -- an entry beside its object
@@ -138,8 +167,8 @@ abbrev pub record_said : Places → Count → Fields → Saying Text
 record_said p edges fields = beside (field_in fields p.object) (entry_of p edges fields)
 
 -- what becomes of a record, where the least time is known
-abbrev pub record_told : Places → Count → Time → LogTime → Fields → Saying Text
-record_told p edges ticks least fields = in_time ticks least p.time (record_said p edges fields)
+abbrev pub record_told : Places → Count → Options → LogTime → Fields → Saying Text
+record_told p edges o least fields = in_time o least p.time (record_said p edges fields)
 
 -- ---- the columns of a log
 
@@ -177,7 +206,15 @@ places_in header l = do
   object ← place_in header part.Object l.object
   size ← place_in header part.Size l.size
   kind ← place_if header part.Kind l.kind
-  Ok (record { time = time; object = object; size = size; edge = edge; kind = kind })
+  Ok (record {
+    time = time;
+    object = object;
+    size = size;
+    missing_size = l.missing_size;
+    whole_times = l.whole_times;
+    edge = edge;
+    kind = kind;
+  })
 
 -- the same, under the first of some records
 abbrev pub places_under : Layout → List Fields → Result Places ImportFault
@@ -194,9 +231,39 @@ rows_under l records = if has_header l then drop 1 records else records
 
 -- ---- a log
 
--- the records of a log: those that the `csv` crate's reader gives, with the log's byte between two fields
+-- whether fields may be quoted
+abbrev pub has_quotes : Quotes → Bool
+has_quotes Plain = false
+has_quotes q = true
+
+-- how the `csv` crate's reader reads a log: with the log's byte between two fields, and quotes or none
+abbrev pub log_config : Layout → Config
+log_config l = record default_config { delimiter = l.delimiter; quoting = has_quotes l.quotes }
+
+-- the records of a log: those that the `csv` crate's reader gives
 abbrev pub log_records : Layout → Text → List Fields
-log_records l bytes = records (record default_config { delimiter = l.delimiter }) (strip_bom bytes)
+log_records l bytes = records (log_config l) (strip_bom bytes)
+
+-- whether a byte ends a line
+abbrev pub is_line_end : ℕ → Bool
+is_line_end b = (b == 10) || (b == 13)
+
+-- whether no field of a record has a line end inside it
+abbrev pub is_on_one_line : Fields → Bool
+is_on_one_line fields = not (list_any (list_any is_line_end) fields)
+
+-- whether a record has line ends in its fields only where it may
+abbrev pub has_its_lines : Quotes → Fields → Bool
+has_its_lines OneLine fields = is_on_one_line fields
+has_its_lines q fields = true
+
+-- the same of all records
+abbrev pub have_their_lines : Quotes → List Fields → Bool
+have_their_lines q records = list_all (has_its_lines q) records
+
+-- a field of these records has a line end inside it, where it may not
+abbrev pub IsOpenQuote : Quotes → List Fields → ImportFault → Type 0
+IsOpenQuote q records e = (n : ℕ) × (e ≡ fault.OpenQuote n) × (have_their_lines q records ≡ false)
 
 -- how many edges there are, so many if none are named: the most where there is a column of edges
 abbrev pub edges_named : Option Column → Count → Count
@@ -224,7 +291,7 @@ time_column (Err e) = 0
 -- what becomes of each row
 abbrev pub csv_told : Layout → Options → Text → List (Saying Text)
 csv_told l o bytes =
-    told_apart o.ticks (time_column (columns_found l (log_records l bytes))) (csv_said l o bytes)
+    told_apart o (time_column (columns_found l (log_records l bytes))) (csv_said l o bytes)
 
 -- ---- the numbers of objects
 
@@ -244,11 +311,15 @@ number_among texts t = position_or_len (is_same_text t) (different texts)
 abbrev pub objects_in : {O : Type 0} → List (Saying O) → List O
 objects_in told = map (λ s. s.1) (kept_in told)
 
--- the trace's rows of a log
-abbrev pub csv_rows : Layout → Options → Text → List Row
-csv_rows l o bytes =
+-- the trace's rows of a log before any is spread
+abbrev pub csv_rows_unspread : Layout → Options → Text → List Row
+csv_rows_unspread l o bytes =
     rows_for o (first_time (csv_said l o bytes)) (number_among (objects_in (csv_told l o bytes))) 0
     (kept_in (csv_told l o bytes))
+
+-- the trace's rows of a log
+abbrev pub csv_rows : Layout → Options → Text → List Row
+csv_rows l o bytes = spread_if o (csv_rows_unspread l o bytes)
 
 -- two rows have one number exactly where their objects are the same text
 abbrev pub HaveOneNumberEach : List Text → List Object → Type 0
@@ -257,8 +328,14 @@ HaveOneNumberEach texts numbers =
     → (slice_index numbers i ≡ slice_index numbers j)
     ↔ (slice_index_or texts i [] ≡ slice_index_or texts j [])
 
--- why a log is refused: its columns are not found, or for its rows
-abbrev pub IsCsvFault : Options → List (Saying Text) → Result Places ImportFault → ImportFault
+-- why a log is refused that has line ends only between records: its columns are not found, or for its rows
+abbrev pub IsTableFault : Options → List (Saying Text) → Result Places ImportFault → ImportFault
     → Type 0
-IsCsvFault o told (Err f) e = e ≡ f
-IsCsvFault o told (Ok p) e = IsRowsFault o told e
+IsTableFault o told (Err f) e = e ≡ f
+IsTableFault o told (Ok p) e = IsRowsFault o told e
+
+-- why a log is refused
+abbrev pub IsCsvFault : Layout → Options → Text → ImportFault → Type 0
+IsCsvFault l o bytes e =
+    IsOpenQuote l.quotes (log_records l bytes) e
+    ⊎ IsTableFault o (csv_told l o bytes) (columns_found l (log_records l bytes)) e

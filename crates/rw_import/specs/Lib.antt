@@ -4,7 +4,9 @@ pub mod Written
 pub mod Log
 pub mod Oracle
 pub mod Csv
+pub mod Spread
 pub mod Streamed
+pub mod Formats
 pub mod OracleRows
 -- what private contracts say
 pub mod Lines

@@ -1,6 +1,6 @@
 -- What a log means, however its rows are written: what each row says, which rows are kept, and what each of these
 -- becomes.
-use Rattle.std.specs.Prelude.{◌≡◌, ◌+◌, ◌-◌, ◌*◌, ◌/◌, ◌%◌, ◌^◌, ◌++◌, ℕ, List, [], ◌∷◌, Bool, true, false, Result, Ok, Err, Option, Some, None, map, fold, min, count_by, bit_xor, length, nat_le, unwrap_or, if◌then◌else◌}
+use Rattle.std.specs.Prelude.{◌≡◌, ◌≤◌, ◌+◌, ◌-◌, ◌*◌, ◌/◌, ◌%◌, ◌^◌, ◌++◌, ℕ, List, [], ◌∷◌, Bool, true, false, Result, Ok, Err, Option, Some, None, map, fold, min, count_by, bit_xor, length, nat_le, unwrap_or, if◌then◌else◌}
 use Rattle.std.specs.List.{AllPass, filter_map}
 use Rattle.std.specs.Result.{is_ok, result_ok}
 use Rattle.rw_numbers.specs.Words.{Count, Object, Position, Time}
@@ -15,8 +15,10 @@ use Rattle.rw_import.specs.declared.fault.Flaw.{Flaw}
 use Rattle.rw_import.specs.declared.fault.Flaw.TheVariants.{Column, Length}
 use Rattle.rw_import.specs.declared.fault.ImportFault.{ImportFault}
 use Rattle.rw_import.specs.declared.fault.ImportFault.TheVariants as fault
+use Rattle.rw_import.specs.declared.fault.Losses.{Losses}
 use Rattle.rw_import.specs.declared.entry.Entry.{Entry}
 use Rattle.rw_import.specs.declared.entry.LeftOut.{LeftOut}
+use Rattle.rw_import.specs.declared.entry.Counts.{Counts}
 
 -- what a row says: an entry, whose time is one of a log, and its object
 abbrev pub Said : Type 0 → Type 0
@@ -52,16 +54,20 @@ first_time said = unwrap_or (fold earlier None said) 0
 abbrev pub ticks_from : Time → LogTime → LogTime → Time
 ticks_from ticks least time = ((time - least) * ticks) / billion
 
+-- how many ticks behind that of its time a row may stand: none, or where rows are spread the rest of its unit
+abbrev pub room_for : Options → Time
+room_for o = if o.spread then o.ticks - 1 else 0
+
 -- a row whose time is past the latest one of a trace is left out, for its time, which stands in this column
-abbrev pub in_time : {O : Type 0} → Time → LogTime → Position → Saying O → Saying O
-in_time ticks least column (Ok s) =
-    if nat_le (ticks_from ticks least s.0.time) latest_time then Ok s
+abbrev pub in_time : {O : Type 0} → Options → LogTime → Position → Saying O → Saying O
+in_time o least column (Ok s) =
+    if nat_le (ticks_from o.ticks least s.0.time + room_for o) latest_time then Ok s
     else Err (Column column part.Time)
-in_time ticks least column (Err f) = Err f
+in_time o least column (Err f) = Err f
 
 -- what becomes of each row: it is kept with what it says, or left out for what is wrong
-abbrev pub told_apart : {O : Type 0} → Time → Position → List (Saying O) → List (Saying O)
-told_apart ticks column said = map (in_time ticks (first_time said) column) said
+abbrev pub told_apart : {O : Type 0} → Options → Position → List (Saying O) → List (Saying O)
+told_apart o column said = map (in_time o (first_time said) column) said
 
 -- the rows that are kept, in order
 abbrev pub kept_in : {O : Type 0} → List (Saying O) → List (Said O)
@@ -98,6 +104,36 @@ left_out_of said = record {
   size = count_by (is_flawed_in part.Size) said;
   kind = count_by (is_flawed_in part.Kind) said;
 }
+
+-- how many rows are left out in all
+abbrev pub all_left_out : LeftOut → Count
+all_left_out l = l.length + l.time + l.edge + l.object + l.size + l.kind
+
+-- how many kept rows have a greater size in the log
+abbrev pub clamped_in : {O : Type 0} → List (Said O) → Count
+clamped_in kept = count_by (λ s. s.0.clamped) kept
+
+-- what has come of the rows of a log
+abbrev pub row_counts : {O : Type 0} → List (Saying O) → Counts
+row_counts said = record {
+  kept = length (kept_in said);
+  clamped = clamped_in (kept_in said);
+  left_out = left_out_of said;
+}
+
+-- enough rows are kept: one or more, and of a hundred no more are left out than the options allow
+pub record AreEnough (o : Options) (kept : Count) (left : LeftOut) : Type 0 where
+  pub some : 1 ≤ kept
+  pub few : 100 * all_left_out left ≤ o.max_left_out * (kept + all_left_out left)
+
+-- too few rows are kept, and this is told of them
+pub record AreTooFew (o : Options) (c : Counts) (t : Losses) : Type 0 where
+  pub few : AreEnough o c.kept c.left_out → ⊥
+  pub counts : t.counts ≡ c
+
+-- what is told where too few are
+abbrev pub IsErrorOfLosses : Options → Counts → ImportFault → Type 0
+IsErrorOfLosses o c e = (t : Losses) × (e ≡ fault.TooFewKept t) × AreTooFew o c t
 
 -- a number's bits mixed, by the finalizer of SplitMix64
 abbrev pub mixed_once : ℕ → ℕ
@@ -180,3 +216,6 @@ IsRowsFault o said fault.Memory = ⊥
 IsRowsFault o said (fault.Order n) = ⊥
 IsRowsFault o said fault.Read = ⊥
 IsRowsFault o said fault.Output = ⊥
+IsRowsFault o said (fault.OpenQuote n) = ⊥
+IsRowsFault o said (fault.TooFewKept t) = AreTooFew o (row_counts said) t
+IsRowsFault o said (fault.Format f) = ⊥

@@ -1,5 +1,5 @@
 -- What is collected of a log, one row after the other.
-use Rattle.std.specs.Prelude.{◌≡◌, ◌≤◌, ◌<◌, ◌+◌, ◌^◌, ◌++◌, ℕ, List, [], ◌∷◌, true, false, Result, Ok, Err, Option, Some, None, All, if◌then◌else◌, length, map, nat_le}
+use Rattle.std.specs.Prelude.{◌≡◌, ◌≤◌, ◌<◌, ◌+◌, ◌^◌, ◌++◌, ℕ, List, [], ◌∷◌, Bool, true, false, Result, Ok, Err, Option, Some, None, All, if◌then◌else◌, length, map, nat_le}
 use Rattle.std.specs.Global.{Vec}
 use Rattle.indexmap.specs.IndexSet.{IndexSet}
 use Rattle.rw_numbers.specs.Words.{Count, Object, Position, Time}
@@ -7,7 +7,7 @@ use Rattle.rw_trace.specs.Laws.{IsRow}
 use Rattle.rw_trace.specs.Limits.{greatest_size, latest_time, most_rows}
 use Rattle.rw_trace.specs.Words.{Text}
 use Rattle.rw_import.specs.Csv.{number_among, objects_in, with_text}
-use Rattle.rw_import.specs.Log.{Edge, IsStrictlyKept, LogTime, Saying, fault_at, kept_in, left_out_of, row_for, rows_for, ticks_from}
+use Rattle.rw_import.specs.Log.{Edge, IsStrictlyKept, clamped_in, LogTime, Saying, fault_at, kept_in, left_out_of, room_for, row_for, rows_for, ticks_from}
 use Rattle.rw_import.specs.declared.options.Options.{Options}
 use Rattle.rw_import.specs.declared.fault.ImportFault.{ImportFault}
 use Rattle.rw_import.specs.declared.fault.ImportFault.TheVariants as fault
@@ -17,6 +17,7 @@ use Rattle.rw_import.specs.declared.fault.Flaw.{Flaw}
 use Rattle.rw_import.specs.declared.fault.Flaw.TheVariants.{Column, Length}
 use Rattle.rw_import.specs.declared.entry.Entry.{Entry}
 use Rattle.rw_import.specs.declared.entry.LeftOut.{LeftOut}
+use Rattle.rw_import.specs.declared.entry.Counts.{Counts}
 
 -- the counts with one more row left out
 abbrev pub counts_with : LeftOut → Flaw → LeftOut
@@ -39,6 +40,20 @@ pub record AreCountsOf (n : Count) (l : LeftOut) : Type 0 where
   pub object : l.object ≤ n
   pub size : l.size ≤ n
   pub kind : l.kind ≤ n
+
+-- each count of a sheet is at most the rows so far
+abbrev pub IsCounted : Count → Sheet → Type 0
+IsCounted n s = AreCountsOf n s.left_out × (s.clamped ≤ n)
+
+-- what has come of the rows of a sheet
+abbrev pub counts_in : Sheet → Counts
+counts_in s =
+    record { kept = length s.rows.items; clamped = s.clamped; left_out = s.left_out }
+
+-- one more kept row, clamped or not
+abbrev pub clamped_with : Count → Bool → Count
+clamped_with n true = n + 1
+clamped_with n false = n
 
 -- an edge that a row names is below the number of edges, and where it names none this is the number that rows are dealt
 -- to
@@ -64,9 +79,10 @@ abbrev pub AddsRow : Options → LogTime → Sheet → Sheet → Saying Object �
 AddsRow o least old new (Ok s) =
     (new.rows.items ≡ old.rows.items ++ row_for o least (length old.rows.items) s.1 s.0 ∷ [])
     × (new.left_out ≡ old.left_out) × (length old.rows.items < most_rows)
+    × (new.clamped ≡ clamped_with old.clamped s.0.clamped)
 AddsRow o least old new (Err f) =
     (new.rows.items ≡ old.rows.items) × (new.left_out ≡ counts_with old.left_out f)
-    × (o.strict ≡ false)
+    × (o.strict ≡ false) × (new.clamped ≡ old.clamped)
 
 -- why one more row is refused
 abbrev pub RefusesRow : Options → Position → Sheet → Saying Object → ImportFault → Type 0
@@ -80,10 +96,10 @@ numbered_by number (Ok s) = Ok (s.0, number s.1)
 numbered_by number (Err f) = Err f
 
 -- what a record says but its object, where its time is within those of a trace
-abbrev pub entry_in_time : Time → LogTime → Position → Result Entry Flaw → Result Entry Flaw
-entry_in_time ticks least column (Err f) = Err f
-entry_in_time ticks least column (Ok entry) =
-    if nat_le (ticks_from ticks least entry.time) latest_time then Ok entry
+abbrev pub entry_in_time : Options → LogTime → Position → Result Entry Flaw → Result Entry Flaw
+entry_in_time o least column (Err f) = Err f
+entry_in_time o least column (Ok entry) =
+    if nat_le (ticks_from o.ticks least entry.time + room_for o) latest_time then Ok entry
     else Err (Column column part.Time)
 
 -- the texts of a set, in its order
@@ -101,6 +117,7 @@ pub record IsSheetOf {O : Type 0} (number : O → Object) (edges : Count) (o : O
   pub rows : sheet.rows.items ≡ rows_for o least number 0 (kept_in done)
   pub count : length sheet.rows.items ≡ length (kept_in done)
   pub left_out : sheet.left_out ≡ left_out_of done
+  pub clamped : sheet.clamped ≡ clamped_in (kept_in done)
   pub few : length (kept_in done) ≤ most_rows
   pub strict : IsStrictlyKept o done
   pub ranges : 1 ≤ o.edges → All (IsRow edges) sheet.rows.items

@@ -6,11 +6,12 @@ use Rattle.rw_trace.specs.Laws.{IsRow}
 use Rattle.rw_trace.specs.Limits.{most_streamed_rows}
 use Rattle.rw_trace.specs.Words.{Text}
 use Rattle.rw_import.specs.Lines.{row_line, trace_header, trace_lines}
-use Rattle.rw_import.specs.Log.{LogTime, Saying, fault_at, kept_in, left_out_of, row_for}
+use Rattle.rw_import.specs.Log.{LogTime, Saying, clamped_in, fault_at, kept_in, left_out_of, row_for}
 use Rattle.rw_trace.specs.declared.Row.{Row}
-use Rattle.rw_import.specs.Sheet.{counts_with, no_counts_yet}
+use Rattle.rw_import.specs.Sheet.{AreCountsOf, clamped_with, counts_with, no_counts_yet}
 use Rattle.rw_import.specs.Written.{NamesPurges}
 use Rattle.rw_import.specs.Streamed.{AreTaken, is_timely, last_log_time}
+use Rattle.rw_import.specs.declared.entry.Counts.{Counts}
 use Rattle.rw_import.specs.declared.entry.Entry.{Entry}
 use Rattle.rw_import.specs.declared.fault.Flaw.{Flaw}
 use Rattle.rw_import.specs.declared.fault.Flaw.TheVariants.{Column}
@@ -19,6 +20,14 @@ use Rattle.rw_import.specs.declared.fault.ImportFault.TheVariants as fault
 use Rattle.rw_import.specs.declared.fault.Part.TheVariants as part
 use Rattle.rw_import.specs.declared.options.Options.{Options}
 use Rattle.rw_import.specs.declared.stream.Stream.{Stream}
+
+-- what has come of the rows of a stream
+abbrev pub counts_so_far : Stream → Counts
+counts_so_far s = record { kept = s.kept; clamped = s.clamped; left_out = s.left_out }
+
+-- each count of a stream is at most the rows so far
+abbrev pub AreLinesCounted : Count → Stream → Type 0
+AreLinesCounted n s = AreCountsOf n s.left_out × (s.clamped ≤ n)
 
 -- what a record says but its object, where its time is one of the trace
 abbrev pub entry_since : Time → LogTime → Position → Result Entry Flaw → Result Entry Flaw
@@ -38,6 +47,7 @@ pub record KeepsLine (o : Options) (old new : Stream) (entry : Entry)
   pub kept : new.kept ≡ old.kept + 1
   pub latest : new.latest ≡ entry.time
   pub left_out : new.left_out ≡ old.left_out
+  pub clamped : new.clamped ≡ clamped_with old.clamped entry.clamped
   pub kinds : new.kinds ≡ old.kinds
   pub begun : new.begun ≡ old.begun
   pub epoch : new.epoch ≡ old.epoch
@@ -50,6 +60,7 @@ pub record LeavesOut (o : Options) (old new : Stream) (flaw : Flaw) : Type 0 whe
   pub kept : new.kept ≡ old.kept
   pub latest : new.latest ≡ old.latest
   pub left_out : new.left_out ≡ counts_with old.left_out flaw
+  pub clamped : new.clamped ≡ old.clamped
   pub kinds : new.kinds ≡ old.kinds
   pub begun : new.begun ≡ old.begun
   pub epoch : new.epoch ≡ old.epoch
@@ -71,6 +82,7 @@ pub record KeepsCounts (old new : Stream) : Type 0 where
   pub kept : new.kept ≡ old.kept
   pub latest : new.latest ≡ old.latest
   pub left_out : new.left_out ≡ old.left_out
+  pub clamped : new.clamped ≡ old.clamped
   pub kinds : new.kinds ≡ old.kinds
 
 -- all lines that wait go out
@@ -113,6 +125,7 @@ pub record IsStreamOf {O : Type 0} (edges : Count) (o : Options) (rows : List Ro
   pub kept : s.kept ≡ length (kept_in told)
   pub latest : s.latest ≡ last_log_time 0 (kept_in told)
   pub left_out : s.left_out ≡ left_out_of told
+  pub clamped : s.clamped ≡ clamped_in (kept_in told)
   pub ranges : 1 ≤ o.edges → All (IsRow edges) rows
   pub named : NamesPurges s.kinds rows
   pub whole : AreWholeLines edges s.begun s.kinds gone
@@ -124,6 +137,7 @@ pub record IsFresh (s : Stream) : Type 0 where
   pub latest : s.latest ≡ 0
   pub kept : s.kept ≡ 0
   pub left_out : s.left_out ≡ no_counts_yet
+  pub clamped : s.clamped ≡ 0
 
 -- the records that are read before some that are still to come, where these are known
 abbrev pub ReadsUpTo : {A : Type 0} → Option (List A) → List A → Option (List A) → Type 0

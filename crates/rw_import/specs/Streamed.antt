@@ -9,8 +9,8 @@ use Rattle.rw_trace.specs.Trace.{trace_of}
 use Rattle.rw_trace.specs.Unread.{records_of}
 use Rattle.rw_trace.specs.Words.{Text}
 use Rattle.rw_trace.specs.declared.Row.{Row}
-use Rattle.rw_import.specs.Csv.{columns_found, csv_said, log_records, number_among, objects_in, time_column}
-use Rattle.rw_import.specs.Log.{IsStrictlyKept, LogTime, Said, Saying, fault_at, kept_in, rows_for, ticks_from}
+use Rattle.rw_import.specs.Csv.{IsOpenQuote, columns_found, csv_said, log_records, number_among, objects_in, time_column}
+use Rattle.rw_import.specs.Log.{IsErrorOfLosses, IsStrictlyKept, row_counts, LogTime, Said, Saying, fault_at, kept_in, rows_for, ticks_from}
 use Rattle.rw_import.specs.Oracle.{oracle_said}
 use Rattle.rw_import.specs.Written.{BeginsWithHeader}
 use Rattle.rw_import.specs.declared.fault.Flaw.TheVariants.{Column}
@@ -102,11 +102,25 @@ csv_rows_since l s bytes =
 abbrev pub names_kinds : Layout → Bool
 names_kinds l = is_some l.kind
 
--- why it is refused: its columns are not found, or for a row
-abbrev pub IsCsvRefusal : Options → List (Saying Text) → Result Places ImportFault → ImportFault
+-- too few of its rows are kept
+abbrev pub IsTooFewKept : {O : Type 0} → Options → List (Saying O) → ImportFault → Type 0
+IsTooFewKept o told e = IsErrorOfLosses o (row_counts told) e
+
+-- why a log is refused for its rows
+abbrev pub IsStreamRefusal : {O : Type 0} → Options → List (Saying O) → ImportFault → Type 0
+IsStreamRefusal o told e = IsFirstRefused o told e ⊎ IsTooFewKept o told e
+
+-- why one is refused that has line ends only between records: its columns are not found, or for its rows
+abbrev pub IsTableRefusal : Options → List (Saying Text) → Result Places ImportFault → ImportFault
     → Type 0
-IsCsvRefusal o told (Err f) e = e ≡ f
-IsCsvRefusal o told (Ok p) e = IsFirstRefused o told e
+IsTableRefusal o told (Err f) e = e ≡ f
+IsTableRefusal o told (Ok p) e = IsStreamRefusal o told e
+
+-- why a log of fields is refused
+abbrev pub IsCsvRefusal : Layout → Streaming → Text → ImportFault → Type 0
+IsCsvRefusal l s bytes e =
+    IsOpenQuote l.quotes (log_records l bytes) e
+    ⊎ IsTableRefusal s.options (csv_told_since l s bytes) (columns_found l (log_records l bytes)) e
 
 -- what becomes of each record of the oracle-general format
 abbrev pub oracle_told_since : Streaming → Text → List (Saying ℕ)

@@ -1,6 +1,6 @@
 //! Logs of fields: CSV, with any byte between the fields.
 
-ghost use Rattle.std.specs.Prelude.{◌≡◌, ◌≢◌, ◌⊎◌, ◌+◌, ◌<◌, ◌^◌, ◌==◌, [], Ok, Err, None, IfOk, IfErr, IfSome, MatchBool, OnOk, map, length, option_map};
+ghost use Rattle.std.specs.Prelude.{◌≡◌, ◌≢◌, ◌⊎◌, ◌+◌, ◌<◌, ◌^◌, ◌==◌, ℕ, [], false, true, Ok, Err, None, IfOk, IfErr, IfSome, MatchBool, OnOk, map, length, option_map};
 ghost use Rattle.std.specs.List.{position, position_or_len};
 ghost use Rattle.csv.specs.Records.{fields_of};
 ghost use Rattle.rw_numbers.specs.Words.{Object};
@@ -9,22 +9,25 @@ ghost use Rattle.rw_trace.specs.Trace.{trace_of};
 ghost use Rattle.rw_trace.specs.Pieces.{Gives, GivesNone, MayRead, records_ahead};
 ghost use Rattle.rw_trace.specs.Unread.{Steady, records_of, unread};
 ghost use Rattle.rw_trace.specs.Words.{Fields, Text};
-ghost use Rattle.rw_import.specs.Csv.{HaveOneNumberEach, IsCsvFault, beside, columns_found, csv_rows, csv_said, csv_told, edges_of, entry_of, has_header, is_named, is_named_if, is_same_text, log_records, objects_in, place_if, place_in, places_in, record_said, record_told, rows_under, with_text};
-ghost use Rattle.rw_import.specs.CsvStream.{FindsColumns};
+ghost use Rattle.rw_import.specs.Csv.{HaveOneNumberEach, IsCsvFault, beside, has_quotes, have_their_lines, columns_found, csv_rows, csv_rows_unspread, csv_said, csv_told, edges_of, entry_of, has_header, is_named, is_named_if, is_same_text, log_records, objects_in, place_if, place_in, places_in, record_said, record_told, rows_under, with_text};
+ghost use Rattle.rw_import.specs.CsvStream.{FindsColumns, IsColumnsFault};
 ghost use Rattle.rw_import.specs.Streamed.{IsOfLog};
-ghost use Rattle.rw_import.specs.Log.{IsRowsFault, IsStrictlyKept, earlier, first_time, kept_in, left_out_of};
-ghost use Rattle.rw_import.specs.Sheet.{AddsRow, AreCountsOf, IsKeepable, IsTextSheet, IsTimely, RefusesRow, entry_in_time, texts_in, with_kept};
+ghost use Rattle.rw_import.specs.Log.{AreEnough, IsRowsFault, clamped_in, IsStrictlyKept, earlier, first_time, kept_in, left_out_of};
+ghost use Rattle.rw_import.specs.Spread.{AreWhole, SpreadsRows};
+ghost use Rattle.rw_import.specs.Sheet.{AddsRow, IsCounted, IsKeepable, IsTextSheet, IsTimely, RefusesRow, entry_in_time, texts_in, with_kept};
 ghost use Rattle.rw_import.specs.Written.{BeginsWithHeader, has_purge};
+ghost use Rattle.rw_import.specs.declared.layout.Places.{Places};
+ghost use Rattle.rw_import.specs.declared.fault.ImportFault.TheVariants as fault;
 ghost use Rattle.rw_import.specs.declared.fault.ImportFault.TheVariants.{Memory, Output};
 
-use crate::csv_row::{field_of, read_fields};
+use crate::csv_row::{field_of, has_its_lines, read_fields};
 use crate::entry::{Entry, Imported};
 use crate::fault::{Flaw, ImportFault, Part};
-use crate::layout::{Column, Layout, Places};
+use crate::layout::{Column, Layout, Places, Quotes};
 use crate::options::{MAX_EDGES, Options};
 use crate::oracle::finish;
 use crate::reading::{Reading, begin};
-use crate::sheet::{Sheet, add, blank_sheet, ticks_since};
+use crate::sheet::{Sheet, add, blank_sheet, check_losses, counts_of, last_tick};
 use csv::{ByteRecord, Reader, ReaderBuilder};
 use indexmap::IndexSet;
 use rw_progress::Progress;
@@ -111,11 +114,23 @@ fn places_of(header: &ByteRecord, layout: &Layout) -> Result<Places, ImportFault
     let kind = place_if(header, &layout.kind, Part::Kind)?;
     Ok(Places {
         time,
+        whole_times: layout.whole_times,
         object,
         size,
+        missing_size: layout.missing_size,
         edge,
         kind,
     })
+}
+
+/// Whether fields may be quoted.
+fn has_quotes(quotes: Quotes) -> bool
+    ensures { result ≡ has_quotes quotes }
+{
+    match quotes {
+        Quotes::Plain => false,
+        Quotes::OneLine | Quotes::Multiline => true,
+    }
 }
 
 /// A reader of the records of a log.
@@ -128,6 +143,7 @@ pub fn open<R: Read>(alloc: Global, bytes: R, layout: &Layout) -> Reader<R>
         .has_headers(false)
         .flexible(true)
         .delimiter(layout.delimiter)
+        .quoting(has_quotes(layout.quotes))
         .from_reader(alloc, bytes)
 }
 
@@ -167,12 +183,15 @@ pub fn start<R: Read>(
         (header : Fields) × (places_in header layout.now ≡ Ok p)) }
     ensures fault { IfErr result (λ e. IsOfLog e
         → IfSome (records_ahead R.remaining reader.old) (λ records.
-        columns_found layout.now records ≡ Err e)) }
+        IsColumnsFault layout.now records e)) }
     ensures output { IfErr result (λ e. e ≢ Output) }
 {
     if has_header(layout) {
         if !next_fields(reader, fields)? {
             return Err(ImportFault::Header);
+        }
+        if !has_its_lines(fields, layout.quotes) {
+            return Err(ImportFault::OpenQuote(1));
         }
     }
     places_of(fields, layout)
@@ -189,8 +208,10 @@ fn start_in_memory(
     ensures steady { OnOk result (Steady reader.new) }
     ensures places { IfOk result (λ p. columns_found layout.now (unread reader.old) ≡ Ok p) }
     ensures rows { OnOk result (rows_under layout.now (unread reader.old) ≡ unread reader.new) }
+    ensures lines { OnOk result (have_their_lines layout.now.quotes (unread reader.old)
+        ≡ have_their_lines layout.now.quotes (unread reader.new)) }
     ensures fault { IfErr result (λ e.
-        e ≢ Memory → columns_found layout.now (unread reader.old) ≡ Err e) }
+        e ≢ Memory → IsColumnsFault layout.now (unread reader.old) e) }
 {
     match start(reader, fields, layout) {
         Ok(places) => Ok(places),
@@ -220,31 +241,38 @@ fn lesser(least: Option<u128>, said: Result<Entry, Flaw>) -> Option<u128>
     }
 }
 
-/// The least time that the records left say, or 0 where none says one.
+/// The least time that the records left say, or 0 where none says one. Their line ends stand only where they may.
 fn least_left<P: Progress>(
     reader: &mut Reader<&[u8]>,
     fields: &mut ByteRecord,
     places: Places,
     edges: u32,
+    quotes: Quotes,
     reading: &mut Reading<'_, P>,
 ) -> Result<u128, ImportFault>
     requires { Steady reader.old }
     ensures least { IfOk result (λ t.
         t ≡ first_time (map (record_said places edges) (unread reader.old))) }
-    ensures refused { IfErr result (λ e. e ≡ Memory) }
+    ensures lines { OnOk result (have_their_lines quotes (unread reader.old) ≡ true) }
+    ensures refused { IfErr result (λ e. (e ≡ Memory)
+        ⊎ ((n : ℕ) × (e ≡ fault.OpenQuote n)
+        × (have_their_lines quotes (unread reader.old) ≡ false))) }
 {
     let mut least = None;
     for row in 0..u64::MAX {
-        reading.come_to(row, reader.position().byte());
+        reading.come_to_record(row, reader.position());
         if !next_record(reader, fields)? {
             return Ok(least.unwrap_or(0));
+        }
+        if !has_its_lines(fields, quotes) {
+            return Err(reading.open_quote());
         }
         least = lesser(least, read_fields(fields, places, edges));
     }
     Err(ImportFault::Memory)
 }
 
-/// The least time that a log's rows say, or 0 where none says one.
+/// The least time that a log's rows say, or 0 where none says one. The log's line ends stand only where they may.
 fn first_of<P: Progress>(
     alloc: Global,
     bytes: &[u8],
@@ -255,14 +283,24 @@ fn first_of<P: Progress>(
 ) -> Result<u128, ImportFault>
     requires { edges ≡ edges_of layout.now options }
     ensures least { IfOk result (λ t. t ≡ first_time (csv_said layout.now options bytes.now)) }
+    ensures lines { OnOk result
+        (have_their_lines layout.now.quotes (log_records layout.now bytes.now) ≡ true) }
     ensures fault { IfErr result (λ e.
-        e ≢ Memory → columns_found layout.now (log_records layout.now bytes.now) ≡ Err e) }
+        e ≢ Memory → IsColumnsFault layout.now (log_records layout.now bytes.now) e) }
 {
     let mut reader = open(alloc, bytes, layout);
     let mut fields = ByteRecord::new(alloc);
     let places = start_in_memory(&mut reader, &mut fields, layout)?;
-    let mut reading = Reading::new(progress, 0);
-    least_left(&mut reader, &mut fields, places, edges, &mut reading)
+    let mut reading = Reading::new(progress, bytes, 0);
+    let quotes = layout.quotes;
+    least_left(
+        &mut reader,
+        &mut fields,
+        places,
+        edges,
+        quotes,
+        &mut reading,
+    )
 }
 
 /// The text of a field.
@@ -326,13 +364,13 @@ struct Terms {
 fn judge(fields: &ByteRecord, terms: Terms) -> Result<Entry, Flaw>
     requires { terms.places.edge ≡ None → terms.options.edges ≡ terms.edges }
     ensures judged { result
-        ≡ entry_in_time terms.options.ticks terms.least terms.places.time
+        ≡ entry_in_time terms.options terms.least terms.places.time
         (entry_of terms.places terms.edges (fields_of fields.now)) }
     ensures keepable { (n : Object) → n < 2 ^ 64
         → IsKeepable terms.edges terms.options terms.least (beside n result) }
 {
     let entry = read_fields(fields, terms.places, terms.edges)?;
-    if ticks_since(terms.options, terms.least, entry.time) > u128::from(MAX_TIME) {
+    if last_tick(terms.options, terms.least, entry.time) > u128::from(MAX_TIME) {
         return Err(Flaw::Column(terms.places.time, Part::Time));
     }
     Ok(entry)
@@ -351,7 +389,7 @@ fn add_named(
 ) -> Result<(), ImportFault>
     requires timely { (n : Object) → n < 2 ^ 64
         → IsTimely terms.options terms.least (beside n said) }
-    requires within { AreCountsOf row sheet.old.left_out }
+    requires within { IsCounted row sheet.old }
     requires few { row + 1 < 2 ^ 64 }
     ensures texts { OnOk result
         (texts_in texts.new ≡ with_kept (texts_in texts.old) text.now said) }
@@ -360,7 +398,7 @@ fn add_named(
         (λ s. s.1 < 2 ^ 64)) }
     ensures adds { OnOk result (AddsRow terms.options terms.least sheet.old sheet.new
         (beside (position_or_len (is_same_text text.now) (texts_in texts.old)) said)) }
-    ensures after { OnOk result (AreCountsOf (row + 1) sheet.new.left_out) }
+    ensures after { OnOk result (IsCounted (row + 1) sheet.new) }
     ensures refuses { IfErr result (λ e. e ≢ Memory → RefusesRow terms.options row sheet.old
         (beside (position_or_len (is_same_text text.now) (texts_in texts.old)) said) e) }
 {
@@ -382,19 +420,26 @@ fn rows_left<P: Progress>(
     requires none { texts_in texts.old ≡ [] }
     requires edges { terms.places.edge ≡ None → terms.options.edges ≡ terms.edges }
     ensures sheet { IfOk result (λ s. IsTextSheet terms.edges terms.options terms.least
-        (map (record_told terms.places terms.edges terms.options.ticks terms.least)
+        (map (record_told terms.places terms.edges terms.options terms.least)
         (unread reader.old)) s) }
     ensures fault { IfErr result (λ e. e ≢ Memory → IsRowsFault terms.options
-        (map (record_told terms.places terms.edges terms.options.ticks terms.least)
+        (map (record_told terms.places terms.edges terms.options terms.least)
         (unread reader.old)) e) }
 {
     let mut sheet = blank_sheet(alloc);
     for row in 0..u64::MAX {
-        reading.come_to(row, reader.position().byte());
+        reading.come_to_record(row, reader.position());
         if !next_record(reader, fields)? {
             return Ok(sheet);
         }
         let judged = judge(fields, terms);
+        reading.leave_out_record(
+            fields,
+            terms.places,
+            terms.options,
+            terms.least,
+            judged.err(),
+        );
         let text = field_of(fields, terms.places.object);
         add_named(alloc, texts, &mut sheet, terms, row, text, judged)?;
     }
@@ -409,15 +454,16 @@ fn collect<P: Progress>(
     options: Options,
     edges: u32,
     least: u128,
-    progress: &mut P,
+    reading: &mut Reading<'_, P>,
 ) -> Result<Sheet, ImportFault>
     requires edges { edges ≡ edges_of layout.now options }
     requires least { least ≡ first_time (csv_said layout.now options bytes.now) }
     ensures sheet { IfOk result (λ s.
         IsTextSheet edges options least (csv_told layout.now options bytes.now) s) }
-    ensures fault { IfErr result (λ e. e ≢ Memory → IsCsvFault options
-        (csv_told layout.now options bytes.now)
-        (columns_found layout.now (log_records layout.now bytes.now)) e) }
+    ensures found { IfOk result (λ _. (p : Places)
+        × (columns_found layout.now (log_records layout.now bytes.now) ≡ Ok p)) }
+    ensures fault { IfErr result (λ e.
+        e ≢ Memory → IsCsvFault layout.now options bytes.now e) }
 {
     let mut reader = open(alloc, bytes, layout);
     let mut fields = ByteRecord::new(alloc);
@@ -429,15 +475,7 @@ fn collect<P: Progress>(
         least,
     };
     let mut texts = IndexSet::new(alloc);
-    let mut reading = Reading::new(progress, bytes.len());
-    rows_left(
-        alloc,
-        &mut reader,
-        &mut fields,
-        &mut texts,
-        terms,
-        &mut reading,
-    )
+    rows_left(alloc, &mut reader, &mut fields, &mut texts, terms, reading)
 }
 
 /// How many edges the trace of a log is for.
@@ -453,14 +491,17 @@ pub fn edges_of(layout: &Layout, options: &Options) -> u32
 /// The trace of a log of fields, as the `csv` crate parts them, with the layout's byte between two. If a column is given
 /// by its name, the first record is the header and no row. The trace is one for 256 edges where the log has a column
 /// of edges, else for as many as the options have. Objects are numbered from 0 in the order in which their texts first
-/// come among the rows that are kept. The log is read twice, and each different object's text is held. How many bytes are read,
-/// of twice the log's, is told to `progress`.
+/// come among the rows that are kept. Where the options ask for that, rows of one time are spread within its unit; the layout asks for
+/// whole times then. The log is read twice, and each different object's text is held. How many bytes are read,
+/// of twice the log's, is reported to `progress`.
 ///
 /// # Errors
 ///
 /// `Header` where there is no header, `NoColumn` where it lacks a column, the first of time, edge, object, size and kind;
-/// strict, the first row that would be left out; one kept row too many for a trace, where no such row comes before it;
-/// `Memory` where a request for memory was refused: nothing is said of the log then.
+/// `OpenQuote` for the first record with a line end in a field, where the layout allows none; strict, the first row that would be
+/// left out; one kept row too many for a trace, where no such row comes before it; `TooFewKept` where no row is kept, or more are left
+/// out than the options allow; `Memory` where a request for memory was refused: nothing is known of the log then. Which line
+/// `OpenQuote` names, and what `TooFewKept` tells of the first row left out, no clause says.
 pub fn import_csv<P: Progress>(
     alloc: Global,
     bytes: &[u8],
@@ -474,20 +515,31 @@ pub fn import_csv<P: Progress>(
         BeginsWithHeader (has_purge (csv_rows layout.now options.now bytes.now)) i.text.items) }
     ensures objects { HaveOneNumberEach
         (objects_in (csv_told layout.now options.now bytes.now))
-        (map (λ r. r.object) (csv_rows layout.now options.now bytes.now)) }
+        (map (λ r. r.object) (csv_rows_unspread layout.now options.now bytes.now)) }
+    ensures spread { options.now.spread ≡ true → SpreadsRows options.now.ticks
+        (csv_rows_unspread layout.now options.now bytes.now)
+        (csv_rows layout.now options.now bytes.now) }
+    ensures whole { layout.now.whole_times ≡ true → AreWhole options.now.ticks
+        (csv_rows_unspread layout.now options.now bytes.now) }
     ensures kept { IfOk result (λ i.
         i.kept ≡ length (kept_in (csv_told layout.now options.now bytes.now))) }
+    ensures clamped { IfOk result (λ i.
+        i.clamped ≡ clamped_in (kept_in (csv_told layout.now options.now bytes.now))) }
     ensures left_out { IfOk result (λ i.
         i.left_out ≡ left_out_of (csv_told layout.now options.now bytes.now)) }
     ensures strict { IfOk result (λ i.
         IsStrictlyKept options.now (csv_told layout.now options.now bytes.now)) }
-    ensures fault { IfErr result (λ e. e ≢ Memory → IsCsvFault options.now
-        (csv_told layout.now options.now bytes.now)
-        (columns_found layout.now (log_records layout.now bytes.now)) e) }
+    ensures lines { OnOk result
+        (have_their_lines layout.now.quotes (log_records layout.now bytes.now) ≡ true) }
+    ensures enough { IfOk result (λ i. AreEnough options.now i.kept i.left_out) }
+    ensures fault { IfErr result (λ e.
+        e ≢ Memory → IsCsvFault layout.now options.now bytes.now e) }
 {
     let edges = edges_of(layout, options);
     begin(progress, bytes.len());
     let least = first_of(alloc, bytes, layout, *options, edges, progress)?;
-    let sheet = collect(alloc, bytes, layout, *options, edges, least, progress)?;
-    finish(alloc, sheet)
+    let mut reading = Reading::new(progress, bytes, bytes.len());
+    let sheet = collect(alloc, bytes, layout, *options, edges, least, &mut reading)?;
+    check_losses(*options, counts_of(&sheet), reading.first_left_out())?;
+    finish(alloc, sheet, *options)
 }

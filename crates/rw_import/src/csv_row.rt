@@ -2,20 +2,20 @@
 
 ghost use Rattle.std.specs.Prelude.{◌≡◌, ◌==◌, ◌≤◌, ◌<◌, ◌^◌, ◌++◌, Ok, Err, None, IfOk, IfSome, MatchOption, replicate, take};
 ghost use Rattle.std.specs.Char.{is_ascii_digit};
-ghost use Rattle.std.specs.List.{list_all, position};
+ghost use Rattle.std.specs.List.{list_all, list_any, position};
 ghost use Rattle.csv.specs.Records.{fields_of};
 ghost use Rattle.rw_trace.specs.Limits.{greatest_size};
 ghost use Rattle.rw_trace.specs.Trace.{number_of};
-ghost use Rattle.rw_import.specs.Csv.{edge_in, entry_of, field_in, fraction_of, has_place, has_place_if, has_places, kind_in, kind_named, some_size, time_of, time_with};
+ghost use Rattle.rw_import.specs.Csv.{clamped, edge_in, entry_of, field_in, fraction_of, has_its_lines, has_place, has_place_if, has_places, is_line_end, is_missing, is_on_one_line, is_zero, kind_in, kind_named, size_in, time_of, time_with, whole_time};
 
 use crate::entry::Entry;
 use crate::fault::{Flaw, Part};
-use crate::layout::Places;
+use crate::layout::{Places, Quotes};
 use csv::ByteRecord;
 use rw_trace::{Kind, MAX_SIZE, number};
 
 /// Billionths of a unit of time.
-const UNIT: u128 = 1_000_000_000;
+pub const UNIT: u128 = 1_000_000_000;
 
 /// How many digits behind a point count.
 const DECIMALS: usize = 9;
@@ -89,6 +89,19 @@ pub fn time_of(text: &[u8]) -> Option<u128>
     }
 }
 
+/// A time, if there is one, and if it is a whole number of units, where it has to be.
+fn whole_time(wanted: bool, time: Option<u128>) -> Option<u128>
+    requires { IfSome time (λ t. t < 10 ^ 29) }
+    ensures value { result ≡ whole_time wanted time }
+    ensures short { IfSome result (λ t. t < 10 ^ 29) }
+{
+    let time = time?;
+    if wanted && time % UNIT != 0 {
+        return None;
+    }
+    Some(time)
+}
+
 /// Whether a place is one of a record's.
 fn is_there(fields: &ByteRecord, place: u64) -> bool
     ensures { result ≡ has_place (fields_of fields.now) place }
@@ -131,15 +144,83 @@ fn edge_of(fields: &ByteRecord, place: Option<u64>, edges: u32) -> Result<Option
     }
 }
 
-/// A size in its range.
-fn size_of(text: &[u8]) -> Option<u64>
-    ensures value { result ≡ some_size (number_of text.now) }
-    ensures some { IfSome result (λ n. 1 ≤ n) }
-    ensures few { IfSome result (λ n. n ≤ greatest_size) }
+/// Whether a field names no size: it is empty, `-` or 0.
+#[tactic(auto, unfolding(crate::specs::Csv::is_missing))]
+fn is_missing(text: &[u8]) -> bool
+    ensures { result ≡ is_missing text.now }
 {
-    match number(text) {
-        Some(size) if size >= 1 && size <= MAX_SIZE => Some(size),
+    text.is_empty() || text == b"-".as_slice() || is_zero(number(text))
+}
+
+/// Whether there is a number, and it is 0.
+fn is_zero(number: Option<u64>) -> bool
+    ensures { result ≡ is_zero number }
+{
+    match number {
+        Some(number) => number == 0,
+        None => false,
+    }
+}
+
+/// A size, if it is not 0: one over the greatest as the greatest, and whether it is.
+fn clamp(size: Option<u64>) -> Option<(u64, bool)>
+    ensures value { result ≡ clamped size }
+    ensures some { IfSome result (λ s. 1 ≤ s.0) }
+    ensures few { IfSome result (λ s. s.0 ≤ greatest_size) }
+{
+    match size {
+        Some(size) if size >= 1 => Some((size.min(MAX_SIZE), size > MAX_SIZE)),
         _ => None,
+    }
+}
+
+/// The size that a field names, or else the one that stands for a missing one; and whether it was over the greatest.
+#[tactic(auto, unfolding(crate::specs::Csv::size_in))]
+fn size_of(text: &[u8], missing: Option<u64>) -> Option<(u64, bool)>
+    ensures value { result ≡ size_in missing text.now }
+    ensures some { IfSome result (λ s. 1 ≤ s.0) }
+    ensures few { IfSome result (λ s. s.0 ≤ greatest_size) }
+{
+    if is_missing(text) {
+        clamp(missing)
+    } else {
+        clamp(number(text))
+    }
+}
+
+/// Whether a byte ends a line.
+fn is_line_end(byte: u8) -> bool
+    ensures { result ≡ is_line_end byte }
+{
+    byte == b'\n' || byte == b'\r'
+}
+
+/// Whether a field has a line end inside it.
+fn has_line_end(field: &[u8]) -> bool
+    ensures { result ≡ list_any is_line_end field.now }
+{
+    field.iter().any(|byte| is_line_end(*byte))
+}
+
+/// Whether no field of a record has a line end inside it.
+fn is_on_one_line(fields: &ByteRecord) -> bool
+    ensures { result ≡ is_on_one_line (fields_of fields.now) }
+{
+    for place in 0..fields.len() as u64 {
+        if has_line_end(field_of(fields, place)) {
+            return false;
+        }
+    }
+    true
+}
+
+/// Whether a record has line ends in its fields only where it may.
+pub fn has_its_lines(fields: &ByteRecord, quotes: Quotes) -> bool
+    ensures { result ≡ has_its_lines quotes (fields_of fields.now) }
+{
+    match quotes {
+        Quotes::OneLine => is_on_one_line(fields),
+        Quotes::Multiline | Quotes::Plain => true,
     }
 }
 
@@ -180,17 +261,20 @@ pub fn read_fields(fields: &ByteRecord, places: Places, edges: u32) -> Result<En
     if !is_long_enough(fields, places) {
         return Err(Flaw::Length);
     }
-    let time = time_of(field_of(fields, places.time)).ok_or(Flaw::Column(places.time, Part::Time))?;
+    let time = whole_time(places.whole_times, time_of(field_of(fields, places.time)));
+    let time = time.ok_or(Flaw::Column(places.time, Part::Time))?;
     let edge = edge_of(fields, places.edge, edges)?;
     if field_of(fields, places.object).is_empty() {
         return Err(Flaw::Column(places.object, Part::Object));
     }
-    let size = size_of(field_of(fields, places.size)).ok_or(Flaw::Column(places.size, Part::Size))?;
+    let size = size_of(field_of(fields, places.size), places.missing_size);
+    let (size, clamped) = size.ok_or(Flaw::Column(places.size, Part::Size))?;
     let kind = kind_of(fields, places.kind)?;
     Ok(Entry {
         time,
         edge,
         size,
+        clamped,
         kind,
     })
 }

@@ -1,25 +1,27 @@
 //! Logs of fields whose trace is written as they are read.
 
-ghost use Rattle.std.specs.Prelude.{◌≡◌, ◌≢◌, ◌↔◌, ◌⊎◌, [], false, Err, IfErr, IfNone, IfOk, IfSome, List, None, Ok, OnOk, length, map, option_map};
+ghost use Rattle.std.specs.Prelude.{◌≡◌, ◌≢◌, ◌↔◌, ◌⊎◌, [], false, true, Err, IfErr, IfNone, IfOk, IfSome, List, None, Ok, OnOk, length, map, option_map};
 ghost use Rattle.rw_trace.specs.Pieces.{GivesNone, MayRead, RiseFrom, records_ahead};
 ghost use Rattle.rw_trace.specs.Words.{Fields};
 ghost use Rattle.rw_trace.specs.declared.Row.{Row};
-ghost use Rattle.rw_import.specs.Csv.{HaveOneNumberEach, columns_found, edges_of, log_records, objects_in, places_in};
-ghost use Rattle.rw_import.specs.CsvStream.{FindsColumns, HasReadCsv, TellsRecord, records_told};
-ghost use Rattle.rw_import.specs.Log.{IsStrictlyKept, kept_in, left_out_of};
+ghost use Rattle.rw_import.specs.Csv.{HaveOneNumberEach, edges_of, have_their_lines, log_records, objects_in, places_in};
+ghost use Rattle.rw_import.specs.CsvStream.{FindsColumns, HasReadCsv, IsColumnsFault, IsRecordsFault, IsUnread, ReadsLines, TellsRecord};
+ghost use Rattle.rw_import.specs.Log.{AreEnough, IsStrictlyKept, clamped_in, kept_in, left_out_of};
 ghost use Rattle.rw_import.specs.Sheet.{texts_in};
 ghost use Rattle.rw_import.specs.Stream.{HasSentWhole, IsFresh};
-ghost use Rattle.rw_import.specs.Streamed.{CountsFailure, GainsNoTrace, GainsTrace, IsCsvRefusal, IsFirstRefused, IsOfLog, csv_rows_since, csv_told_since, names_kinds};
+ghost use Rattle.rw_import.specs.Streamed.{CountsFailure, GainsNoTrace, GainsTrace, IsCsvRefusal, IsOfLog, csv_rows_since, csv_told_since, names_kinds};
 ghost use Rattle.rw_import.specs.declared.fault.ImportFault.TheVariants.{Memory, Output};
 
 use crate::csv_log::{edges_of, next_fields, numbered, open, start};
-use crate::csv_row::{field_of, read_fields};
+use crate::csv_row::{field_of, has_its_lines, read_fields};
 use crate::entry::{Counts, Entry};
 use crate::fault::{Flaw, ImportFault};
-use crate::layout::{Layout, Places};
+use crate::layout::{Layout, Places, Quotes};
 use crate::options::{Options, Streaming};
 use crate::reading::Reading;
-use crate::stream::{Stream, add_line, empty_stream, end_stream, judge_since, send_full};
+use crate::stream::{
+    Stream, add_line, empty_stream, end_stream, judge_since, judge_stream, send_full,
+};
 use csv::{ByteRecord, Reader};
 use indexmap::IndexSet;
 use rw_output::Out;
@@ -39,6 +41,8 @@ pub struct Log<R> {
     pub places: Places,
     /// How many edges the trace is for.
     pub edges: u32,
+    /// What a double quote is.
+    pub quotes: Quotes,
     pub alloc: Global,
 }
 
@@ -57,8 +61,9 @@ fn open_log<R: Read + Drop>(
         (header : Fields) × (places_in header layout.now ≡ Ok log.places)) }
     ensures texts { IfOk result (λ log. texts_in log.texts ≡ []) }
     ensures edges { IfOk result (λ log. log.edges ≡ edges) }
+    ensures quotes { IfOk result (λ log. log.quotes ≡ layout.now.quotes) }
     ensures fault { IfErr result (λ e. IsOfLog e → IfSome (R.remaining bytes) (λ xs.
-        columns_found layout.now (log_records layout.now xs) ≡ Err e)) }
+        IsColumnsFault layout.now (log_records layout.now xs) e)) }
     ensures output { IfErr result (λ e. e ≢ Output) }
 {
     let mut reader = open(alloc, bytes, layout);
@@ -70,31 +75,42 @@ fn open_log<R: Read + Drop>(
         texts: IndexSet::new(alloc),
         places,
         edges,
+        quotes: layout.quotes,
         alloc,
     })
 }
 
 /// What becomes of the next record, its object by number, if there is one.
-fn next_told<R: Read + Drop>(
+fn next_told<R: Read + Drop, P: Progress>(
     log: &mut Log<R>,
     options: Options,
     epoch: &mut Option<u128>,
+    reading: &mut Reading<'_, P>,
 ) -> Result<Option<Result<(Entry, u64), Flaw>>, ImportFault>
     requires { MayRead log.old.reader }
     ensures may { MayRead log.new.reader }
     ensures places { log.new.places ≡ log.old.places }
     ensures edges { log.new.edges ≡ log.old.edges }
+    ensures quotes { log.new.quotes ≡ log.old.quotes }
+    ensures lines { IfOk result (λ next. IfSome next (λ _.
+        ReadsLines R.remaining log.old.quotes log.old.reader log.new.reader true)) }
     ensures none { IfOk result (λ next. IfNone next
         (GivesNone (records_ahead R.remaining log.old.reader) × (epoch.new ≡ epoch.old))) }
     ensures some { IfOk result (λ next. IfSome next
         (TellsRecord R.remaining options log.old log.new epoch.old epoch.new)) }
-    ensures refused { IfErr result (λ e. (e ≡ ImportFault.Read) ⊎ (e ≡ Memory)) }
+    ensures refused { IfErr result
+        (IsUnread R.remaining log.old.quotes log.old.reader log.new.reader) }
 {
     if !next_fields(&mut log.reader, &mut log.fields)? {
         return Ok(None);
     }
+    if !has_its_lines(&log.fields, log.quotes) {
+        return Err(reading.open_quote());
+    }
     let said = read_fields(&log.fields, log.places, log.edges);
     let judged = judge_since(epoch, options, log.places.time, said);
+    let first = epoch.unwrap_or(0);
+    reading.leave_out_record(&log.fields, log.places, options, first, judged.err());
     let text = field_of(&log.fields, log.places.object);
     let told = numbered(log.alloc, &mut log.texts, text, judged)?;
     Ok(Some(told))
@@ -115,16 +131,18 @@ fn stream_rows<R: Read + Drop, W: Write, P: Progress>(
     requires fresh { IsFresh stream.old }
     ensures read { OnOk result (HasReadCsv R.remaining options log.old
         (W.contents out.old.writer) (W.contents out.new.writer) stream.old stream.new) }
+    ensures lines { OnOk result (IfSome (records_ahead R.remaining log.old.reader) (λ all.
+        have_their_lines log.old.quotes all ≡ true)) }
     ensures fault { IfErr result (λ e. IsOfLog e
-        → IfSome (records_ahead R.remaining log.old.reader) (λ all. IsFirstRefused options
-        (records_told log.old.places log.old.edges options stream.old.epoch all) e)) }
+        → IfSome (records_ahead R.remaining log.old.reader) (λ all.
+        IsRecordsFault log.old options stream.old.epoch all e)) }
     ensures cut_off { IfErr result (λ e. e ≢ Output → HasSentWhole log.old.edges stream.new.begun
         stream.old.kinds (W.contents out.old.writer) (W.contents out.new.writer)) }
     ensures failures { CountsFailure result out.old.failures out.new.failures }
 {
     for row in 0..u64::MAX {
-        reading.come_to(row, log.reader.position().byte());
-        let Some(told) = next_told(log, options, &mut stream.epoch)? else {
+        reading.come_to_record(row, log.reader.position());
+        let Some(told) = next_told(log, options, &mut stream.epoch, reading)? else {
             return Ok(());
         };
         add_line(stream, options, row, told)?;
@@ -139,13 +157,14 @@ fn stream_rows<R: Read + Drop, W: Write, P: Progress>(
 /// trace's header has the kind where the layout has a column of kinds.
 ///
 /// It needs memory for the text of each different object, and no more for a longer log. How many bytes are read is
-/// told to `progress`; who knows how many there are tells it before.
+/// reported to `progress`; who knows how many there are tells it before.
 ///
 /// # Errors
 ///
-/// `Header` and `NoColumn` as [`import_csv`](crate::import_csv) answers them. Then the first row that is refused: strict, one that
-/// would be left out; `TooManyRows` for one kept row too many; `Order` for one that is before the kept row in front of it. `Read`
-/// where the reader answers an error, and `Memory`. Nothing was written where all that was to be written is less than 64
+/// `Header` and `NoColumn` as [`import_csv`](crate::import_csv) answers them. Then the first row that is refused: `OpenQuote` for one
+/// with a line end in a field, where the layout allows none; strict, one that would be left out; `TooManyRows` for one kept row too
+/// many; `Order` for one that is before the kept row in front of it. At the end of the log `TooFewKept`, as `import_csv` answers it.
+/// `Read` where the reader answers an error, and `Memory`. Nothing was written where all that was to be written is less than 64
 /// KiB, or else the last line that was written is `fault`, so that what went out is no trace. `Output` exactly where the
 /// writer failed, and nothing was tried after that.
 pub fn stream_csv<R: Read + Drop, W: Write, P: Progress>(
@@ -156,6 +175,7 @@ pub fn stream_csv<R: Read + Drop, W: Write, P: Progress>(
     progress: &mut P,
     out: &mut Out<W>,
 ) -> Result<Counts, ImportFault>
+    requires { streaming.now.options.spread ≡ false }
     ensures trace { IfOk result (λ _. IfSome (R.remaining log) (λ bytes. GainsTrace
         (edges_of layout.now streaming.now.options) (names_kinds layout.now)
         (csv_rows_since layout.now streaming.now bytes)
@@ -167,16 +187,21 @@ pub fn stream_csv<R: Read + Drop, W: Write, P: Progress>(
         (map (λ r. r.object) (csv_rows_since layout.now streaming.now bytes))) }
     ensures kept { IfOk result (λ counts. IfSome (R.remaining log) (λ bytes.
         counts.kept ≡ length (kept_in (csv_told_since layout.now streaming.now bytes)))) }
+    ensures clamped { IfOk result (λ counts. IfSome (R.remaining log) (λ bytes.
+        counts.clamped ≡ clamped_in (kept_in (csv_told_since layout.now streaming.now bytes)))) }
     ensures left_out { IfOk result (λ counts. IfSome (R.remaining log) (λ bytes.
         counts.left_out ≡ left_out_of (csv_told_since layout.now streaming.now bytes))) }
+    ensures lines { IfOk result (λ _. IfSome (R.remaining log) (λ bytes.
+        have_their_lines layout.now.quotes (log_records layout.now bytes) ≡ true)) }
+    ensures enough { IfOk result (λ counts.
+        AreEnough streaming.now.options counts.kept counts.left_out) }
     ensures strict { IfOk result (λ _. IfSome (R.remaining log) (λ bytes. IsStrictlyKept
         streaming.now.options (csv_told_since layout.now streaming.now bytes))) }
     ensures any { IfOk result (λ _. (rows : List Row) × RiseFrom 0 rows
         × GainsTrace (edges_of layout.now streaming.now.options) (names_kinds layout.now) rows
         (W.contents out.old.writer) (W.contents out.new.writer)) }
-    ensures fault { IfErr result (λ e. IsOfLog e → IfSome (R.remaining log) (λ bytes. IsCsvRefusal
-        streaming.now.options (csv_told_since layout.now streaming.now bytes)
-        (columns_found layout.now (log_records layout.now bytes)) e)) }
+    ensures fault { IfErr result (λ e. IsOfLog e → IfSome (R.remaining log) (λ bytes.
+        IsCsvRefusal layout.now streaming.now bytes e)) }
     ensures cut_off { IfErr result (λ e. e ≢ Output
         → GainsNoTrace (W.contents out.old.writer) (W.contents out.new.writer)) }
     ensures output { (result ≡ Err Output) ↔ (out.new.failures ≢ out.old.failures) }
@@ -184,8 +209,9 @@ pub fn stream_csv<R: Read + Drop, W: Write, P: Progress>(
     let edges = edges_of(layout, &streaming.options);
     let mut stream = empty_stream(alloc, streaming.epoch, layout.kind.is_some())?;
     let mut log = open_log(alloc, log, layout, edges)?;
-    let mut reading = Reading::new(progress, 0);
+    let mut reading = Reading::new(progress, &[], 0);
     let read = stream_rows(&mut log, streaming.options, &mut stream, &mut reading, out);
+    let read = judge_stream(read, &stream, streaming.options, reading.first_left_out());
     reading.about_to_write();
     end_stream(read, stream, out)
 }

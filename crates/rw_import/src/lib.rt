@@ -15,6 +15,8 @@ mod csv_row;
 mod csv_stream;
 mod entry;
 mod fault;
+mod first;
+mod format;
 mod layout;
 mod options;
 mod oracle;
@@ -22,6 +24,7 @@ mod oracle_rows;
 mod oracle_stream;
 mod reading;
 mod sheet;
+mod spreading;
 mod stream;
 mod text;
 
@@ -29,10 +32,16 @@ pub use csv_log::import_csv;
 pub use csv_row::time_of;
 pub use csv_stream::stream_csv;
 pub use entry::{Counts, Entry, Imported, LeftOut};
-pub use fault::{Flaw, ImportFault, Part};
-pub use layout::{Column, Layout};
-pub use options::{DEFAULT_TICKS, Dealing, MAX_EDGES, MAX_TICKS, Options, Streaming, every_limit};
+pub use fault::{Flaw, ImportFault, Losses, Part};
+pub use first::{Excerpt, FirstLeftOut, Spot, Wrong};
+pub use format::{Format, Opened, format_of, open_log};
+pub use layout::{Column, Layout, Quotes};
+pub use options::{
+    DEFAULT_MAX_LEFT_OUT, DEFAULT_TICKS, Dealing, MAX_EDGES, MAX_TICKS, Options, Streaming,
+    every_limit,
+};
 pub use oracle::import_oracle;
 pub use oracle_rows::OracleRows;
 pub use oracle_stream::stream_oracle;
+pub use spreading::{Held, crowded, spread, spread_one_time};
 pub use text::write_trace;

@@ -4,12 +4,12 @@ ghost use Rattle.std.specs.Prelude.{◌≡◌, ◌≢◌, ◌↔◌, ◌<◌, fa
 ghost use Rattle.rw_trace.specs.Pieces.{GivesNone, RiseFrom};
 ghost use Rattle.rw_trace.specs.declared.Kind.TheVariants.{Get};
 ghost use Rattle.rw_trace.specs.declared.Row.{Row};
-ghost use Rattle.rw_import.specs.Log.{IsStrictlyKept, kept_in, left_out_of};
+ghost use Rattle.rw_import.specs.Log.{AreEnough, IsStrictlyKept, clamped_in, kept_in, left_out_of};
 ghost use Rattle.rw_import.specs.Oracle.{piece_said};
 ghost use Rattle.rw_import.specs.OracleStream.{HasReadOracle, IsFilled, TellsPiece, pieces_ahead, pieces_told};
 ghost use Rattle.rw_import.specs.Sheet.{IsKeepable};
 ghost use Rattle.rw_import.specs.Stream.{HasSentWhole, IsFresh};
-ghost use Rattle.rw_import.specs.Streamed.{CountsFailure, GainsNoTrace, GainsTrace, IsFirstRefused, IsOfLog, oracle_rows_since, oracle_told_since, or_said, since};
+ghost use Rattle.rw_import.specs.Streamed.{CountsFailure, GainsNoTrace, GainsTrace, IsFirstRefused, IsOfLog, IsStreamRefusal, oracle_rows_since, oracle_told_since, or_said, since};
 ghost use Rattle.rw_import.specs.declared.fault.ImportFault.TheVariants.{Output};
 
 use crate::entry::{Counts, Entry};
@@ -17,7 +17,9 @@ use crate::fault::{Flaw, ImportFault};
 use crate::options::{Options, Streaming};
 use crate::oracle::{PIECE, read_piece};
 use crate::reading::Reading;
-use crate::stream::{Stream, add_line, empty_stream, end_stream, judge_since, send_full};
+use crate::stream::{
+    Stream, add_line, empty_stream, end_stream, judge_since, judge_stream, send_full,
+};
 use rw_output::Out;
 use rw_progress::Progress;
 use std::alloc::Global;
@@ -26,8 +28,8 @@ use std::io::{BufReader, Read, Write};
 /// How many bytes of a log are read at a time.
 pub const ROOM: usize = 1 << 16;
 
-/// Fills a record from a reader, as far as there are bytes; how many there were.
-fn fill<R: Read>(reader: &mut R, piece: &mut [u8]) -> Result<usize, ImportFault>
+/// Fills a piece from a reader, as far as there are bytes; how many there were.
+pub fn fill<R: Read>(reader: &mut R, piece: &mut [u8]) -> Result<usize, ImportFault>
     ensures filled { IfOk result (λ n.
         IsFilled (R.remaining reader.old) (R.remaining reader.new) n piece.new) }
     ensures refused { IfErr result (λ e. e ≡ ImportFault.Read) }
@@ -109,6 +111,7 @@ fn stream_pieces<R: Read, W: Write, P: Progress>(
         let Some(told) = next_told(reader, options, &mut stream.epoch)? else {
             return Ok(());
         };
+        reading.leave_out_piece(row, options, told.err());
         add_line(stream, options, row, told)?;
         send_full(stream, reading, out)?;
     }
@@ -133,6 +136,7 @@ pub fn stream_oracle<R: Read + Drop, W: Write, P: Progress>(
     progress: &mut P,
     out: &mut Out<W>,
 ) -> Result<Counts, ImportFault>
+    requires { streaming.now.options.spread ≡ false }
     ensures trace { IfOk result (λ _. IfSome (R.remaining log) (λ bytes. GainsTrace
         streaming.now.options.edges false (oracle_rows_since streaming.now bytes)
         (W.contents out.old.writer) (W.contents out.new.writer))) }
@@ -143,15 +147,19 @@ pub fn stream_oracle<R: Read + Drop, W: Write, P: Progress>(
         ≡ map (λ s. s.1) (kept_in (oracle_told_since streaming.now bytes))) }
     ensures kept { IfOk result (λ counts. IfSome (R.remaining log) (λ bytes.
         counts.kept ≡ length (kept_in (oracle_told_since streaming.now bytes)))) }
+    ensures clamped { IfOk result (λ counts. IfSome (R.remaining log) (λ bytes.
+        counts.clamped ≡ clamped_in (kept_in (oracle_told_since streaming.now bytes)))) }
     ensures left_out { IfOk result (λ counts. IfSome (R.remaining log) (λ bytes.
         counts.left_out ≡ left_out_of (oracle_told_since streaming.now bytes))) }
+    ensures enough { IfOk result (λ counts.
+        AreEnough streaming.now.options counts.kept counts.left_out) }
     ensures strict { IfOk result (λ _. IfSome (R.remaining log) (λ bytes.
         IsStrictlyKept streaming.now.options (oracle_told_since streaming.now bytes))) }
     ensures any { IfOk result (λ _. (rows : List Row) × RiseFrom 0 rows
         × GainsTrace streaming.now.options.edges false rows
         (W.contents out.old.writer) (W.contents out.new.writer)) }
     ensures fault { IfErr result (λ e. IsOfLog e → IfSome (R.remaining log) (λ bytes.
-        IsFirstRefused streaming.now.options (oracle_told_since streaming.now bytes) e)) }
+        IsStreamRefusal streaming.now.options (oracle_told_since streaming.now bytes) e)) }
     ensures cut_off { IfErr result (λ e. e ≢ Output
         → GainsNoTrace (W.contents out.old.writer) (W.contents out.new.writer)) }
     ensures output { (result ≡ Err Output) ↔ (out.new.failures ≢ out.old.failures) }
@@ -160,7 +168,7 @@ pub fn stream_oracle<R: Read + Drop, W: Write, P: Progress>(
     let Ok(mut reader) = BufReader::with_capacity(alloc, ROOM, log) else {
         return Err(ImportFault::Memory);
     };
-    let mut reading = Reading::new(progress, 0);
+    let mut reading = Reading::new(progress, &[], 0);
     let read = stream_pieces(
         &mut reader,
         streaming.options,
@@ -168,6 +176,7 @@ pub fn stream_oracle<R: Read + Drop, W: Write, P: Progress>(
         &mut reading,
         out,
     );
+    let read = judge_stream(read, &stream, streaming.options, reading.first_left_out());
     reading.about_to_write();
     end_stream(read, stream, out)
 }

@@ -3,12 +3,13 @@
 ghost use Rattle.std.specs.Prelude.{◌≡◌, ◌≢◌, ◌≤◌, ◌<◌, ◌+◌, ◌*◌, ◌^◌, ◌++◌, ◌∷◌, [], true, false, length, OnOk, IfErr, IfOk, Err, IfSome, All};
 ghost use Rattle.rw_trace.specs.Laws.{IsRow};
 ghost use Rattle.rw_trace.specs.Limits.{most_rows, latest_time};
-ghost use Rattle.rw_import.specs.Log.{billion, dealt_edge, edge_for, fault_at, in_time, mixed, row_for, ticks_from};
-ghost use Rattle.rw_import.specs.Sheet.{AddsRow, AreCountsOf, IsTimely, RefusesRow, counts_with, no_counts_yet};
+ghost use Rattle.rw_import.specs.Log.{AreEnough, IsErrorOfLosses, all_left_out, billion, dealt_edge, edge_for, fault_at, in_time, mixed, room_for, row_for, ticks_from};
+ghost use Rattle.rw_import.specs.Sheet.{AddsRow, AreCountsOf, IsCounted, IsTimely, counts_in, RefusesRow, counts_with, no_counts_yet};
 ghost use Rattle.rw_import.specs.declared.fault.ImportFault.TheVariants.{Memory, TooManyRows};
 
-use crate::entry::{Entry, LeftOut};
-use crate::fault::{Flaw, ImportFault, Part};
+use crate::entry::{Counts, Entry, LeftOut};
+use crate::fault::{Flaw, ImportFault, Losses, Part};
+use crate::first::FirstLeftOut;
 use crate::options::{Dealing, Options};
 use rw_trace::{MAX_ROWS, MAX_TIME, Row};
 use std::alloc::Global;
@@ -48,6 +49,15 @@ pub fn ticks_since(options: Options, least: u128, time: u128) -> u128
     time.saturating_sub(least) * u128::from(options.ticks) / BILLION
 }
 
+/// The last tick at which a row of this time may stand: its own, or where rows are spread the last one of its unit.
+pub fn last_tick(options: Options, least: u128, time: u128) -> u128
+    requires { time < 10 ^ 29 }
+    ensures { result ≡ ticks_from options.ticks least time + room_for options }
+{
+    let room = if options.spread { options.ticks - 1 } else { 0 };
+    ticks_since(options, least, time) + u128::from(room)
+}
+
 /// One more row left out, of the rows before row `row` and it.
 pub fn count(left_out: &mut LeftOut, flaw: Flaw, row: u64)
     requires within { AreCountsOf row left_out.old }
@@ -75,10 +85,11 @@ pub fn fault_of(row: u64, flaw: Flaw) -> ImportFault
     }
 }
 
-/// The rows kept so far, and how many were left out.
+/// The rows kept so far, of how many the size was clamped, and how many were left out.
 #[derive(Drop)]
 pub struct Sheet {
     pub rows: Vec<Row>,
+    pub clamped: u64,
     pub left_out: LeftOut,
 }
 
@@ -99,10 +110,12 @@ pub fn no_counts() -> LeftOut
 /// Nothing collected yet.
 pub fn blank_sheet(alloc: Global) -> Sheet
     ensures rows { result.rows.items ≡ [] }
+    ensures clamped { result.clamped ≡ 0 }
     ensures left_out { result.left_out ≡ no_counts_yet }
 {
     Sheet {
         rows: Vec::new(alloc),
+        clamped: 0,
         left_out: no_counts(),
     }
 }
@@ -134,10 +147,10 @@ pub fn timely(
     said: Result<(Entry, u64), Flaw>,
 ) -> Result<(Entry, u64), Flaw>
     requires { IfOk said (λ s. s.0.time < 10 ^ 29) }
-    ensures { result ≡ in_time options.ticks least column said }
+    ensures { result ≡ in_time options least column said }
 {
     let (entry, object) = said?;
-    if ticks_since(options, least, entry.time) > u128::from(MAX_TIME) {
+    if last_tick(options, least, entry.time) > u128::from(MAX_TIME) {
         return Err(Flaw::Column(column, Part::Time));
     }
     Ok((entry, object))
@@ -179,18 +192,75 @@ pub fn add(
     said: Result<(Entry, u64), Flaw>,
 ) -> Result<(), ImportFault>
     requires timely { IsTimely options least said }
-    requires within { AreCountsOf row sheet.old.left_out }
+    requires within { IsCounted row sheet.old }
     requires few { row + 1 < 2 ^ 64 }
     ensures adds { OnOk result (AddsRow options least sheet.old sheet.new said) }
-    ensures after { OnOk result (AreCountsOf (row + 1) sheet.new.left_out) }
+    ensures after { OnOk result (IsCounted (row + 1) sheet.new) }
     ensures refuses { IfErr result (λ e. e ≢ Memory → RefusesRow options row sheet.old said e) }
 {
     match said {
-        Ok((entry, object)) => keep(&mut sheet.rows, options, least, object, entry),
+        Ok((entry, object)) => {
+            keep(&mut sheet.rows, options, least, object, entry)?;
+            sheet.clamped += u64::from(entry.clamped);
+            Ok(())
+        }
         Err(flaw) if options.strict => Err(fault_of(row, flaw)),
         Err(flaw) => {
             count(&mut sheet.left_out, flaw, row);
             Ok(())
         }
     }
+}
+
+/// What has come of the rows so far.
+pub fn counts_of(sheet: &Sheet) -> Counts
+    ensures { result ≡ counts_in sheet.now }
+{
+    Counts {
+        kept: sheet.rows.len() as u64,
+        clamped: sheet.clamped,
+        left_out: sheet.left_out,
+    }
+}
+
+/// Refuses a log of which too few rows are kept.
+pub fn check_losses(
+    options: Options,
+    counts: Counts,
+    first: Option<FirstLeftOut>,
+) -> Result<(), ImportFault>
+    ensures enough { OnOk result (AreEnough options counts.kept counts.left_out) }
+    ensures too_few { IfErr result (λ e. IsErrorOfLosses options counts e) }
+{
+    let left_out = all_left_out(counts.left_out);
+    let all = u128::from(counts.kept) + left_out;
+    if counts.kept >= 1 && 100 * left_out <= u128::from(options.max_left_out) * all {
+        return Ok(());
+    }
+    Err(ImportFault::TooFewKept(Losses {
+        counts,
+        most: options.max_left_out,
+        first,
+    }))
+}
+
+/// How many rows are left out in all.
+pub fn all_left_out(left_out: LeftOut) -> u128
+    ensures value { result ≡ all_left_out left_out }
+    ensures bound { result < 6 * 2 ^ 64 }
+{
+    let LeftOut {
+        length,
+        time,
+        edge,
+        object,
+        size,
+        kind,
+    } = left_out;
+    u128::from(length)
+        + u128::from(time)
+        + u128::from(edge)
+        + u128::from(object)
+        + u128::from(size)
+        + u128::from(kind)
 }

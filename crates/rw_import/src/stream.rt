@@ -1,20 +1,22 @@
 //! A trace that is written as its log is read.
 
-ghost use Rattle.std.specs.Prelude.{◌≡◌, ◌≢◌, ◌≤◌, ◌<◌, ◌+◌, ◌^◌, ◌++◌, [], ℕ, false, IfErr, IfOk, IsOk, OnOk, Err, Ok, unwrap_or};
+ghost use Rattle.std.specs.Prelude.{◌≡◌, ◌≢◌, ◌≤◌, ◌<◌, ◌+◌, ◌^◌, ◌++◌, ◌⊎◌, [], ℕ, false, IfErr, IfOk, IsOk, OnOk, Err, Ok, unwrap_or};
 ghost use Rattle.std.specs.Io.KnownBytes.{Appends};
 ghost use Rattle.rw_trace.specs.Words.{Text};
 ghost use Rattle.rw_import.specs.Csv.{beside};
-ghost use Rattle.rw_import.specs.Sheet.{AreCountsOf, IsTimely};
-ghost use Rattle.rw_import.specs.Stream.{AddsLine, IsFresh, RefusesLine, SendsAll, SendsAllOrNone, entry_since, fault_line};
+ghost use Rattle.rw_import.specs.Log.{AreEnough, IsErrorOfLosses};
+ghost use Rattle.rw_import.specs.Sheet.{IsTimely};
+ghost use Rattle.rw_import.specs.Stream.{AddsLine, AreLinesCounted, counts_so_far, IsFresh, RefusesLine, SendsAll, SendsAllOrNone, entry_since, fault_line};
 ghost use Rattle.rw_import.specs.Streamed.{CountsFailure, CountsFault, is_timely, or_said};
 ghost use Rattle.rw_import.specs.declared.fault.ImportFault.TheVariants.{Memory, Output};
 ghost use Rattle.rw_numbers.specs.Words.{Object};
 
 use crate::entry::{Counts, Entry, LeftOut};
 use crate::fault::{Flaw, ImportFault, Part};
+use crate::first::FirstLeftOut;
 use crate::options::Options;
 use crate::reading::Reading;
-use crate::sheet::{count, fault_of, no_counts, row_of_entry, ticks_since};
+use crate::sheet::{check_losses, count, fault_of, no_counts, row_of_entry, ticks_since};
 use crate::text::{header, push_row};
 use rw_output::Out;
 use rw_progress::Progress;
@@ -43,6 +45,8 @@ pub struct Stream {
     pub latest: u128,
     /// How many rows were kept.
     pub kept: u64,
+    /// Of how many of these the size was clamped.
+    pub clamped: u64,
     /// How many rows were left out.
     pub left_out: LeftOut,
 }
@@ -63,6 +67,7 @@ pub fn empty_stream(alloc: Global, epoch: Option<u128>, kinds: bool) -> Result<S
         epoch,
         latest: 0,
         kept: 0,
+        clamped: 0,
         left_out: no_counts(),
     })
 }
@@ -104,7 +109,9 @@ fn keep_line(
     object: u64,
     entry: Entry,
 ) -> Result<(), ImportFault>
-    requires { IsTimely options (unwrap_or stream.old.epoch 0) (Ok (entry, object)) }
+    requires timely { IsTimely options (unwrap_or stream.old.epoch 0) (Ok (entry, object)) }
+    requires within { AreLinesCounted row stream.old }
+    requires few { row + 1 < 2 ^ 64 }
     ensures adds { OnOk result (AddsLine options stream.old stream.new (Ok (entry, object))) }
     ensures refuses { IfErr result (λ e.
         e ≢ Memory → RefusesLine options row stream.old (Ok (entry, object)) e) }
@@ -120,6 +127,7 @@ fn keep_line(
     let line = row_of_entry(options, epoch, stream.kept, object, entry);
     push_row(&mut stream.text, &line, stream.kinds)?;
     stream.kept += 1;
+    stream.clamped += u64::from(entry.clamped);
     stream.latest = entry.time;
     Ok(())
 }
@@ -132,10 +140,10 @@ pub fn add_line(
     told: Result<(Entry, u64), Flaw>,
 ) -> Result<(), ImportFault>
     requires timely { IsTimely options (unwrap_or stream.old.epoch 0) told }
-    requires within { AreCountsOf row stream.old.left_out }
+    requires within { AreLinesCounted row stream.old }
     requires few { row + 1 < 2 ^ 64 }
     ensures adds { OnOk result (AddsLine options stream.old stream.new told) }
-    ensures after { OnOk result (AreCountsOf (row + 1) stream.new.left_out) }
+    ensures after { OnOk result (AreLinesCounted (row + 1) stream.new) }
     ensures refuses { IfErr result (λ e. e ≢ Memory → RefusesLine options row stream.old told e) }
     ensures begun { stream.new.begun ≡ stream.old.begun }
 {
@@ -202,6 +210,35 @@ fn cut_off<W: Write>(fault: ImportFault, begun: bool, out: &mut Out<W>) -> Impor
     }
 }
 
+/// What has come of the rows so far.
+fn counts_so_far(stream: &Stream) -> Counts
+    ensures { result ≡ counts_so_far stream.now }
+{
+    Counts {
+        kept: stream.kept,
+        clamped: stream.clamped,
+        left_out: stream.left_out,
+    }
+}
+
+/// What comes of a log that was read to its end, or up to a fault: one of which too few rows are kept is refused.
+pub fn judge_stream(
+    read: Result<(), ImportFault>,
+    stream: &Stream,
+    options: Options,
+    first: Option<FirstLeftOut>,
+) -> Result<(), ImportFault>
+    ensures read { IsOk result → IsOk read }
+    ensures enough { OnOk result (AreEnough options stream.now.kept stream.now.left_out) }
+    ensures fault { IfErr result (λ e. (read ≡ Err e)
+        ⊎ (IsOk read × IsErrorOfLosses options (counts_so_far stream.now) e)) }
+    ensures failures { (before after : ℕ) → CountsFailure read before after
+        → CountsFailure result before after }
+{
+    read?;
+    check_losses(options, counts_so_far(stream), first)
+}
+
 /// Ends a trace whose log was read to its end, or up to a fault.
 pub fn end_stream<W: Write>(
     read: Result<(), ImportFault>,
@@ -211,8 +248,7 @@ pub fn end_stream<W: Write>(
     ensures read { IsOk result → IsOk read }
     ensures gained { OnOk result (Appends (W.contents out.old.writer) (W.contents out.new.writer)
         stream.text.items) }
-    ensures kept { IfOk result (λ c. c.kept ≡ stream.kept) }
-    ensures left_out { IfOk result (λ c. c.left_out ≡ stream.left_out) }
+    ensures counts { IfOk result (λ c. c ≡ counts_so_far stream) }
     ensures fault { IfErr result (λ e. e ≢ Output → read ≡ Err e) }
     ensures cut_off { IfErr result (λ e. e ≢ Output → Appends (W.contents out.old.writer)
         (W.contents out.new.writer) (fault_line stream.begun)) }
@@ -221,11 +257,9 @@ pub fn end_stream<W: Write>(
 {
     match read {
         Ok(()) => {
+            let counts = counts_so_far(&stream);
             send(&mut stream, out)?;
-            Ok(Counts {
-                kept: stream.kept,
-                left_out: stream.left_out,
-            })
+            Ok(counts)
         }
         Err(fault) => Err(cut_off(fault, stream.begun, out)),
     }

@@ -4,6 +4,7 @@ use rw_import::MAX_TICKS;
 use rw_photo::Config;
 use rw_runs::{BACK, DOWN, EDGES, EVERY, ORIGINS, RECLAIM, STREAM, UP, WARM_UP};
 use rw_sweep::MAX_CONFIGURATIONS;
+use rw_trace::MAX_SIZE;
 use rw_vt::END;
 
 /// The steps by which a trace is run.
@@ -100,7 +101,7 @@ const EPOCH: Argument = Argument {
 };
 
 /// A log, how it is read, and how its rows become a trace's.
-pub(crate) const LOG: [Argument; 15] = [
+pub(crate) const LOG: [Argument; 20] = [
     Argument {
         name: "log",
         value: Value::File("LOG"),
@@ -120,6 +121,18 @@ pub(crate) const LOG: [Argument; 15] = [
         help: "What stands between two fields: one ASCII character, or tab",
     },
     Argument {
+        name: "quotes",
+        value: Value::Word("QUOTES", &["double", "none"]),
+        given: Given::Or("double"),
+        help: "double: a field may stand in double quotes; none: a quote is a character as any other",
+    },
+    Argument {
+        name: "multiline",
+        value: Value::Flag,
+        given: Given::Maybe,
+        help: "Take line ends inside a quoted field; else they refuse the log, as a quote that is not closed",
+    },
+    Argument {
         name: "time",
         value: Value::Text("COLUMN"),
         given: Given::Or("time"),
@@ -136,6 +149,12 @@ pub(crate) const LOG: [Argument; 15] = [
         value: Value::Text("COLUMN"),
         given: Given::Or("size"),
         help: "The column of sizes in bytes",
+    },
+    Argument {
+        name: "missing-size",
+        value: Value::Size(MAX_SIZE as i64),
+        given: Given::Maybe,
+        help: "The size of a row whose size is empty, - or 0, and which else is left out, 1 to 4294967295",
     },
     Argument {
         name: "edge",
@@ -168,10 +187,22 @@ pub(crate) const LOG: [Argument; 15] = [
         help: "Ticks in a unit of the log's times, 1 to 1000000000",
     },
     Argument {
+        name: "spread",
+        value: Value::Flag,
+        given: Given::Maybe,
+        help: "Spread the rows of one time over its unit, in their order; times have to be whole numbers",
+    },
+    Argument {
         name: "strict",
         value: Value::Flag,
         given: Given::Maybe,
         help: "Refuse the log at the first row that cannot be used, which else is left out and counted",
+    },
+    Argument {
+        name: "max-left-out",
+        value: Value::Percent,
+        given: Given::Or("1"),
+        help: "Refuse the log where more than this many rows of a hundred are left out, 0 to 100",
     },
     Argument {
         name: "stream",

@@ -219,12 +219,12 @@ const STREAMED: [(&str, (u8, usize), &str); 7] = [
     (
         "ripqwarp import --stream --time 0 --object 1 --size 2 -",
         (0, 40),
-        "import kept 2 left out: length 0 time 0 edge 0 object 0 size 0 kind 0\n",
+        "import kept 2 clamped 0 left out: length 0 time 0 edge 0 object 0 size 0 kind 0\n",
     ),
     (
-        "ripqwarp import --stream --epoch 10.25 --time 0 --object 1 --size 2 -",
+        "ripqwarp import --stream --epoch 10.25 --max-left-out 50 --time 0 --object 1 --size 2 -",
         (0, 32),
-        "import kept 1 left out: length 0 time 1 edge 0 object 0 size 0 kind 0\n",
+        "import kept 1 clamped 0 left out: length 0 time 1 edge 0 object 0 size 0 kind 0\n",
     ),
     (
         "ripqwarp import --stream --strict --time 0 --object 1 --size 0 -",
@@ -434,17 +434,17 @@ const OF_LOGS: [(&str, u8, &str); 8] = [
     (
         "ripqwarp serial - --stream --from oracle-general --ticks 1000000000 --policy off",
         0,
-        "serial kept 2 left out: length 0 time 0 edge 0 object 0 size 1 kind 0\n",
+        "serial kept 2 clamped 0 left out: length 0 time 0 edge 0 object 0 size 1 kind 0\n",
     ),
     (
         "ripqwarp serial - --stream --from oracle-general --epoch 6 --policy off",
         0,
-        "serial kept 1 left out: length 0 time 1 edge 0 object 0 size 1 kind 0\n",
+        "serial kept 1 clamped 0 left out: length 0 time 1 edge 0 object 0 size 1 kind 0\n",
     ),
     (
         "ripqwarp sweep - --stream --from oracle-general --policy off",
         0,
-        "sweep kept 2 left out: length 0 time 0 edge 0 object 0 size 1 kind 0\n",
+        "sweep kept 2 clamped 0 left out: length 0 time 0 edge 0 object 0 size 1 kind 0\n",
     ),
     (
         "ripqwarp serial - --from oracle-general",
@@ -634,7 +634,10 @@ const WRITING: [(&str, &[u8]); 19] = [
         "ripqwarp import - --stream --time 0 --object 1 --size 2",
         LOG,
     ),
-    ("ripqwarp import - --from oracle-general", RECORDS),
+    (
+        "ripqwarp import - --from oracle-general --max-left-out 34",
+        RECORDS,
+    ),
     ("ripqwarp sweep - --policy off", TRACE),
     ("ripqwarp sweep - --policy off --part 0/2 --every 5", TRACE),
     ("ripqwarp sweep - --policy off --stream", TRACE),

@@ -21,6 +21,10 @@ const FEW: &[u8] =
 const EVERY_MARK: &[u8] =
     b"time,edge,object,size\n3,0,8,6\n8,1,9,6\n9,1,8,6\n9,1,7,4\n14,1,12,6\n18,1,11,6\n22,1,12,6\n23,0,9,6\n27,1,12,6\n32,1,8,6\n32,0,11,6\n36,0,10,6\n";
 
+/// Requests, and purges that leave blocks without objects.
+const PURGES: &[u8] =
+    b"time,edge,object,size,kind\n3,0,8,6,get\n8,1,9,6,get\n9,1,8,6,get\n9,1,7,4,get\n14,1,12,6,get\n20,0,8,6,purge\n22,1,12,6,get\n24,1,9,6,purge\n27,1,12,6,get\n30,1,7,4,purge\n32,0,11,6,get\n36,0,8,6,get\n";
+
 /// How many caches there are: two edges and an origin.
 const CACHES: u32 = 3;
 
@@ -119,14 +123,16 @@ impl Counts {
     }
 }
 
-/// Draws so many worlds of each of two traces, and as many where undoings are lazy too, and runs each in rounds, under
-/// several plans and gates; the latter with lazy undoings.
+/// Draws so many worlds of each of three traces, of which the last has purges that free flash, and as many where undoings are lazy too,
+/// and runs each in rounds, under several plans and gates; the latter with lazy undoings.
 pub fn compare<R: Threads + Wait + Sync>(rt: &R, alloc: Global, seeds: u64) -> Result<Counts> {
     let mut counts = Counts::default();
     let few = config(2, 1).context("caches")?;
     compare_trace(rt, alloc, FEW, few, seeds, &mut counts)?;
     let every_mark = config(3, 2).context("caches")?;
     compare_trace(rt, alloc, EVERY_MARK, every_mark, seeds, &mut counts)?;
+    let reclaiming = reclaiming_config(3, 2).context("caches")?;
+    compare_trace(rt, alloc, PURGES, reclaiming, seeds, &mut counts)?;
     Ok(counts)
 }
 
@@ -134,6 +140,11 @@ pub fn compare<R: Threads + Wait + Sync>(rt: &R, alloc: Global, seeds: u64) -> R
 fn config(sections: u64, blocks: u64) -> Option<Config> {
     let shape = Shape::new(sections, 10, blocks)?;
     Config::new(2, 1, Policy::Lru, shape, shape, 3, 3, 10)
+}
+
+/// The same, where purges free flash.
+fn reclaiming_config(sections: u64, blocks: u64) -> Option<Config> {
+    Some(config(sections, blocks)?.with_reclaim(true))
 }
 
 /// Draws so many worlds of a trace, and as many where undoings are lazy too, and runs each.

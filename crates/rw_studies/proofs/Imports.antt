@@ -1,9 +1,9 @@
 -- No fault of a log itself is the writer's.
-use Rattle.std.proofs.Common.{Bool, true, false, List, [], ◌∷◌, Result, Ok, Err, sym}
+use Rattle.std.proofs.Common.{Bool, true, false, List, [], ◌∷◌, Result, Ok, Err, inl, inr, sym}
 use Rattle.std.specs.Prelude.{◌≢◌, IfErr, Option, Some, None, if◌then◌else◌}
 use Rattle.std.specs.Option.{ok_or}
 use Rattle.rw_trace.specs.Words.{Fields, Text}
-use Rattle.rw_import.specs.Csv.{◌>>=◌, IsCsvFault, columns_found, has_header, place_if, place_in, places_in, places_under}
+use Rattle.rw_import.specs.Csv.{◌>>=◌, IsCsvFault, IsTableFault, columns_found, csv_told, has_header, log_records, place_if, place_in, places_in, places_under}
 use Rattle.rw_import.specs.Log.{IsRowsFault, Saying}
 use Rattle.rw_import.specs.declared.fault.ImportFault.{ImportFault}
 use Rattle.rw_import.specs.declared.fault.ImportFault.TheVariants as log
@@ -64,7 +64,14 @@ rows-quiet o said log.Output why = absurd (why (λ is. cc))
 rows-quiet o said e why = λ is. cc
 
 -- and so no log of fields is
-pub csv-quiet : (o : Options) (told : List (Saying Text)) (found : Result Places ImportFault) (e : ImportFault) → IfErr found (λ f. f ≢ log.Output) → (e ≢ log.Memory → IsCsvFault o told found e) → e ≢ log.Output
-csv-quiet o told (Ok p) e quiet why = rows-quiet o told e why
-csv-quiet o told (Err f) log.Output quiet why = λ _. quiet (sym (why (λ is. cc)))
-csv-quiet o told (Err f) e quiet why = λ is. cc
+table-quiet : (o : Options) (told : List (Saying Text)) (found : Result Places ImportFault) → IfErr found (λ f. f ≢ log.Output) → IsTableFault o told found log.Output → ⊥
+table-quiet o told (Ok p) quiet h = h
+table-quiet o told (Err f) quiet h = quiet (sym h)
+
+pub csv-quiet : (l : Layout) (o : Options) (bytes : Text) (e : ImportFault) → (e ≢ log.Memory → IsCsvFault l o bytes e) → e ≢ log.Output
+csv-quiet l o bytes log.Output why = λ _.
+    elim (why (λ is. cc)) [
+      | inl unclosed ↦ absurd (cc (unclosed.1))
+      | inr table ↦ table-quiet o (csv_told l o bytes) (columns_found l (log_records l bytes)) (columns-quiet l (log_records l bytes)) table
+    ]
+csv-quiet l o bytes e why = λ is. cc

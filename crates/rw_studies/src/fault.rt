@@ -37,6 +37,14 @@ pub enum Fault {
         /// The other one.
         with: &'static str,
     },
+    /// An option is given with another one.
+    #[error("error: --{option}: not with {other}")]
+    NotWith {
+        /// The option's name.
+        option: &'static str,
+        /// The other one.
+        other: &'static str,
+    },
     /// The part of a sweep is none.
     #[error("error: --part: not I/N with I below N; see ripqwarp sweep --help")]
     Part,
@@ -76,6 +84,7 @@ impl Fault {
             | Fault::Delimiter
             | Fault::Epoch
             | Fault::OnlyWith { .. }
+            | Fault::NotWith { .. }
             | Fault::Part
             | Fault::NotTaken { .. }
             | Fault::NotOfEdges(_)

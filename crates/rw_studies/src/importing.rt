@@ -1,5 +1,5 @@
 // From a log to a trace.
-ghost use Rattle.std.specs.Prelude.{◌≡◌, ◌≢◌, ◌↔◌, ◌⊎◌, IfErr, IsErrAnd};
+ghost use Rattle.std.specs.Prelude.{◌≡◌, ◌≢◌, ◌↔◌, ◌⊎◌, IfErr, IfSome, IsErrAnd};
 ghost use Rattle.rw_studies.specs.Left.{LeavesNoTrace};
 ghost use Rattle.rw_studies.specs.Status.{status_of_fault};
 
@@ -7,8 +7,8 @@ use crate::fault::Fault;
 use clap::ArgMatches;
 use rw_console::{CommandFault, Out, Source, read, write, write_line};
 use rw_import::{
-    Column, Counts, Dealing, ImportFault, Imported, Layout, LeftOut, Options, Streaming,
-    import_csv, import_oracle, stream_csv, stream_oracle, time_of,
+    Column, Counts, Dealing, ImportFault, Imported, Layout, Options, Quotes, Streaming, format_of,
+    import_csv, import_oracle, open_log, stream_csv, stream_oracle, time_of,
 };
 use rw_progress::{Line, Measure, Progress};
 use std::alloc::Global;
@@ -45,20 +45,30 @@ pub fn import<S: Source, W: Write, E: Write, C: Clock>(
         Measure::Bytes
     };
     let mut line = Line::new(err, clock, "import", measure, shown);
-    let counts = counted(alloc, options, source, &mut line, out);
+    let converted = convert(alloc, options, source, &mut line, out);
     drop(line);
-    tell("import", counts?, err);
+    let Converted { counts, crowded } = converted?;
+    tell("import", counts, err);
+    advise(counts.kept, crowded, err);
     Ok(())
 }
 
-/// Writes the trace of the log that the options name, and counts its rows.
-fn counted<S: Source, W: Write, P: Progress>(
+/// What has come of a log.
+struct Converted {
+    /// How many rows were kept, and how many left out.
+    counts: Counts,
+    /// How many kept rows have the time and the object of another one that they would not have if rows were spread.
+    crowded: u64,
+}
+
+/// Writes the trace of the log that the options name.
+fn convert<S: Source, W: Write, P: Progress>(
     alloc: Global,
     options: &ArgMatches<'_>,
     source: &mut S,
     progress: &mut P,
     out: &mut Out<W>,
-) -> Result<Counts, Fault>
+) -> Result<Converted, Fault>
     ensures output { IsErrAnd result (λ e. status_of_fault e ≡ 8)
         ↔ (out.new.failures ≢ out.old.failures) }
     ensures nothing { IfErr result (λ e. status_of_fault e ≢ 8 → (out.new ≡ out.old)
@@ -79,7 +89,7 @@ fn imported<S: Source, W: Write, P: Progress>(
     source: &mut S,
     progress: &mut P,
     out: &mut Out<W>,
-) -> Result<Counts, Fault>
+) -> Result<Converted, Fault>
     ensures output { IsErrAnd result (λ e. status_of_fault e ≡ 8)
         ↔ (out.new.failures ≢ out.old.failures) }
     ensures nothing { IfErr result (λ e. status_of_fault e ≢ 8 → out.new ≡ out.old) }
@@ -90,15 +100,24 @@ fn imported<S: Source, W: Write, P: Progress>(
             with: "--stream",
         });
     }
-    let reading = reading(options).ok_or(CommandFault::Plan)?;
-    let layout = layout(alloc, options)?;
+    let spread = options.get_flag("spread");
+    let reading = reading(options, spread).ok_or(CommandFault::Plan)?;
+    let layout = layout(alloc, options, spread)?;
     let log = read(alloc, options, "log", source)?;
+    if let Some(format) = format_of(log.as_slice()) {
+        return Err(ImportFault::Format(format).into());
+    }
     let imported = trace_of(alloc, options, log.as_slice(), &layout, &reading, progress)?;
     progress.about_to_write();
     write(imported.text.as_slice(), out)?;
-    Ok(Counts {
+    let counts = Counts {
         kept: imported.kept,
+        clamped: imported.clamped,
         left_out: imported.left_out,
+    };
+    Ok(Converted {
+        counts,
+        crowded: imported.crowded,
     })
 }
 
@@ -126,25 +145,32 @@ fn streamed<S: Source, W: Write, P: Progress>(
     source: &mut S,
     progress: &mut P,
     out: &mut Out<W>,
-) -> Result<Counts, Fault>
+) -> Result<Converted, Fault>
     ensures output { IsErrAnd result (λ e. status_of_fault e ≡ 8)
         ↔ (out.new.failures ≢ out.old.failures) }
     ensures nothing { IfErr result (λ e. status_of_fault e ≢ 8 → (out.new ≡ out.old)
         ⊎ LeavesNoTrace (status_of_fault e)
         (W.contents out.old.writer) (W.contents out.new.writer)) }
 {
+    if options.get_flag("spread") {
+        return Err(Fault::NotWith {
+            option: "spread",
+            other: "--stream",
+        });
+    }
     let streaming = Streaming {
-        options: reading(options).ok_or(CommandFault::Plan)?,
+        options: reading(options, false).ok_or(CommandFault::Plan)?,
         epoch: epoch(options)?,
     };
-    let layout = layout(alloc, options)?;
+    let layout = layout(alloc, options, false)?;
     let path = options.get_str("log").ok_or(CommandFault::Plan)?;
-    let log = source.open(path)?;
+    let log = open_log(alloc, source.open(path)?)?;
     progress.begin(0, u64::MAX);
-    match options.get_str("from") {
-        Some("oracle-general") => Ok(stream_oracle(alloc, log, &streaming, progress, out)?),
-        _ => Ok(stream_csv(alloc, log, &layout, &streaming, progress, out)?),
-    }
+    let counts = match options.get_str("from") {
+        Some("oracle-general") => stream_oracle(alloc, log, &streaming, progress, out)?,
+        _ => stream_csv(alloc, log, &layout, &streaming, progress, out)?,
+    };
+    Ok(Converted { counts, crowded: 0 })
 }
 
 /// The log time that is tick 0, in billionths of its unit, where the options name one.
@@ -157,29 +183,83 @@ pub(crate) fn epoch(options: &ArgMatches<'_>) -> Result<Option<u128>, Fault>
     }
 }
 
-/// How rows become a trace's; None where an option is missing or out of its range, which the command line rules out.
-fn reading(options: &ArgMatches<'_>) -> Option<Options> {
+/// How rows become a trace's, those of one time spread or not; None where an option is missing or out of its range, which the command
+/// line rules out.
+fn reading(options: &ArgMatches<'_>, spread: bool) -> Option<Options>
+    ensures { IfSome result (λ o. o.spread ≡ spread) }
+{
     let dealing = match options.get_str("edge-by")? {
         "object" => Dealing::ByObject,
         _ => Dealing::ByRow,
     };
-    Options::new(
+    let reading = Options::new(
         options.get_one("ticks")?,
         options.get_one("edges")?,
         dealing,
         options.get_flag("strict"),
-    )
+    )?;
+    let reading = reading.with_max_left_out(options.get_one("max-left-out")?)?;
+    Some(reading.with_spread(spread))
 }
 
-/// How the columns of a log of fields are found.
-fn layout(alloc: Global, options: &ArgMatches<'_>) -> Result<Layout, Fault>
+/// What a double quote is in the log.
+///
+/// # Errors
+///
+/// [`Fault::OnlyWith`] where fields are to have line ends, and quotes are none.
+fn quotes(options: &ArgMatches<'_>) -> Result<Quotes, Fault>
     ensures unwritten { IfErr result (λ e. status_of_fault e ≢ 8) }
 {
+    match (options.get_str("quotes"), options.get_flag("multiline")) {
+        (Some("none"), true) => Err(Fault::OnlyWith {
+            option: "multiline",
+            with: "--quotes double",
+        }),
+        (Some("none"), false) => Ok(Quotes::Plain),
+        (_, true) => Ok(Quotes::Multiline),
+        (_, false) => Ok(Quotes::OneLine),
+    }
+}
+
+/// Refuses what a binary log has no use for, and what would change nothing there.
+///
+/// # Errors
+///
+/// [`Fault::OnlyWith`] for the first such option.
+fn check_format(options: &ArgMatches<'_>) -> Result<(), Fault>
+    ensures unwritten { IfErr result (λ e. status_of_fault e ≢ 8) }
+{
+    let missing: Option<u64> = options.get_one("missing-size");
+    let option = if options.get_str("from") != Some("oracle-general") {
+        return Ok(());
+    } else if missing.is_some() {
+        "missing-size"
+    } else if options.get_flag("multiline") {
+        "multiline"
+    } else if options.get_str("quotes") == Some("none") {
+        "quotes none"
+    } else {
+        return Ok(());
+    };
+    Err(Fault::OnlyWith {
+        option,
+        with: "--from csv",
+    })
+}
+
+/// How the columns of a log of fields are found, and whether times have to be whole.
+fn layout(alloc: Global, options: &ArgMatches<'_>, whole_times: bool) -> Result<Layout, Fault>
+    ensures unwritten { IfErr result (λ e. status_of_fault e ≢ 8) }
+{
+    check_format(options)?;
     Ok(Layout {
         delimiter: delimiter(options).ok_or(Fault::Delimiter)?,
+        quotes: quotes(options)?,
         time: needed_column(alloc, options, "time")?,
+        whole_times,
         object: needed_column(alloc, options, "object")?,
         size: needed_column(alloc, options, "size")?,
+        missing_size: options.get_one("missing-size"),
         edge: column(alloc, options, "edge")?,
         kind: column(alloc, options, "kind")?,
     })
@@ -215,21 +295,29 @@ fn column(alloc: Global, options: &ArgMatches<'_>, name: &str) -> Result<Option<
     Ok(Some(column))
 }
 
-/// Tells how many rows of a log a command kept, and how many were left out, by the reason; a writer that fails is let be.
+/// Tells how many rows of a log a command kept, of how many of these the size was clamped, and how many were left out, by the reason.
+/// Where the writer fails, that is ignored.
 pub(crate) fn tell<E: Write>(command: &str, counts: Counts, err: &mut E) {
-    let LeftOut {
-        length,
-        time,
-        edge,
-        object,
-        size,
-        kind,
-    } = counts.left_out;
-    let kept = counts.kept;
+    let Counts {
+        kept,
+        clamped,
+        left_out,
+    } = counts;
     write_line(
         err,
-        format_args!(
-            "{command} kept {kept} left out: length {length} time {time} edge {edge} object {object} size {size} kind {kind}"
-        ),
+        format_args!("{command} kept {kept} clamped {clamped} left out: {left_out}"),
     );
+}
+
+/// Says how many of the kept rows have the time and the object of another one, and what parts them, where they are more than one in a
+/// hundred. Where the writer fails, that is ignored.
+fn advise<E: Write>(kept: u64, crowded: u64, err: &mut E) {
+    if u128::from(crowded) * 100 > u128::from(kept) {
+        write_line(
+            err,
+            format_args!(
+                "import: {crowded} of {kept} rows have the time and the object of another; --spread spreads the rows of a time over its unit"
+            ),
+        );
+    }
 }

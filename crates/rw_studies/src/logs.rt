@@ -7,7 +7,7 @@ use crate::fault::Fault;
 use crate::importing::{epoch, tell};
 use clap::ArgMatches;
 use rw_console::{CommandFault, Out, Source};
-use rw_import::{Counts, DEFAULT_TICKS, Dealing, Options, OracleRows, Streaming};
+use rw_import::{Counts, DEFAULT_TICKS, Dealing, Opened, Options, OracleRows, Streaming};
 use rw_progress::{Line, Measure};
 use rw_replay::{Telling, replay_rows};
 use rw_runs::{config, outlook};
@@ -91,7 +91,7 @@ pub(crate) fn open_log<S: Source>(
     options: &ArgMatches<'_>,
     edges: u32,
     source: &mut S,
-) -> Result<OracleRows<S::Reader>, Fault>
+) -> Result<OracleRows<Opened<S::Reader>>, Fault>
     ensures edges { IfOk result (λ rows. rows.edges ≡ edges) }
     ensures latest { IfOk result (λ rows. rows.latest ≡ 0) }
     ensures most { IfOk result (λ rows. rows.most ≡ most_streamed_rows) }
@@ -107,7 +107,7 @@ pub(crate) fn open_log<S: Source>(
         epoch: epoch(options)?,
     };
     let path = options.get_str("trace").ok_or(CommandFault::Plan)?;
-    let log = source.open(path)?;
+    let log = rw_import::open_log(alloc, source.open(path)?)?;
     Ok(OracleRows::open(alloc, log, &streaming)?)
 }
 
@@ -115,6 +115,7 @@ pub(crate) fn open_log<S: Source>(
 pub(crate) fn counts_of<R: Read + Drop>(rows: &OracleRows<R>) -> Counts {
     Counts {
         kept: rows.kept(),
+        clamped: 0,
         left_out: rows.left_out(),
     }
 }

@@ -9,10 +9,11 @@ use Rattle.rw_import.specs.Csv.{beside, field_in, record_said}
 use Rattle.rw_import.specs.Log.{earlier}
 use Rattle.rw_import.specs.declared.entry.Entry.{Entry}
 use Rattle.rw_import.specs.declared.fault.Flaw.{Flaw}
+use Rattle.rw_import.proofs.OneLine.{line-more}
 use Rattle.rw_import.proofs.csv_log.least_left.Goals as goal
 
 pub loop-row-init : goal.loop-row-init
-loop-row-init g c = record { steady = c.requires; meaning = refl }
+loop-row-init g c = record { steady = c.requires; lines = refl; meaning = refl }
 
 pub loop-row-preserved : goal.loop-row-preserved
 loop-row-preserved g c =
@@ -23,6 +24,7 @@ loop-row-preserved g c =
     let least = c.lesser-least.ensures text ∙ ap (λ (r : Result Entry Flaw). earlier c.loop-row.least (beside text r)) c.read_fields.ensures.said in
     record {
       steady = c.in_ok-next_record.ensures.steady c.if-not-branch.false;
+      lines = line-more c.args.quotes (unread c.args.reader.now) (unread c.loop-row.reader) (fields_of c.next_record.new.fields) (unread c.next_record.new.reader) c.loop-row.invariant.lines gives (sym c.has_its_lines.ensures ∙ c.if-not-has_its_lines.false);
       meaning = c.loop-row.invariant.meaning
           ∙ ap (λ (rs : List Fields). fold earlier c.loop-row.least (map said rs)) gives
           ∙ ap (λ (m : Option ℕ). fold earlier m (map said (unread c.next_record.new.reader))) (sym least);

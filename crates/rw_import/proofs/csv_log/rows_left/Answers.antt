@@ -6,7 +6,7 @@ use Rattle.csv.specs.Records.{fields_of}
 use Rattle.rw_trace.specs.Unread.{unread}
 use Rattle.rw_import.specs.Csv.{beside, is_same_text}
 use Rattle.rw_import.specs.Sheet.{texts_in}
-use Rattle.rw_import.proofs.Collecting.{counts-none, keepable-beside, so-far-next, so-far-none, so-far-stops, timely-kept}
+use Rattle.rw_import.proofs.Collecting.{clamped-none, counts-none, keepable-beside, so-far-next, so-far-none, so-far-stops, timely-kept}
 use Rattle.rw_import.proofs.csv_log.rows_left.Goals as goal
 
 pub loop-row-init : goal.loop-row-init
@@ -15,8 +15,8 @@ loop-row-init g c =
     let made = c.blank_sheet-sheet.ensures in
     record {
       steady = c.requires.steady;
-      counts = counts-none sheet.left_out made.left_out;
-      so_far = so-far-none c.args.terms.places c.args.terms.edges c.args.terms.options c.args.terms.least (unread c.args.reader.now) (texts_in c.args.texts.now) sheet c.requires.none made.rows made.left_out;
+      counts = (counts-none sheet.left_out made.left_out, clamped-none sheet.clamped made.clamped);
+      so_far = so-far-none c.args.terms.places c.args.terms.edges c.args.terms.options c.args.terms.least (unread c.args.reader.now) (texts_in c.args.texts.now) sheet c.requires.none made.rows made.left_out made.clamped;
     }
 
 pub add_named-requires-clause-timely : goal.add_named-requires-clause-timely
