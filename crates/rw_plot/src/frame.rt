@@ -83,7 +83,7 @@ impl Frame {
         }
     }
 
-    /// The height of the picture of so many polylines.
+    /// The height of a picture with this many polylines.
     pub(crate) fn height(self, many: usize) -> Hundredths {
         let (_, below_legend) = self.entry(many);
         let below_chart = self.bottom().saturating_add(BELOW);

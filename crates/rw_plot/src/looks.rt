@@ -71,7 +71,7 @@ impl Rest {
 /// The rests of names, each with its place in their order.
 type Rests = BTreeMap<Rest, usize>;
 
-/// The rests of the names of these polylines, their colours telling a part.
+/// What the names of these polylines have besides the part that their colours tell apart.
 fn rests_of(alloc: Global, all: &AllSeries, part: Part) -> Result<Rests, AllocError> {
     let mut rests = BTreeMap::new(alloc);
     for name in all.keys() {
