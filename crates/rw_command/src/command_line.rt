@@ -13,6 +13,7 @@ use rw_runs::{OUTLOOK, config};
 use rw_studies::{Fault, import, join, plot, serial, sweep};
 use std::alloc::Global;
 use std::io::Write;
+use std::random::RandomSource;
 use std::sync::Wait;
 use std::thread::Threads;
 use std::time::Clock;
@@ -31,12 +32,12 @@ use std::time::Clock;
 /// | 0 | done, also after help |
 /// | 2 | the command line, or the schedule |
 /// | 3 | the trace, log, sweep or its parts were refused |
-/// | 4 | its file cannot be read |
+/// | 4 | its file, or random bytes of the system, cannot be read |
 /// | 5 | memory |
 /// | 6 | all rounds of the plan are used, or the start of a thread was refused |
 /// | 7 | a cache is exhausted |
 /// | 8 | output failed |
-pub fn command<S: Source, W: Write, E: Write, R: Threads + Wait + Clock + Sync>(
+pub fn command<S: Source, W: Write, E: Write, R: Threads + Wait + Clock + RandomSource + Sync>(
     rt: &R,
     alloc: Global,
     words: Vec<String>,
@@ -54,7 +55,7 @@ pub fn command<S: Source, W: Write, E: Write, R: Threads + Wait + Clock + Sync>(
 
 /// The same, where `err` may be a terminal: there one line shows how far `serial`, `warp`, `import` and `sweep` have come, unless the
 /// words ask for quiet. It is taken away before anything else goes to `out` or `err`, which may be the same terminal.
-pub fn command_at<S: Source, W: Write, E: Write, R: Threads + Wait + Clock + Sync>(
+pub fn command_at<S: Source, W: Write, E: Write, R: Threads + Wait + Clock + RandomSource + Sync>(
     rt: &R,
     alloc: Global,
     words: Vec<String>,
@@ -78,7 +79,7 @@ pub fn command_at<S: Source, W: Write, E: Write, R: Threads + Wait + Clock + Syn
 }
 
 /// Does what the words ask.
-fn attempt<S: Source, W: Write, E: Write, R: Threads + Wait + Clock + Sync>(
+fn attempt<S: Source, W: Write, E: Write, R: Threads + Wait + Clock + RandomSource + Sync>(
     rt: &R,
     alloc: Global,
     words: &[String],
@@ -124,7 +125,7 @@ fn not_taken(words: &[String]) -> Option<Fault>
 }
 
 /// Does what `clap` has understood.
-fn carry_out<S: Source, W: Write, E: Write, R: Threads + Wait + Clock + Sync>(
+fn carry_out<S: Source, W: Write, E: Write, R: Threads + Wait + Clock + RandomSource + Sync>(
     rt: &R,
     alloc: Global,
     matches: &ArgMatches<'_>,
@@ -208,7 +209,7 @@ fn plan(options: &ArgMatches<'_>) -> Option<Plan> {
 }
 
 /// Runs the trace that a command names, through the caches that its options say.
-fn run<S: Source, P: Progress, W: Write, R: Threads + Wait + Sync>(
+fn run<S: Source, P: Progress, W: Write, R: Threads + Wait + Clock + Sync>(
     rt: &R,
     alloc: Global,
     options: &ArgMatches<'_>,

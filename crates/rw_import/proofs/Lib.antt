@@ -13,7 +13,6 @@ pub mod Pieces
 pub mod Reread
 pub mod Sheets
 pub mod SpreadLaws
-pub mod SpreadParts
 pub mod Spreads
 pub mod Streams
 pub mod Texts

@@ -1,5 +1,5 @@
 -- Rows of one time of a log, spread within its unit.
-use Rattle.std.specs.Prelude.{◌≡◌, ◌≤◌, ◌<◌, ◌⊎◌, ◌+◌, ◌*◌, ◌/◌, ◌==◌, ◌&&◌, ℕ, List, Bool, Some, All, count_by, if◌then◌else◌, length, map, nat_le, slice_get, take, unwrap_or}
+use Rattle.std.specs.Prelude.{◌≡◌, ◌≤◌, ◌<◌, ◌+◌, ◌*◌, ◌/◌, ◌==◌, ◌&&◌, ℕ, List, Bool, Some, All, count_by, if◌then◌else◌, length, map, nat_le, slice_get, take, unwrap_or}
 use Rattle.std.specs.HashMap.{HashMap, get}
 use Rattle.std.specs.List.{enumerate_from}
 use Rattle.rw_numbers.specs.Words.{Count, Object, Position, Time}
@@ -33,14 +33,6 @@ AreWhole ticks rows = All (λ r. (units : Count) × (r.time ≡ units * ticks)) 
 -- no two rows have one time
 abbrev pub AreSingle : List Row → Type 0
 AreSingle rows = All (λ r. rows_at rows r.time ≡ 1) rows
-
--- all rows have one time
-abbrev pub AreOfOneTime : List Row → Type 0
-AreOfOneTime rows = (t : Time) × All (λ r. r.time ≡ t) rows
-
--- each time is that of none of some rows, or of none of some others
-abbrev pub ShareNoTime : List Row → List Row → Type 0
-ShareNoTime xs ys = (t : Time) → (rows_at xs t ≡ 0) ⊎ (rows_at ys t ≡ 0)
 
 -- a row that stands at a place of some rows, and what stands there afterwards
 pub record StandsAt (old new : List Row) (i : Position) (was is : Row) : Type 0 where

@@ -9,7 +9,7 @@ ghost use Rattle.rw_trace.specs.Trace.{trace_of};
 ghost use Rattle.rw_trace.specs.Pieces.{Gives, GivesNone, MayRead, records_ahead};
 ghost use Rattle.rw_trace.specs.Unread.{Steady, records_of, unread};
 ghost use Rattle.rw_trace.specs.Words.{Fields, Text};
-ghost use Rattle.rw_import.specs.Csv.{HaveOneNumberEach, IsCsvFault, beside, has_quotes, have_their_lines, columns_found, csv_rows, csv_rows_unspread, csv_said, csv_told, edges_of, entry_of, has_header, is_named, is_named_if, is_same_text, log_records, objects_in, place_if, place_in, places_in, record_said, record_told, rows_under, with_text};
+ghost use Rattle.rw_import.specs.Csv.{HaveOneNumberEach, IsCsvFault, beside, has_quotes, have_their_lines, columns_found, csv_rows, csv_rows_unspread, csv_said, csv_told, edges_of, entry_of, has_header, is_named, is_named_if, is_same_text, log_records, objects_in, place_if, place_in, places_in, record_said, record_told, rows_under};
 ghost use Rattle.rw_import.specs.CsvStream.{FindsColumns, IsColumnsFault};
 ghost use Rattle.rw_import.specs.Streamed.{IsOfLog};
 ghost use Rattle.rw_import.specs.Log.{AreEnough, IsRowsFault, clamped_in, IsStrictlyKept, earlier, first_time, kept_in, left_out_of};
@@ -24,12 +24,12 @@ use crate::csv_row::{field_of, has_its_lines, read_fields};
 use crate::entry::{Entry, Imported};
 use crate::fault::{Flaw, ImportFault, Part};
 use crate::layout::{Column, Layout, Places, Quotes};
+use crate::numbering::{Texts, number_of};
 use crate::options::{MAX_EDGES, Options};
 use crate::oracle::finish;
 use crate::reading::{Reading, begin};
 use crate::sheet::{Sheet, add, blank_sheet, check_losses, counts_of, last_tick};
 use csv::{ByteRecord, Reader, ReaderBuilder};
-use indexmap::IndexSet;
 use rw_progress::Progress;
 use rw_trace::{MAX_TIME, RowsFault, next_record, read_record};
 use std::alloc::Global;
@@ -303,35 +303,10 @@ fn first_of<P: Progress>(
     )
 }
 
-/// The text of a field.
-fn owned(alloc: Global, field: &[u8]) -> Result<Vec<u8>, ImportFault>
-    ensures text { IfOk result (λ v. v.items ≡ field.now) }
-    ensures refused { IfErr result (λ e. e ≡ Memory) }
-{
-    Vec::from_slice(alloc, field).map_err(|_| ImportFault::Memory)
-}
-
-/// The number of a text among those so far and it. Takes memory only for a new text.
-#[tactic(auto, using(crate::proofs::Texts::item_rules))]
-fn number_of(alloc: Global, texts: &mut IndexSet<Vec<u8>>, text: &[u8]) -> Result<u64, ImportFault>
-    ensures number { IfOk result (λ n.
-        n ≡ position_or_len (is_same_text text.now) (texts_in texts.old)) }
-    ensures texts { OnOk result (texts_in texts.new ≡ with_text (texts_in texts.old) text.now) }
-    ensures refused { IfErr result (λ e. e ≡ Memory) }
-{
-    if let Some(known) = texts.get_index_of(text) {
-        return Ok(known as u64);
-    }
-    let Ok((number, _)) = texts.insert_full(owned(alloc, text)?) else {
-        return Err(ImportFault::Memory);
-    };
-    Ok(number as u64)
-}
-
 /// What a row says, its object by number, among the texts so far and its own if it is kept.
 pub fn numbered(
     alloc: Global,
-    texts: &mut IndexSet<Vec<u8>>,
+    texts: &mut Texts,
     text: &[u8],
     said: Result<Entry, Flaw>,
 ) -> Result<Result<(Entry, u64), Flaw>, ImportFault>
@@ -380,7 +355,7 @@ fn judge(fields: &ByteRecord, terms: Terms) -> Result<Entry, Flaw>
 /// texts from then on.
 fn add_named(
     alloc: Global,
-    texts: &mut IndexSet<Vec<u8>>,
+    texts: &mut Texts,
     sheet: &mut Sheet,
     terms: Terms,
     row: u64,
@@ -412,7 +387,7 @@ fn rows_left<P: Progress>(
     alloc: Global,
     reader: &mut Reader<&[u8]>,
     fields: &mut ByteRecord,
-    texts: &mut IndexSet<Vec<u8>>,
+    texts: &mut Texts,
     terms: Terms,
     reading: &mut Reading<'_, P>,
 ) -> Result<Sheet, ImportFault>
@@ -474,7 +449,7 @@ fn collect<P: Progress>(
         options,
         least,
     };
-    let mut texts = IndexSet::new(alloc);
+    let mut texts = Texts::with_hasher(alloc, layout.keys);
     rows_left(alloc, &mut reader, &mut fields, &mut texts, terms, reading)
 }
 

@@ -17,13 +17,13 @@ use crate::csv_row::{field_of, has_its_lines, read_fields};
 use crate::entry::{Counts, Entry};
 use crate::fault::{Flaw, ImportFault};
 use crate::layout::{Layout, Places, Quotes};
+use crate::numbering::Texts;
 use crate::options::{Options, Streaming};
 use crate::reading::Reading;
 use crate::stream::{
     Stream, add_line, empty_stream, end_stream, judge_since, judge_stream, send_full,
 };
 use csv::{ByteRecord, Reader};
-use indexmap::IndexSet;
 use rw_output::Out;
 use rw_progress::Progress;
 use std::alloc::Global;
@@ -36,7 +36,7 @@ pub struct Log<R> {
     /// Room for a record.
     pub fields: ByteRecord,
     /// The texts of the objects of the rows that are kept.
-    pub texts: IndexSet<Vec<u8>>,
+    pub texts: Texts,
     /// Where the columns stand.
     pub places: Places,
     /// How many edges the trace is for.
@@ -72,7 +72,7 @@ fn open_log<R: Read + Drop>(
     Ok(Log {
         reader,
         fields,
-        texts: IndexSet::new(alloc),
+        texts: Texts::with_hasher(alloc, layout.keys),
         places,
         edges,
         quotes: layout.quotes,

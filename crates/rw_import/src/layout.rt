@@ -1,4 +1,6 @@
-//! How the columns of a log are found.
+//! How a log of fields is read.
+
+use std::hash::RandomState;
 
 /// Which column of a log.
 #[derive(Drop)]
@@ -21,7 +23,7 @@ pub enum Quotes {
     Plain,
 }
 
-/// Which bytes part the fields of a log, and which columns its rows are read from.
+/// Which bytes part the fields of a log, which columns its rows are read from, and how the texts of its objects are hashed.
 #[derive(Drop)]
 pub struct Layout {
     /// The byte between two fields.
@@ -43,6 +45,8 @@ pub struct Layout {
     pub edge: Option<Column>,
     /// The column of kinds, if there is one: `get` or `purge`, in capitals or not.
     pub kind: Option<Column>,
+    /// The keys of the hash by which the text of an object is found. No number of an object depends on them.
+    pub keys: RandomState,
 }
 
 /// Where the columns of a log stand, from 0; whether times have to be whole; and the size of a row that names none.

@@ -18,6 +18,7 @@ mod fault;
 mod first;
 mod format;
 mod layout;
+mod numbering;
 mod options;
 mod oracle;
 mod oracle_rows;
@@ -43,5 +44,5 @@ pub use options::{
 pub use oracle::import_oracle;
 pub use oracle_rows::OracleRows;
 pub use oracle_stream::stream_oracle;
-pub use spreading::{Held, crowded, spread, spread_one_time};
+pub use spreading::{crowded, spread};
 pub use text::write_trace;

@@ -4,12 +4,12 @@
 //! them different ones: of the n rows of one time, the k-th (from 0, in the order of the rows) comes
 //! k n-ths of a unit later, rounded down.
 
-ghost use Rattle.std.specs.Prelude.{◌≡◌, ◌≤◌, ◌<◌, ◌+◌, ◌*◌, ◌/◌, ◌^◌, ◌++◌, ◌∷◌, [], All, IfOk, OnOk, cond, false, nat_eq, true};
+ghost use Rattle.std.specs.Prelude.{◌≡◌, ◌≤◌, ◌<◌, ◌+◌, ◌*◌, ◌/◌, ◌^◌, All, IfOk, OnOk, cond, nat_eq};
 ghost use Rattle.rw_numbers.specs.Words.{Time};
 ghost use Rattle.rw_trace.specs.Limits.{latest_time};
 ghost use Rattle.rw_trace.specs.declared.Row.{Row as TraceRow};
 ghost use Rattle.rw_import.specs.Limits.{most_unit_ticks};
-ghost use Rattle.rw_import.specs.Spread.{AreOfOneTime, SpreadsRows, crowded, is_same, request_of, rows_at, rows_like, spread, times_in};
+ghost use Rattle.rw_import.specs.Spread.{SpreadsRows, crowded, is_same, request_of, rows_at, rows_like, spread, times_in};
 
 use rw_trace::Row;
 use std::alloc::{AllocError, Global};
@@ -94,64 +94,6 @@ pub fn spread(alloc: Global, rows: &mut Vec<Row>, ticks: u64) -> Result<(), Allo
 {
     let counts = count_times(alloc, rows)?;
     spread_counted(alloc, rows, &counts, ticks)
-}
-
-/// Spreads rows that all have one time, as [`spread`] does. Takes no memory.
-pub fn spread_one_time(rows: &mut [Row], ticks: u64)
-    requires some { 1 ≤ ticks }
-    requires few { ticks ≤ most_unit_ticks }
-    requires times { All (λ r. r.time ≤ latest_time) rows.old }
-    requires one { AreOfOneTime rows.old }
-    ensures effect { rows.new ≡ spread ticks rows.old }
-    ensures law { SpreadsRows ticks rows.old rows.new }
-{
-    let count = rows.len() as u64;
-    for (before, row) in rows.iter_mut().enumerate() {
-        row.time += ticks_after(before as u64, count, ticks);
-    }
-}
-
-/// Rows of one time that wait for the next time to come. Where rows come in order of time, those of a time can be
-/// spread as soon as a row of another time comes, and need not wait for the others.
-#[derive(Drop)]
-pub struct Held {
-    /// The rows, in the order in which they came.
-    pub rows: Vec<Row>,
-}
-
-impl Held {
-    /// No rows.
-    pub fn new(alloc: Global) -> Held
-        ensures { result.rows.items ≡ [] }
-    {
-        Held {
-            rows: Vec::new(alloc),
-        }
-    }
-
-    /// Whether a row has the time of the rows held. True where none is held.
-    pub fn has_time_of(&self, row: &Row) -> bool
-        requires { AreOfOneTime self.now.rows.items }
-        ensures same { result ≡ true → AreOfOneTime (self.now.rows.items ++ row.now ∷ []) }
-        ensures other { result ≡ false → rows_at self.now.rows.items row.now.time ≡ 0 }
-    {
-        match self.rows.first() {
-            Some(first) => first.time == row.time,
-            None => true,
-        }
-    }
-
-    /// Spreads the rows held, as [`spread`] does. Takes no memory.
-    pub fn spread(&mut self, ticks: u64)
-        requires some { 1 ≤ ticks }
-        requires few { ticks ≤ most_unit_ticks }
-        requires times { All (λ r. r.time ≤ latest_time) self.old.rows.items }
-        requires one { AreOfOneTime self.old.rows.items }
-        ensures effect { self.new.rows.items ≡ spread ticks self.old.rows.items }
-        ensures law { SpreadsRows ticks self.old.rows.items self.new.rows.items }
-    {
-        spread_one_time(&mut self.rows, ticks)
-    }
 }
 
 /// How many rows have each time and object.

@@ -53,7 +53,7 @@ pub(crate) const ROUNDS: [Argument; 9] = [
         name: "rounds",
         value: Value::Count(1_048_576),
         given: Given::Or("65536"),
-        help: "Rounds after which the run is given up, 1 to 1048576",
+        help: "Rounds that are made at most, then one worker goes on alone, 1 to 1048576",
     },
     Argument {
         name: "lazy",

@@ -9,8 +9,10 @@ use rw_progress::Silent;
 use rw_ripqwarp::Out;
 use std::alloc::{AllocError, Global};
 use std::fmt::Write as _;
+use std::hash::RandomState;
 use std::io;
 use std::io::{ErrorKind, Read};
+use std::random::RandomSource;
 
 /// Four records, each of a time, an object, a size and a number that says nothing: good, of no size and the earliest time, good,
 /// and cut off.
@@ -75,34 +77,33 @@ fn an_empty_log_is_no_trace(rt: HostRuntime) {
 }
 
 #[test]
-fn a_log_of_which_no_row_can_be_used_is_no_trace(rt: HostRuntime) {
+fn a_log_of_which_no_row_can_be_used_is_no_trace(rt: HostRuntime) -> io::Result<()> {
     let alloc = rt.alloc();
     let answer = imported(alloc, b"short", false);
     let Some(Err(fault)) = answer else {
         assert!(rt; false);
-        return;
+        return Ok(());
     };
     assert!(rt; is_shown(&fault, "log: nothing kept: record 1: cut off"));
-    let answer = streamed(alloc, b"x,a,5\n", &numbered(None), streaming(None, false));
+    let answer = streamed(
+        alloc,
+        b"x,a,5\n",
+        &numbered(&rt, None)?,
+        streaming(None, false),
+    );
     let line = "log: nothing kept: line 1: time: expected a number, found \"x\"";
     assert!(rt; is_cut_off(answer, line, b""));
+    Ok(())
 }
 
 #[test]
-fn more_rows_left_out_than_may_be_refuse_a_log(rt: HostRuntime) {
+fn more_rows_left_out_than_may_be_refuse_a_log(rt: HostRuntime) -> io::Result<()> {
     let alloc = rt.alloc();
     let log = b"1,a,5\n2,b,0\n3,c,7\n";
+    let layout = numbered(&rt, None)?;
     for (most, is_few) in [(0, false), (33, false), (34, true), (100, true)] {
         let how = options(false).and_then(|options| options.with_max_left_out(most));
-        let answer = how.map(|options| {
-            import_csv(
-                alloc,
-                log.as_slice(),
-                &numbered(None),
-                &options,
-                &mut Silent,
-            )
-        });
+        let answer = how.map(|how| import_csv(alloc, log.as_slice(), &layout, &how, &mut Silent));
         assert!(rt; matches!(answer, Some(Ok(_))) == is_few);
     }
     let line = "log: 1 of 3 rows left out, more than --max-left-out 33 percent: \
@@ -113,19 +114,20 @@ fn more_rows_left_out_than_may_be_refuse_a_log(rt: HostRuntime) {
         options,
         epoch: None,
     });
-    let answer = streamed(alloc, log.as_slice(), &numbered(None), streaming);
+    let answer = streamed(alloc, log.as_slice(), &layout, streaming);
     assert!(rt; is_cut_off(answer, line, b""));
+    Ok(())
 }
 
 #[test]
-fn a_line_end_in_a_field_refuses_a_log(rt: HostRuntime) {
+fn a_line_end_in_a_field_refuses_a_log(rt: HostRuntime) -> io::Result<()> {
     let alloc = rt.alloc();
     let log = b"1,a,5\n2,\"b\nc\",6\n3,d,7\n";
     let line = "log: line 2: quote not closed";
     for quotes in [Quotes::OneLine, Quotes::Multiline, Quotes::Plain] {
         let layout = Layout {
             quotes,
-            ..numbered(None)
+            ..numbered(&rt, None)?
         };
         let how = options(false);
         let whole = how.map(|how| import_csv(alloc, log.as_slice(), &layout, &how, &mut Silent));
@@ -148,15 +150,16 @@ fn a_line_end_in_a_field_refuses_a_log(rt: HostRuntime) {
             _ => assert!(rt; false),
         }
     }
+    Ok(())
 }
 
 #[test]
-fn sizes_that_are_missing_or_too_large(rt: HostRuntime) {
+fn sizes_that_are_missing_or_too_large(rt: HostRuntime) -> io::Result<()> {
     let alloc = rt.alloc();
     let log = b"1,a,-\n1,b,0\n1,c,\n1,d,4294967296\n1,e,4294967295\n1,f,x\n";
     let layout = Layout {
         missing_size: Some(9),
-        ..numbered(None)
+        ..numbered(&rt, None)?
     };
     let text =
         b"time,edge,object,size\n0,0,0,9\n0,1,1,9\n0,0,2,9\n0,1,3,4294967295\n0,0,4,4294967295\n";
@@ -167,15 +170,16 @@ fn sizes_that_are_missing_or_too_large(rt: HostRuntime) {
     let piecewise = streamed(alloc, log, &layout, streaming(None, false));
     assert!(rt; matches!(&piecewise, Some((Ok(counts), _)) if counts.clamped == 1));
     assert!(rt; is_written(piecewise, (text, 5), [0, 0, 0, 0, 1, 0]));
+    Ok(())
 }
 
 #[test]
-fn rows_of_one_second_are_spread(rt: HostRuntime) {
+fn rows_of_one_second_are_spread(rt: HostRuntime) -> io::Result<()> {
     let alloc = rt.alloc();
     let log = b"5,a,1\n6,b,2\n5,a,3\n5.5,c,4\n5,d,5\n";
     let layout = Layout {
         whole_times: true,
-        ..numbered(None)
+        ..numbered(&rt, None)?
     };
     let text = b"time,edge,object,size\n0,0,0,1\n1000,1,1,2\n333,0,0,3\n666,1,2,5\n";
     let how = options(false).map(|how| how.with_spread(true));
@@ -185,31 +189,34 @@ fn rows_of_one_second_are_spread(rt: HostRuntime) {
     let how = options(false);
     let answer = how.map(|how| import_csv(alloc, log.as_slice(), &layout, &how, &mut Silent));
     assert!(rt; matches!(&answer, Some(Ok(imported)) if imported.crowded == 2));
+    Ok(())
 }
 
 #[test]
-fn more_rows_than_ticks_share_ticks(rt: HostRuntime) {
+fn more_rows_than_ticks_share_ticks(rt: HostRuntime) -> io::Result<()> {
     let alloc = rt.alloc();
     let log = b"2,a,1\n2,b,1\n2,c,1\n3,d,1\n3,e,1\n3,f,1\n3,g,1\n";
     let layout = Layout {
         whole_times: true,
-        ..numbered(None)
+        ..numbered(&rt, None)?
     };
     let text =
         b"time,edge,object,size\n0,0,0,1\n0,1,1,1\n1,0,2,1\n2,1,3,1\n2,0,4,1\n3,1,5,1\n3,0,6,1\n";
     let how = Options::new(2, 2, Dealing::ByRow, false).map(|how| how.with_spread(true));
     let answer = how.map(|how| import_csv(alloc, log.as_slice(), &layout, &how, &mut Silent));
     assert!(rt; is_kept(answer, (text, 7), [0, 0, 0, 0, 0, 0]));
+    Ok(())
 }
 
 #[test]
-fn rows_of_one_time_and_object_are_crowded(rt: HostRuntime) {
+fn rows_of_one_time_and_object_are_crowded(rt: HostRuntime) -> io::Result<()> {
     let alloc = rt.alloc();
     let log = b"0,a,1\n0,b,1\n0,a,1\n1,a,1\n0,a,1\n1,c,1\n1,c,1\n";
     let how = options(false);
-    let layout = numbered(None);
+    let layout = numbered(&rt, None)?;
     let answer = how.map(|how| import_csv(alloc, log.as_slice(), &layout, &how, &mut Silent));
     assert!(rt; matches!(&answer, Some(Ok(imported)) if imported.crowded == 5));
+    Ok(())
 }
 
 #[test]
@@ -271,7 +278,7 @@ fn named(alloc: Global, first: &[u8], second: &[u8]) -> Result<(Column, Column),
 }
 
 /// The layout in which all columns have names, but for that of the sizes.
-fn layout(alloc: Global) -> Result<Layout, AllocError> {
+fn layout<R: RandomSource>(rt: &R, alloc: Global) -> io::Result<Layout> {
     let (time, object) = named(alloc, b"t", b"o")?;
     let (edge, kind) = named(alloc, b"e", b"k")?;
     Ok(Layout {
@@ -284,13 +291,17 @@ fn layout(alloc: Global) -> Result<Layout, AllocError> {
         missing_size: None,
         edge: Some(edge),
         kind: Some(kind),
+        keys: RandomState::new(rt)?,
     })
 }
 
 /// Nine rows of fields, imported in this layout.
-fn fields_imported(alloc: Global) -> Option<Result<Imported, ImportFault>> {
+fn fields_imported<R: RandomSource>(
+    rt: &R,
+    alloc: Global,
+) -> Option<Result<Imported, ImportFault>> {
     let options = options(false)?;
-    let layout = layout(alloc).ok()?;
+    let layout = layout(rt, alloc).ok()?;
     let log =
         b"size;t;o;k;e\n5;10.5;b;GET;255\n6;9;a;get;256\n7;9.0000000009;a;Purge;3\n0;9;a;get;1\n8;12.25;b;get;0\n3;x;b;get;0\n3;1;;get;0\n3;1;b;no;0\n3;1\n";
     Some(import_csv(alloc, log.as_slice(), &layout, &options, &mut Silent))
@@ -299,7 +310,29 @@ fn fields_imported(alloc: Global) -> Option<Result<Imported, ImportFault>> {
 #[test]
 fn fields_become_rows(rt: HostRuntime) {
     let text = b"time,edge,object,size,kind\n1500,255,0,5,get\n0,3,1,7,purge\n3250,0,0,8,get\n";
-    assert!(rt; is_kept(fields_imported(rt.alloc()), (text, 3), [1; 6]));
+    assert!(rt; is_kept(fields_imported(&rt, rt.alloc()), (text, 3), [1; 6]));
+}
+
+/// A source whose bytes are all this one.
+#[derive(Clone, Copy)]
+struct Same(u8);
+
+impl RandomSource for Same {
+    fn fill_bytes(&self, buf: &mut [u8]) -> io::Result<()> {
+        for byte in buf {
+            *byte = self.0;
+        }
+        Ok(())
+    }
+}
+
+#[test]
+fn objects_have_their_numbers_by_any_hash(rt: HostRuntime) {
+    let text = b"time,edge,object,size,kind\n1500,255,0,5,get\n0,3,1,7,purge\n3250,0,0,8,get\n";
+    for byte in [0, 1, 255] {
+        let answer = fields_imported(&Same(byte), rt.alloc());
+        assert!(rt; is_kept(answer, (text, 3), [1; 6]));
+    }
 }
 
 /// How a log is streamed: 1000 ticks a unit, two edges in turn.
@@ -311,8 +344,8 @@ fn streaming(epoch: Option<u128>, strict: bool) -> Option<Streaming> {
 }
 
 /// The layout whose columns are numbered: time, object, size, and the kind where there is one.
-fn numbered(kind: Option<Column>) -> Layout {
-    Layout {
+fn numbered<R: RandomSource>(rt: &R, kind: Option<Column>) -> io::Result<Layout> {
+    Ok(Layout {
         delimiter: b',',
         quotes: Quotes::OneLine,
         time: Column::At(0),
@@ -322,7 +355,8 @@ fn numbered(kind: Option<Column>) -> Layout {
         missing_size: None,
         edge: None,
         kind,
-    }
+        keys: RandomState::new(rt)?,
+    })
 }
 
 /// A writer that takes all.
@@ -397,23 +431,24 @@ fn is_cut_off(
 const ROWS: &[u8] = b"10,a,5\n10.5,b,6\n9.999,c,7\n10.5,a,8\nx,d,1\n11,c,9\n";
 
 #[test]
-fn fields_become_rows_as_they_are_read(rt: HostRuntime) {
+fn fields_become_rows_as_they_are_read(rt: HostRuntime) -> io::Result<()> {
     let alloc = rt.alloc();
     let text = b"time,edge,object,size\n0,0,0,5\n500,1,1,6\n500,0,0,8\n1000,1,2,9\n";
-    let answer = streamed(alloc, ROWS, &numbered(None), streaming(None, false));
+    let answer = streamed(alloc, ROWS, &numbered(&rt, None)?, streaming(None, false));
     assert!(rt; is_written(answer, (text, 4), [0, 2, 0, 0, 0, 0]));
-    let empty = streamed(alloc, b"", &numbered(None), streaming(None, true));
+    let empty = streamed(alloc, b"", &numbered(&rt, None)?, streaming(None, true));
     assert!(rt; is_cut_off(empty, "log: nothing kept: there is no row", b""));
+    Ok(())
 }
 
 #[test]
-fn an_epoch_moves_the_rows(rt: HostRuntime) {
+fn an_epoch_moves_the_rows(rt: HostRuntime) -> io::Result<()> {
     let alloc = rt.alloc();
     let text = b"time,edge,object,size\n2000,0,0,5\n2500,1,1,6\n2500,0,0,8\n3000,1,2,9\n";
     let early = streamed(
         alloc,
         ROWS,
-        &numbered(None),
+        &numbered(&rt, None)?,
         streaming(Some(8_000_000_000), false),
     );
     assert!(rt; is_cut_off(early, "log: row 2: order", b""));
@@ -421,7 +456,7 @@ fn an_epoch_moves_the_rows(rt: HostRuntime) {
     let moved = streamed(
         alloc,
         rows,
-        &numbered(None),
+        &numbered(&rt, None)?,
         streaming(Some(8_000_000_000), true),
     );
     assert!(rt; is_written(moved, (text, 4), [0; 6]));
@@ -429,37 +464,50 @@ fn an_epoch_moves_the_rows(rt: HostRuntime) {
     let cut = streamed(
         alloc,
         ROWS,
-        &numbered(None),
+        &numbered(&rt, None)?,
         streaming(Some(10_500_000_000), false),
     );
     assert!(rt; is_written(cut, (late, 3), [0, 3, 0, 0, 0, 0]));
+    Ok(())
 }
 
 #[test]
-fn a_row_past_the_latest_time_is_left_out(rt: HostRuntime) {
+fn a_row_past_the_latest_time_is_left_out(rt: HostRuntime) -> io::Result<()> {
     let alloc = rt.alloc();
     let rows = b"1,a,5\n549755815,a,6\n549755813,a,7\n2,a,8\n";
     let text = b"time,edge,object,size\n0,0,0,5\n549755812000,1,0,7\n";
-    let out_of_order = streamed(alloc, rows, &numbered(None), streaming(None, false));
+    let out_of_order = streamed(alloc, rows, &numbered(&rt, None)?, streaming(None, false));
     assert!(rt; is_cut_off(out_of_order, "log: row 3: order", b""));
-    let answer = streamed(alloc, &rows[..33], &numbered(None), streaming(None, false));
+    let answer = streamed(
+        alloc,
+        &rows[..33],
+        &numbered(&rt, None)?,
+        streaming(None, false),
+    );
     assert!(rt; is_written(answer, (text, 2), [0, 1, 0, 0, 0, 0]));
+    Ok(())
 }
 
 #[test]
-fn strict_names_the_first_row_refused(rt: HostRuntime) {
+fn strict_names_the_first_row_refused(rt: HostRuntime) -> io::Result<()> {
     let alloc = rt.alloc();
-    let answer = streamed(alloc, ROWS, &numbered(None), streaming(None, true));
+    let answer = streamed(alloc, ROWS, &numbered(&rt, None)?, streaming(None, true));
     assert!(rt; is_cut_off(answer, "log: row 2 column 0: time", b""));
-    let cut = streamed(alloc, b"1,a\n", &numbered(None), streaming(None, true));
+    let cut = streamed(
+        alloc,
+        b"1,a\n",
+        &numbered(&rt, None)?,
+        streaming(None, true),
+    );
     assert!(rt; is_cut_off(cut, "log: row 0: length", b""));
+    Ok(())
 }
 
 #[test]
-fn a_column_of_kinds_is_in_the_header(rt: HostRuntime) {
+fn a_column_of_kinds_is_in_the_header(rt: HostRuntime) -> io::Result<()> {
     let alloc = rt.alloc();
     let text = b"time,edge,object,size,kind\n0,0,0,5,get\n0,1,0,5,purge\n";
-    let layout = numbered(Some(Column::At(3)));
+    let layout = numbered(&rt, Some(Column::At(3)))?;
     let answer = streamed(
         alloc,
         b"1,a,5,get\n1,a,5,PURGE\n",
@@ -467,12 +515,13 @@ fn a_column_of_kinds_is_in_the_header(rt: HostRuntime) {
         streaming(None, true),
     );
     assert!(rt; is_written(answer, (text, 2), [0; 6]));
+    Ok(())
 }
 
 #[test]
-fn a_header_is_no_row(rt: HostRuntime) -> Result<(), AllocError> {
+fn a_header_is_no_row(rt: HostRuntime) -> io::Result<()> {
     let alloc = rt.alloc();
-    let layout = layout(alloc)?;
+    let layout = layout(&rt, alloc)?;
     let none = streamed(alloc, b"", &layout, streaming(None, false));
     assert!(rt; is_cut_off(none, "log: header", b""));
     let other = streamed(alloc, b"size;t;k;e\n", &layout, streaming(None, false));
@@ -526,7 +575,7 @@ fn lines(alloc: Global, rows: u32) -> Result<Vec<u8>, io::Error> {
 fn a_long_log_goes_out_in_chunks(rt: HostRuntime) -> Result<(), io::Error> {
     let alloc = rt.alloc();
     let log = many(alloc, 9000)?;
-    let answer = streamed(alloc, &log, &numbered(None), streaming(None, true));
+    let answer = streamed(alloc, &log, &numbered(&rt, None)?, streaming(None, true));
     assert!(rt; is_written(answer, (&lines(alloc, 9000)?, 9000), [0; 6]));
     Ok(())
 }
@@ -542,7 +591,7 @@ fn disordered(alloc: Global) -> Result<Vec<u8>, io::Error> {
 fn a_trace_that_is_cut_off_is_none(rt: HostRuntime) -> Result<(), io::Error> {
     let alloc = rt.alloc();
     let log = disordered(alloc)?;
-    let answer = streamed(alloc, &log, &numbered(None), streaming(None, true));
+    let answer = streamed(alloc, &log, &numbered(&rt, None)?, streaming(None, true));
     let Some((Err(fault), written)) = answer else {
         assert!(rt; false);
         return Ok(());
@@ -567,7 +616,13 @@ fn a_writer_that_fails_is_told(rt: HostRuntime) -> Result<(), io::Error> {
     for fails_at in [0, 1, 700, 1300] {
         for log in [&log, &disordered] {
             let mut out = Out::new(Hiccup::new(alloc, fails_at));
-            let answer = stream_fields(alloc, log.as_slice(), &numbered(None), &how, &mut out);
+            let answer = stream_fields(
+                alloc,
+                log.as_slice(),
+                &numbered(&rt, None)?,
+                &how,
+                &mut out,
+            );
             assert!(rt; matches!(answer, Some(Err(ImportFault::Output))));
             assert!(rt; out.failures() == 1);
             assert!(rt; out.into_inner().calls == fails_at.saturating_add(1));
@@ -608,7 +663,7 @@ fn a_reader_that_fails_is_told(rt: HostRuntime) -> Result<(), io::Error> {
             bytes: &log,
             fails_in,
         };
-        let answer = stream_fields(alloc, torn, &numbered(None), &how, &mut out);
+        let answer = stream_fields(alloc, torn, &numbered(&rt, None)?, &how, &mut out);
         let Some(Err(fault)) = answer else {
             assert!(rt; false);
             return Ok(());

@@ -41,4 +41,5 @@ status_of_fault (fault.Schedule f) = status_of_schedule f
 status_of_fault (fault.Import f) = status_of_log f
 status_of_fault (fault.Plot f) = status_of_table f
 status_of_fault (fault.Join f) = status_of_parts f
+status_of_fault fault.Random = 4
 status_of_fault f = 2

@@ -62,6 +62,9 @@ pub enum Fault {
     /// The lists have too many combinations.
     #[error("error: more than {0} combinations")]
     Combinations(u64),
+    /// The system gives no random bytes.
+    #[error("random bytes: cannot read")]
+    Random,
     /// The log was refused.
     #[error("{0}")]
     Import(ImportFault),
@@ -94,7 +97,7 @@ impl Fault {
             | Fault::Import(ImportFault::Memory)
             | Fault::Plot(PlotFault::Memory)
             | Fault::Join(JoinFault::Memory) => 5,
-            Fault::Import(ImportFault::Read) => 4,
+            Fault::Random | Fault::Import(ImportFault::Read) => 4,
             Fault::Import(ImportFault::Output) => 8,
             Fault::Import(_) | Fault::Plot(_) | Fault::Join(_) => 3,
         }

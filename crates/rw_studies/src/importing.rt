@@ -12,7 +12,9 @@ use rw_import::{
 };
 use rw_progress::{Line, Measure, Progress};
 use std::alloc::Global;
+use std::hash::RandomState;
 use std::io::Write;
+use std::random::RandomSource;
 use std::time::Clock;
 
 /// Reads the log that the options name, writes its trace, and tells what was left out of it; as it reads the log, where they ask for
@@ -20,11 +22,11 @@ use std::time::Clock;
 ///
 /// # Errors
 ///
-/// What the source answers, an [`ImportFault`](rw_import::ImportFault), a delimiter or an epoch that is none, and `Memory`; and
+/// What the source answers, an [`ImportFault`](rw_import::ImportFault), a delimiter or an epoch that is none, `Random`, and `Memory`; and
 /// [`CommandFault::Plan`] where an option is missing or out of its range, which the command line rules out. Nothing was written
 /// then, or, where the log is refused as it is read, a text that is no trace. `Output` exactly where the writer failed.
-pub fn import<S: Source, W: Write, E: Write, C: Clock>(
-    clock: &C,
+pub fn import<S: Source, W: Write, E: Write, R: Clock + RandomSource>(
+    rt: &R,
     alloc: Global,
     options: &ArgMatches<'_>,
     source: &mut S,
@@ -44,8 +46,8 @@ pub fn import<S: Source, W: Write, E: Write, C: Clock>(
     } else {
         Measure::Bytes
     };
-    let mut line = Line::new(err, clock, "import", measure, shown);
-    let converted = convert(alloc, options, source, &mut line, out);
+    let mut line = Line::new(err, rt, "import", measure, shown);
+    let converted = convert(rt, alloc, options, source, &mut line, out);
     drop(line);
     let Converted { counts, crowded } = converted?;
     tell("import", counts, err);
@@ -62,7 +64,8 @@ struct Converted {
 }
 
 /// Writes the trace of the log that the options name.
-fn convert<S: Source, W: Write, P: Progress>(
+fn convert<S: Source, W: Write, P: Progress, R: RandomSource>(
+    rt: &R,
     alloc: Global,
     options: &ArgMatches<'_>,
     source: &mut S,
@@ -76,14 +79,15 @@ fn convert<S: Source, W: Write, P: Progress>(
         (W.contents out.old.writer) (W.contents out.new.writer)) }
 {
     if options.get_flag("stream") {
-        streamed(alloc, options, source, progress, out)
+        streamed(rt, alloc, options, source, progress, out)
     } else {
-        imported(alloc, options, source, progress, out)
+        imported(rt, alloc, options, source, progress, out)
     }
 }
 
 /// Reads the log that the options name, and then writes its trace.
-fn imported<S: Source, W: Write, P: Progress>(
+fn imported<S: Source, W: Write, P: Progress, R: RandomSource>(
+    rt: &R,
     alloc: Global,
     options: &ArgMatches<'_>,
     source: &mut S,
@@ -102,7 +106,7 @@ fn imported<S: Source, W: Write, P: Progress>(
     }
     let spread = options.get_flag("spread");
     let reading = reading(options, spread).ok_or(CommandFault::Plan)?;
-    let layout = layout(alloc, options, spread)?;
+    let layout = layout(rt, alloc, options, spread)?;
     let log = read(alloc, options, "log", source)?;
     if let Some(format) = format_of(log.as_slice()) {
         return Err(ImportFault::Format(format).into());
@@ -139,7 +143,8 @@ fn trace_of<P: Progress>(
 }
 
 /// Writes the trace of the log that the options name as it reads the log.
-fn streamed<S: Source, W: Write, P: Progress>(
+fn streamed<S: Source, W: Write, P: Progress, R: RandomSource>(
+    rt: &R,
     alloc: Global,
     options: &ArgMatches<'_>,
     source: &mut S,
@@ -162,7 +167,7 @@ fn streamed<S: Source, W: Write, P: Progress>(
         options: reading(options, false).ok_or(CommandFault::Plan)?,
         epoch: epoch(options)?,
     };
-    let layout = layout(alloc, options, false)?;
+    let layout = layout(rt, alloc, options, false)?;
     let path = options.get_str("log").ok_or(CommandFault::Plan)?;
     let log = open_log(alloc, source.open(path)?)?;
     progress.begin(0, u64::MAX);
@@ -247,8 +252,13 @@ fn check_format(options: &ArgMatches<'_>) -> Result<(), Fault>
     })
 }
 
-/// How the columns of a log of fields are found, and whether times have to be whole.
-fn layout(alloc: Global, options: &ArgMatches<'_>, whole_times: bool) -> Result<Layout, Fault>
+/// How a log of fields is read, where times have to be whole or need not be. The keys of its hash are drawn anew.
+fn layout<R: RandomSource>(
+    rt: &R,
+    alloc: Global,
+    options: &ArgMatches<'_>,
+    whole_times: bool,
+) -> Result<Layout, Fault>
     ensures unwritten { IfErr result (λ e. status_of_fault e ≢ 8) }
 {
     check_format(options)?;
@@ -262,6 +272,7 @@ fn layout(alloc: Global, options: &ArgMatches<'_>, whole_times: bool) -> Result<
         missing_size: options.get_one("missing-size"),
         edge: column(alloc, options, "edge")?,
         kind: column(alloc, options, "kind")?,
+        keys: RandomState::new(rt).map_err(|_| Fault::Random)?,
     })
 }
 

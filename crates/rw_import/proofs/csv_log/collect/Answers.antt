@@ -15,7 +15,7 @@ use Rattle.rw_import.proofs.Collecting.{columns-missing, edges-asked, told-whole
 use Rattle.rw_import.proofs.csv_log.collect.Goals as goal
 
 pub rows_left-requires-clause-none : goal.rows_left-requires-clause-none
-rows_left-requires-clause-none g c = ap (λ (vs : _). map (λ v. v.items) vs) c.new-texts.ensures.empty
+rows_left-requires-clause-none g c = ap (λ (vs : _). map (λ v. v.items) vs) c.with_hasher-texts.ensures.empty
 
 pub rows_left-requires-clause-edges : goal.rows_left-requires-clause-edges
 rows_left-requires-clause-edges g c none =

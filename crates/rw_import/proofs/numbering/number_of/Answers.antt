@@ -6,7 +6,7 @@ use Rattle.rw_trace.specs.Words.{Text}
 use Rattle.rw_import.specs.Csv.{is_same_text, with_text}
 use Rattle.rw_import.specs.Sheet.{texts_in}
 use Rattle.rw_import.proofs.Texts.{insert-items, known-number, known-texts, place-items}
-use Rattle.rw_import.proofs.csv_log.number_of.Goals as goal
+use Rattle.rw_import.proofs.numbering.number_of.Goals as goal
 
 pub returns-in-Some-clause-number : goal.returns-in-Some-clause-number
 returns-in-Some-clause-number c = known-number c.args.text.now c.args.texts.now.keys c.in-Some.known (sym c.get_index_of.ensures.index ∙ c.in-Some.is)
