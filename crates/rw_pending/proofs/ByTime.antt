@@ -1,6 +1,6 @@
 -- Lists of events by the times that they have.
-use Rattle.std.proofs.Common.{◌≡◌, ℕ, ◌<◌, ◌≤◌, Bool, true, false, cond, List, [], ◌∷◌, ◌++◌, ◌⊎◌, inl, inr, refl, sym, true≢false, ◌∙◌, ap, subst, arith, append_assoc, append-nil, Option, Some, None, Bor, All, IfNone, IfSome, IsSome, IsPermutation, length, map, min, get_or}
-use Rattle.std.specs.Prelude.{nat_le, IsTrue, ◌↔◌}
+use Rattle.std.proofs.Common.{◌≡◌, ℕ, ◌<◌, ◌≤◌, Bool, true, false, cond, List, [], ◌∷◌, ◌++◌, ◌⊎◌, inl, inr, refl, sym, ◌∙◌, ap, subst, arith, append_assoc, append-nil, Option, Some, None, Bor, All, IfNone, IfSome, IsSome, IsPermutation, length, map, min, get_or}
+use Rattle.std.specs.Prelude.{nat_le, ◌↔◌}
 use Rattle.std.specs.BinaryHeap.{IsUpperBound}
 use Rattle.std.specs.Cmp.{IsTotalOrder}
 use Rattle.std.specs.List.{slice_get, slice_index_or}
@@ -215,6 +215,19 @@ module _ {B : Type 0} where
       go None least is = least
       go (Some s) least is = absurd (least.1 (subst (λ n. All (λ e. n < e.time) xs) is past))
 
+  -- where it is another time, all that is not earlier than a time is later
+  pub least_or_other : {never s : ℕ} (xs : List (Event B)) (t : ℕ) → IsLeastOr never xs s → All (λ e. t ≤ e.time) xs → (s ≡ t → ⊥) → All (λ e. t < e.time) xs
+  least_or_other {never} {s} xs t h late other = all_later xs h.found t h.least late (λ is. other (h.value ∙ ap (λ o. or_else never o) is))
+
+  -- a time that an event has and none is before is the least
+  pub least_here : {never : ℕ} (xs : List (Event B)) (t k : ℕ) (e : Event B) → k < length xs → e ≡ get_or xs k e → e.time ≡ t → All (λ f. t ≤ f.time) xs → t ≤ never → IsLeastOr never xs t
+  least_here {never} xs t k e l is at late within = record {
+    found = Some t;
+    least = (late, λ all. let past = all k e l in let same = ap (λ f. f.time) is in absurd (omega (arith, past, same, at)));
+    value = refl;
+    within = within;
+  }
+
   -- there is something where there is a least time
   pub some_least : (xs : List (Event B)) (t : ℕ) → IsLeastTime xs (Some t) → xs ≡ [] → ⊥
   some_least xs t h none = h.1 (subst (All (λ e. t < e.time)) (sym none) (All-nil (λ e. t < e.time)))
@@ -294,6 +307,10 @@ taken_behind xs ys vs (Some e) h = IsPermutation-trans (xs ++ ys) (xs ++ e ∷ v
 pub none_behind : {E : Type 0} (P : E → Type 0) (xs ys : List E) (next : Option E) → All P xs → IfNone next (All P ys) → IfNone next (All P (xs ++ ys))
 none_behind P xs ys None h k = All-append P xs ys h k
 none_behind P xs ys (Some e) h k = tt
+
+pub same_behind : {E : Type 0} (xs ys vs : List E) (next : Option E) → IfNone next (IsPermutation ys vs) → IfNone next (IsPermutation (xs ++ ys) (xs ++ vs))
+same_behind xs ys vs None h = IsPermutation-append_right xs ys vs h
+same_behind xs ys vs (Some e) h = tt
 
 -- a least event that is taken has the least time
 pub taken_at_least : {B : Type 0} (t : ℕ) (xs rest : List (Event B)) (next : Option (Event B)) → All (λ e. t ≤ e.time) xs → IsLeastTime xs (Some t) → IfSome next (λ e. IsPermutation xs (e ∷ rest)) → IfSome next (λ e. All (λ f. e.time ≤ f.time) xs)

@@ -86,9 +86,14 @@ module _ {B : Type 0} (order : B → B → Ordering) where
   due_nothing (x ∷ xs) ys none = subst (All (λ e. x.time < e.time)) (sym none) (All-nil (λ e. x.time < e.time))
 
   -- and where none of them has that least time, there are none
-  pub due_none : {never t : ℕ} (xs ys left : List (Event B)) (next : Option (Event B)) → IsLeastOr never ys t → IfNone next (All (λ e. t < e.time) ys) → IfNone next (left ≡ ys) → IfNone next ((left ≡ ys) × IsDue xs ys)
+  pub due_none : {never t : ℕ} (xs ys left : List (Event B)) (next : Option (Event B)) → IsLeastOr never ys t → IfNone next (All (λ e. t < e.time) ys) → IfNone next (IsPermutation ys left) → IfNone next ((left ≡ ys) × IsDue xs ys)
   due_none xs ys left (Some e) least past same = tt
-  due_none xs ys left None least past same = (same, due_nothing xs ys (least_or_past ys least past))
+  due_none xs ys left None least past same = let none = least_or_past ys least past in (none_permuted ys left same none ∙ sym none, due_nothing xs ys none)
+
+  pub due_none_ok : {T E : Type 0} {never t : ℕ} (r : Result T E) (xs ys left : List (Event B)) (next : Option (Event B)) → IsLeastOr never ys t → OnOk r (IfNone next (All (λ e. t < e.time) ys)) → OnOk r (IfNone next (IsPermutation ys left))
+      → OnOk r (IfNone next ((left ≡ ys) × IsDue xs ys))
+  due_none_ok (Ok x) xs ys left next least past same = due_none xs ys left next least past same
+  due_none_ok (Err x) xs ys left next least past same = tt
 
   -- what is taken is not before the time that is reached
   taken_from : (t : ℕ) (xs ys us vs : List (Event B)) (e : Event B) → All (λ f. t ≤ f.time) xs → All (λ f. t ≤ f.time) ys → IsTakenFromOne xs ys (Some e) us vs → t ≤ e.time

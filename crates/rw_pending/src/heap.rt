@@ -9,7 +9,8 @@ use std::cmp::Reverse;
 use std::collections::BinaryHeap;
 use std::marker::Model;
 
-/// Events in a heap with the least on top. Contracts see them as a list, in no particular order.
+/// Events in a heap with the least on top: those that have no slot in a wheel. Contracts see them as a list, in no particular
+/// order.
 #[derive(Drop)]
 pub struct Heap<B: Ord + Copy> {
     events: BinaryHeap<Reverse<Event<B>>>,
@@ -78,12 +79,13 @@ impl<B: Ord + Copy> Store<B> for Heap<B> {
         Ok(())
     }
 
-    fn take_one(&mut self, time: u64, next: &mut Option<Event<B>>) {
+    fn take_one(&mut self, time: u64, next: &mut Option<Event<B>>) -> Result<(), AllocError> {
         if is_time(self.least_time(), time) {
             *next = self.pop();
         } else {
             *next = None;
         }
+        Ok(())
     }
 
     fn take(&mut self, time: u64, taken: &mut Vec<Event<B>>) -> Result<(), AllocError> {

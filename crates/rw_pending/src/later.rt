@@ -3,8 +3,8 @@ ghost use Rattle.std.specs.VecDeque.{deque_capacity, deque_len};
 ghost use Rattle.rw_vt.specs.declared.event.Event.{Event};
 ghost use Rattle.rw_pending.specs.Later.{HasMoved, IsLeastOr, IsLeastTime, IsLeft, never};
 
-use crate::heap::Heap;
 use crate::times::{NEVER, or_never, time_of};
+use crate::wheel::Wheel;
 use rw_vt::Event;
 use std::alloc::{AllocError, Global};
 use std::collections::VecDeque;
@@ -29,14 +29,17 @@ pub trait Store<B: Copy>: Drop {
             (IsPermutation (events self.old ++ event.now ∷ []) (events self.new)) }
         ensures unchanged { OnErr result (events self.new ≡ events self.old) };
 
-    /// Takes an event of a time, than which none is earlier, into `next`. `None` only where there is none of that time.
-    fn take_one(&mut self, time: u64, next: &mut Option<Event<B>>)
+    /// Takes an event of a time, than which none is earlier, into `next`. `None` only where there is none of that time. Where
+    /// memory is refused, some events are lost.
+    fn take_one(&mut self, time: u64, next: &mut Option<Event<B>>) -> Result<(), AllocError>
         requires { All (λ e. time ≤ e.time) (events self.old) }
-        ensures taken { IfSome next.new (λ e.
-            IsPermutation (events self.old) (e ∷ events self.new)) }
-        ensures of_time { IfSome next.new (λ e. e.time ≡ time) }
-        ensures none { IfNone next.new (All (λ e. time < e.time) (events self.old)) }
-        ensures unchanged { IfNone next.new (events self.new ≡ events self.old) };
+        ensures taken { OnOk result (IfSome next.new (λ e.
+            IsPermutation (events self.old) (e ∷ events self.new))) }
+        ensures of_time { OnOk result (IfSome next.new (λ e. e.time ≡ time)) }
+        ensures none { OnOk result (IfNone next.new (All (λ e. time < e.time) (events self.old))) }
+        ensures others { OnOk result (IfNone next.new
+            (IsPermutation (events self.old) (events self.new))) }
+        ensures left { OnErr result (IsLeft (events self.old) (events self.new)) };
 
     /// Moves the events of a time, than which none is earlier, to the end of `taken`. Where memory is refused, some events
     /// are lost.
@@ -229,13 +232,15 @@ impl<B: Copy, R: Store<B>> Store<B> for TwoLanes<B, R> {
     }
 
     #[inline(always)]
-    fn take_one(&mut self, time: u64, next: &mut Option<Event<B>>) {
+    fn take_one(&mut self, time: u64, next: &mut Option<Event<B>>) -> Result<(), AllocError> {
         if self.first.has(time) {
             *next = self.first.pop();
+            Ok(())
         } else if self.second.has(time) {
             *next = self.second.pop();
+            Ok(())
         } else {
-            self.others.take_one(time, next);
+            self.others.take_one(time, next)
         }
     }
 
@@ -247,10 +252,10 @@ impl<B: Copy, R: Store<B>> Store<B> for TwoLanes<B, R> {
     }
 }
 
-/// As many lanes as a model has delays in effect, one for what other engines send a little later than its turn, and a heap for
-/// the rest. A model whose sends have at most four delays never comes to the heap: its events are executed in order of time, so
-/// those of one delay are.
-type Lanes<B> = TwoLanes<B, TwoLanes<B, Heap<B>>>;
+/// As many lanes as a model has delays in effect, one for what other engines send a little later than its turn, and a timing wheel
+/// for the rest. A model whose sends have at most four delays never comes to the wheel: its events are executed in order of time,
+/// so those of one delay are.
+type Lanes<B> = TwoLanes<B, TwoLanes<B, Wheel<B>>>;
 
 /// Events that were sent, until their time comes; it knows the least time of all. Contracts see them as a list, in no
 /// particular order.
@@ -285,7 +290,7 @@ impl<B: Ord + Copy> Later<B> {
         ensures { result ≡ [] }
     {
         Later {
-            lanes: TwoLanes::new(alloc, TwoLanes::new(alloc, Heap::new(alloc))),
+            lanes: TwoLanes::new(alloc, TwoLanes::new(alloc, Wheel::new(alloc))),
             least: NEVER,
         }
     }
@@ -320,16 +325,19 @@ impl<B: Ord + Copy> Later<B> {
         Ok(())
     }
 
-    /// Takes an event of a time, than which none is earlier, into `next`. `None` only where there is none of that time.
-    pub fn take_one(&mut self, time: u64, next: &mut Option<Event<B>>)
+    /// Takes an event of a time, than which none is earlier, into `next`. `None` only where there is none of that time. Where
+    /// memory is refused, some events are lost.
+    pub fn take_one(&mut self, time: u64, next: &mut Option<Event<B>>) -> Result<(), AllocError>
         requires { All (λ e. time ≤ e.time) self.old }
-        ensures taken { IfSome next.new (λ e. IsPermutation self.old (e ∷ self.new)) }
-        ensures of_time { IfSome next.new (λ e. e.time ≡ time) }
-        ensures none { IfNone next.new (All (λ e. time < e.time) self.old) }
-        ensures unchanged { IfNone next.new (self.new ≡ self.old) }
+        ensures taken { OnOk result (IfSome next.new (λ e. IsPermutation self.old (e ∷ self.new))) }
+        ensures of_time { OnOk result (IfSome next.new (λ e. e.time ≡ time)) }
+        ensures none { OnOk result (IfNone next.new (All (λ e. time < e.time) self.old)) }
+        ensures others { OnOk result (IfNone next.new (IsPermutation self.old self.new)) }
+        ensures left { OnErr result (IsLeft self.old self.new) }
     {
-        self.lanes.take_one(time, next);
+        let result = self.lanes.take_one(time, next);
         self.least = self.lanes.least();
+        result
     }
 
     /// Moves the events of a time, than which none is earlier, to the end of `taken`. Where memory is refused, some events

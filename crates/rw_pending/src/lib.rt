@@ -6,9 +6,10 @@
 //! does, and each worker of `rw_windows` has a pending set of its own.
 //!
 //! An initial event costs one or two comparisons. So does a sent event while a model uses at most four
-//! different delays, since each delay has a queue of its own; other events go through a heap, in
-//! logarithmic time. An event that is alone in its time goes straight to whoever executes it. Several
-//! events of one time are brought together by their sources and sorted, once.
+//! different delays, since each delay has a queue of its own; other events wait in a hierarchical
+//! timing wheel, where each is moved at most five times, however many wait. An event that is alone in
+//! its time goes straight to whoever executes it. Several events of one time are brought together by
+//! their sources and sorted, once.
 //!
 //! Worked examples: `rw_program_tests/src/reports.rt`, and the cases of `rw_cases`, through sequential
 //! runs.
@@ -17,10 +18,14 @@ mod groups;
 mod heap;
 mod initial;
 mod later;
+mod marks;
 mod pending;
 mod slice;
+mod slot;
+mod slots;
 mod source;
 mod times;
+mod wheel;
 
 pub use pending::Pending;
 pub use source::Source;

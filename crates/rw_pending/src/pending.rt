@@ -20,7 +20,7 @@ use std::mem;
 ///
 /// The initial events come from a source, the least first; those that are sent wait for their time. One that is alone in its
 /// time is given as it is; several are taken together and sorted once. So what is sent costs a comparison or two where the model
-/// has few delays, beside that sort; where it has many, the logarithm of how many of them wait.
+/// has few delays, beside that sort; where it has many, at most five moves, however many of them wait.
 #[derive(Drop)]
 pub struct Pending<B: Ord + Copy, S: Source<B>> {
     /// What is left of the initial events.
@@ -272,7 +272,7 @@ fn reach<B: Ord + Copy, S: Source<B>>(
     if now.first().is_some() {
         return Ok(false);
     }
-    take_due(initial, later, next);
+    take_due(initial, later, next)?;
     let Some(first) = &*next else {
         initial.pop(next);
         return Ok(true);
@@ -286,23 +286,26 @@ fn reach<B: Ord + Copy, S: Source<B>>(
 }
 
 /// Takes one of the earliest events that were sent into `next`. `None` only where there is none, or an initial event is before
-/// them.
+/// them. Where memory is refused, some events are lost.
 #[inline]
 fn take_due<B: Ord + Copy, S: Source<B>>(
     initial: &Initial<B, S>,
     later: &mut Later<B>,
     next: &mut Option<Event<B>>,
-)
-    ensures taken { IfSome next.new (λ e. IsPermutation later.old (e ∷ later.new)) }
-    ensures least { IfSome next.new (λ e. All (λ f. e.time ≤ f.time) later.old
-        × All (λ f. e.time ≤ f.time) initial.now) }
-    ensures none { IfNone next.new ((later.new ≡ later.old) × IsDue initial.now later.old) }
+) -> Result<(), AllocError>
+    ensures taken { OnOk result (IfSome next.new (λ e. IsPermutation later.old (e ∷ later.new))) }
+    ensures least { OnOk result (IfSome next.new (λ e. All (λ f. e.time ≤ f.time) later.old
+        × All (λ f. e.time ≤ f.time) initial.now)) }
+    ensures none { OnOk result (IfNone next.new
+        ((later.new ≡ later.old) × IsDue initial.now later.old)) }
+    ensures left { OnErr result (IsLeft later.old later.new) }
 {
     let least = later.least();
     if initial.least() < least {
         *next = None;
+        Ok(())
     } else {
-        later.take_one(least, next);
+        later.take_one(least, next)
     }
 }
 

@@ -1,4 +1,4 @@
-use Rattle.std.proofs.Common.{◌<◌, ◌++◌, ◌∙◌, All, IsPermutation, ap, subst, sym}
+use Rattle.std.proofs.Common.{◌<◌, ◌++◌, All, IsPermutation, subst, sym}
 use Rattle.rw_pending.proofs.ByTime.{All-front}
 use Rattle.rw_pending.proofs.Moving.{around_refilled, refilled}
 use Rattle.rw_pending.proofs.pending.Pending.refill.Goals as goal
