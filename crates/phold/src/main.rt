@@ -9,6 +9,7 @@ use std::process::ExitCode;
 use std::rt::Env;
 use std::sync::Wait;
 use std::thread::Threads;
+use std::time::Clock;
 
 /// What the words are.
 const USAGE: &str = "phold PROCESSES BALLS REMOTE LOOKAHEAD SPREAD UNTIL SEED [WORKERS] [SETTING..]
@@ -24,8 +25,14 @@ Settings, in any order, each once:
   short=N    how many of 65536 balls are held for the lookahead alone, else 0
   work=N     how many further draws an event makes, up to 4294967295, else 0
   grain=N    how many events make a meeting of the workers worth it, to each of them, else 64;
-             with 0 they go on in windows of the lookahead wherever they can
+             with 0 they go on in windows of the lookahead wherever they can, with 1 in
+             rounds where windows are empty, whatever it costs
+  rounds=N   how many rounds the workers make at most, 1 to 1048576, else 65536; then the
+             run goes on in order
   traffic    tells on standard error what the workers did";
+
+/// How many rounds the workers make at most, if nothing is said.
+const ROUNDS: u32 = 65536;
 
 /// What the words say.
 #[derive(Clone, Copy)]
@@ -34,6 +41,8 @@ struct Load {
     balls: u32,
     seed: u64,
     workers: Option<u32>,
+    /// How many rounds they make at most.
+    rounds: u32,
     /// Whether what the workers did is told.
     traffic: bool,
 }
@@ -44,6 +53,7 @@ struct Settings {
     short: Option<u32>,
     work: Option<u32>,
     grain: Option<u64>,
+    rounds: Option<u32>,
     traffic: bool,
 }
 
@@ -67,6 +77,10 @@ impl Settings {
             }),
             ("grain", number) if self.grain.is_none() => Some(Settings {
                 grain: Some(number.parse::<u64>().ok()?),
+                ..self
+            }),
+            ("rounds", number) if self.rounds.is_none() => Some(Settings {
+                rounds: Some(number.parse::<u32>().ok()?),
                 ..self
             }),
             _ => None,
@@ -156,6 +170,7 @@ fn load_of(numbers: &[u64], settings: Settings) -> Option<Load> {
         balls: u32::try_from(*balls).ok()?,
         seed: *seed,
         workers,
+        rounds: settings.rounds.unwrap_or(ROUNDS),
         traffic: settings.traffic,
     })
 }
@@ -167,21 +182,21 @@ fn setting(processes: u64, remote: u64, lookahead: u64, spread: u64, until: u64)
     Phold::new(processes, remote, lookahead, spread, until)
 }
 
-/// How many workers there are, and else what is usual.
-fn plan(workers: u32) -> Plan {
+/// How many workers there are and how many rounds they make at most, and else what is usual.
+fn plan(workers: u32, rounds: u32) -> Plan {
     Plan {
         workers,
         turns: 16,
         batch: 64,
         window: END,
         ring: 64,
-        max_rounds: 65536,
+        max_rounds: rounds,
         lazy: false,
     }
 }
 
 /// Runs the load: what its processes keep, added up, and what the workers did.
-fn run<R: Threads + Wait + Sync>(
+fn run<R: Threads + Wait + Clock + Sync>(
     rt: &R,
     alloc: Global,
     load: Load,
@@ -189,7 +204,7 @@ fn run<R: Threads + Wait + Sync>(
     let (starts, initial) = beginning(alloc, &load.phold, load.balls, load.seed)?;
     let how = match load.workers {
         None => How::InOrder,
-        Some(workers) => How::InRounds(plan(workers)),
+        Some(workers) => How::InRounds(plan(workers, load.rounds)),
     };
     match run_in(rt, alloc, load.phold, starts, initial, how)? {
         Ran::Finished(states, traffic) => Ok((report_of(states.as_slice()), traffic)),

@@ -7,6 +7,7 @@ use crate::{cache_calls, process_calls, round_calls, simulate_calls};
 use std::alloc::Global;
 use std::sync::Wait;
 use std::thread::Threads;
+use std::time::Clock;
 
 /// The names of the calls.
 const NAMES: [&str; 11] = [
@@ -32,7 +33,10 @@ pub fn tell_names<R: Print>(rt: &R) -> Result<(), Setback> {
 }
 
 /// Makes each call, and tells its name and what it answers.
-pub fn call_all<R: Print + Threads + Wait + Sync>(rt: &R, alloc: Global) -> Result<(), Setback> {
+pub fn call_all<R: Print + Threads + Wait + Clock + Sync>(
+    rt: &R,
+    alloc: Global,
+) -> Result<(), Setback> {
     for name in NAMES {
         println!(rt; "{name}")?;
         call(rt, alloc, name)?;
@@ -41,7 +45,7 @@ pub fn call_all<R: Print + Threads + Wait + Sync>(rt: &R, alloc: Global) -> Resu
 }
 
 /// Makes the call of this name, and tells what it answers.
-pub fn call<R: Print + Threads + Wait + Sync>(
+pub fn call<R: Print + Threads + Wait + Clock + Sync>(
     rt: &R,
     alloc: Global,
     name: &str,

@@ -17,6 +17,7 @@ use std::io::{self, ErrorKind};
 use std::rt::Env;
 use std::sync::Wait;
 use std::thread::Threads;
+use std::time::Clock;
 
 fn main(rt: HostRuntime) -> io::Result<()> {
     if let Err(setback) = tell(&rt, rt.alloc()) {
@@ -28,7 +29,7 @@ fn main(rt: HostRuntime) -> io::Result<()> {
 /// Tells what the program's words ask for.
 fn tell<R>(rt: &R, alloc: Global) -> Result<(), Setback>
 where
-    R: Env + Print + AllocGlobal + Threads + Wait + Sync,
+    R: Env + Print + AllocGlobal + Threads + Wait + Clock + Sync,
 {
     let words = words(rt, alloc)?;
     match words.as_slice() {

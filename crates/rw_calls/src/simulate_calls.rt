@@ -6,6 +6,7 @@ use rw_ripqwarp::{Mode, Out, schedule, simulate};
 use std::alloc::Global;
 use std::sync::Wait;
 use std::thread::Threads;
+use std::time::Clock;
 
 /// More bytes than any of the texts has.
 const ROOM: usize = 1024;
@@ -17,17 +18,23 @@ const ONE: &[u8] = b"time,edge,object,size\n5,0,7,4\n";
 const STEPS: &str = "E0 D0 E1 U0 D1 U1 D1 D1 E0 D0 D0 E1 D0 E0 C1099511627776";
 
 /// Runs the trace of two requests on one thread.
-pub fn tell_serial<R: Print + Threads + Wait + Sync>(rt: &R, alloc: Global) -> Result<(), Setback> {
+pub fn tell_serial<R: Print + Threads + Wait + Clock + Sync>(
+    rt: &R,
+    alloc: Global,
+) -> Result<(), Setback> {
     tell(rt, alloc, TRACE, &config()?, Mode::Serial)
 }
 
 /// Runs it in rounds of two workers.
-pub fn tell_warp<R: Print + Threads + Wait + Sync>(rt: &R, alloc: Global) -> Result<(), Setback> {
+pub fn tell_warp<R: Print + Threads + Wait + Clock + Sync>(
+    rt: &R,
+    alloc: Global,
+) -> Result<(), Setback> {
     tell(rt, alloc, TRACE, &config()?, Mode::Warp(plan(2)))
 }
 
 /// Makes the steps over the trace of one request, with nothing stored.
-pub fn tell_journal<R: Print + Threads + Wait + Sync>(
+pub fn tell_journal<R: Print + Threads + Wait + Clock + Sync>(
     rt: &R,
     alloc: Global,
 ) -> Result<(), Setback> {
@@ -42,7 +49,7 @@ pub fn tell_journal<R: Print + Threads + Wait + Sync>(
 }
 
 /// Tells how many bytes the run has written, and those bytes.
-fn tell<R: Print + Threads + Wait + Sync>(
+fn tell<R: Print + Threads + Wait + Clock + Sync>(
     rt: &R,
     alloc: Global,
     trace: &[u8],

@@ -2,6 +2,7 @@ use crate::run::Run;
 use anyhow::Result;
 use serde_json::Value;
 use std::alloc::{AllocError, Global};
+use std::random::RandomSource;
 use std::sync::Wait;
 use std::thread::Threads;
 use std::time::Clock;
@@ -27,7 +28,7 @@ impl Case {
 
     /// Runs the case, and tells whether the program does what it says. Where the case says nothing of standard error,
     /// as of the line that tells what rounds did, any will do.
-    pub fn agrees<R: Threads + Wait + Clock + Sync>(
+    pub fn agrees<R: Threads + Wait + Clock + RandomSource + Sync>(
         &self,
         rt: &R,
         alloc: Global,

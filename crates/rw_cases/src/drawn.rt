@@ -2,6 +2,7 @@
 use crate::run::Run;
 use crate::tally::Tally;
 use std::alloc::{AllocError, Global};
+use std::random::RandomSource;
 use std::sync::Wait;
 use std::thread::Threads;
 use std::time::Clock;
@@ -59,7 +60,7 @@ impl Requests {
 }
 
 /// Runs a short trace of each seed below `seeds` by several workers, and counts the runs that agree with the run on one thread.
-pub fn compare_short<R: Threads + Wait + Clock + Sync>(
+pub fn compare_short<R: Threads + Wait + Clock + RandomSource + Sync>(
     rt: &R,
     alloc: Global,
     seeds: u64,
@@ -73,7 +74,7 @@ pub fn compare_short<R: Threads + Wait + Clock + Sync>(
 
 /// Runs a long trace of sparse and one of dense requests of each seed below `seeds` by several workers, and counts the runs in which
 /// workers rolled back, or went by windows, and that agree with the run on one thread.
-pub fn compare_long<R: Threads + Wait + Clock + Sync>(
+pub fn compare_long<R: Threads + Wait + Clock + RandomSource + Sync>(
     rt: &R,
     alloc: Global,
     seeds: u64,
@@ -87,7 +88,7 @@ pub fn compare_long<R: Threads + Wait + Clock + Sync>(
 }
 
 /// Runs a drawn trace under each plan for its kind, and counts the runs that agree with the run on one thread.
-fn compare<R: Threads + Wait + Clock + Sync>(
+fn compare<R: Threads + Wait + Clock + RandomSource + Sync>(
     rt: &R,
     alloc: Global,
     seed: u64,
@@ -127,7 +128,7 @@ impl Drawn {
     }
 
     /// Runs the trace by a command.
-    fn run<R: Threads + Wait + Clock + Sync>(
+    fn run<R: Threads + Wait + Clock + RandomSource + Sync>(
         &self,
         rt: &R,
         alloc: Global,

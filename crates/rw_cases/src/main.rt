@@ -21,6 +21,7 @@ use anyhow::{Context, Result};
 use case::Case;
 use std::alloc::Global;
 use std::fs;
+use std::random::RandomSource;
 use std::sync::Wait;
 use std::thread::Threads;
 use std::time::Clock;
@@ -53,7 +54,7 @@ fn main(rt: HostRuntime) -> Result<()> {
 }
 
 /// Runs the cases of a text, one a line, and counts those that agree.
-fn stored<R: Print + Threads + Wait + Clock + Sync>(
+fn stored<R: Print + Threads + Wait + Clock + RandomSource + Sync>(
     rt: &R,
     alloc: Global,
     text: &str,
@@ -78,7 +79,7 @@ fn alone<R: Clock>(rt: &R, alloc: Global, text: &str) -> Result<Tally> {
 }
 
 /// Runs the case of a line, and tells whether the program does what it says. Prints its name where not.
-fn agrees<R: Print + Threads + Wait + Clock + Sync>(
+fn agrees<R: Print + Threads + Wait + Clock + RandomSource + Sync>(
     rt: &R,
     alloc: Global,
     line: &str,

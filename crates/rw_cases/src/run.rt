@@ -2,6 +2,7 @@ use crate::given::Given;
 use rw_command::{Out, command};
 use rw_runs::serial_alone;
 use std::alloc::Global;
+use std::random::RandomSource;
 use std::sync::Wait;
 use std::thread::Threads;
 use std::time::Clock;
@@ -16,7 +17,7 @@ pub struct Run {
 
 impl Run {
     /// Runs the program with these words, its name first, and these bytes on standard input.
-    pub fn of<R: Threads + Wait + Clock + Sync>(
+    pub fn of<R: Threads + Wait + Clock + RandomSource + Sync>(
         rt: &R,
         alloc: Global,
         words: Vec<String>,

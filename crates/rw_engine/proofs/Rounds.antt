@@ -3,7 +3,7 @@ use Rattle.std.proofs.Common.{ℕ, zero, suc, ◌+◌, ◌-◌, ◌*◌, ◌/◌
 use Rattle.std.proofs.Math.Nat.{div-lt_iff_lt-mul, lt-div-mul-add, mul-le-mul, mul-pos}
 use Rattle.rw_worker.specs.declared.plan.Plan.{Plan}
 use Rattle.rw_worker.specs.Plans.{IsInRanges}
-use Rattle.rw_engine.specs.Alone.{AreRoundsOf, most_events}
+use Rattle.rw_engine.specs.Alone.{AreRoundsOf}
 
 -- a round has room for an event, and for no more than the plan's bounds let it
 pub round_some : (plan : Plan) → IsInRanges plan → 0 < plan.turns * plan.batch
@@ -11,9 +11,6 @@ round_some plan ranges = mul-pos ranges.turns.0 ranges.batch.0
 
 pub round_bound : (plan : Plan) → IsInRanges plan → plan.turns * plan.batch ≤ 16777216
 round_bound plan ranges = mul-le-mul {n₂ = 4096} {m₂ = 4096} ranges.turns.1 ranges.batch.1
-
-pub plan_bound : (plan : Plan) → IsInRanges plan → most_events plan ≤ 17592186044416
-plan_bound plan ranges = mul-le-mul {n₂ = 1048576} {m₂ = 16777216} ranges.max_rounds.1 (round_bound plan ranges)
 
 module _ (events per : ℕ) (some : 0 < per) where
   enough_for : events ≤ ((events - 1) / per + 1) * per

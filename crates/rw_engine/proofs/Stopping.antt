@@ -1,5 +1,5 @@
 -- What a run may stop for.
-use Rattle.std.proofs.Common.{◌≡◌, ◌<◌, ◌≤◌, Bool, List, Ok, Err, Result, IfErr, IsPermutation, refl, sym, subst}
+use Rattle.std.proofs.Common.{◌≡◌, Bool, List, Ok, Err, Result, IfErr, IsPermutation, refl, sym, subst}
 use Rattle.std.specs.Result.{IsErrAnd}
 use Rattle.std.specs.declared.cmp.Ordering.{Ordering}
 use Rattle.rw_vt.specs.Limits.{end_of_time}
@@ -9,7 +9,7 @@ use Rattle.rw_vt.specs.declared.refusal.Refusal.{Refusal}
 use Rattle.rw_vt.specs.declared.refusal.Refusal.TheVariants as refusal
 use Rattle.rw_vt.specs.System.{Meets, System, rules, system}
 use Rattle.rw_vt.proofs.Laws.{Laws, rules_lawful}
-use Rattle.rw_serial.proofs.Permuted.{same_events, same_meets}
+use Rattle.rw_serial.proofs.Permuted.{same_meets}
 use Rattle.rw_world.specs.declared.step.Step.{Step}
 use Rattle.rw_world.specs.Calls.{MeetsAt, Simulation, system_of}
 use Rattle.rw_world.specs.WorldState.{opening_world}
@@ -17,7 +17,7 @@ use Rattle.rw_worker.specs.declared.plan.Plan.{Plan}
 use Rattle.rw_rounds.specs.Stops.{stop_of}
 use Rattle.rw_rounds.specs.declared.stop.Stop.{Stop}
 use Rattle.rw_rounds.specs.declared.stop.Stop.TheVariants as stop
-use Rattle.rw_engine.specs.Alone.{HaveNoRoomFor, HaveRoomFor, MayStopAlone, most_events}
+use Rattle.rw_engine.specs.Alone.{MayStopAlone}
 use Rattle.rw_engine.specs.Runs.{MayStopBySteps, MayStopInOrder}
 use Rattle.rw_engine.specs.Stretches.{MayStopInRounds}
 
@@ -28,14 +28,14 @@ if_handed_on (Err s) P Q f is = f s is
 
 module _ {S B : Type 0} (y : System S B) (test : S → Bool) where
   -- one worker stops for what rounds may stop for
-  pub alone_in_rounds : {T : Type 0} (plan : Plan) (r : Result T Stop) → IfErr r (MayStopAlone plan) → (r ≡ Err stop.RoundsUsed → HaveNoRoomFor plan y) → (r ≡ Err stop.Exhausted → Meets y end_of_time test)
+  pub alone_in_rounds : {T : Type 0} (plan : Plan) (r : Result T Stop) → IfErr r (MayStopAlone plan) → (r ≡ Err stop.Exhausted → Meets y end_of_time test)
       → IfErr r (MayStopInRounds y test plan)
-  alone_in_rounds plan (Ok t) may used met = tt
-  alone_in_rounds plan (Err stop.Memory) may used met = tt
-  alone_in_rounds plan (Err stop.Exhausted) may used met = (may, λ one. met refl)
-  alone_in_rounds plan (Err stop.RoundsUsed) may used met = (may, λ one. used refl)
-  alone_in_rounds plan (Err stop.BadPlan) may used met = may
-  alone_in_rounds plan (Err stop.NoThread) may used met = absurd may
+  alone_in_rounds plan (Ok t) may met = tt
+  alone_in_rounds plan (Err stop.Memory) may met = tt
+  alone_in_rounds plan (Err stop.Exhausted) may met = (may, λ one. met refl)
+  alone_in_rounds plan (Err stop.RoundsUsed) may met = absurd may
+  alone_in_rounds plan (Err stop.BadPlan) may met = may
+  alone_in_rounds plan (Err stop.NoThread) may met = absurd may
 
   -- a refusal is a stop of a run in order
   pub refused_in_order : (r : Refusal) (s : Stop) → s ≡ stop_of r → (r ≡ refusal.Exhausted → Meets y end_of_time test) → MayStopInOrder y test s
@@ -53,15 +53,10 @@ met_at_opening model order steps is met = subst (λ v. MeetsAt (system_of model 
 
 -- the initial events may be in any order
 module _ {M S B U : Type 0} {model : Ghosts M S B U} {order : B → B → Ordering} (laws : Laws model order) (m : M) (states : List S) {events moved : List (Event B)} (parts : IsPermutation events moved) where
-  pub moved_room : (plan : Plan) → HaveRoomFor plan (system model order m states moved) → HaveRoomFor plan (system model order m states events)
-  moved_room plan room =
-      subst (λ n. n ≤ most_events plan) (sym (same_events (rules model order m) (rules_lawful laws m).exact states events moved parts end_of_time)) room
-
   pub moved_stops : (test : S → Bool) (plan : Plan) (s : Stop) → MayStopInRounds (system model order m states moved) test plan s → MayStopInRounds (system model order m states events) test plan s
   moved_stops test plan stop.Memory may = tt
   moved_stops test plan stop.Exhausted may =
       (may.0, λ one. same_meets (rules model order m) (rules_lawful laws m).exact states events moved parts end_of_time test (may.1 one))
-  moved_stops test plan stop.RoundsUsed may =
-      (may.0, λ one. subst (λ n. most_events plan < n) (sym (same_events (rules model order m) (rules_lawful laws m).exact states events moved parts end_of_time)) (may.1 one))
+  moved_stops test plan stop.RoundsUsed may = may
   moved_stops test plan stop.BadPlan may = may
   moved_stops test plan stop.NoThread may = may

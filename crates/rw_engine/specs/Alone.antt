@@ -1,26 +1,11 @@
 -- What rounds of one worker come to.
-use Rattle.std.specs.Prelude.{◌≡◌, ◌<◌, ◌≤◌, ◌*◌}
-use Rattle.rw_vt.specs.Limits.{end_of_time}
-use Rattle.rw_vt.specs.System.{System}
+use Rattle.std.specs.Prelude.{◌≡◌, ◌≤◌, ◌*◌}
 use Rattle.rw_vt.specs.Words.{Count}
-use Rattle.rw_serial.specs.Counts.{events_below}
 use Rattle.rw_worker.specs.declared.plan.Plan.{Plan}
 use Rattle.rw_worker.specs.declared.traffic.Traffic.{Traffic}
 use Rattle.rw_rounds.specs.declared.stop.Stop.{Stop}
 use Rattle.rw_rounds.specs.declared.stop.Stop.TheVariants as stop
 use Rattle.rw_worker.specs.Plans.{IsInRanges}
-
--- how many events the rounds of a plan have room for, where each has one worker
-abbrev pub most_events : Plan → Count
-most_events plan = plan.max_rounds * (plan.turns * plan.batch)
-
--- the rounds of a plan, where each has one worker, have room for all events of a system
-abbrev pub HaveRoomFor : {S B : Type 0} → Plan → System S B → Type 0
-HaveRoomFor plan y = events_below y end_of_time ≤ most_events plan
-
--- they have not
-abbrev pub HaveNoRoomFor : {S B : Type 0} → Plan → System S B → Type 0
-HaveNoRoomFor plan y = most_events plan < events_below y end_of_time
 
 -- so many rounds of one worker execute these events: one at least, and no more than have room for them
 pub record AreRoundsOf (plan : Plan) (events rounds : Count) : Type 0 where
@@ -36,9 +21,11 @@ pub record IsTrafficAlone (plan : Plan) (events : Count) (traffic : Traffic) : T
   pub undone : traffic.undone ≡ 0
   pub letters : (traffic.ring ≡ 0) × (traffic.kept ≡ 0)
 
--- what rounds of one worker may stop for: that there is no thread is no reason, and want of memory may come anywhere
+-- what rounds of one worker may stop for: that rounds are used up or that there is no thread is no reason, and want of
+-- memory may come anywhere
 abbrev pub MayStopAlone : Plan → Stop → Type 0
 MayStopAlone plan stop.Memory = Unit {0}
 MayStopAlone plan stop.BadPlan = IsInRanges plan → ⊥
 MayStopAlone plan stop.NoThread = ⊥
+MayStopAlone plan stop.RoundsUsed = ⊥
 MayStopAlone plan _ = IsInRanges plan

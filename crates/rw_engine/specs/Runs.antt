@@ -16,7 +16,6 @@ use Rattle.rw_world.specs.WorldState.{opening_world}
 use Rattle.rw_world.specs.Steps.{answers, run}
 use Rattle.rw_world.specs.Calls.{MeetsAt, Simulation}
 use Rattle.rw_world.specs.Sound.{IsInOrder, Sound}
-use Rattle.rw_engine.specs.Alone.{HaveRoomFor}
 use Rattle.rw_engine.specs.Stretches.{MayStopInRounds}
 use Rattle.rw_engine.specs.declared.how.How.{How}
 use Rattle.rw_engine.specs.declared.how.How.TheVariants.{InOrder, InRounds, BySteps}
@@ -44,15 +43,14 @@ pub record IsSteppedTo {M S B U : Type 0} (model : Ghosts M S B U) (order : B �
   pub sound : Sound (system model order m starts initial) x.world
   pub in_order : IsInOrder (system model order m starts initial) x.world
 
--- what a run is to come to: in order and in rounds the same states, in order with no round, and by one worker only
--- where its rounds have room for all events; by steps a world in order of time
+-- what a run is to come to: in order and in rounds the same states, in order with no round; by steps a world in order
+-- of time
 abbrev pub HasRun : {M S B U : Type 0} → Ghosts M S B U → (B → B → Ordering) → M → List S
     → List (Event B) → How → Ran M S B U → Type 0
 HasRun model order m starts initial InOrder (Finished states traffic) =
     AreLastStates (system model order m starts initial) states.items × (traffic ≡ no_traffic)
 HasRun model order m starts initial (InRounds plan) (Finished states traffic) =
     AreLastStates (system model order m starts initial) states.items
-    × (plan.workers ≡ 1 → HaveRoomFor plan (system model order m starts initial))
 HasRun model order m starts initial (BySteps steps) (Stepped x answered) =
     IsSteppedTo model order m starts initial steps.now x answered.items
 HasRun model order m starts initial _ _ = ⊥

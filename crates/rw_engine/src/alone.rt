@@ -3,9 +3,9 @@ ghost use Rattle.rw_vt.specs.Limits.{end_of_time};
 ghost use Rattle.rw_vt.specs.System.{IsReady, Meets, system};
 ghost use Rattle.rw_serial.specs.Counts.{events_below};
 ghost use Rattle.rw_worker.specs.Plans.{IsInRanges};
-ghost use Rattle.rw_rounds.specs.declared.stop.Stop.TheVariants.{BadPlan, RoundsUsed};
+ghost use Rattle.rw_rounds.specs.declared.stop.Stop.TheVariants.{BadPlan};
 ghost use Rattle.rw_engine.specs.Runs.{AreLastStates};
-ghost use Rattle.rw_engine.specs.Alone.{HaveNoRoomFor, HaveRoomFor, IsTrafficAlone, MayStopAlone, most_events};
+ghost use Rattle.rw_engine.specs.Alone.{IsTrafficAlone, MayStopAlone};
 
 use rw_rounds::{Plan, Stop, Traffic};
 use rw_serial::{Source, last_states_within, last_states_within_from};
@@ -14,15 +14,14 @@ use std::alloc::Global;
 
 /// Runs a model as rounds of one worker do, however many workers the plan has: the last state of each process, and what the
 /// rounds did. One worker always executes the least pending event of all, so nothing comes late and nothing is undone: it is
-/// the run in order, of which a round gets as many events as its turns have room for. It starts no thread and keeps no undo
-/// record.
+/// the run in order, of which a round gets as many events as its turns have room for. So the plan's number of rounds is no bound. It
+/// starts no thread and keeps no undo record.
 ///
 /// # Errors
 ///
-/// `BadPlan` exactly where a field of the plan is out of its range; `RoundsUsed` only where there are more events than the
-/// rounds of the plan have room for, and then there is no result; `Exhausted` only where some process, in order of time,
-/// would execute an event in a state that can take no further one; `Memory` where memory was refused. Nothing is handed
-/// back then.
+/// `BadPlan` exactly where a field of the plan is out of its range; `Exhausted` only where some process, in order of time,
+/// would execute an event in a state that can take no further one; `Memory` where memory was refused, or where there are 2^64
+/// events, which cannot be counted. Nothing is handed back then.
 pub fn run_alone<M: Model>(
     alloc: Global,
     model: &M,
@@ -36,20 +35,14 @@ pub fn run_alone<M: Model>(
     ensures traffic { IfOk result (λ r. IsTrafficAlone plan (events_below
         (system M.Model M.Body.cmp model.now starts.items initial.items) end_of_time) r.1) }
     ensures plan { (result ≡ Err BadPlan) ↔ (IsInRanges plan → ⊥) }
-    ensures room { OnOk result (HaveRoomFor plan
-        (system M.Model M.Body.cmp model.now starts.items initial.items)) }
-    ensures used_up { result ≡ Err RoundsUsed → HaveNoRoomFor plan
-        (system M.Model M.Body.cmp model.now starts.items initial.items) }
     ensures exhausted { result ≡ Err Stop.Exhausted
         → Meets (system M.Model M.Body.cmp model.now starts.items initial.items) end_of_time
         (M.is_exhausted model.now) }
     ensures stops { IfErr result (MayStopAlone plan) }
 {
-    let limit = limit_of(&plan)?;
-    let ran = last_states_within(alloc, model, starts, initial, limit)?;
-    let Some((states, executed)) = ran else {
-        return Err(Stop::RoundsUsed);
-    };
+    check(&plan)?;
+    let ran = last_states_within(alloc, model, starts, initial, u64::MAX)?;
+    let (states, executed) = ran.ok_or(Stop::Memory)?;
     Ok((states, traffic_of(&plan, executed)))
 }
 
@@ -71,32 +64,27 @@ pub fn run_alone_from<M: Model, S: Source<M::Body>>(
     ensures traffic { IfOk result (λ r. IsTrafficAlone plan (events_below
         (system M.Model M.Body.cmp model.now starts.items (S.left source)) end_of_time) r.1) }
     ensures plan { (result ≡ Err BadPlan) ↔ (IsInRanges plan → ⊥) }
-    ensures room { OnOk result (HaveRoomFor plan
-        (system M.Model M.Body.cmp model.now starts.items (S.left source))) }
-    ensures used_up { result ≡ Err RoundsUsed → HaveNoRoomFor plan
-        (system M.Model M.Body.cmp model.now starts.items (S.left source)) }
     ensures exhausted { result ≡ Err Stop.Exhausted
         → Meets (system M.Model M.Body.cmp model.now starts.items (S.left source)) end_of_time
         (M.is_exhausted model.now) }
     ensures stops { IfErr result (MayStopAlone plan) }
 {
-    let limit = limit_of(&plan)?;
-    let ran = last_states_within_from(alloc, model, starts, source, limit)?;
-    let Some((states, executed)) = ran else {
-        return Err(Stop::RoundsUsed);
-    };
+    check(&plan)?;
+    let ran = last_states_within_from(alloc, model, starts, source, u64::MAX)?;
+    let (states, executed) = ran.ok_or(Stop::Memory)?;
     Ok((states, traffic_of(&plan, executed)))
 }
 
-/// How many events the rounds of a plan have room for, of one worker.
-fn limit_of(plan: &Plan) -> Result<u64, Stop>
-    ensures limit { IfOk result (λ limit. (limit ≡ most_events plan.now) × IsInRanges plan.now) }
+/// Refuses a plan of which a field is out of its range.
+fn check(plan: &Plan) -> Result<(), Stop>
+    ensures ok { OnOk result (IsInRanges plan.now) }
     ensures plan { IfErr result (λ stop. (stop ≡ BadPlan) × (IsInRanges plan.now → ⊥)) }
 {
-    if !plan.is_valid() {
-        return Err(Stop::BadPlan);
+    if plan.is_valid() {
+        Ok(())
+    } else {
+        Err(Stop::BadPlan)
     }
-    Ok(u64::from(plan.max_rounds) * events_of_round(plan))
 }
 
 /// How many events a round of one worker has room for.
@@ -108,7 +96,7 @@ pub(crate) fn events_of_round(plan: &Plan) -> u64
 }
 
 /// What rounds of one worker do where they execute so many events.
-pub(crate) fn traffic_of(plan: &Plan, executed: u64) -> Traffic
+fn traffic_of(plan: &Plan, executed: u64) -> Traffic
     requires { IsInRanges plan.now }
     ensures { IsTrafficAlone plan.now executed result }
 {

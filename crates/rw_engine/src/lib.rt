@@ -9,7 +9,7 @@
 //! Worked examples: `rw_round_tests/src/phold_runs.rt`, and the program `phold`.
 
 mod alone;
-mod gears;
+mod controller;
 mod how;
 mod running;
 mod stretches;

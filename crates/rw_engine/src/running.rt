@@ -14,6 +14,7 @@ use rw_world::{Step, World};
 use std::alloc::Global;
 use std::sync::Wait;
 use std::thread::Threads;
+use std::time::Clock;
 
 /// Runs a model from these states, one for each process, with these events from outside, in any order: in order of time, in
 /// rounds, or by steps. In order and in rounds what comes of it is the serial outcome: the states that executing all events in
@@ -23,8 +24,7 @@ use std::thread::Threads;
 ///
 /// `BadPlan` exactly where a field of the plan is out of its range; `Exhausted` only where a process was to execute an event
 /// in a state that can take no further one; `RoundsUsed` and `NoThread` only in rounds; `Memory` where memory was refused.
-/// Nothing is handed back then. In rounds of one worker `RoundsUsed` comes only where there are more events than the rounds
-/// have room for, and `NoThread` never.
+/// Nothing is handed back then. In rounds of one worker `RoundsUsed` and `NoThread` never come.
 pub fn run_in<M, R>(
     rt: &R,
     alloc: Global,
@@ -38,7 +38,7 @@ where
     M::State: Send,
     M::Body: Send,
     M::Undo: Send,
-    R: Threads + Wait + Sync,
+    R: Threads + Wait + Clock + Sync,
     requires { IsReady M.Model model starts.items initial.items }
     ensures ran { IfOk result
         (HasRun M.Model M.Body.cmp model starts.items initial.items how.entry) }
@@ -67,7 +67,7 @@ where
     M::Body: Send,
     M::Undo: Send,
     P: Progress,
-    R: Threads + Wait + Sync,
+    R: Threads + Wait + Clock + Sync,
     requires { IsReady M.Model model starts.items initial.items }
     ensures ran { IfOk result
         (HasRun M.Model M.Body.cmp model starts.items initial.items how.entry) }
@@ -117,7 +117,7 @@ where
     M::Body: Send,
     M::Undo: Send,
     P: Progress,
-    R: Threads + Wait + Sync,
+    R: Threads + Wait + Clock + Sync,
     requires { IsReady M.Model model starts.items initial.items }
     ensures ran { IfOk result
         (HasRun M.Model M.Body.cmp model starts.items initial.items (How.InRounds plan)) }

@@ -6,11 +6,10 @@ ghost use Rattle.rw_worker.specs.Plans.{IsInRanges};
 ghost use Rattle.rw_rounds.specs.declared.stop.Stop.TheVariants.{BadPlan};
 ghost use Rattle.rw_windows.specs.Working.{IsAhead};
 ghost use Rattle.rw_engine.specs.Runs.{AreLastStates};
-ghost use Rattle.rw_engine.specs.Alone.{HaveRoomFor};
 ghost use Rattle.rw_engine.specs.Stretches.{GoesOn, MayStopInRounds};
 
-use crate::alone::{events_of_round, run_alone_from, traffic_of};
-use crate::gears::{Course, Piece};
+use crate::alone::{events_of_round, run_alone_from};
+use crate::controller::{Controller, Segment};
 use rw_crew::{
     Crew, Either, Halt, Hands, Job, dismiss, do_first, do_second, grow_for_both, may_move,
 };
@@ -25,6 +24,7 @@ use std::alloc::{AllocError, Global};
 use std::sync::Wait;
 use std::thread;
 use std::thread::{Scope, Threads};
+use std::time::Clock;
 
 /// As many windows without an initial event are crossed at most.
 const WINDOWS_IN_VAIN: u64 = 16;
@@ -50,13 +50,11 @@ where
     M::Body: Send,
     M::Undo: Send,
     P: Progress,
-    R: Threads + Wait + Sync,
+    R: Threads + Wait + Clock + Sync,
     requires ready { IsReady M.Model model starts.items initial.items }
     ensures states { IfOk result (λ r. AreLastStates
         (system M.Model M.Body.cmp model starts.items initial.items) r.0.items) }
     ensures plan { (result ≡ Err BadPlan) ↔ (IsInRanges plan → ⊥) }
-    ensures room { plan.workers ≡ 1 → OnOk result (HaveRoomFor plan
-        (system M.Model M.Body.cmp model starts.items initial.items)) }
     ensures stops { IfErr result (MayStopInRounds
         (system M.Model M.Body.cmp model starts.items initial.items)
         (M.is_exhausted model) plan) }
@@ -70,23 +68,26 @@ where
 
 /// [`run_in_rounds`] where the initial events come from a source, so that they need not be there all at once.
 ///
-/// The run is made of pieces, each of which goes on from the states and the events that the one before has left:
+/// The run is made of segments, each of which goes on from the states and the events that the one before has left:
 ///
 /// - windows of the model's lookahead, where events are dense: all workers execute for good, window by window, with no undo
-///   records; such a piece takes in the next initial events and ends with them, or where they are apart by many windows;
-/// - a stretch of rounds, in which the workers run ahead and take back: it takes in the next initial events too, and commits
+///   records; such a segment takes in the next initial events and ends with them, or where they are apart by many windows;
+/// - rounds, in which the workers run ahead and roll back: such a segment takes in the next initial events too, and commits
 ///   nothing from the first other one's time on;
-/// - a run in order, where the pace has one worker go on alone: as many events as its rounds have room for, for good.
+/// - a run in order, on the calling thread.
 ///
-/// Windows and rounds take in twice as many as the piece before, if that was of their kind. What is committed is dropped. One
-/// worker runs in order from the beginning.
+/// Which of them comes next is measured: the one in which an event costs the least time. A segment takes in twice as many events as
+/// the one before, if that was of its kind. What is committed is dropped at the end of a segment. One worker runs in order from
+/// the beginning.
 ///
 /// `progress` is told up to which time all is final.
 ///
 /// # Errors
 ///
 /// `BadPlan` exactly where a field of the plan is out of its range; else `Memory`, `Exhausted`, `RoundsUsed` or `NoThread`.
-/// Nothing is handed back then. One worker stops as [`run_alone_from`](crate::run_alone_from) does, and so never for `NoThread`.
+/// `RoundsUsed` comes where the plan's rounds were made and there is no other way to choose: by a plan of one round, or of a model whose
+/// grain is 0 or 1. Nothing is handed back then. One worker stops as [`run_alone_from`](crate::run_alone_from) does, and so never for
+/// `RoundsUsed` or `NoThread`.
 pub fn run_in_rounds_from<M, S, P, R>(
     rt: &R,
     alloc: Global,
@@ -103,13 +104,11 @@ where
     M::Undo: Send,
     S: Source<M::Body>,
     P: Progress,
-    R: Threads + Wait + Sync,
+    R: Threads + Wait + Clock + Sync,
     requires ready { IsReady M.Model model starts.items (S.left source) }
     ensures states { IfOk result (λ r. AreLastStates
         (system M.Model M.Body.cmp model starts.items (S.left source)) r.0.items) }
     ensures plan { (result ≡ Err BadPlan) ↔ (IsInRanges plan → ⊥) }
-    ensures room { plan.workers ≡ 1 → OnOk result (HaveRoomFor plan
-        (system M.Model M.Body.cmp model starts.items (S.left source))) }
     ensures stops { IfErr result (MayStopInRounds
         (system M.Model M.Body.cmp model starts.items (S.left source))
         (M.is_exhausted model) plan) }
@@ -133,7 +132,7 @@ where
     )
 }
 
-/// Runs piece by piece, in the scope of the threads that it starts: none before a piece needs them.
+/// Runs segment by segment, in the scope of the threads that it starts: none before a segment needs them.
 fn run_in_scope<'s, E, M, S, P, R>(
     rt: &'s R,
     scope: &Scope<'s, E>,
@@ -151,31 +150,41 @@ where
     M::Undo: Send,
     S: Source<M::Body>,
     P: Progress,
-    R: Threads + Wait + Sync,
+    R: Threads + Wait + Clock + Sync,
     requires ready { IsReady M.Model model starts.items (S.left source) }
     requires plan { IsInRanges plan }
     ensures states { IfOk result (λ r. AreLastStates
         (system M.Model M.Body.cmp model starts.items (S.left source)) r.0.items) }
     ensures stops { IfErr result (λ stop. stop ≢ BadPlan) }
 {
-    let course = Course::new(&plan, model.lookahead(), model.grain());
+    let mut controller = Controller::new(&plan, model.lookahead(), model.grain(), starts.len());
+    controller.begin(rt);
     let at = Standing {
         model,
         states: starts,
         traffic: Traffic::default(),
     };
     let mut pending = Pending::new(alloc, source);
-    go_on_to_the_end(rt, scope, alloc, at, &mut pending, course, plan, progress)
+    go_on_to_the_end(
+        rt,
+        scope,
+        alloc,
+        at,
+        &mut pending,
+        controller,
+        plan,
+        progress,
+    )
 }
 
-/// Goes on with a run to its end: in order until a piece needs threads, and then by a crew.
+/// Goes on with a run to its end: in order until a segment needs threads, and then by a crew.
 fn go_on_to_the_end<'s, E, M, S, P, R>(
     rt: &'s R,
     scope: &Scope<'s, E>,
     alloc: Global,
     at: Standing<M>,
     pending: &mut Pending<M::Body, S>,
-    course: Course,
+    controller: Controller,
     plan: Plan,
     progress: &mut P,
 ) -> Result<(Vec<M::State>, Traffic), Stop>
@@ -186,7 +195,7 @@ where
     M::Undo: Send,
     S: Source<M::Body>,
     P: Progress,
-    R: Threads + Wait + Sync,
+    R: Threads + Wait + Clock + Sync,
     requires ready { IsReady M.Model at.model at.states.items pending.old.events }
     requires plan { IsInRanges plan }
     ensures states { IfOk result (λ r. AreLastStates
@@ -194,21 +203,23 @@ where
     ensures stops { IfErr result (λ stop. stop ≢ BadPlan) }
 {
     let mut at = at;
-    let mut course = course;
-    while course.left > 0 {
-        let Piece::Alone(rounds) = course.gears.next() else {
-            return run_by_crew(rt, scope, alloc, at, pending, course, plan, progress);
+    let mut controller = controller;
+    for _segment in 0..u64::MAX {
+        let Some(segment) = controller.next() else {
+            return Err(Stop::RoundsUsed);
+        };
+        let Segment::InOrder(rounds) = segment else {
+            return run_by_crew(rt, scope, alloc, at, pending, controller, plan, progress);
         };
         let before = at.traffic;
-        let rounds = rounds.min(u64::from(course.left));
-        at = go_on_alone(alloc, at, pending, &plan, rounds, &mut course.gears.pace)?;
+        at = go_on_alone(alloc, at, pending, &plan, rounds)?;
         let Some(time) = pending.least_time() else {
             return Ok((at.states, at.traffic));
         };
         progress.reach(time);
-        course.note(Piece::Alone(rounds), time, &before, &at.traffic);
+        controller.note(rt, segment, time, &before, &at.traffic);
     }
-    Err(Stop::RoundsUsed)
+    Err(Stop::Memory)
 }
 
 /// Goes on with a run to its end, by a crew whose threads stay for it.
@@ -218,7 +229,7 @@ fn run_by_crew<'s, E, M, S, P, R>(
     alloc: Global,
     at: Standing<M>,
     pending: &mut Pending<M::Body, S>,
-    course: Course,
+    controller: Controller,
     plan: Plan,
     progress: &mut P,
 ) -> Result<(Vec<M::State>, Traffic), Stop>
@@ -229,7 +240,7 @@ where
     M::Undo: Send,
     S: Source<M::Body>,
     P: Progress,
-    R: Threads + Wait + Sync,
+    R: Threads + Wait + Clock + Sync,
     requires ready { IsReady M.Model at.model at.states.items pending.old.events }
     requires plan { IsInRanges plan }
     ensures states { IfOk result (λ r. AreLastStates
@@ -240,7 +251,18 @@ where
     may_move::<Port<Letter<M::Body>>>();
     let crew = hire(rt, scope, alloc, plan.workers as usize)?;
     let mut threads = RunThreads { crew };
-    let ran = run_pieces(rt, &mut threads, alloc, at, pending, course, plan, progress);
+    let mut controller = controller;
+    controller.begin(rt);
+    let ran = run_pieces(
+        rt,
+        &mut threads,
+        alloc,
+        at,
+        pending,
+        controller,
+        plan,
+        progress,
+    );
     let RunThreads { crew } = threads;
     release(crew);
     ran
@@ -254,7 +276,7 @@ fn hire<'s, E, R, J, K, T, U>(
     count: usize,
 ) -> Result<Crew<'s, R, Either<J, K>, Either<T, U>>, Halt>
 where
-    R: Threads + Wait + Sync,
+    R: Threads + Wait + Clock + Sync,
     J: Job<T> + Send + Sync + Drop + 's,
     K: Job<U> + Send + Sync + Drop + 's,
     T: Send + Drop + 's,
@@ -322,14 +344,14 @@ impl<'r, M: VtModel + Drop, R: Wait> Hands<Work<'r, M, R>, Share<M>> for RunThre
     }
 }
 
-/// Runs piece by piece, by hands for rounds and for windows.
+/// Runs segment by segment, by hands for rounds and for windows.
 fn run_pieces<'r, M, S, P, R, H>(
     rt: &'r R,
     hands: &mut H,
     alloc: Global,
     at: Standing<M>,
     pending: &mut Pending<M::Body, S>,
-    course: Course,
+    controller: Controller,
     plan: Plan,
     progress: &mut P,
 ) -> Result<(Vec<M::State>, Traffic), Stop>
@@ -337,7 +359,7 @@ where
     M: Lookahead + Drop,
     S: Source<M::Body>,
     P: Progress,
-    R: Wait,
+    R: Wait + Clock,
     H: Hands<RoundWork<M>, Worker<M>> + Hands<Work<'r, M, R>, Share<M>>,
     requires ready { IsReady M.Model at.model at.states.items pending.old.events }
     requires plan { IsInRanges plan }
@@ -346,51 +368,51 @@ where
     ensures stops { IfErr result (λ stop. stop ≢ BadPlan) }
 {
     let mut at = at;
-    let mut course = course;
-    while course.left > 0 {
+    let mut controller = controller;
+    for _segment in 0..u64::MAX {
+        let Some(segment) = controller.next() else {
+            return Err(Stop::RoundsUsed);
+        };
         let before = at.traffic;
-        let piece = course.gears.next();
         at = go_on_by(
             rt,
             hands,
             alloc,
             at,
             pending,
-            piece,
+            segment,
             plan,
-            course.left,
-            &mut course.gears.pace,
+            &mut controller.pace,
             progress,
         )?;
         let Some(time) = pending.least_time() else {
             return Ok((at.states, at.traffic));
         };
         progress.reach(time);
-        course.note(piece, time, &before, &at.traffic);
+        controller.note(rt, segment, time, &before, &at.traffic);
     }
-    Err(Stop::RoundsUsed)
+    Err(Stop::Memory)
 }
 
-/// Where a run stands between two pieces; what is still to be executed stands beside it.
+/// Where a run stands between two segments; what is still to be executed stands beside it.
 #[derive(Drop)]
 struct Standing<M: VtModel> {
     model: M,
     /// The state of each process.
     states: Vec<M::State>,
-    /// What the pieces so far did.
+    /// What the segments so far did.
     traffic: Traffic,
 }
 
-/// Goes on with a run by one piece.
+/// Goes on with a run by one segment.
 fn go_on_by<'r, M, S, P, R, H>(
     rt: &'r R,
     hands: &mut H,
     alloc: Global,
     at: Standing<M>,
     pending: &mut Pending<M::Body, S>,
-    piece: Piece,
+    segment: Segment,
     plan: Plan,
-    left: u32,
     pace: &mut Pace,
     progress: &mut P,
 ) -> Result<Standing<M>, Stop>
@@ -402,20 +424,21 @@ where
     H: Hands<RoundWork<M>, Worker<M>> + Hands<Work<'r, M, R>, Share<M>>,
     requires ready { IsReady M.Model at.model at.states.items pending.old.events }
     requires plan { IsInRanges plan }
-    requires left { 1 ≤ left }
     ensures onward { IfOk result (λ r. GoesOn M.Model M.Body.cmp
         at.model at.states.items pending.old.events
         r.model r.states.items pending.new.events) }
     ensures stops { IfErr result (λ stop. stop ≢ BadPlan) }
 {
-    match piece {
-        Piece::Alone(rounds) => {
-            let rounds = rounds.min(u64::from(left));
-            go_on_alone(alloc, at, pending, &plan, rounds, pace)
+    match segment {
+        Segment::InOrder(rounds) => go_on_alone(alloc, at, pending, &plan, rounds),
+        Segment::Windows(count, times) => {
+            go_on_in_windows(rt, hands, alloc, at, pending, count, times, &plan)
         }
-        Piece::Windows(count) => go_on_in_windows(rt, hands, alloc, at, pending, count, &plan),
-        Piece::Rounds(count) => {
-            go_on_in_rounds(hands, alloc, at, pending, count, plan, left, pace, progress)
+        Segment::Rounds(rounds, count) => {
+            let rounds = rounds.max(1);
+            go_on_in_rounds(
+                hands, alloc, at, pending, count, plan, rounds, pace, progress,
+            )
         }
     }
 }
@@ -427,7 +450,6 @@ fn go_on_alone<M: VtModel + Drop, S: Source<M::Body>>(
     pending: &mut Pending<M::Body, S>,
     plan: &Plan,
     rounds: u64,
-    pace: &mut Pace,
 ) -> Result<Standing<M>, Stop>
     requires ready { IsReady M.Model at.model at.states.items pending.old.events }
     requires plan { IsInRanges plan.now }
@@ -443,9 +465,10 @@ fn go_on_alone<M: VtModel + Drop, S: Source<M::Body>>(
     } = at;
     let limit = rounds.saturating_mul(events_of_round(plan));
     let executed = go_on(alloc, &model, &mut states, pending, limit)?;
-    let did = traffic_of(plan, executed);
-    pace.note_alone(did.rounds);
-    traffic.add(&did);
+    traffic.add(&Traffic {
+        executed,
+        ..Traffic::default()
+    });
     Ok(Standing {
         model,
         states,
@@ -453,7 +476,8 @@ fn go_on_alone<M: VtModel + Drop, S: Source<M::Body>>(
     })
 }
 
-/// Goes on with a run in windows of the model's lookahead, which take in as many initial events as `count` says.
+/// Goes on with a run in windows of the model's lookahead, which take in as many initial events as `count` says, and go so many times
+/// as far as these where no other is left.
 fn go_on_in_windows<'r, M, S, R, H>(
     rt: &'r R,
     hands: &mut H,
@@ -461,6 +485,7 @@ fn go_on_in_windows<'r, M, S, R, H>(
     at: Standing<M>,
     pending: &mut Pending<M::Body, S>,
     count: usize,
+    times: u64,
     plan: &Plan,
 ) -> Result<Standing<M>, Stop>
 where
@@ -483,7 +508,7 @@ where
         mut traffic,
     } = at;
     let until = pending.least_time().unwrap_or(END);
-    let end = end_of_windows(&events, lookahead).min(until);
+    let end = end_of_windows(&events, lookahead, times, until).min(until);
     let Left {
         model,
         states,
@@ -502,9 +527,11 @@ where
         end,
     )?;
     pending.put_back(events)?;
-    let mut did = traffic_of(plan, executed);
-    did.ring = received;
-    traffic.add(&did);
+    traffic.add(&Traffic {
+        executed,
+        ring: received,
+        ..Traffic::default()
+    });
     Ok(Standing {
         model,
         states,
@@ -536,14 +563,20 @@ fn take_ready<M: VtModel, S: Source<M::Body>>(
     pending.take_out(alloc, count)
 }
 
-/// The time up to which windows go that take in these events, in ticks: after the last of them, or after the last one before
-/// a time of several windows in which none of them is, since workers cross such a time window by window.
-fn end_of_windows<B: Copy>(events: &[Event<B>], lookahead: u64) -> u64 {
-    let Some(first) = events.first() else {
-        return END;
-    };
+/// The time up to which windows go that take in these events, in ticks, where `until` is the time of the first other one.
+fn end_of_windows<B: Copy>(events: &[Event<B>], lookahead: u64, times: u64, until: u64) -> u64 {
+    if until == END {
+        end_far_behind(events, times)
+    } else {
+        end_behind(events, lookahead)
+    }
+}
+
+/// The time after the last of these events, or after the last one before a time of several windows in which none of them is, since
+/// workers cross such a time window by window.
+fn end_behind<B: Copy>(events: &[Event<B>], lookahead: u64) -> u64 {
     let gap = lookahead.saturating_mul(WINDOWS_IN_VAIN);
-    let mut last = first.time;
+    let mut last = events.first().map_or(0, |event| event.time);
     for event in events {
         if event.time > last.saturating_add(gap) {
             return last.saturating_add(1);
@@ -551,6 +584,21 @@ fn end_of_windows<B: Copy>(events: &[Event<B>], lookahead: u64) -> u64 {
         last = event.time.max(last);
     }
     last.saturating_add(1)
+}
+
+/// The time that is so many times as far behind the first of these events as the last one is, where no other event waits: handing
+/// them over and taking back what is left then costs little beside the events executed.
+fn end_far_behind<B: Copy>(events: &[Event<B>], times: u64) -> u64 {
+    let mut first = END;
+    let mut last = 0;
+    for event in events {
+        first = first.min(event.time);
+        last = event.time.max(last);
+    }
+    let apart = last.saturating_sub(first);
+    first
+        .saturating_add(apart.saturating_mul(times))
+        .saturating_add(1)
 }
 
 /// Goes on with a run by a stretch of rounds, which takes in as many initial events as `count` says.
@@ -586,6 +634,7 @@ where
     } = at;
     let until = pending.least_time().unwrap_or(END);
     let world = World::open(alloc, model, states, events)?;
+    pace.try_all();
     let Stretch {
         world,
         floor: _,

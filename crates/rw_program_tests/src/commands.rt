@@ -6,6 +6,7 @@ use rw_command::{
 use rw_trace::TraceFault;
 use std::alloc::{AllocError, Global};
 use std::io::Write;
+use std::random::RandomSource;
 use std::sync::Wait;
 use std::thread::Threads;
 use std::time::Clock;
@@ -84,7 +85,7 @@ fn words_of(alloc: Global, text: &str) -> Result<Vec<String>, AllocError> {
 }
 
 /// Does what `text`, a command line, asks of a trace; its exit status, and how many bytes are then written.
-fn ripqwarp<E: Write, R: Threads + Wait + Clock + Sync>(
+fn ripqwarp<E: Write, R: Threads + Wait + Clock + RandomSource + Sync>(
     rt: &R,
     alloc: Global,
     text: &str,
@@ -98,7 +99,7 @@ fn ripqwarp<E: Write, R: Threads + Wait + Clock + Sync>(
 }
 
 /// Whether a command line has this exit status, with so many bytes written, and this on standard error.
-fn is_answered<R: Threads + Wait + Clock + Sync>(
+fn is_answered<R: Threads + Wait + Clock + RandomSource + Sync>(
     rt: &R,
     alloc: Global,
     words: &str,
@@ -277,7 +278,7 @@ const LAST_ONE: &[u8] =
     b"from,to,caches,requests,hits,misses,coalesced,late,bypassed,inserted,evicted,reinserted,promoted,writes,splits,merges,hit_bytes,request_bytes,hit_ratio,byte_hit_ratio,flash_bytes,written_bytes,backend_requests,backend_bytes\n100,150,edges,1,0,1,0,1,0,0,0,0,0,0,0,0,0,4,0.000000,0.000000,10,0,0,0\n100,150,origins,1,0,1,0,0,0,0,0,0,0,0,0,0,0,4,0.000000,0.000000,20,0,1,4\n100,150,all,2,0,2,0,1,0,0,0,0,0,0,0,0,0,8,0.000000,0.000000,30,0,1,4\n";
 
 /// What `text`, a command line, writes of a trace, if its exit status is 0.
-fn written<R: Threads + Wait + Clock + Sync>(
+fn written<R: Threads + Wait + Clock + RandomSource + Sync>(
     rt: &R,
     alloc: Global,
     text: &str,
@@ -291,7 +292,7 @@ fn written<R: Threads + Wait + Clock + Sync>(
 }
 
 /// Whether two command lines write the same, each of its trace.
-fn write_the_same<R: Threads + Wait + Clock + Sync>(
+fn write_the_same<R: Threads + Wait + Clock + RandomSource + Sync>(
     rt: &R,
     alloc: Global,
     first: (&str, &'static [u8]),
@@ -534,7 +535,7 @@ fn lines(text: &[u8]) -> usize {
 }
 
 /// Sweeps over 64, 128 and 256 blocks under two policies; the exit status, and how many lines are then written.
-fn sweep_of_six<R: Threads + Wait + Clock + Sync>(
+fn sweep_of_six<R: Threads + Wait + Clock + RandomSource + Sync>(
     rt: &R,
     alloc: Global,
     err: &mut Vec<u8>,
@@ -550,7 +551,11 @@ fn sweep_of_six<R: Threads + Wait + Clock + Sync>(
 
 /// Whether that sweep is done, of a header and three lines for each of six configurations, and shows how far it is on a
 /// terminal alone.
-fn is_swept<R: Threads + Wait + Clock + Sync>(rt: &R, alloc: Global, terminal: bool) -> bool {
+fn is_swept<R: Threads + Wait + Clock + RandomSource + Sync>(
+    rt: &R,
+    alloc: Global,
+    terminal: bool,
+) -> bool {
     let mut err = Vec::new(alloc);
     let is_done = is_answer(sweep_of_six(rt, alloc, &mut err, terminal), (0, 19));
     let is_told = if terminal {
@@ -570,7 +575,7 @@ fn a_sweep_shows_how_far_it_is_on_a_terminal_alone(rt: HostRuntime) {
 
 /// Whether a command line has this exit status and so many bytes written, whether standard error is interrupted for ever or
 /// takes nothing.
-fn is_answered_in_vain<R: Threads + Wait + Clock + Sync>(
+fn is_answered_in_vain<R: Threads + Wait + Clock + RandomSource + Sync>(
     rt: &R,
     alloc: Global,
     words: &str,
@@ -647,7 +652,7 @@ const WRITING: [(&str, &[u8]); 19] = [
 ];
 
 /// Whether a command line whose writer fails in so many writes has the exit status 8, and `output` on standard error alone.
-fn fails_to_write<R: Threads + Wait + Clock + Sync>(
+fn fails_to_write<R: Threads + Wait + Clock + RandomSource + Sync>(
     rt: &R,
     alloc: Global,
     (words, given): (&str, &'static [u8]),
@@ -679,7 +684,7 @@ fn a_command_that_cannot_write_ends_with_8(rt: HostRuntime) {
 
 /// Whether the line on standard error of a command line is the one that its exit status has: for this status, that of a fault
 /// of the command line, one that begins like this, and for want of memory `memory`.
-fn agree<R: Threads + Wait + Clock + Sync>(
+fn agree<R: Threads + Wait + Clock + RandomSource + Sync>(
     rt: &R,
     alloc: Global,
     words: &str,

@@ -9,6 +9,7 @@ use std::alloc::Global;
 use std::io::Write;
 use std::sync::Wait;
 use std::thread::Threads;
+use std::time::Clock;
 
 /// The trace of one request; its report with nothing stored has 409 bytes.
 const TRACE: &[u8] = b"time,edge,object,size\n5,0,7,4\n";
@@ -20,7 +21,7 @@ fn nothing_stored() -> Option<Config> {
 }
 
 /// What the simulator answers where nothing is stored.
-fn simulated<W: Write, R: Threads + Wait + Sync>(
+fn simulated<W: Write, R: Threads + Wait + Clock + Sync>(
     rt: &R,
     alloc: Global,
     trace: &[u8],
@@ -32,7 +33,7 @@ fn simulated<W: Write, R: Threads + Wait + Sync>(
 }
 
 /// Whether a writer that fails so holds so many bytes of the report, with so many failures told and counted.
-fn is_held<R: Threads + Wait + Sync>(
+fn is_held<R: Threads + Wait + Clock + Sync>(
     rt: &R,
     alloc: Global,
     (most, fails_in, flush_fails): (usize, u32, bool),
@@ -69,7 +70,7 @@ fn a_writer_that_fails_cuts_the_report_off(rt: HostRuntime) {
 
 /// Whether a writer that fails at one of its calls alone holds so many bytes of the report and was called so often, with so
 /// many failures told and counted.
-fn is_held_after<R: Threads + Wait + Sync>(
+fn is_held_after<R: Threads + Wait + Clock + Sync>(
     rt: &R,
     alloc: Global,
     fails_at: u32,
@@ -131,7 +132,7 @@ finished yes
 ";
 
 /// Whether a writer that takes a byte a write, and is interrupted from one write on, holds the text up to there.
-fn is_cut_off_at<R: Threads + Wait + Sync>(
+fn is_cut_off_at<R: Threads + Wait + Clock + Sync>(
     rt: &R,
     alloc: Global,
     trace: &[u8],
@@ -163,7 +164,11 @@ fn a_report_is_cut_off_at_each_of_its_bytes(rt: HostRuntime) {
 }
 
 /// The same of the journal.
-fn is_journal_cut_off_at<R: Threads + Wait + Sync>(rt: &R, alloc: Global, fails_in: u32) -> bool {
+fn is_journal_cut_off_at<R: Threads + Wait + Clock + Sync>(
+    rt: &R,
+    alloc: Global,
+    fails_in: u32,
+) -> bool {
     match schedule(alloc, STEPS) {
         Ok(steps) => is_cut_off_at(rt, alloc, TWO, Mode::Journal(steps), JOURNAL, fails_in),
         Err(_) => false,
@@ -182,7 +187,7 @@ fn a_journal_is_cut_off_at_each_of_its_bytes(rt: HostRuntime) {
 }
 
 /// Why the run of a trace in rounds by the plan of no worker has no report; `None` where something is written.
-fn without_workers<R: Threads + Wait + Sync>(
+fn without_workers<R: Threads + Wait + Clock + Sync>(
     rt: &R,
     alloc: Global,
     trace: &[u8],

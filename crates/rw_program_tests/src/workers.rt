@@ -8,6 +8,7 @@ use std::io;
 use std::io::ErrorKind;
 use std::sync::Wait;
 use std::thread::Threads;
+use std::time::Clock;
 
 /// How dense the requests of a trace are.
 #[derive(Clone, Copy)]
@@ -93,7 +94,7 @@ fn trace(alloc: Global, density: Density) -> Result<Vec<u8>, io::Error> {
 }
 
 /// What a run of a trace by this mode did, and its report.
-fn ran<R: Threads + Wait + Sync>(
+fn ran<R: Threads + Wait + Clock + Sync>(
     rt: &R,
     alloc: Global,
     trace: &[u8],
@@ -107,7 +108,7 @@ fn ran<R: Threads + Wait + Sync>(
 }
 
 /// What the workers of a plan did with a trace, if their report is that of one thread.
-fn did<R: Threads + Wait + Sync>(
+fn did<R: Threads + Wait + Clock + Sync>(
     rt: &R,
     alloc: Global,
     density: Density,

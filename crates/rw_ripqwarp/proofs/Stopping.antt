@@ -24,8 +24,7 @@ module _ (c : Config) (bytes : List ℕ) (rows : List Row) (accepted : trace_of 
   stops-in-rounds plan stop.Memory may = tt
   stops-in-rounds plan stop.Exhausted may =
       ((record { rows = rows; accepted = accepted }, λ one. record { rows = rows; accepted = accepted; met = may.1 one }), λ bad. bad may.0)
-  stops-in-rounds plan stop.RoundsUsed may =
-      ((record { rows = rows; accepted = accepted }, λ one. record { rows = rows; accepted = accepted; more = may.1 one }), λ bad. bad may.0)
+  stops-in-rounds plan stop.RoundsUsed may = ((record { rows = rows; accepted = accepted }, may.1), λ bad. bad may.0)
   stops-in-rounds plan stop.BadPlan may = (tt, record { rows = rows; accepted = accepted }, may)
   stops-in-rounds plan stop.NoThread may = (may.1, record { rows = rows; accepted = accepted }, λ bad. bad may.0)
 

@@ -25,7 +25,6 @@ use Rattle.rw_rounds.specs.declared.stop.Stop.TheVariants as stop
 use Rattle.rw_engine.specs.declared.how.How.{How}
 use Rattle.rw_engine.specs.declared.how.How.TheVariants.{InOrder, InRounds, BySteps}
 use Rattle.rw_engine.specs.declared.how.Ran.TheVariants.{Finished, Stepped}
-use Rattle.rw_engine.specs.Alone.{HaveRoomFor}
 use Rattle.rw_engine.specs.Runs.{AreLastStates, HasRun, IsByBadPlan, IsSteppedTo, MayStopFor, no_traffic}
 use Rattle.rw_engine.specs.Stretches.{MayStopInRounds}
 use Rattle.rw_replay.specs.Report.{report_text}
@@ -36,7 +35,7 @@ use Rattle.rw_ripqwarp.specs.declared.mode.Mode.{Mode}
 use Rattle.rw_ripqwarp.specs.declared.mode.Mode.TheVariants.{Serial, Warp, Journal}
 use Rattle.rw_ripqwarp.specs.Faults.{sim_stop_of}
 use Rattle.rw_journal.specs.Journal.{journal_text}
-use Rattle.rw_ripqwarp.specs.Simulate.{HasGoodPlan, FitsRounds, IsJournalOf, IsRunFault, IsTextOf, IsWarp, IsWayOf}
+use Rattle.rw_ripqwarp.specs.Simulate.{HasGoodPlan, IsJournalOf, IsRunFault, IsTextOf, IsWarp, IsWayOf}
 use Rattle.rw_ripqwarp.proofs.Stopping.{stops-in-rounds}
 
 -- the caches at work
@@ -49,7 +48,7 @@ caches m starts initial = system model.ghosts order.ghosts.cmp m starts initial
 pub last-states : (m : Photo) (starts : List Cache) (initial : List (Event Body)) (way : How) (states : Vec Cache Global) (traffic : Traffic)
     → HasRun model.ghosts order.ghosts.cmp m starts initial way (Finished states traffic) → AreLastStates (caches m starts initial) states.items
 last-states m starts initial InOrder states traffic ran = ran.0
-last-states m starts initial (InRounds plan) states traffic ran = ran.0
+last-states m starts initial (InRounds plan) states traffic ran = ran
 last-states m starts initial (BySteps steps) states traffic ran = absurd ran
 
 -- there is one for each cache
@@ -134,17 +133,6 @@ good (Warp plan) InOrder by never = absurd by
 good (Warp plan) (InRounds same) by never = λ bad. never (subst (λ p. IsInRanges p → ⊥) (sym by) bad)
 good (Warp plan) (BySteps steps) by never = absurd by
 good (Journal steps) way by never = λ bad. bad
-
--- rounds of one worker have room for what they have run
-pub roomy : (c : Config) (m : Photo) (bytes : List ℕ) (starts : List Cache) (initial : List (Event Body)) (mode : Mode) (way : How) (states : Vec Cache Global) (traffic : Traffic)
-    → m.config ≡ c → IsBeginningOf c bytes starts initial → IsWayOf mode way → HasRun model.ghosts order.ghosts.cmp m starts initial way (Finished states traffic) → FitsRounds mode c bytes
-roomy c m bytes starts initial Serial way states traffic config b by ran = tt
-roomy c m bytes starts initial (Warp plan) InOrder states traffic config b by ran = absurd by
-roomy c m bytes starts initial (Warp plan) (InRounds same) states traffic config b by ran = λ one.
-    let room = subst (λ (p : Plan). p.workers ≡ 1 → HaveRoomFor p (caches m starts initial)) by ran.1 in
-    record { rows = b.rows; accepted = b.accepted; room = subst (λ (y : System Cache Body). HaveRoomFor plan y) (simulates c m bytes starts initial config b) (room one) }
-roomy c m bytes starts initial (Warp plan) (BySteps steps) states traffic config b by ran = absurd by
-roomy c m bytes starts initial (Journal steps) way states traffic config b by ran = tt
 
 -- each stop is a fault of the run, that of the plan exactly where the plan is bad
 stops : (c : Config) (m : Photo) (bytes : List ℕ) (starts : List Cache) (initial : List (Event Body)) (mode : Mode) (way : How) (s : Stop) → m.config ≡ c

@@ -14,7 +14,6 @@ use Rattle.rw_world.specs.Steps.{answers, run}
 use Rattle.rw_world.specs.Calls.{MeetsAt}
 use Rattle.rw_worker.specs.Plans.{IsInRanges}
 use Rattle.rw_worker.specs.declared.plan.Plan.{Plan}
-use Rattle.rw_engine.specs.Alone.{HaveNoRoomFor, HaveRoomFor}
 use Rattle.rw_engine.specs.declared.how.How.{How}
 use Rattle.rw_engine.specs.declared.how.How.TheVariants.{InOrder, InRounds, BySteps}
 use Rattle.rw_replay.specs.Replay.{IsReportOf, IsExhaustingInOrder}
@@ -62,30 +61,10 @@ IsExhausting (Warp plan) c bytes =
     IsAccepted c bytes × (plan.workers ≡ 1 → IsExhaustingInOrder c bytes)
 IsExhausting (Journal steps) c bytes = IsExhaustingBySteps steps.items c bytes
 
--- the trace in these bytes is accepted, and its run has more events than the rounds of this plan have room for, where
--- each has one worker
-pub record HasMoreEvents (plan : Plan) (c : Config) (bytes : Text) : Type 0 where
-  pub rows : List Row
-  pub accepted : trace_of c.edges most_rows (records_of bytes) ≡ Ok rows
-  pub more : HaveNoRoomFor plan (simulation c rows)
-
--- the trace in these bytes is accepted, and such rounds have room for all events of its run
-pub record IsWithinRounds (plan : Plan) (c : Config) (bytes : Text) : Type 0 where
-  pub rows : List Row
-  pub accepted : trace_of c.edges most_rows (records_of bytes) ≡ Ok rows
-  pub room : HaveRoomFor plan (simulation c rows)
-
--- the trace in these bytes is accepted, and in this mode the rounds may be used up: those of one worker have no room
--- for its run. Of several workers only the first is said
+-- the trace in these bytes is accepted, and in this mode rounds may be used up: those of several workers
 abbrev pub UsesUpRounds : Mode → Config → Text → Type 0
-UsesUpRounds (Warp plan) c bytes =
-    IsAccepted c bytes × (plan.workers ≡ 1 → HasMoreEvents plan c bytes)
+UsesUpRounds (Warp plan) c bytes = IsAccepted c bytes × (plan.workers ≢ 1)
 UsesUpRounds _ c bytes = ⊥
-
--- where this mode is of rounds of one worker, they have room for the run of the trace in these bytes
-abbrev pub FitsRounds : Mode → Config → Text → Type 0
-FitsRounds (Warp plan) c bytes = plan.workers ≡ 1 → IsWithinRounds plan c bytes
-FitsRounds _ c bytes = Unit {0}
 
 -- a run in this mode goes on in more threads than one
 abbrev pub HasThreads : Mode → Type 0

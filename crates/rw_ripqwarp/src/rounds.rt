@@ -3,12 +3,11 @@ ghost use Rattle.rw_photo.specs.Cache.{is_exhausted};
 ghost use Rattle.rw_photo.specs.Simulation.{simulation};
 ghost use Rattle.rw_trace.specs.Laws.{IsRow};
 ghost use Rattle.rw_trace.specs.Limits.{most_rows};
-ghost use Rattle.rw_engine.specs.Alone.{HaveRoomFor};
 ghost use Rattle.rw_engine.specs.Runs.{AreLastStates};
 ghost use Rattle.rw_engine.specs.Stretches.{MayStopInRounds};
 ghost use Rattle.rw_ripqwarp.specs.Faults.{sim_stop_of};
 ghost use Rattle.rw_replay.specs.Replay.{IsReportOf};
-ghost use Rattle.rw_ripqwarp.specs.Simulate.{HasGoodPlan, FitsRounds, IsRunFault};
+ghost use Rattle.rw_ripqwarp.specs.Simulate.{HasGoodPlan, IsRunFault};
 
 use crate::mode::Mode;
 use rw_engine::{
@@ -22,10 +21,11 @@ use rw_trace::{Row, read_in_parts};
 use std::alloc::{AllocError, Global};
 use std::sync::Wait;
 use std::thread::Threads;
+use std::time::Clock;
 
 /// The report of a run in rounds, and what the rounds did. As on one thread, the requests of a trace whose rows stand in order
 /// of time are not there all at once.
-pub(crate) fn rounds_text<P: Progress, R: Threads + Wait + Sync>(
+pub(crate) fn rounds_text<P: Progress, R: Threads + Wait + Clock + Sync>(
     rt: &R,
     alloc: Global,
     bytes: &[u8],
@@ -35,7 +35,6 @@ pub(crate) fn rounds_text<P: Progress, R: Threads + Wait + Sync>(
 ) -> Result<(Vec<u8>, Traffic), SimFault>
     ensures text { IfOk result (λ r. IsReportOf config.now bytes.now r.0.items) }
     ensures in_range { OnOk result (HasGoodPlan (Mode.Warp plan)) }
-    ensures room { OnOk result (FitsRounds (Mode.Warp plan) config.now bytes.now) }
     ensures fault { IfErr result (IsRunFault (Mode.Warp plan) config.now bytes.now) }
     ensures unwritten { IfErr result (λ e. e ≢ SimFault.Output) }
 {
@@ -93,7 +92,7 @@ fn readers_of(config: &Config, plan: &Plan) -> u32 {
 /// # Errors
 ///
 /// Those of [`run_in_rounds_from`].
-fn run_rows_in_rounds<P: Progress, R: Threads + Wait + Sync>(
+fn run_rows_in_rounds<P: Progress, R: Threads + Wait + Clock + Sync>(
     rt: &R,
     alloc: Global,
     rows: &[Row],
@@ -107,8 +106,6 @@ fn run_rows_in_rounds<P: Progress, R: Threads + Wait + Sync>(
     ensures outcome { IfOk result (λ r.
         AreLastStates (simulation config.now (rows.now ++ others.now)) r.0.items) }
     ensures in_range { OnOk result (HasGoodPlan (Mode.Warp plan)) }
-    ensures room { plan.workers ≡ 1
-        → OnOk result (HaveRoomFor plan (simulation config.now (rows.now ++ others.now))) }
     ensures stops { IfErr result (MayStopInRounds
         (simulation config.now (rows.now ++ others.now)) is_exhausted plan) }
 {

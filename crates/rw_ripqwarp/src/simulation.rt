@@ -2,7 +2,7 @@ ghost use Rattle.std.specs.Prelude.{◌≡◌, ◌≢◌, ◌↔◌, Err, IfOk, 
 ghost use Rattle.std.specs.Io.KnownBytes.{Appends};
 ghost use Rattle.rw_output.specs.Sink.{AppendsBeginning};
 ghost use Rattle.rw_engine.specs.Runs.{no_traffic};
-ghost use Rattle.rw_ripqwarp.specs.Simulate.{HasGoodPlan, FitsRounds, IsRunFault, IsTextOf, IsWarp};
+ghost use Rattle.rw_ripqwarp.specs.Simulate.{HasGoodPlan, IsRunFault, IsTextOf, IsWarp};
 ghost use Rattle.rw_ripqwarp.specs.Headline.{HasWritten, HasWrittenBeginning};
 
 use crate::mode::Mode;
@@ -18,6 +18,7 @@ use std::alloc::Global;
 use std::io::Write;
 use std::sync::Wait;
 use std::thread::Threads;
+use std::time::Clock;
 
 /// Runs a trace and writes its report, or its journal: what the mode says. Tells what the rounds of a run in mode `Warp`
 /// did; in the other modes all counts are 0, and no thread is started.
@@ -26,9 +27,8 @@ use std::thread::Threads;
 ///
 /// The text is made whole, then written by a loop over `write`, then flushed. `Output` is answered exactly where the
 /// writer failed in the call, and what went out is then a beginning of the text; with any other fault nothing was written.
-/// The trace is tested before the plan. One worker starts no thread, and its rounds are used up only where the trace's run has
-/// more events than they have room for.
-pub fn simulate<W: Write, R: Threads + Wait + Sync>(
+/// The trace is tested before the plan. One worker starts no thread, and its rounds are never used up.
+pub fn simulate<W: Write, R: Threads + Wait + Clock + Sync>(
     rt: &R,
     alloc: Global,
     bytes: &[u8],
@@ -40,7 +40,6 @@ pub fn simulate<W: Write, R: Threads + Wait + Sync>(
         (W.contents out.old.writer) (W.contents out.new.writer)) }
     ensures still { IfOk result (λ traffic. (IsWarp mode → ⊥) → traffic ≡ no_traffic) }
     ensures in_range { OnOk result (HasGoodPlan mode) }
-    ensures room { OnOk result (FitsRounds mode config.now bytes.now) }
     ensures fault { IfErr result (IsRunFault mode config.now bytes.now) }
     ensures output { (result ≡ Err SimFault.Output) ↔ (out.new.failures ≢ out.old.failures) }
     ensures cut_off { result ≡ Err SimFault.Output
@@ -53,7 +52,7 @@ pub fn simulate<W: Write, R: Threads + Wait + Sync>(
 
 /// [`simulate`], which tells `progress` how far it has come, in ticks of the trace's virtual time: up to which time all is final.
 /// By a schedule, and of a trace on one thread whose rows do not stand in order of time, nothing is told.
-pub fn simulate_and_tell<W: Write, P: Progress, R: Threads + Wait + Sync>(
+pub fn simulate_and_tell<W: Write, P: Progress, R: Threads + Wait + Clock + Sync>(
     rt: &R,
     alloc: Global,
     bytes: &[u8],
@@ -66,7 +65,6 @@ pub fn simulate_and_tell<W: Write, P: Progress, R: Threads + Wait + Sync>(
         (W.contents out.old.writer) (W.contents out.new.writer)) }
     ensures still { IfOk result (λ traffic. (IsWarp mode → ⊥) → traffic ≡ no_traffic) }
     ensures in_range { OnOk result (HasGoodPlan mode) }
-    ensures room { OnOk result (FitsRounds mode config.now bytes.now) }
     ensures fault { IfErr result (IsRunFault mode config.now bytes.now) }
     ensures output { (result ≡ Err SimFault.Output) ↔ (out.new.failures ≢ out.old.failures) }
     ensures cut_off { result ≡ Err SimFault.Output
@@ -84,7 +82,7 @@ pub fn simulate_and_tell<W: Write, P: Progress, R: Threads + Wait + Sync>(
 }
 
 /// The text of a run, and what its rounds did.
-fn text_of<P: Progress, R: Threads + Wait + Sync>(
+fn text_of<P: Progress, R: Threads + Wait + Clock + Sync>(
     rt: &R,
     alloc: Global,
     bytes: &[u8],
@@ -95,7 +93,6 @@ fn text_of<P: Progress, R: Threads + Wait + Sync>(
     ensures text { IfOk result (λ r. IsTextOf mode config.now bytes.now r.0.items) }
     ensures still { IfOk result (λ r. (IsWarp mode → ⊥) → r.1 ≡ no_traffic) }
     ensures in_range { OnOk result (HasGoodPlan mode) }
-    ensures room { OnOk result (FitsRounds mode config.now bytes.now) }
     ensures fault { IfErr result (IsRunFault mode config.now bytes.now) }
     ensures unwritten { IfErr result (λ e. e ≢ SimFault.Output) }
 {
@@ -110,7 +107,7 @@ fn text_of<P: Progress, R: Threads + Wait + Sync>(
 }
 
 /// The text of a run that the engine makes, in any mode, and what its rounds did.
-fn engine_text<P: Progress, R: Threads + Wait + Sync>(
+fn engine_text<P: Progress, R: Threads + Wait + Clock + Sync>(
     rt: &R,
     alloc: Global,
     bytes: &[u8],
@@ -121,7 +118,6 @@ fn engine_text<P: Progress, R: Threads + Wait + Sync>(
     ensures text { IfOk result (λ r. IsTextOf mode config.now bytes.now r.0.items) }
     ensures still { IfOk result (λ r. (IsWarp mode → ⊥) → r.1 ≡ no_traffic) }
     ensures in_range { OnOk result (HasGoodPlan mode) }
-    ensures room { OnOk result (FitsRounds mode config.now bytes.now) }
     ensures fault { IfErr result (IsRunFault mode config.now bytes.now) }
     ensures unwritten { IfErr result (λ e. e ≢ SimFault.Output) }
 {

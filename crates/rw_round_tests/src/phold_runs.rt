@@ -12,6 +12,7 @@ use std::alloc::Global;
 use std::sync::Wait;
 use std::test::Fail;
 use std::thread::Threads;
+use std::time::Clock;
 
 /// 200 balls among 16 processes, half of which go to a drawn one, after 8 ticks or more, up to tick 4000.
 fn many_balls(alloc: Global) -> Result<(Phold, Vec<Holder>, Vec<Event<Ball>>), Fail>
@@ -23,7 +24,7 @@ fn many_balls(alloc: Global) -> Result<(Phold, Vec<Holder>, Vec<Event<Ball>>), F
 }
 
 /// The report of what a run of these leaves.
-fn reported<R: Threads + Wait + Sync>(
+fn reported<R: Threads + Wait + Clock + Sync>(
     rt: &R,
     alloc: Global,
     how: How<'_>,
@@ -60,6 +61,11 @@ fn balls_come_to_the_same_in_order_and_in_rounds(rt: HostRuntime) -> Result<(), 
         How::InRounds(plan(1, false)),
         How::InRounds(plan(3, false)),
         How::InRounds(plan(2, true)),
+        // Once its rounds are made it goes on in order.
+        How::InRounds(Plan {
+            max_rounds: 2,
+            ..plan(2, false)
+        }),
     ];
     for (row, how) in ways.iter().enumerate() {
         assert!(rt; reported(&rt, rt.alloc(), *how)? == expected, "way {row}");
@@ -74,19 +80,19 @@ fn counted_alone(alloc: Global) -> Result<(u64, Traffic), Fail> {
     Ok((report_of(states.as_slice()).events, traffic))
 }
 
-/// Whether so many rounds are too few for one worker by itself.
-fn are_too_few(alloc: Global, max_rounds: u32) -> Result<bool, Fail> {
+/// The same where its events come from a source, and the plan is of one round.
+fn counted_in_one_round(alloc: Global) -> Result<(u64, Traffic), Fail> {
     let (phold, starts, initial) = many_balls(alloc)?;
-    let few = Plan {
-        max_rounds,
+    let one = Plan {
+        max_rounds: 1,
         ..plan(1, false)
     };
     let source = Sorted::new(initial)?;
-    let ran = run_alone_from(alloc, &phold, starts, source, few);
-    Ok(matches!(ran, Err(Stop::RoundsUsed)))
+    let (states, traffic) = run_alone_from(alloc, &phold, starts, source, one)?;
+    Ok((report_of(states.as_slice()).events, traffic))
 }
 
-// A round of that plan has room for 256 events, so 41004 of them need 161 rounds.
+// A round of that plan has room for 256 events, so 41004 of them need 161 rounds, whatever the plan's number.
 #[test]
 fn one_worker_makes_as_many_rounds_as_events_need(rt: HostRuntime) -> Result<(), Fail> {
     let expected = Traffic {
@@ -97,7 +103,7 @@ fn one_worker_makes_as_many_rounds_as_events_need(rt: HostRuntime) -> Result<(),
         kept: 0,
     };
     assert!(rt; counted_alone(rt.alloc())? == (41004, expected));
-    assert!(rt; are_too_few(rt.alloc(), 160)?);
+    assert!(rt; counted_in_one_round(rt.alloc())? == (41004, expected));
     Ok(())
 }
 
@@ -137,7 +143,11 @@ fn one_ball(alloc: Global) -> Result<(Phold, Vec<Holder>, Vec<Event<Ball>>), Fai
 }
 
 /// Whether this plan for a run of that ball is refused.
-fn is_refused<R: Threads + Wait + Sync>(rt: &R, alloc: Global, plan: Plan) -> Result<bool, Fail> {
+fn is_refused<R: Threads + Wait + Clock + Sync>(
+    rt: &R,
+    alloc: Global,
+    plan: Plan,
+) -> Result<bool, Fail> {
     let (phold, starts, initial) = one_ball(alloc)?;
     let ran = run_in(rt, alloc, phold, starts, initial, How::InRounds(plan));
     Ok(matches!(ran, Err(Stop::BadPlan)))
@@ -150,7 +160,7 @@ fn a_plan_out_of_its_range_is_refused(rt: HostRuntime) -> Result<(), Fail> {
 }
 
 /// How many of these steps are answered, and the floor of the world to which they lead.
-fn stepped<R: Threads + Wait + Sync>(
+fn stepped<R: Threads + Wait + Clock + Sync>(
     rt: &R,
     alloc: Global,
     steps: &[Step],

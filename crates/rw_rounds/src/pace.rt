@@ -97,6 +97,12 @@ impl Pace {
         }
     }
 
+    /// All workers are tried anew, where one was to go on alone. Takes no memory.
+    pub fn try_all(&mut self) {
+        self.alone = false;
+        self.rounds = 0;
+    }
+
     /// One worker went on alone, for as many rounds as `rounds` says. Takes no memory.
     pub fn note_alone(&mut self, rounds: u64) {
         self.made = self.made.saturating_add(rounds);

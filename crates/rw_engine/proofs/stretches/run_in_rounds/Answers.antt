@@ -1,10 +1,10 @@
-use Rattle.std.proofs.lemmas.Result.{IfErr-weaker, IfOk-weaker, on_ok_weaker}
+use Rattle.std.proofs.lemmas.Result.{IfErr-weaker, IfOk-weaker}
 use Rattle.rw_vt.specs.Rest.{AreLastStates}
 use Rattle.rw_vt.specs.System.{system}
 use Rattle.rw_vt.proofs.Laws.{laws_of}
 use Rattle.rw_engine.specs.Stretches.{MayStopInRounds}
 use Rattle.rw_engine.proofs.Onward.{like_itself, moved_ends, moved_ready}
-use Rattle.rw_engine.proofs.Stopping.{moved_room, moved_stops}
+use Rattle.rw_engine.proofs.Stopping.{moved_stops}
 use Rattle.rw_engine.proofs.stretches.run_in_rounds.Goals as goal
 
 pub run_in_rounds_from-requires-clause-ready : goal.run_in_rounds_from-requires-clause-ready
@@ -17,11 +17,6 @@ returns-clause-states g c =
     IfOk-weaker c.run_in_rounds_from.result (λ r. AreLastStates (from c.in_ok-source.source) r.0.items) (λ r. AreLastStates (from c.args.initial.items) r.0.items)
     (λ r last. moved_ends g.M.Model g.M.Body.Ord.cmp laws c.requires.ready c.in_ok-source.ensures last)
     c.run_in_rounds_from.ensures.states
-
-pub returns-clause-room : goal.returns-clause-room
-returns-clause-room g c = λ one.
-    let laws = laws_of (g.met.M.Model g.world.𝓛 g.world.𝓜 g.world.𝓡 (like_itself _ _)) (g.met.M.Body.Ord g.world.𝓛 g.world.𝓜 g.world.𝓡 (like_itself _ _)).total in
-    on_ok_weaker c.run_in_rounds_from.result (moved_room laws c.args.model c.args.starts.items c.in_ok-source.ensures c.args.plan) (c.run_in_rounds_from.ensures.room one)
 
 pub returns-clause-stops : goal.returns-clause-stops
 returns-clause-stops g c =

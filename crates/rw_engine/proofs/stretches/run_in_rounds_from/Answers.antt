@@ -6,13 +6,10 @@ pub returns-then-plan-eq1-clause-stops : goal.returns-then-plan-eq1-clause-stops
 returns-then-plan-eq1-clause-stops g c =
     let y = system g.M.Model g.M.Body.Ord.cmp c.args.model c.args.starts.items (g.S.Source.left c.args.source) in
     let ran = c.run_alone_from.ensures in
-    alone_in_rounds y (g.M.Model.is_exhausted c.args.model) c.args.plan c.run_alone_from.result ran.stops ran.used_up ran.exhausted
+    alone_in_rounds y (g.M.Model.is_exhausted c.args.model) c.args.plan c.run_alone_from.result ran.stops ran.exhausted
 
 pub returns-then-plan-eq1-clause-states : goal.returns-then-plan-eq1-clause-states
 returns-then-plan-eq1-clause-states g c = c.run_alone_from.ensures.states
 
 pub returns-then-plan-eq1-clause-plan : goal.returns-then-plan-eq1-clause-plan
 returns-then-plan-eq1-clause-plan g c = c.run_alone_from.ensures.plan
-
-pub returns-then-plan-eq1-clause-room : goal.returns-then-plan-eq1-clause-room
-returns-then-plan-eq1-clause-room g c = λ one. c.run_alone_from.ensures.room

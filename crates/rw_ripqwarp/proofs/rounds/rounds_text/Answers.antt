@@ -7,7 +7,6 @@ use Rattle.rw_trace.specs.declared.Row.{Row}
 use Rattle.rw_trace.specs.Trace.{trace_of}
 use Rattle.rw_trace.specs.Unread.{records_of}
 use Rattle.rw_output.specs.declared.sim_fault.SimFault.TheVariants as sim
-use Rattle.rw_engine.specs.Alone.{HaveRoomFor}
 use Rattle.rw_engine.specs.Stretches.{MayStopInRounds}
 use Rattle.rw_photo.specs.Cache.{Cache, is_exhausted}
 use Rattle.rw_photo.specs.Simulation.{simulation}
@@ -54,23 +53,6 @@ returns-in-Ok-clause-text g c =
       outcome = subst (λ rs. IsOutcome (simulation config rs) end_of_time last.0 states) both last.1;
       told = c.in_ok-text-in-Ok.ensures ∙ ap (λ (ss : List Cache). report_text config (map (λ s. s.counters) ss)) c.as_slice-in-Ok.ensures.value;
     }
-
-pub returns-in-Ok-clause-room : goal.returns-in-Ok-clause-room
-returns-in-Ok-clause-room g c = λ one.
-    let rows : List Row = c.in_ok-rows.rows.items ++ c.in_ok-rows.others.items in
-    let both : c.as_slice.result.now ++ c.as_slice-2.result.now ≡ rows =
-    ap (λ l. l ++ c.as_slice-2.result.now) c.as_slice.ensures.value ∙ ap (λ l. c.in_ok-rows.rows.items ++ l) c.as_slice-2.ensures.value in
-    record {
-      rows = rows;
-      accepted = subst (λ n. trace_of n (2 ^ 24) (records_of c.args.bytes.now) ≡ Ok rows) c.edges.ensures c.in_ok-rows.ensures.rows;
-      room = subst (λ rs. HaveRoomFor c.args.plan (simulation c.args.config.now rs)) both (c.in-Ok.ensures.room one);
-    }
-
-pub returns-in_err-rows-clause-room : goal.returns-in_err-rows-clause-room
-returns-in_err-rows-clause-room g c = IfOk-from_err c.from_residual.result _ c.from_residual.ensures.0
-
-pub returns-in_err-text-in-Ok-clause-room : goal.returns-in_err-text-in-Ok-clause-room
-returns-in_err-text-in-Ok-clause-room g c = IfOk-from_err c.from_residual-in_err-text-in-Ok.result _ c.from_residual-in_err-text-in-Ok.ensures.0
 
 pub returns-in_err-rows-clause-text : goal.returns-in_err-rows-clause-text
 returns-in_err-rows-clause-text g c = IfOk-from_err c.from_residual.result _ c.from_residual.ensures.0

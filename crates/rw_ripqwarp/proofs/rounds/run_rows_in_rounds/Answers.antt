@@ -1,6 +1,6 @@
 use Rattle.std.proofs.Common.{◌≡◌, ◌++◌, ℕ, List, Some, ◌∙◌, ap, subst}
 use Rattle.std.proofs.lemmas.Result.{IfOk-from_err}
-use Rattle.std.specs.Prelude.{OnOk, slice_get}
+use Rattle.std.specs.Prelude.{slice_get}
 use Rattle.rw_photo.specs.declared.config.Config.{Config}
 use Rattle.rw_photo.specs.Cache.{Cache, IsWellFormed, is_exhausted}
 use Rattle.rw_photo.specs.Simulation.{simulation, starts_of}
@@ -9,7 +9,6 @@ use Rattle.rw_vt.specs.System.{System, map_from}
 use Rattle.rw_photo.specs.declared.body.Body.{Body}
 use Rattle.rw_photo.specs.Events.{event_of}
 use Rattle.rw_rounds.specs.declared.stop.Stop.TheVariants as stop
-use Rattle.rw_engine.specs.Alone.{HaveRoomFor}
 use Rattle.rw_engine.specs.Runs.{AreLastStates}
 use Rattle.rw_engine.specs.Stretches.{MayStopInRounds}
 use Rattle.rw_engine.proofs.Stopping.{alone_in_rounds}
@@ -114,27 +113,13 @@ returns-then-alone-clause-stops g c =
     let all = c.as_slice.ensures.value ∙ c.in_ok-rows.ensures in
     subst (λ (y : System Cache Body). IfErr c.run_alone.result (MayStopInRounds y is_exhausted c.args.plan))
     (runs-rows c.args.config.now c.new-photo.result (c.args.rows.now ++ c.args.others.now) c.in_ok-starts.starts.items c.in_ok-starts.initial.items c.new-photo.ensures made.starts (made.initial ∙ ap (map_from 0 event_of) all))
-    (alone_in_rounds (caches c.new-photo.result c.in_ok-starts.starts.items c.in_ok-starts.initial.items) is_exhausted c.args.plan c.run_alone.result c.run_alone.ensures.stops c.run_alone.ensures.used_up c.run_alone.ensures.exhausted)
-
-pub returns-then-alone-clause-room : goal.returns-then-alone-clause-room
-returns-then-alone-clause-room g c = λ one.
-    let made = c.in_ok-starts.ensures in
-    let all = c.as_slice.ensures.value ∙ c.in_ok-rows.ensures in
-    subst (λ (y : System Cache Body). OnOk c.run_alone.result (HaveRoomFor c.args.plan y))
-    (runs-rows c.args.config.now c.new-photo.result (c.args.rows.now ++ c.args.others.now) c.in_ok-starts.starts.items c.in_ok-starts.initial.items c.new-photo.ensures made.starts (made.initial ∙ ap (map_from 0 event_of) all))
-    c.run_alone.ensures.room
+    (alone_in_rounds (caches c.new-photo.result c.in_ok-starts.starts.items c.in_ok-starts.initial.items) is_exhausted c.args.plan c.run_alone.result c.run_alone.ensures.stops c.run_alone.ensures.exhausted)
 
 pub returns-then-alone-2-clause-stops : goal.returns-then-alone-2-clause-stops
 returns-then-alone-2-clause-stops g c =
     subst (λ (y : System Cache Body). IfErr c.run_alone_from.result (MayStopInRounds y is_exhausted c.args.plan))
     (runs-rows c.args.config.now c.new-photo.result (c.args.rows.now ++ c.args.others.now) c.in_ok-starts-2.starts.items c.in-Some.source c.new-photo.ensures (c.in_ok-starts-2.ensures.states ∙ ap starts_of c.new-photo.ensures) c.in-Some.ensures.events)
-    (alone_in_rounds (caches c.new-photo.result c.in_ok-starts-2.starts.items c.in-Some.source) is_exhausted c.args.plan c.run_alone_from.result c.run_alone_from.ensures.stops c.run_alone_from.ensures.used_up c.run_alone_from.ensures.exhausted)
-
-pub returns-then-alone-2-clause-room : goal.returns-then-alone-2-clause-room
-returns-then-alone-2-clause-room g c = λ one.
-    subst (λ (y : System Cache Body). OnOk c.run_alone_from.result (HaveRoomFor c.args.plan y))
-    (runs-rows c.args.config.now c.new-photo.result (c.args.rows.now ++ c.args.others.now) c.in_ok-starts-2.starts.items c.in-Some.source c.new-photo.ensures (c.in_ok-starts-2.ensures.states ∙ ap starts_of c.new-photo.ensures) c.in-Some.ensures.events)
-    c.run_alone_from.ensures.room
+    (alone_in_rounds (caches c.new-photo.result c.in_ok-starts-2.starts.items c.in-Some.source) is_exhausted c.args.plan c.run_alone_from.result c.run_alone_from.ensures.stops c.run_alone_from.ensures.exhausted)
 
 pub returns-in_default-clause-stops : goal.returns-in_default-clause-stops
 returns-in_default-clause-stops g c =
@@ -144,31 +129,8 @@ returns-in_default-clause-stops g c =
     (runs-rows c.args.config.now c.new-photo.result (c.args.rows.now ++ c.args.others.now) c.in_ok-starts.starts.items c.in_ok-starts.initial.items c.new-photo.ensures made.starts (made.initial ∙ ap (map_from 0 event_of) all))
     c.run_in_rounds.ensures.stops
 
-pub returns-in_default-clause-room : goal.returns-in_default-clause-room
-returns-in_default-clause-room g c = λ one.
-    let made = c.in_ok-starts.ensures in
-    let all = c.as_slice.ensures.value ∙ c.in_ok-rows.ensures in
-    subst (λ (y : System Cache Body). OnOk c.run_in_rounds.result (HaveRoomFor c.args.plan y))
-    (runs-rows c.args.config.now c.new-photo.result (c.args.rows.now ++ c.args.others.now) c.in_ok-starts.starts.items c.in_ok-starts.initial.items c.new-photo.ensures made.starts (made.initial ∙ ap (map_from 0 event_of) all))
-    (c.run_in_rounds.ensures.room one)
-
 pub returns-clause-stops : goal.returns-clause-stops
 returns-clause-stops g c =
     subst (λ (y : System Cache Body). IfErr c.run_in_rounds_from.result (MayStopInRounds y is_exhausted c.args.plan))
     (runs-rows c.args.config.now c.new-photo.result (c.args.rows.now ++ c.args.others.now) c.in_ok-starts-2.starts.items c.in-Some.source c.new-photo.ensures (c.in_ok-starts-2.ensures.states ∙ ap starts_of c.new-photo.ensures) c.in-Some.ensures.events)
     c.run_in_rounds_from.ensures.stops
-
-pub returns-clause-room : goal.returns-clause-room
-returns-clause-room g c = λ one.
-    subst (λ (y : System Cache Body). OnOk c.run_in_rounds_from.result (HaveRoomFor c.args.plan y))
-    (runs-rows c.args.config.now c.new-photo.result (c.args.rows.now ++ c.args.others.now) c.in_ok-starts-2.starts.items c.in-Some.source c.new-photo.ensures (c.in_ok-starts-2.ensures.states ∙ ap starts_of c.new-photo.ensures) c.in-Some.ensures.events)
-    (c.run_in_rounds_from.ensures.room one)
-
-pub returns-in_err-rows-clause-room : goal.returns-in_err-rows-clause-room
-returns-in_err-rows-clause-room g c = λ one. IfOk-from_err c.from_residual.result _ c.from_residual.ensures.0
-
-pub returns-in_err-starts-clause-room : goal.returns-in_err-starts-clause-room
-returns-in_err-starts-clause-room g c = λ one. IfOk-from_err c.from_residual-in_err-starts.result _ c.from_residual-in_err-starts.ensures.0
-
-pub returns-in_err-starts-2-clause-room : goal.returns-in_err-starts-2-clause-room
-returns-in_err-starts-2-clause-room g c = λ one. IfOk-from_err c.from_residual-in_err-starts-2.result _ c.from_residual-in_err-starts-2.ensures.0

@@ -11,9 +11,9 @@ use Rattle.rw_replay.proofs.Failing.{handed-on}
 use Rattle.rw_replay.proofs.Runs.{ready-at}
 use Rattle.rw_ripqwarp.specs.declared.mode.Mode.{Mode}
 use Rattle.rw_journal.specs.Journal.{journal_text}
-use Rattle.rw_ripqwarp.specs.Simulate.{FitsRounds, IsRunFault, IsTextOf}
+use Rattle.rw_ripqwarp.specs.Simulate.{IsRunFault, IsTextOf}
 use Rattle.rw_ripqwarp.proofs.Failing.{beginning-fault, beginning-unwritten, stop-unwritten}
-use Rattle.rw_ripqwarp.proofs.Ways.{good, journaled, last-states, length-last, reported, roomy, stepped, still, stop-is-fault}
+use Rattle.rw_ripqwarp.proofs.Ways.{good, journaled, last-states, length-last, reported, stepped, still, stop-is-fault}
 use Rattle.rw_ripqwarp.proofs.simulation.engine_text.Goals as goal
 
 pub run_in_and_tell-requires-after_bounds : goal.run_in_and_tell-requires-after_bounds
@@ -72,9 +72,6 @@ returns-in_err-starts-clause-still g c = IfOk-from_err c.from_residual.result _ 
 pub returns-in_err-starts-clause-in_range : goal.returns-in_err-starts-clause-in_range
 returns-in_err-starts-clause-in_range g c = IfOk-from_err c.from_residual.result _ c.from_residual.ensures.0
 
-pub returns-in_err-starts-clause-room : goal.returns-in_err-starts-clause-room
-returns-in_err-starts-clause-room g c = IfOk-from_err c.from_residual.result _ c.from_residual.ensures.0
-
 pub returns-in_err-starts-clause-fault : goal.returns-in_err-starts-clause-fault
 returns-in_err-starts-clause-fault g c =
     handed-on c.from_residual.result c.in_err-starts.field-0.0 (IsRunFault c.args.mode c.args.config.now c.args.bytes.now) c.from_residual.ensures.1
@@ -94,9 +91,6 @@ returns-in_err-text-in-Ok-Finished-clause-still g c = IfOk-from_err c.from_resid
 pub returns-in_err-text-in-Ok-Finished-clause-in_range : goal.returns-in_err-text-in-Ok-Finished-clause-in_range
 returns-in_err-text-in-Ok-Finished-clause-in_range g c = IfOk-from_err c.from_residual-in_err-text-in-Ok-Finished.result _ c.from_residual-in_err-text-in-Ok-Finished.ensures.0
 
-pub returns-in_err-text-in-Ok-Finished-clause-room : goal.returns-in_err-text-in-Ok-Finished-clause-room
-returns-in_err-text-in-Ok-Finished-clause-room g c = IfOk-from_err c.from_residual-in_err-text-in-Ok-Finished.result _ c.from_residual-in_err-text-in-Ok-Finished.ensures.0
-
 pub returns-in_err-text-in-Ok-Finished-clause-fault : goal.returns-in_err-text-in-Ok-Finished-clause-fault
 returns-in_err-text-in-Ok-Finished-clause-fault g c = handed-on c.from_residual-in_err-text-in-Ok-Finished.result sim.Memory (IsRunFault c.args.mode c.args.config.now c.args.bytes.now) c.from_residual-in_err-text-in-Ok-Finished.ensures.1 tt
 
@@ -111,9 +105,6 @@ returns-in_err-text-in-Ok-Stepped-clause-still g c = IfOk-from_err c.from_residu
 
 pub returns-in_err-text-in-Ok-Stepped-clause-in_range : goal.returns-in_err-text-in-Ok-Stepped-clause-in_range
 returns-in_err-text-in-Ok-Stepped-clause-in_range g c = IfOk-from_err c.from_residual-in_err-text-in-Ok-Stepped.result _ c.from_residual-in_err-text-in-Ok-Stepped.ensures.0
-
-pub returns-in_err-text-in-Ok-Stepped-clause-room : goal.returns-in_err-text-in-Ok-Stepped-clause-room
-returns-in_err-text-in-Ok-Stepped-clause-room g c = IfOk-from_err c.from_residual-in_err-text-in-Ok-Stepped.result _ c.from_residual-in_err-text-in-Ok-Stepped.ensures.0
 
 pub returns-in_err-text-in-Ok-Stepped-clause-fault : goal.returns-in_err-text-in-Ok-Stepped-clause-fault
 returns-in_err-text-in-Ok-Stepped-clause-fault g c = handed-on c.from_residual-in_err-text-in-Ok-Stepped.result sim.Memory (IsRunFault c.args.mode c.args.config.now c.args.bytes.now) c.from_residual-in_err-text-in-Ok-Stepped.ensures.1 tt
@@ -131,24 +122,6 @@ returns-in-Ok-Finished-clause-still g c =
 
 pub returns-in-Ok-Finished-clause-in_range : goal.returns-in-Ok-Finished-clause-in_range
 returns-in-Ok-Finished-clause-in_range g c = good c.args.mode c.way.result c.way.ensures (λ bad. let stopped = c.in-Ok-Finished.ensures.plan.1 bad in cc)
-
-pub returns-in-Ok-Finished-clause-room : goal.returns-in-Ok-Finished-clause-room
-returns-in-Ok-Finished-clause-room g c =
-    let photo = c.new-photo.result in
-    let starts : List Cache = c.in_ok-starts.starts.items in
-    let initial = c.in_ok-starts.initial.items in
-    let ran = subst (λ r. HasRun model.ghosts order.ghosts.cmp photo starts initial c.way.result r) c.in-Ok-Finished.field-0-is c.in-Ok-Finished.ensures.ran in
-    roomy c.args.config.now photo c.args.bytes.now starts initial c.args.mode c.way.result c.in-Ok-Finished.states c.in-Ok-Finished.traffic c.new-photo.ensures c.in_ok-starts.ensures.beginning c.way.ensures ran
-
-pub returns-in-Ok-Stepped-clause-room : goal.returns-in-Ok-Stepped-clause-room
-returns-in-Ok-Stepped-clause-room g c =
-    let photo = c.new-photo.result in
-    let starts : List Cache = c.in_ok-starts.starts.items in
-    let initial = c.in_ok-starts.initial.items in
-    let world = c.in-Ok-Stepped.world in
-    let ran = subst (λ r. HasRun model.ghosts order.ghosts.cmp photo starts initial c.way.result r) c.in-Ok-Stepped.field-0-is c.in-Ok-Stepped.ensures.ran in
-    let by = stepped photo starts initial c.args.mode c.way.result world c.in-Ok-Stepped.answers c.way.ensures ran in
-    subst (λ (mode : Mode). FitsRounds mode c.args.config.now c.args.bytes.now) (sym by.1) tt
 
 pub returns-in-Ok-Stepped-clause-in_range : goal.returns-in-Ok-Stepped-clause-in_range
 returns-in-Ok-Stepped-clause-in_range g c = good c.args.mode c.way.result c.way.ensures (λ bad. let stopped = c.in-Ok-Stepped.ensures.plan.1 bad in cc)

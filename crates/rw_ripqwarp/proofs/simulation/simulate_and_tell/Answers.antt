@@ -22,12 +22,6 @@ returns-in_err-text-clause-still g c = IfOk-from_err c.from_residual.result _ c.
 pub returns-in_err-text-clause-in_range : goal.returns-in_err-text-clause-in_range
 returns-in_err-text-clause-in_range g c = IfOk-from_err c.from_residual.result _ c.from_residual.ensures.0
 
-pub returns-in_err-text-clause-room : goal.returns-in_err-text-clause-room
-returns-in_err-text-clause-room g c = IfOk-from_err c.from_residual.result _ c.from_residual.ensures.0
-
-pub returns-then-write_text-clause-room : goal.returns-then-write_text-clause-room
-returns-then-write_text-clause-room g c = c.in_ok-text.ensures.room
-
 pub returns-in_err-text-clause-fault : goal.returns-in_err-text-clause-fault
 returns-in_err-text-clause-fault g c = handed-on c.from_residual.result c.in_err-text.field-0.0 (IsRunFault c.args.mode c.args.config.now c.args.bytes.now) c.from_residual.ensures.1 c.in_err-text.ensures.fault
 

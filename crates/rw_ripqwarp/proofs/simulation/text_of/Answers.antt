@@ -5,7 +5,7 @@ use Rattle.rw_output.specs.declared.sim_fault.SimFault.TheVariants as sim
 use Rattle.rw_replay.proofs.Failing.{handed-on}
 use Rattle.rw_replay.proofs.Refused.{replay-unwritten}
 use Rattle.rw_ripqwarp.specs.declared.mode.Mode.{Mode}
-use Rattle.rw_ripqwarp.specs.Simulate.{HasGoodPlan, FitsRounds, IsRunFault, IsTextOf}
+use Rattle.rw_ripqwarp.specs.Simulate.{HasGoodPlan, IsRunFault, IsTextOf}
 use Rattle.rw_ripqwarp.proofs.Failing.{replay-fault}
 use Rattle.rw_ripqwarp.proofs.simulation.text_of.Goals as goal
 
@@ -18,9 +18,6 @@ returns-in_err-text-in-Serial-clause-still g c = IfOk-from_err c.from_residual.r
 pub returns-in_err-text-in-Serial-clause-in_range : goal.returns-in_err-text-in-Serial-clause-in_range
 returns-in_err-text-in-Serial-clause-in_range g c = IfOk-from_err c.from_residual.result _ c.from_residual.ensures.0
 
-pub returns-in_err-text-in-Serial-clause-room : goal.returns-in_err-text-in-Serial-clause-room
-returns-in_err-text-in-Serial-clause-room g c = IfOk-from_err c.from_residual.result _ c.from_residual.ensures.0
-
 pub returns-in_default-clause-text : goal.returns-in_default-clause-text
 returns-in_default-clause-text g c = c.engine_text.ensures.text
 
@@ -29,9 +26,6 @@ returns-in_default-clause-still g c = c.engine_text.ensures.still
 
 pub returns-in_default-clause-in_range : goal.returns-in_default-clause-in_range
 returns-in_default-clause-in_range g c = c.engine_text.ensures.in_range
-
-pub returns-in_default-clause-room : goal.returns-in_default-clause-room
-returns-in_default-clause-room g c = c.engine_text.ensures.room
 
 pub returns-in_default-clause-fault : goal.returns-in_default-clause-fault
 returns-in_default-clause-fault g c = c.engine_text.ensures.fault
@@ -56,10 +50,6 @@ returns-in-Warp-clause-text g c =
 
 pub returns-in-Warp-clause-in_range : goal.returns-in-Warp-clause-in_range
 returns-in-Warp-clause-in_range g c = subst (λ (mode : Mode). OnOk c.rounds_text.result (HasGoodPlan mode)) (sym c.in-Warp.is) c.rounds_text.ensures.in_range
-
-pub returns-in-Warp-clause-room : goal.returns-in-Warp-clause-room
-returns-in-Warp-clause-room g c =
-    subst (λ (mode : Mode). OnOk c.rounds_text.result (FitsRounds mode c.args.config.now c.args.bytes.now)) (sym c.in-Warp.is) c.rounds_text.ensures.room
 
 pub returns-in-Warp-clause-fault : goal.returns-in-Warp-clause-fault
 returns-in-Warp-clause-fault g c =

@@ -1,0 +1,290 @@
+//! The mode controller of a run: which segment comes next, and how long it is.
+
+use rw_rounds::{Pace, Plan, Traffic};
+use std::time::Clock;
+
+/// How many initial events a segment takes in, where it is the shortest of its kind.
+const FEW_EVENTS: u64 = 2048;
+
+/// How many rounds of all workers the shortest segment of rounds has.
+const FEW_ROUNDS: u64 = 8;
+
+/// How many times as long as the events that wait are apart the shortest segment of windows is.
+const FEW_TIMES: u64 = 4;
+
+/// How often segments of one kind, one after another, grow to twice the length.
+const MOST_GROWTH: u32 = 5;
+
+/// How many times the time of a trial a run goes on in another way before the next trial: at least, at most, and before it is
+/// measured anew what the run in order costs.
+const LEAST_PATIENCE: u64 = 16;
+
+const MOST_PATIENCE: u64 = 256;
+
+const PATIENCE_IN_ORDER: u64 = 64;
+
+/// About how long it takes to hand a process to a worker, for the shortest segment of rounds, and to take it back, in nanoseconds.
+const HAND_OVER: u64 = 3000;
+
+/// A segment of a run.
+#[derive(Clone, Copy)]
+pub(crate) enum Segment {
+    /// Rounds of all workers, which run ahead and roll back: so many rounds at most, with so many initial events.
+    Rounds(u32, usize),
+    /// Windows of the lookahead, of all workers, which roll nothing back, with so many initial events; where no other is left, so
+    /// many times as long as these are apart.
+    Windows(usize, u64),
+    /// A run in order on one thread, for so many rounds of one worker.
+    InOrder(u64),
+}
+
+/// A kind of segment.
+#[derive(Clone, Copy, PartialEq, Eq)]
+enum Kind {
+    Rounds,
+    Windows,
+    InOrder,
+}
+
+impl Segment {
+    fn kind(&self) -> Kind {
+        match self {
+            Segment::Rounds(..) => Kind::Rounds,
+            Segment::Windows(..) => Kind::Windows,
+            Segment::InOrder(_) => Kind::InOrder,
+        }
+    }
+}
+
+/// What segments of a kind cost.
+#[derive(Clone, Copy)]
+struct Cost {
+    /// Nanoseconds for 1024 events executed for good: a mean, of which the last segment is a half. `None` before the first one.
+    mean: Option<u64>,
+    /// How long the next segment of this kind is expected to take, in nanoseconds.
+    trial: u64,
+    /// How long the run has gone on in other kinds since the last one, in nanoseconds.
+    since: u64,
+    /// How many times as long as a trial that has to be before the next one.
+    patience: u64,
+}
+
+impl Cost {
+    /// Nothing is known but how long the first segment is expected to take.
+    fn new(trial: u64, patience: u64) -> Cost {
+        Cost {
+            mean: None,
+            trial,
+            since: 0,
+            patience,
+        }
+    }
+
+    /// Whether a trial takes little time beside what has gone by since the last one.
+    fn is_due(&self) -> bool {
+        self.since >= self.trial.saturating_mul(self.patience)
+    }
+
+    /// A segment of this kind took so many nanoseconds, and executed so many events for good.
+    fn note(&mut self, nanoseconds: u64, events: u64) {
+        let cost = nanoseconds.saturating_mul(1024) / events.max(1);
+        self.mean = Some(match self.mean {
+            Some(mean) => mean / 2 + cost / 2,
+            None => cost,
+        });
+        self.trial = nanoseconds;
+        self.since = 0;
+    }
+
+    /// A segment of another kind took so many nanoseconds.
+    fn note_other(&mut self, nanoseconds: u64) {
+        self.since = self.since.saturating_add(nanoseconds);
+    }
+
+    /// Whether the events of this kind cost no more than those of the other.
+    fn pays(&self, other: &Cost) -> bool {
+        match (self.mean, other.mean) {
+            (Some(mean), Some(other)) => mean <= other,
+            _ => true,
+        }
+    }
+
+    /// The last segment of this kind paid beside the other, or did not: then the next trial comes later.
+    fn note_trial(&mut self, other: &Cost) {
+        self.patience = if self.pays(other) {
+            LEAST_PATIENCE
+        } else {
+            self.patience.saturating_mul(2).min(MOST_PATIENCE)
+        };
+    }
+}
+
+/// The mode controller of a run: it goes on in the way in which an event costs the least time, which it measures.
+///
+/// The first segment is a short run in order, which tells how dense events are. Where they are so dense that each worker finds its
+/// grain of them in a window of the lookahead, windows are tried, in which nothing is rolled back and no event waits that could be
+/// executed; else rounds, in which the workers run ahead, once the run has gone on for long enough that a trial costs little
+/// beside it. What costs more than the run in order is tried again only after many times the time of the trial. Nothing is measured where
+/// the grain is 0 or 1: all workers go on then, whatever it costs. Once the plan's rounds are made, the run goes on in order, but where
+/// it has nothing to compare: it is given up then. No theorem rests on this.
+#[derive(Clone, Copy)]
+pub(crate) struct Controller {
+    /// How much of its plan a round gets.
+    pub(crate) pace: Pace,
+    /// How many of the plan's rounds are left.
+    rounds_left: u32,
+    lookahead: u64,
+    /// How many events a window has to have.
+    grain: u64,
+    /// Whether all workers go on only where that costs less than the run in order.
+    is_measured: bool,
+    /// Whether a worker may find its grain in a round.
+    has_rounds: bool,
+    /// Whether the last segment had as many; `None` before the first one, but in a plan of a single round, which is not spent on
+    /// finding out.
+    is_dense: Option<bool>,
+    /// The kind of the last segment, and how often the next one has grown if it is of that kind.
+    last: Kind,
+    growth: u32,
+    in_order: Cost,
+    in_windows: Cost,
+    in_rounds: Cost,
+    /// Up to which time all is executed, in ticks.
+    reached: u64,
+    /// When the next segment begins, by the clock, in nanoseconds.
+    begun: u64,
+}
+
+impl Controller {
+    /// The controller of a run by this plan, of a model of this lookahead, grain and number of processes. Takes no memory.
+    pub(crate) fn new(plan: &Plan, lookahead: u64, grain: u64, processes: usize) -> Controller {
+        let hand_over = HAND_OVER.saturating_mul(processes as u64);
+        Controller {
+            pace: Pace::of_grain(grain),
+            rounds_left: plan.max_rounds,
+            lookahead,
+            grain: grain.saturating_mul(u64::from(plan.workers)),
+            is_measured: grain > 1,
+            has_rounds: grain < u64::from(plan.turns).saturating_mul(u64::from(plan.batch)),
+            is_dense: (plan.max_rounds == 1).then_some(false),
+            last: Kind::InOrder,
+            growth: 0,
+            in_order: Cost::new(0, PATIENCE_IN_ORDER),
+            in_windows: Cost::new(0, LEAST_PATIENCE),
+            in_rounds: Cost::new(hand_over, LEAST_PATIENCE),
+            reached: 0,
+            begun: 0,
+        }
+    }
+
+    /// A segment begins now. Takes no memory.
+    pub(crate) fn begin<R: Clock>(&mut self, rt: &R) {
+        self.begun = now(rt);
+    }
+
+    /// The next segment; `None` where it is one of rounds, and none is left. Takes no memory.
+    pub(crate) fn next(&self) -> Option<Segment> {
+        let kind = self.next_kind();
+        let growth = if kind == self.last { self.growth } else { 0 };
+        let events = grown(FEW_EVENTS, growth) as usize;
+        match kind {
+            Kind::Rounds if self.rounds_left == 0 => None,
+            Kind::Rounds => {
+                let rounds = grown(FEW_ROUNDS, growth).min(u64::from(self.rounds_left));
+                Some(Segment::Rounds(rounds as u32, events))
+            }
+            Kind::Windows => Some(Segment::Windows(events, grown(FEW_TIMES, growth))),
+            Kind::InOrder => Some(Segment::InOrder(grown(1, growth))),
+        }
+    }
+
+    /// The kind of the next segment.
+    fn next_kind(&self) -> Kind {
+        let has_choice = self.is_measured && self.in_order.mean.is_some();
+        let has_rounds = self.has_rounds && (self.rounds_left > 0 || !has_choice);
+        let (kind, cost) = match self.is_dense {
+            Some(true) => (Kind::Windows, &self.in_windows),
+            Some(false) if has_rounds => (Kind::Rounds, &self.in_rounds),
+            _ => return Kind::InOrder,
+        };
+        let is_next = if !has_choice {
+            true
+        } else if cost.mean.is_some() && cost.pays(&self.in_order) {
+            !self.in_order.is_due()
+        } else {
+            cost.is_due()
+        };
+        if is_next { kind } else { Kind::InOrder }
+    }
+
+    /// A segment was run, up to this time, and the counts went from `before` to `after`. The next one begins now. Takes no memory.
+    pub(crate) fn note<R: Clock>(
+        &mut self,
+        rt: &R,
+        segment: Segment,
+        time: u64,
+        before: &Traffic,
+        after: &Traffic,
+    ) {
+        let executed = after.executed.wrapping_sub(before.executed);
+        let undone = after.undone.wrapping_sub(before.undone);
+        let useful = executed.saturating_sub(undone);
+        let moved = time.saturating_sub(self.reached);
+        let is_dense = useful.saturating_mul(self.lookahead) >= moved.saturating_mul(self.grain);
+        self.is_dense = Some(is_dense);
+        self.reached = time;
+        let kind = segment.kind();
+        self.growth = if kind == self.last {
+            self.growth.saturating_add(1).min(MOST_GROWTH)
+        } else {
+            0
+        };
+        self.last = kind;
+        let made = after.rounds.saturating_sub(before.rounds);
+        let made = u32::try_from(made).unwrap_or(u32::MAX);
+        self.rounds_left = self.rounds_left.saturating_sub(made);
+        let began = self.begun;
+        self.begun = now(rt);
+        self.note_cost(kind, self.begun.saturating_sub(began), useful);
+    }
+
+    /// A segment of this kind took so many nanoseconds, and executed so many events for good.
+    fn note_cost(&mut self, kind: Kind, nanoseconds: u64, events: u64) {
+        match kind {
+            Kind::InOrder => {
+                self.in_order.note(nanoseconds, events);
+                self.in_windows.note_other(nanoseconds);
+                self.in_rounds.note_other(nanoseconds);
+            }
+            Kind::Windows => {
+                self.in_windows.note(nanoseconds, events);
+                self.in_windows.note_trial(&self.in_order);
+                self.in_order.note_other(nanoseconds);
+                self.in_rounds.note_other(nanoseconds);
+            }
+            Kind::Rounds => {
+                self.in_rounds.note(nanoseconds, events);
+                self.in_rounds.note_trial(&self.in_order);
+                self.in_order.note_other(nanoseconds);
+                self.in_windows.note_other(nanoseconds);
+            }
+        }
+    }
+}
+
+/// A length that has grown so often to twice what it was.
+fn grown(length: u64, times: u32) -> u64 {
+    let mut length = length;
+    for _ in 0..times {
+        length = length.saturating_mul(2);
+    }
+    length
+}
+
+/// What the clock says, in nanoseconds since some time; 0 where it fails.
+fn now<R: Clock>(rt: &R) -> u64 {
+    match rt.monotonic() {
+        Ok(time) => (time.as_nanos() & u128::from(u64::MAX)) as u64,
+        Err(_) => 0,
+    }
+}
