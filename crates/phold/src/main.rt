@@ -1,8 +1,9 @@
 #![tactic(auto)]
 //! Runs PHOLD sequentially or in rounds of workers and prints the outcome, the same line in both cases.
 
-use rw_engine::{END, How, Plan, Ran, Stop, Traffic, run_in};
+use rw_engine::{END, How, Plan, Start, Stop, Traffic, run_in};
 use rw_phold::{Phold, Report, beginning, report_of};
+use rw_progress::Silent;
 use std::alloc::Global;
 use std::env;
 use std::process::ExitCode;
@@ -201,13 +202,16 @@ fn run<R: Threads + Wait + Clock + Sync>(
     alloc: Global,
     load: Load,
 ) -> Result<(Report, Traffic), Stop> {
-    let (starts, initial) = beginning(alloc, &load.phold, load.balls, load.seed)?;
+    let (states, initial) = beginning(alloc, &load.phold, load.balls, load.seed)?;
+    let start = Start {
+        model: load.phold,
+        states,
+        initial,
+    };
     let how = match load.workers {
         None => How::InOrder,
         Some(workers) => How::InRounds(plan(workers, load.rounds)),
     };
-    match run_in(rt, alloc, load.phold, starts, initial, how)? {
-        Ran::Finished(states, traffic) => Ok((report_of(states.as_slice()), traffic)),
-        Ran::Stepped(_world, _answers) => Err(Stop::Memory),
-    }
+    let (states, traffic) = run_in(rt, alloc, start, how, &mut Silent)?;
+    Ok((report_of(states.as_slice()), traffic))
 }

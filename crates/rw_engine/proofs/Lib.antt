@@ -1,4 +1,5 @@
 pub mod Onward
-pub mod Rounds
+pub mod Counting
 pub mod Ahead
 pub mod Stopping
+pub mod Taking

@@ -18,8 +18,8 @@ use Rattle.rw_pending.specs.Later.{IsLeastTime}
 use Rattle.rw_pending.proofs.Cited.{All-back, All-front}
 use Rattle.rw_serial.proofs.Onward.{rest_permuted}
 use Rattle.rw_world.specs.Calls.{Simulation, system_of}
-use Rattle.rw_rounds.specs.Stretches.{IsSameSystem}
-use Rattle.rw_engine.specs.Stretches.{GoesOn}
+use Rattle.rw_rounds.specs.Segments.{IsSameSystem}
+use Rattle.rw_engine.specs.Segments.{GoesOn}
 
 -- a thread's world is like itself: what a bound gives in every world like it, it gives in this one
 pub like_itself : {M : Type 1} {𝓤 : Ura M} (ok : ℕ → Type 0) (how : How 𝓤) → Like 𝓤 ok how ok how

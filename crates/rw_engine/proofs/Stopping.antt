@@ -13,13 +13,13 @@ use Rattle.rw_serial.proofs.Permuted.{same_meets}
 use Rattle.rw_world.specs.declared.step.Step.{Step}
 use Rattle.rw_world.specs.Calls.{MeetsAt, Simulation, system_of}
 use Rattle.rw_world.specs.WorldState.{opening_world}
-use Rattle.rw_worker.specs.declared.plan.Plan.{Plan}
+use Rattle.rw_rounds.specs.declared.plan.Plan.{Plan}
 use Rattle.rw_rounds.specs.Stops.{stop_of}
 use Rattle.rw_rounds.specs.declared.stop.Stop.{Stop}
 use Rattle.rw_rounds.specs.declared.stop.Stop.TheVariants as stop
 use Rattle.rw_engine.specs.Alone.{MayStopAlone}
 use Rattle.rw_engine.specs.Runs.{MayStopBySteps, MayStopInOrder}
-use Rattle.rw_engine.specs.Stretches.{MayStopInRounds}
+use Rattle.rw_engine.specs.Segments.{MayStopInRounds}
 
 -- what holds of each stop that may have been handed on
 pub if_handed_on : {T : Type 0} (r : Result T Stop) (P Q : Stop → Type 0) → ((s : Stop) → P s → Q s) → IsErrAnd r P → IfErr r Q

@@ -1,11 +1,11 @@
 -- What rounds of one worker come to.
 use Rattle.std.specs.Prelude.{◌≡◌, ◌≤◌, ◌*◌}
 use Rattle.rw_vt.specs.Words.{Count}
-use Rattle.rw_worker.specs.declared.plan.Plan.{Plan}
-use Rattle.rw_worker.specs.declared.traffic.Traffic.{Traffic}
+use Rattle.rw_rounds.specs.declared.plan.Plan.{Plan}
+use Rattle.rw_rounds.specs.declared.traffic.Traffic.{Traffic}
 use Rattle.rw_rounds.specs.declared.stop.Stop.{Stop}
 use Rattle.rw_rounds.specs.declared.stop.Stop.TheVariants as stop
-use Rattle.rw_worker.specs.Plans.{IsInRanges}
+use Rattle.rw_rounds.specs.Plans.{IsInRanges}
 
 -- so many rounds of one worker execute these events: one at least, and no more than have room for them
 pub record AreRoundsOf (plan : Plan) (events rounds : Count) : Type 0 where

@@ -6,21 +6,19 @@ use Rattle.rw_vt.specs.declared.event.Event.{Event}
 use Rattle.rw_vt.specs.declared.model.Model.{Ghosts}
 use Rattle.rw_vt.specs.System.{Meets, System, system}
 pub use Rattle.rw_vt.specs.Rest.{AreLastStates}
-use Rattle.rw_worker.specs.Plans.{IsInRanges}
+use Rattle.rw_rounds.specs.Plans.{IsInRanges}
 use Rattle.rw_rounds.specs.declared.stop.Stop.{Stop}
 use Rattle.rw_rounds.specs.declared.stop.Stop.TheVariants as stop
-use Rattle.rw_worker.specs.declared.traffic.Traffic.{Traffic}
+use Rattle.rw_rounds.specs.declared.traffic.Traffic.{Traffic}
 use Rattle.rw_lp.specs.declared.answer.Answer.{Answer}
 use Rattle.rw_world.specs.declared.step.Step.{Step}
 use Rattle.rw_world.specs.WorldState.{opening_world}
 use Rattle.rw_world.specs.Steps.{answers, run}
 use Rattle.rw_world.specs.Calls.{MeetsAt, Simulation}
 use Rattle.rw_world.specs.Sound.{IsInOrder, Sound}
-use Rattle.rw_engine.specs.Stretches.{MayStopInRounds}
+use Rattle.rw_engine.specs.Segments.{MayStopInRounds}
 use Rattle.rw_engine.specs.declared.how.How.{How}
-use Rattle.rw_engine.specs.declared.how.How.TheVariants.{InOrder, InRounds, BySteps}
-use Rattle.rw_engine.specs.declared.how.Ran.{Ran}
-use Rattle.rw_engine.specs.declared.how.Ran.TheVariants.{Finished, Stepped}
+use Rattle.rw_engine.specs.declared.how.How.TheVariants.{InOrder, InRounds}
 
 -- no round was run
 abbrev pub no_traffic : Traffic
@@ -43,22 +41,10 @@ pub record IsSteppedTo {M S B U : Type 0} (model : Ghosts M S B U) (order : B �
   pub sound : Sound (system model order m starts initial) x.world
   pub in_order : IsInOrder (system model order m starts initial) x.world
 
--- what a run is to come to: in order and in rounds the same states, in order with no round; by steps a world in order
--- of time
-abbrev pub HasRun : {M S B U : Type 0} → Ghosts M S B U → (B → B → Ordering) → M → List S
-    → List (Event B) → How → Ran M S B U → Type 0
-HasRun model order m starts initial InOrder (Finished states traffic) =
-    AreLastStates (system model order m starts initial) states.items × (traffic ≡ no_traffic)
-HasRun model order m starts initial (InRounds plan) (Finished states traffic) =
-    AreLastStates (system model order m starts initial) states.items
-HasRun model order m starts initial (BySteps steps) (Stepped x answered) =
-    IsSteppedTo model order m starts initial steps.now x answered.items
-HasRun model order m starts initial _ _ = ⊥
-
 -- the run is in rounds by a plan of which some field is out of its range
 abbrev pub IsByBadPlan : How → Type 0
 IsByBadPlan (InRounds plan) = IsInRanges plan → ⊥
-IsByBadPlan _ = ⊥
+IsByBadPlan InOrder = ⊥
 
 -- what a run in order of time may stop for, where `test` says of a state that it can take no further event
 abbrev pub MayStopInOrder : {S B : Type 0} → System S B → (S → Bool) → Stop → Type 0
@@ -77,4 +63,3 @@ MayStopBySteps y test steps _ = ⊥
 abbrev pub MayStopFor : {S B : Type 0} → System S B → (S → Bool) → How → Stop → Type 0
 MayStopFor y test InOrder reason = MayStopInOrder y test reason
 MayStopFor y test (InRounds plan) reason = MayStopInRounds y test plan reason
-MayStopFor y test (BySteps steps) reason = MayStopBySteps y test steps.now reason

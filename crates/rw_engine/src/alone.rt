@@ -2,7 +2,7 @@ ghost use Rattle.std.specs.Prelude.{◌≡◌, ◌*◌, ◌↔◌, Err, IfErr, I
 ghost use Rattle.rw_vt.specs.Limits.{end_of_time};
 ghost use Rattle.rw_vt.specs.System.{IsReady, Meets, system};
 ghost use Rattle.rw_serial.specs.Counts.{events_below};
-ghost use Rattle.rw_worker.specs.Plans.{IsInRanges};
+ghost use Rattle.rw_rounds.specs.Plans.{IsInRanges};
 ghost use Rattle.rw_rounds.specs.declared.stop.Stop.TheVariants.{BadPlan};
 ghost use Rattle.rw_engine.specs.Runs.{AreLastStates};
 ghost use Rattle.rw_engine.specs.Alone.{IsTrafficAlone, MayStopAlone};

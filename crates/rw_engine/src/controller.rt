@@ -1,6 +1,8 @@
 //! The mode controller of a run: which segment comes next, and how long it is.
 
-use rw_rounds::{Pace, Plan, Traffic};
+ghost use Rattle.std.specs.Prelude.{◌≡◌, true};
+
+use rw_rounds::{Plan, Traffic};
 use std::time::Clock;
 
 /// How many initial events a segment takes in, where it is the shortest of its kind.
@@ -29,13 +31,30 @@ const HAND_OVER: u64 = 3000;
 /// A segment of a run.
 #[derive(Clone, Copy)]
 pub(crate) enum Segment {
-    /// Rounds of all workers, which run ahead and roll back: so many rounds at most, with so many initial events.
-    Rounds(u32, usize),
-    /// Windows of the lookahead, of all workers, which roll nothing back, with so many initial events; where no other is left, so
-    /// many times as long as these are apart.
-    Windows(usize, u64),
+    /// Rounds of all workers, which run ahead and roll back.
+    Rounds(RoundsSize),
+    /// Windows of the lookahead, of all workers, which roll nothing back.
+    Windows(WindowsSize),
     /// A run in order on one thread, for so many rounds of one worker.
     InOrder(u64),
+}
+
+/// How long a segment of rounds is.
+#[derive(Clone, Copy)]
+pub(crate) struct RoundsSize {
+    /// How many initial events it takes in.
+    pub(crate) events: usize,
+    /// How many rounds it has at most, 1 or more.
+    pub(crate) rounds: u32,
+}
+
+/// How long a segment of windows is.
+#[derive(Clone, Copy)]
+pub(crate) struct WindowsSize {
+    /// How many initial events it takes in.
+    pub(crate) events: usize,
+    /// Where no other initial event is left, how many times as long it is as these are apart.
+    pub(crate) times: u64,
 }
 
 /// A kind of segment.
@@ -47,10 +66,15 @@ enum Kind {
 }
 
 impl Segment {
+    /// Whether all workers take part in it.
+    pub(crate) fn has_workers(&self) -> bool {
+        !matches!(self, Segment::InOrder(_))
+    }
+
     fn kind(&self) -> Kind {
         match self {
-            Segment::Rounds(..) => Kind::Rounds,
-            Segment::Windows(..) => Kind::Windows,
+            Segment::Rounds(_) => Kind::Rounds,
+            Segment::Windows(_) => Kind::Windows,
             Segment::InOrder(_) => Kind::InOrder,
         }
     }
@@ -129,8 +153,8 @@ impl Cost {
 /// it has nothing to compare: it is given up then. No theorem rests on this.
 #[derive(Clone, Copy)]
 pub(crate) struct Controller {
-    /// How much of its plan a round gets.
-    pub(crate) pace: Pace,
+    /// Whether the threads of the workers are started.
+    pub(crate) has_threads: bool,
     /// How many of the plan's rounds are left.
     rounds_left: u32,
     lookahead: u64,
@@ -160,7 +184,7 @@ impl Controller {
     pub(crate) fn new(plan: &Plan, lookahead: u64, grain: u64, processes: usize) -> Controller {
         let hand_over = HAND_OVER.saturating_mul(processes as u64);
         Controller {
-            pace: Pace::of_grain(grain),
+            has_threads: false,
             rounds_left: plan.max_rounds,
             lookahead,
             grain: grain.saturating_mul(u64::from(plan.workers)),
@@ -177,8 +201,20 @@ impl Controller {
         }
     }
 
+    /// The same controller, where the threads of the workers are started. Takes no memory.
+    pub(crate) fn with_threads(self) -> Controller
+        ensures { result.has_threads ≡ true }
+    {
+        Controller {
+            has_threads: true,
+            ..self
+        }
+    }
+
     /// A segment begins now. Takes no memory.
-    pub(crate) fn begin<R: Clock>(&mut self, rt: &R) {
+    pub(crate) fn begin<R: Clock>(&mut self, rt: &R)
+        ensures { self.new.has_threads ≡ self.old.has_threads }
+    {
         self.begun = now(rt);
     }
 
@@ -191,9 +227,15 @@ impl Controller {
             Kind::Rounds if self.rounds_left == 0 => None,
             Kind::Rounds => {
                 let rounds = grown(FEW_ROUNDS, growth).min(u64::from(self.rounds_left));
-                Some(Segment::Rounds(rounds as u32, events))
+                Some(Segment::Rounds(RoundsSize {
+                    events,
+                    rounds: rounds as u32,
+                }))
             }
-            Kind::Windows => Some(Segment::Windows(events, grown(FEW_TIMES, growth))),
+            Kind::Windows => Some(Segment::Windows(WindowsSize {
+                events,
+                times: grown(FEW_TIMES, growth),
+            })),
             Kind::InOrder => Some(Segment::InOrder(grown(1, growth))),
         }
     }
@@ -225,7 +267,9 @@ impl Controller {
         time: u64,
         before: &Traffic,
         after: &Traffic,
-    ) {
+    )
+        ensures { self.new.has_threads ≡ self.old.has_threads }
+    {
         let executed = after.executed.wrapping_sub(before.executed);
         let undone = after.undone.wrapping_sub(before.undone);
         let useful = executed.saturating_sub(undone);
@@ -249,7 +293,9 @@ impl Controller {
     }
 
     /// A segment of this kind took so many nanoseconds, and executed so many events for good.
-    fn note_cost(&mut self, kind: Kind, nanoseconds: u64, events: u64) {
+    fn note_cost(&mut self, kind: Kind, nanoseconds: u64, events: u64)
+        ensures { self.new.has_threads ≡ self.old.has_threads }
+    {
         match kind {
             Kind::InOrder => {
                 self.in_order.note(nanoseconds, events);

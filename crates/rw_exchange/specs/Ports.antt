@@ -90,8 +90,8 @@ module _ {T : Type 0} where
 
   -- Of each ring between n workers, what went in and what came out is its first item, which `first` says by sender and
   -- receiver
-  abbrev pub AreGreeted : Count → (Worker → Worker → Option T) → List (PortState T) → Type 0
-  AreGreeted n first ps =
+  abbrev pub HaveFirst : Count → (Worker → Worker → Option T) → List (PortState T) → Type 0
+  HaveFirst n first ps =
       (from to : Worker)
       → from < n
       → to < n
@@ -175,20 +175,20 @@ IsRowAllowed allows n place received left =
     → EachAllowed allows (entry received j place) (slice_index_or left j [])
 
 -- what went into each ring of a row is its first item; of the own place nothing is said
-abbrev pub IsRowGreeted : {T : Type 0} → Worker → (Worker → Option T) → List (List T) → Type 0
-IsRowGreeted own first sent =
+abbrev pub HasRowFirst : {T : Type 0} → Worker → (Worker → Option T) → List (List T) → Type 0
+HasRowFirst own first sent =
     (to : Worker) → to < length sent → own ≢ to → slice_index_or sent to [] ≡ items_of (first to)
 
 -- Of each ring from one of m workers to one of n, what went in and what came out is its first item, in tables by sender
 -- and by receiver
-abbrev pub AreTablesGreeted :
+abbrev pub HaveTablesFirst :
     {T : Type 0}
     → (n m : Count)
     → (Worker → Worker → Option T)
     → List (List (List T))
     → List (List (List T))
     → Type 0
-AreTablesGreeted n m first sent received =
+HaveTablesFirst n m first sent received =
     (from to : Worker)
     → from < m
     → to < n

@@ -2,10 +2,10 @@
 ghost use Rattle.std.specs.Prelude.{◌≡◌, ◌≢◌, ◌<◌, ◌≤◌, ◌==◌, not, [], None, length, map, is_some, All, IfOk, OnOk, IfSome, IfNone, vec_len};
 ghost use Rattle.rw_vt.specs.Words.{Worker};
 ghost use Rattle.rtrb.specs.Ring.{sent, received, known_free, IsPair, SameProducer, SameConsumer};
-ghost use Rattle.rw_exchange.specs.Ports.{items_of, IsRowGreeted};
+ghost use Rattle.rw_exchange.specs.Ports.{items_of, HasRowFirst};
 ghost use Rattle.rw_exchange.specs.Rings.{out_ring, in_ring, out_rings, in_table, out_sent, in_received, received_table, HasCapacity, KnowsFree, NothingSent, NothingReceived, NothingReceivedAtAll, AllButOwn, push_each, lists_with};
 
-use crate::Greeting;
+use crate::FirstMessage;
 use rtrb::{Consumer, Producer, Protocol, RingBuffer};
 use rw_vt::NoMemory;
 use std::alloc::Global;
@@ -34,12 +34,12 @@ fn pass<T: Drop, P: Protocol<T>>(
 }
 
 // Both ends of a new ring, once its first item went through; or of none where the two workers are one.
-fn ends<T: Drop, P: Protocol<T>, G: Greeting<T>>(
+fn ends<T: Drop, P: Protocol<T>, G: FirstMessage<T>>(
     alloc: Global,
     from: usize,
     to: usize,
     capacity: usize,
-    greeting: &G,
+    opener: &G,
 ) -> Result<
     (
         Option<Producer<T, Global, P>>,
@@ -48,22 +48,22 @@ fn ends<T: Drop, P: Protocol<T>, G: Greeting<T>>(
     NoMemory,
 >
     requires capacity { 1 ≤ capacity }
-    requires allowed { IfSome (G.greeting greeting.now from to) (P.allows []) }
+    requires allowed { IfSome (G.first opener.now from to) (P.allows []) }
     ensures ring { IfOk result (λ r. out_ring r.0 ≡ in_ring r.1) }
     ensures other { IfOk result (λ r. is_some (out_ring r.0) ≡ not (to == from)) }
     ensures capacity { IfOk result (λ r. HasCapacity capacity r.0) }
     ensures same { IfOk result (λ r. in_received r.1 ≡ out_sent r.0) }
     ensures first { IfOk result (λ r.
-        from ≢ to → out_sent r.0 ≡ items_of (G.greeting greeting.now from to)) }
-    ensures free { IfOk result (λ r. G.greeting greeting.now from to ≡ None
+        from ≢ to → out_sent r.0 ≡ items_of (G.first opener.now from to)) }
+    ensures free { IfOk result (λ r. G.first opener.now from to ≡ None
         → KnowsFree capacity r.0) }
-    ensures new { IfOk result (λ r. G.greeting greeting.now from to ≡ None
+    ensures new { IfOk result (λ r. G.first opener.now from to ≡ None
         → NothingSent r.0 × NothingReceived r.1) }
 {
     if to == from {
         return Ok((None, None));
     }
-    let first = greeting.greet(alloc, from, to)?;
+    let first = opener.make(alloc, from, to)?;
     let (mut producer, mut consumer) = RingBuffer::with_protocol::<Global, P>(alloc, capacity)?;
     pass(&mut producer, &mut consumer, first);
     Ok((Some(producer), Some(consumer)))
@@ -92,15 +92,15 @@ fn push_at<T: Drop, P: Protocol<T>>(
 }
 
 // The rings from one worker to all others. Each column gets the other end of one.
-pub(crate) fn row<T: Drop, P: Protocol<T>, G: Greeting<T>>(
+pub(crate) fn row<T: Drop, P: Protocol<T>, G: FirstMessage<T>>(
     alloc: Global,
     columns: &mut Vec<Vec<Option<Consumer<T, Global, P>>>>,
     own: usize,
     capacity: usize,
-    greeting: &G,
+    opener: &G,
 ) -> Result<Vec<Option<Producer<T, Global, P>>>, NoMemory>
     requires capacity { 1 ≤ capacity }
-    requires allowed { (to : Worker) → IfSome (G.greeting greeting.now own to) (P.allows []) }
+    requires allowed { (to : Worker) → IfSome (G.first opener.now own to) (P.allows []) }
     ensures length { IfOk result (λ r. vec_len r ≡ vec_len columns.old) }
     ensures rings { IfOk result (λ r. in_table columns.new.items
         ≡ push_each (in_table columns.old.items) (out_rings r.items)) }
@@ -109,19 +109,19 @@ pub(crate) fn row<T: Drop, P: Protocol<T>, G: Greeting<T>>(
     ensures lists { IfOk result (λ r. received_table columns.new.items
         ≡ push_each (received_table columns.old.items) (map out_sent r.items)) }
     ensures first { IfOk result (λ r.
-        IsRowGreeted own (G.greeting greeting.now own) (map out_sent r.items)) }
-    ensures free { IfOk result (λ r. ((to : Worker) → G.greeting greeting.now own to ≡ None)
+        HasRowFirst own (G.first opener.now own) (map out_sent r.items)) }
+    ensures free { IfOk result (λ r. ((to : Worker) → G.first opener.now own to ≡ None)
         → All (KnowsFree capacity) r.items) }
-    ensures sent { IfOk result (λ r. ((to : Worker) → G.greeting greeting.now own to ≡ None)
+    ensures sent { IfOk result (λ r. ((to : Worker) → G.first opener.now own to ≡ None)
         → All NothingSent r.items) }
-    ensures received { IfOk result (λ r. ((to : Worker) → G.greeting greeting.now own to ≡ None)
+    ensures received { IfOk result (λ r. ((to : Worker) → G.first opener.now own to ≡ None)
         → NothingReceivedAtAll columns.old.items
         → NothingReceivedAtAll columns.new.items) }
 {
     let count = columns.len();
     let mut row = Vec::with_capacity(alloc, count)?;
     for k in 0..count {
-        let (producer, consumer) = ends(alloc, own, k, capacity, greeting)?;
+        let (producer, consumer) = ends(alloc, own, k, capacity, opener)?;
         push_at(columns, k, consumer)?;
         row.push_reserved(producer);
     }

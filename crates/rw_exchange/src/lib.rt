@@ -8,22 +8,22 @@
 //!
 //! A port is also generic in a [`Protocol`], which says which items may follow the ones before them.
 //! The sender has to keep it, so the receiver can rely on it in another thread. [`AnyItems`] allows all
-//! items. [`open_greeted`] sends a first item through each ring, known at both ends, for protocols that
+//! items. [`open_with_first`] sends a first item through each ring, known at both ends, for protocols that
 //! judge later items by it.
 //!
 //! Worked examples: `rw_round_tests/src/rings.rt`.
 
 mod build;
-mod greeting;
+mod first_message;
 mod lane;
 mod left;
 mod opening;
 mod port;
 mod settling;
 
-pub use greeting::Greeting;
+pub use first_message::FirstMessage;
 pub use left::Left;
-pub use opening::{MAX_CAPACITY, MAX_WORKERS, every_limit, open, open_greeted};
+pub use opening::{MAX_CAPACITY, MAX_WORKERS, every_limit, open, open_with_first};
 pub use port::Port;
 pub use rtrb::{AnyItems, Protocol};
 pub use rw_vt::{Letter, NoMemory};

@@ -2,22 +2,22 @@
 ghost use Rattle.std.specs.Prelude.{◌≡◌, ◌≤◌, [], None, map, All, IfOk, IfSome, vec_len};
 ghost use Rattle.rw_vt.specs.Words.{Worker};
 ghost use Rattle.rw_exchange.specs.Limits.{most_ports, most_slots};
-ghost use Rattle.rw_exchange.specs.Ports.{AreTablesGreeted, AreGreeted, IsNew, IsOpening, KnowsFreeToEach, NoneItself, StayAnOpening};
+ghost use Rattle.rw_exchange.specs.Ports.{HaveTablesFirst, HaveFirst, IsNew, IsOpening, KnowsFreeToEach, NoneItself, StayAnOpening};
 ghost use Rattle.rw_exchange.specs.Rings.{out_table, in_table, sent_table, received_table, HasCapacity, KnowsFree, NothingSent, NothingReceivedAtAll, AreCrossed};
 
 use crate::build::row;
-use crate::greeting::Silent;
-use crate::{Greeting, Port};
+use crate::first_message::Silent;
+use crate::{FirstMessage, Port};
 use rtrb::{Consumer, Producer, Protocol};
 use rw_vt::{NoMemory, empty_lists};
 use std::alloc::Global;
 
 // All rings, by sender and by receiver.
-fn tables<T: Drop, P: Protocol<T>, G: Greeting<T>>(
+fn tables<T: Drop, P: Protocol<T>, G: FirstMessage<T>>(
     alloc: Global,
     count: usize,
     capacity: usize,
-    greeting: &G,
+    opener: &G,
 ) -> Result<
     (
         Vec<Vec<Option<Producer<T, Global, P>>>>,
@@ -26,24 +26,24 @@ fn tables<T: Drop, P: Protocol<T>, G: Greeting<T>>(
     NoMemory,
 >
     requires capacity { 1 ≤ capacity }
-    requires allowed { (from to : Worker) → IfSome (G.greeting greeting.now from to) (P.allows []) }
+    requires allowed { (from to : Worker) → IfSome (G.first opener.now from to) (P.allows []) }
     ensures crossed { IfOk result (λ r.
         AreCrossed count count (out_table r.0.items) (in_table r.1.items)) }
     ensures capacity { IfOk result (λ r. All (λ v. All (HasCapacity capacity) v.items) r.0.items) }
-    ensures first { IfOk result (λ r. AreTablesGreeted count count (G.greeting greeting.now)
+    ensures first { IfOk result (λ r. HaveTablesFirst count count (G.first opener.now)
         (sent_table r.0.items) (received_table r.1.items)) }
-    ensures free { IfOk result (λ r. ((from to : Worker) → G.greeting greeting.now from to ≡ None)
+    ensures free { IfOk result (λ r. ((from to : Worker) → G.first opener.now from to ≡ None)
         → All (λ v. All (KnowsFree capacity) v.items) r.0.items) }
-    ensures sent { IfOk result (λ r. ((from to : Worker) → G.greeting greeting.now from to ≡ None)
+    ensures sent { IfOk result (λ r. ((from to : Worker) → G.first opener.now from to ≡ None)
         → All (λ v. All NothingSent v.items) r.0.items) }
     ensures received { IfOk result (λ r.
-        ((from to : Worker) → G.greeting greeting.now from to ≡ None)
+        ((from to : Worker) → G.first opener.now from to ≡ None)
         → NothingReceivedAtAll r.1.items) }
 {
     let mut columns = empty_lists(alloc, count)?;
     let mut rows = Vec::with_capacity(alloc, count)?;
     for own in 0..count {
-        rows.push_reserved(row(alloc, &mut columns, own, capacity, greeting)?);
+        rows.push_reserved(row(alloc, &mut columns, own, capacity, opener)?);
     }
     Ok((rows, columns))
 }
@@ -118,7 +118,7 @@ pub fn open<T: Drop, P: Protocol<T>>(
 }
 
 /// One port for each of `workers` workers, as [`open`] gives them, where one first item has gone through each ring: what
-/// `greeting` makes. So both ends of a ring know it, and a protocol may judge the items behind it by it.
+/// `opener` makes. So both ends of a ring know it, and a protocol may judge the items behind it by it.
 ///
 /// It counts as sent and as received. A send succeeds while fewer letters were sent than the ring has slots, the first
 /// item among them; how many slots a port knows to be free is not told.
@@ -126,24 +126,24 @@ pub fn open<T: Drop, P: Protocol<T>>(
 /// # Errors
 ///
 /// [`NoMemory`] where memory was refused.
-pub fn open_greeted<T: Drop, P: Protocol<T>, G: Greeting<T>>(
+pub fn open_with_first<T: Drop, P: Protocol<T>, G: FirstMessage<T>>(
     alloc: Global,
     workers: usize,
     capacity: usize,
-    greeting: &G,
+    opener: &G,
 ) -> Result<Vec<Port<T, P>>, NoMemory>
     requires workers { (1 ≤ workers) × (workers ≤ most_ports) }
     requires capacity { (1 ≤ capacity) × (capacity ≤ most_slots) }
-    requires allowed { (from to : Worker) → IfSome (G.greeting greeting.now from to) (P.allows []) }
+    requires allowed { (from to : Worker) → IfSome (G.first opener.now from to) (P.allows []) }
     ensures count { IfOk result (λ ports. vec_len ports ≡ workers) }
     ensures opening { IfOk result (λ ports. IsOpening ports.items) }
     ensures stays { IfOk result (λ ports. StayAnOpening ports.items) }
-    ensures greeted { IfOk result (λ ports.
-        AreGreeted workers (G.greeting greeting.now) ports.items) }
+    ensures first_sent { IfOk result (λ ports.
+        HaveFirst workers (G.first opener.now) ports.items) }
     ensures own { IfOk result (λ ports. NoneItself workers ports.items) }
     ensures capacity { IfOk result (λ ports. All (λ port. port.capacity ≡ capacity) ports.items) }
 {
-    let (rows, columns) = tables(alloc, workers, capacity, greeting)?;
+    let (rows, columns) = tables(alloc, workers, capacity, opener)?;
     let ports = deal(alloc, workers, capacity, rows, columns)?;
     Ok(ports)
 }

@@ -1,3 +1,3 @@
 pub mod Failing
 pub mod Stopping
-pub mod Ways
+pub mod Stepping

@@ -9,11 +9,11 @@ use Rattle.rw_output.specs.declared.sim_fault.SimFault.{SimFault}
 use Rattle.rw_photo.specs.declared.config.Config.{Config}
 use Rattle.rw_photo.specs.Cache.{is_exhausted}
 use Rattle.rw_photo.specs.Simulation.{simulation}
-use Rattle.rw_worker.specs.Plans.{IsInRanges}
-use Rattle.rw_worker.specs.declared.plan.Plan.{Plan}
+use Rattle.rw_rounds.specs.Plans.{IsInRanges}
+use Rattle.rw_rounds.specs.declared.plan.Plan.{Plan}
 use Rattle.rw_rounds.specs.declared.stop.Stop.{Stop}
 use Rattle.rw_rounds.specs.declared.stop.Stop.TheVariants as stop
-use Rattle.rw_engine.specs.Stretches.{MayStopInRounds}
+use Rattle.rw_engine.specs.Segments.{MayStopInRounds}
 use Rattle.rw_ripqwarp.specs.declared.mode.Mode.TheVariants.{Warp}
 use Rattle.rw_ripqwarp.specs.Faults.{sim_stop_of}
 use Rattle.rw_ripqwarp.specs.Simulate.{HasGoodPlan, IsRunFault}

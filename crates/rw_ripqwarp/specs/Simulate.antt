@@ -12,10 +12,8 @@ use Rattle.rw_world.specs.declared.step.Step.{Step}
 use Rattle.rw_world.specs.WorldState.{opening_world}
 use Rattle.rw_world.specs.Steps.{answers, run}
 use Rattle.rw_world.specs.Calls.{MeetsAt}
-use Rattle.rw_worker.specs.Plans.{IsInRanges}
-use Rattle.rw_worker.specs.declared.plan.Plan.{Plan}
-use Rattle.rw_engine.specs.declared.how.How.{How}
-use Rattle.rw_engine.specs.declared.how.How.TheVariants.{InOrder, InRounds, BySteps}
+use Rattle.rw_rounds.specs.Plans.{IsInRanges}
+use Rattle.rw_rounds.specs.declared.plan.Plan.{Plan}
 use Rattle.rw_replay.specs.Replay.{IsReportOf, IsExhaustingInOrder}
 use Rattle.rw_journal.specs.Journal.{journal_text}
 use Rattle.rw_ripqwarp.specs.declared.mode.Mode.{Mode}
@@ -70,13 +68,6 @@ UsesUpRounds _ c bytes = ⊥
 abbrev pub HasThreads : Mode → Type 0
 HasThreads (Warp plan) = plan.workers ≢ 1
 HasThreads _ = ⊥
-
--- the way in which the engine runs a trace in this mode
-abbrev pub IsWayOf : Mode → How → Type 0
-IsWayOf Serial InOrder = Unit {0}
-IsWayOf (Warp plan) (InRounds by) = by ≡ plan
-IsWayOf (Journal steps) (BySteps by) = by.now ≡ steps.items
-IsWayOf _ _ = ⊥
 
 -- the trace is run in rounds
 abbrev pub IsWarp : Mode → Type 0

@@ -2,8 +2,8 @@
 //! The program as a library: from the bytes of a trace to the bytes of a report, or of a journal for a
 //! schedule.
 //!
-//! [`simulate`] runs a trace in any mode: on one thread with [`rw_replay::report_of_trace`], otherwise
-//! with the engine. Three calls have the main theorems: [`execute_and_reverse`], that rollback is
+//! [`simulate`] runs a trace in any mode: on one thread with [`rw_replay::report_of_trace`], and with the
+//! engine in rounds or by steps. Three calls have the main theorems: [`execute_and_reverse`], that rollback is
 //! exact; [`any_schedule`], that the committed events are those of executing in order; and the clause
 //! `report` of `simulate`, that a threaded run writes the report of the sequential run.
 //!
@@ -13,6 +13,7 @@ mod headline;
 mod mode;
 mod rounds;
 mod simulation;
+mod steps;
 
 pub use headline::{any_schedule, execute_and_reverse, one_report};
 pub use mode::Mode;

@@ -1,6 +1,4 @@
-ghost use Rattle.rw_ripqwarp.specs.Simulate.{IsWayOf};
-
-use rw_engine::{How, Plan, Step};
+use rw_engine::{Plan, Step};
 
 /// How a trace is run.
 #[derive(Drop)]
@@ -13,17 +11,4 @@ pub enum Mode {
     /// By these steps, of which those that do not apply are refused. The text is a journal: what was refused, and what
     /// each cache has committed.
     Journal(Vec<Step>),
-}
-
-impl Mode {
-    /// The way in which the engine runs a trace in this mode.
-    pub(crate) fn way(&self) -> How<'_>
-        ensures { IsWayOf self.now result }
-    {
-        match self {
-            Mode::Serial => How::InOrder,
-            Mode::Warp(plan) => How::InRounds(*plan),
-            Mode::Journal(steps) => How::BySteps(steps.as_slice()),
-        }
-    }
 }

@@ -4,14 +4,14 @@ ghost use Rattle.rw_photo.specs.Simulation.{simulation};
 ghost use Rattle.rw_trace.specs.Laws.{IsRow};
 ghost use Rattle.rw_trace.specs.Limits.{most_rows};
 ghost use Rattle.rw_engine.specs.Runs.{AreLastStates};
-ghost use Rattle.rw_engine.specs.Stretches.{MayStopInRounds};
+ghost use Rattle.rw_engine.specs.Segments.{MayStopInRounds};
 ghost use Rattle.rw_ripqwarp.specs.Faults.{sim_stop_of};
 ghost use Rattle.rw_replay.specs.Replay.{IsReportOf};
 ghost use Rattle.rw_ripqwarp.specs.Simulate.{HasGoodPlan, IsRunFault};
 
 use crate::mode::Mode;
 use rw_engine::{
-    Plan, Stop, Traffic, run_alone, run_alone_from, run_in_rounds, run_in_rounds_from,
+    Plan, Start, Stop, Traffic, run_alone, run_alone_from, run_in_rounds, run_in_rounds_from,
 };
 use rw_output::SimFault;
 use rw_photo::{CacheState, Config, OrderedRequests, Photo, Policy};
@@ -118,7 +118,12 @@ fn run_rows_in_rounds<P: Progress, R: Threads + Wait + Clock + Sync>(
             return run_alone(alloc, &photo, starts, initial, plan);
         }
         begin_events(initial.as_slice(), progress);
-        return run_in_rounds(rt, alloc, photo, starts, initial, plan, progress);
+        let start = Start {
+            model: photo,
+            states: starts,
+            initial,
+        };
+        return run_in_rounds(rt, alloc, start, plan, progress);
     };
     let starts = starts(alloc, &photo)?;
     begin_rows(rows, others, progress);
@@ -130,7 +135,12 @@ fn run_rows_in_rounds<P: Progress, R: Threads + Wait + Clock + Sync>(
         };
         return run_alone_from(alloc, &photo, starts, source, plan);
     }
-    run_in_rounds_from(rt, alloc, photo, starts, source, plan, progress)
+    let start = Start {
+        model: photo,
+        states: starts,
+        initial: source,
+    };
+    run_in_rounds_from(rt, alloc, start, plan, progress)
 }
 
 /// Rows in two parts, in one list.

@@ -6,14 +6,13 @@ ghost use Rattle.rw_ripqwarp.specs.Simulate.{HasGoodPlan, IsRunFault, IsTextOf, 
 ghost use Rattle.rw_ripqwarp.specs.Headline.{HasWritten, HasWrittenBeginning};
 
 use crate::mode::Mode;
-use crate::rounds::{rounds_text, why_it_stopped};
-use rw_engine::{Ran, Traffic, run_in_and_tell};
-use rw_journal::journal;
+use crate::rounds::rounds_text;
+use crate::steps::steps_text;
+use rw_engine::Traffic;
 use rw_output::{Out, SimFault};
-use rw_photo::{Config, Photo};
+use rw_photo::Config;
 use rw_progress::{Progress, Silent};
-use rw_replay::{begin_events, beginning, report_of_states, report_of_trace};
-use rw_vt::Model as VtModel;
+use rw_replay::report_of_trace;
 use std::alloc::Global;
 use std::io::Write;
 use std::sync::Wait;
@@ -102,37 +101,9 @@ fn text_of<P: Progress, R: Threads + Wait + Clock + Sync>(
             Ok((text, Traffic::default()))
         }
         Mode::Warp(plan) => rounds_text(rt, alloc, bytes, config, plan, progress),
-        mode => engine_text(rt, alloc, bytes, config, mode, progress),
-    }
-}
-
-/// The text of a run that the engine makes, in any mode, and what its rounds did.
-fn engine_text<P: Progress, R: Threads + Wait + Clock + Sync>(
-    rt: &R,
-    alloc: Global,
-    bytes: &[u8],
-    config: &Config,
-    mode: Mode,
-    progress: &mut P,
-) -> Result<(Vec<u8>, Traffic), SimFault>
-    ensures text { IfOk result (λ r. IsTextOf mode config.now bytes.now r.0.items) }
-    ensures still { IfOk result (λ r. (IsWarp mode → ⊥) → r.1 ≡ no_traffic) }
-    ensures in_range { OnOk result (HasGoodPlan mode) }
-    ensures fault { IfErr result (IsRunFault mode config.now bytes.now) }
-    ensures unwritten { IfErr result (λ e. e ≢ SimFault.Output) }
-{
-    let (starts, initial) = beginning(alloc, bytes, config)?;
-    let photo = Photo::new(*config);
-    begin_events(initial.as_slice(), progress);
-    match run_in_and_tell(rt, alloc, photo, starts, initial, mode.way(), progress) {
-        Ok(Ran::Finished(states, traffic)) => {
-            let text = report_of_states(alloc, config, states.as_slice())?;
-            Ok((text, traffic))
-        }
-        Ok(Ran::Stepped(world, answers)) => {
-            let text = journal(alloc, answers.as_slice(), &world, photo.processes())?;
+        Mode::Journal(steps) => {
+            let text = steps_text(alloc, bytes, config, steps, progress)?;
             Ok((text, Traffic::default()))
         }
-        Err(stop) => Err(why_it_stopped(stop)),
     }
 }

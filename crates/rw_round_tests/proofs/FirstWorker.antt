@@ -7,7 +7,7 @@ use Rattle.rw_vt.specs.Order.{event_cmp}
 use Rattle.rw_vt.specs.declared.event.Event.{Event}
 use Rattle.rw_lp.specs.Calls.{LogicalProcess, new_process}
 use Rattle.rw_lp.specs.Sound.{HasCollected}
-use Rattle.rw_worker.specs.Turns.{IsInPlace, Role}
+use Rattle.rw_rounds.specs.Turns.{IsInPlace, Role}
 
 -- what has done nothing yet has collected up to time 0
 new_has_collected : {S B : Type 0} (cmp : Event B → Event B → Ordering) (s : S) (initial : List (Event B)) → HasCollected cmp 0 (new_process cmp s initial)

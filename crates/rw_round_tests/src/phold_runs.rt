@@ -4,9 +4,11 @@ ghost use Rattle.rw_vt.specs.System.{IsReady};
 ghost use Rattle.rw_phold.specs.contracts.phold.PholdVtModel.TheImpl as of_phold;
 
 use rw_engine::{
-    END, Event, How, Plan, Ran, Step, Stop, Traffic, run_alone, run_alone_from, run_in,
+    END, Event, How, Plan, Start, Step, Stop, Traffic, run_alone, run_alone_from, run_by_steps,
+    run_in,
 };
 use rw_phold::{Ball, Holder, Phold, Report, beginning, report_of};
+use rw_progress::Silent;
 use rw_serial::{Sorted, last_states_within, last_states_within_from};
 use std::alloc::Global;
 use std::sync::Wait;
@@ -27,13 +29,16 @@ fn many_balls(alloc: Global) -> Result<(Phold, Vec<Holder>, Vec<Event<Ball>>), F
 fn reported<R: Threads + Wait + Clock + Sync>(
     rt: &R,
     alloc: Global,
-    how: How<'_>,
-) -> Result<Option<Report>, Fail> {
-    let (phold, starts, initial) = many_balls(alloc)?;
-    match run_in(rt, alloc, phold, starts, initial, how)? {
-        Ran::Finished(states, _traffic) => Ok(Some(report_of(states.as_slice()))),
-        Ran::Stepped(_world, _answers) => Ok(None),
-    }
+    how: How,
+) -> Result<Report, Fail> {
+    let (model, states, initial) = many_balls(alloc)?;
+    let start = Start {
+        model,
+        states,
+        initial,
+    };
+    let (states, _traffic) = run_in(rt, alloc, start, how, &mut Silent)?;
+    Ok(report_of(states.as_slice()))
 }
 
 /// So many workers, each of which executes far ahead.
@@ -52,10 +57,10 @@ fn plan(workers: u32, lazy: bool) -> Plan {
 // Worked out by a second implementation, in Python.
 #[test]
 fn balls_come_to_the_same_in_order_and_in_rounds(rt: HostRuntime) -> Result<(), Fail> {
-    let expected = Some(Report {
+    let expected = Report {
         events: 41004,
         checksum: 0xafec_247c_1e93_e9ba,
-    });
+    };
     let ways = [
         How::InOrder,
         How::InRounds(plan(1, false)),
@@ -148,8 +153,13 @@ fn is_refused<R: Threads + Wait + Clock + Sync>(
     alloc: Global,
     plan: Plan,
 ) -> Result<bool, Fail> {
-    let (phold, starts, initial) = one_ball(alloc)?;
-    let ran = run_in(rt, alloc, phold, starts, initial, How::InRounds(plan));
+    let (model, states, initial) = one_ball(alloc)?;
+    let start = Start {
+        model,
+        states,
+        initial,
+    };
+    let ran = run_in(rt, alloc, start, How::InRounds(plan), &mut Silent);
     Ok(matches!(ran, Err(Stop::BadPlan)))
 }
 
@@ -160,22 +170,21 @@ fn a_plan_out_of_its_range_is_refused(rt: HostRuntime) -> Result<(), Fail> {
 }
 
 /// How many of these steps are answered, and the floor of the world to which they lead.
-fn stepped<R: Threads + Wait + Clock + Sync>(
-    rt: &R,
-    alloc: Global,
-    steps: &[Step],
-) -> Result<Option<(usize, u64)>, Fail> {
-    let (phold, starts, initial) = one_ball(alloc)?;
-    match run_in(rt, alloc, phold, starts, initial, How::BySteps(steps))? {
-        Ran::Stepped(world, answers) => Ok(Some((answers.len(), world.floor()))),
-        Ran::Finished(_states, _traffic) => Ok(None),
-    }
+fn stepped(alloc: Global, steps: &[Step]) -> Result<(usize, u64), Fail> {
+    let (model, states, initial) = one_ball(alloc)?;
+    let start = Start {
+        model,
+        states,
+        initial,
+    };
+    let (world, answers) = run_by_steps(alloc, start, steps)?;
+    Ok((answers.len(), world.floor()))
 }
 
 #[test]
 fn steps_lead_to_a_world(rt: HostRuntime) -> Result<(), Fail> {
     let steps = [Step::Execute(0), Step::Execute(1)];
-    assert!(rt; stepped(&rt, rt.alloc(), &steps)? == Some((2, 1)));
+    assert!(rt; stepped(rt.alloc(), &steps)? == (2, 1));
     Ok(())
 }
 

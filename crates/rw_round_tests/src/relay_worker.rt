@@ -1,7 +1,7 @@
 // A worker of the relay, made from a process of its own, and what one turn of it does.
 ghost use Rattle.std.specs.Prelude.{◌≡◌, true, [], ◌∷◌, IfOk};
 ghost use Rattle.rw_exchange.specs.Ports.{IsWide};
-ghost use Rattle.rw_worker.specs.Turns.{IsFit};
+ghost use Rattle.rw_rounds.specs.Turns.{IsFit};
 
 use crate::two_ports::two_ports;
 use rw_lp::Lp;

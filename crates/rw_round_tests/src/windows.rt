@@ -33,8 +33,8 @@ struct Windows {
     ghost some_lookahead: { 1 ≤ lookahead },
 }
 
-/// Goes on with a run in windows, in the threads of a crew that is there for them alone.
-fn by_a_crew<'s, E, M, R>(
+/// Goes on with a run in windows, in the threads of a pool that is there for them alone.
+fn by_a_pool<'s, E, M, R>(
     rt: &'s R,
     scope: &Scope<'s, E>,
     alloc: Global,
@@ -57,11 +57,11 @@ where
         events,
         ..
     } = run;
-    let mut crew = rw_crew::alone(rt, alloc);
-    let left = match rw_crew::grow(&mut crew, scope, alloc, windows.workers as usize) {
+    let mut pool = rw_pool::alone(rt, alloc);
+    let left = match rw_pool::grow(&mut pool, scope, alloc, windows.workers as usize) {
         Ok(()) => run_in_windows(
             rt,
-            &mut crew,
+            &mut pool,
             alloc,
             model,
             states,
@@ -72,7 +72,7 @@ where
         ),
         Err(halt) => Err(halt),
     };
-    rw_crew::dismiss(crew);
+    rw_pool::shut_down(pool);
     left
 }
 
@@ -112,7 +112,7 @@ fn go_on<R: Threads + Wait + Sync>(
             requires ahead { IsAhead of_phold.ghosts run.model windows.lookahead }
             ensures ready { IfOk result (λ l.
                 IsReady of_phold.ghosts l.model l.states.items l.events.items) }
-        { by_a_crew(rt, scope, alloc, run, windows) },
+        { by_a_pool(rt, scope, alloc, run, windows) },
     )
 }
 
@@ -334,7 +334,7 @@ fn pass_on<R: Threads + Wait + Sync>(
         move |scope| -> Result<Left<Relay>, Halt>
             requires ready { IsReady of_relay.ghosts run.model run.states.items run.events.items }
             requires ahead { IsAhead of_relay.ghosts run.model windows.lookahead }
-        { by_a_crew(rt, scope, alloc, run, windows) },
+        { by_a_pool(rt, scope, alloc, run, windows) },
     )
 }
 

@@ -12,13 +12,13 @@ use Rattle.rw_lp.specs.Process.{ProcessState}
 use Rattle.rw_lp.specs.Calls.{LogicalProcess}
 use Rattle.rw_world.specs.declared.parts.Parts.{Parts}
 use Rattle.rw_world.specs.Calls.{world_of, IsWhole}
-use Rattle.rw_worker.specs.declared.plan.Plan.{Plan}
-use Rattle.rw_worker.specs.Plans.{IsInRanges}
-use Rattle.rw_worker.specs.Bags.{Every}
-use Rattle.rw_worker.specs.Deeds.{IsFair}
-use Rattle.rw_worker.specs.Turns.{WorkerState, owner, is_own, process_at, IsInPlace, IsFit}
+use Rattle.rw_rounds.specs.declared.plan.Plan.{Plan}
+use Rattle.rw_rounds.specs.Plans.{IsInRanges}
+use Rattle.rw_rounds.specs.Bags.{Every}
+use Rattle.rw_rounds.specs.Deeds.{IsFair}
+use Rattle.rw_rounds.specs.Turns.{WorkerState, owner, is_own, process_at, IsInPlace, IsFit}
 use Rattle.rw_rounds.specs.Rounds.{role, Begins}
-use Rattle.rw_worker.proofs.Cited.{Governs, StartsIn, Well, collected_of, fair_letters, get_within, governs, number_of, place_of, there_is}
+use Rattle.rw_rounds.proofs.Cited.{Governs, StartsIn, Well, collected_of, fair_letters, get_within, governs, number_of, place_of, there_is}
 use Rattle.rw_rounds.proofs.Totals.{every_filter, every_passes}
 
 module _ {M S B U : Type 0} {model : Ghosts M S B U} {order : B → B → Ordering} (x : Parts M S B U) (whole : IsWhole model order x) where

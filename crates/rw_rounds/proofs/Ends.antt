@@ -3,7 +3,7 @@ use Rattle.std.proofs.Common.{ℕ, zero, suc, refl, subst, sym}
 use Rattle.std.specs.declared.cmp.Ordering.{Ordering}
 use Rattle.rw_vt.specs.declared.model.Model.{Ghosts}
 use Rattle.rw_vt.specs.System.{Rules}
-use Rattle.rw_worker.specs.Turns.{WorkerState, IsFit, TookTurn, TookTurns, Closes}
+use Rattle.rw_rounds.specs.Turns.{WorkerState, IsFit, TookTurn, TookTurns, Closes}
 
 module _ {M S B : Type 0} (y : Rules S B) where
   -- one turn more, at the end

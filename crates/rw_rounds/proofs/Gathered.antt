@@ -3,6 +3,7 @@ use Rattle.std.proofs.Common.{◌≡◌, ℕ, zero, suc, ◌+◌, ◌*◌, ◌<�
 use Rattle.std.specs.Prelude.{◌⊎◌, ◌/◌, ◌%◌, ◌==◌, filter, slice_get}
 use Rattle.std.specs.declared.cmp.Ordering.{Ordering}
 use Rattle.std.specs.Option.{option_map}
+use Rattle.std.specs.declared.vec.Vec.{Vec}
 use Rattle.std.proofs.lemmas.Bool.{cases_lt, eq-eqb}
 use Rattle.std.proofs.lemmas.List.{get_or-map, length-map}
 use Rattle.std.proofs.lemmas.Option.{get_or_from_slice_get}
@@ -18,22 +19,24 @@ use Rattle.rw_world.specs.Calls.{IsWhole}
 use Rattle.rw_exchange.specs.Ports.{PortState, SamePort, IsNew, IsWide, IsOpening, StayAnOpening, sent_to, received_from, sent_between, received_between}
 use Rattle.rw_board.specs.Least.{least}
 use Rattle.rw_board.specs.Seats.{SeatState, BoardState, new_seat, all_notes}
-use Rattle.rw_crew.specs.Sums.{sum_below}
-use Rattle.rw_crew.proofs.Lists.{get_there, get_past}
-use Rattle.rw_crew.proofs.Dealing.{AreDealt}
-use Rattle.rw_crew.proofs.Sums.{total_add}
-use Rattle.rw_worker.specs.declared.plan.Plan.{Plan}
-use Rattle.rw_rounds.specs.declared.round.Rest.{Rest}
+use Rattle.rw_pool.specs.Sums.{sum_below}
+use Rattle.rw_pool.proofs.Lists.{get_there, get_past}
+use Rattle.rw_pool.proofs.Dealing.{AreDealt, number_place}
+use Rattle.rw_pool.proofs.Sums.{total_add}
+use Rattle.rw_rounds.specs.declared.plan.Plan.{Plan}
+use Rattle.rw_rounds.specs.declared.between.Between.{Between}
+use Rattle.rw_rounds.specs.declared.between.Rest.{Rest}
 use Rattle.rw_rounds.specs.declared.round.RoundWork.{RoundWork}
-use Rattle.rw_worker.specs.Plans.{IsInRanges}
-use Rattle.rw_worker.specs.Bags.{weigh}
-use Rattle.rw_worker.specs.Deeds.{Deed, Arrival, Undoing, Execution, Owned, Stepped, Did, Goes, way_of}
-use Rattle.rw_worker.specs.Turns.{WorkerState, process_at, processes_of, TookTurns, Closes}
+use Rattle.rw_rounds.specs.Plans.{IsInRanges}
+use Rattle.rw_rounds.specs.Bags.{weigh}
+use Rattle.rw_rounds.specs.Deeds.{Deed, Arrival, Undoing, Execution, Owned, Stepped, Did, Goes, way_of}
+use Rattle.rw_rounds.specs.Turns.{WorkerState, process_at, processes_of, TookTurns, Closes}
 use Rattle.rw_rounds.specs.Rounds.{role, Begins, TookRound, Round, noted_below}
-use Rattle.rw_worker.specs.Seated.{IsSeated}
+use Rattle.rw_rounds.specs.Seated.{IsSeated}
 use Rattle.rw_rounds.specs.Setting.{AreSetUp, IsBegun}
 use Rattle.rw_rounds.specs.Gathering.{AreDone, IsEnded}
-use Rattle.rw_worker.proofs.Cited.{weigh-append}
+use Rattle.rw_rounds.specs.Between.{IsBetween, RoundTo}
+use Rattle.rw_rounds.proofs.Cited.{weigh-append}
 use Rattle.rw_rounds.proofs.Beginning.{as_many, begins_fit}
 
 pub some_of : {X : Type 0} (xs : List X) → 0 < length xs → X
@@ -110,13 +113,6 @@ weigh_flatten h f (w ∷ ws) d =
     ∙ ap (λ k. weigh h (f w) + k) (weigh_flatten h f ws d)
     ∙ sym (total_first (length ws) (λ i. weigh h (f (get_or (w ∷ ws) i d))))
 
--- what each place of the shares holds, by number
-pub same_shares : {V W X : Type 0} (f : V → List X) (k : W → List X) (shares : List V) (ws : List W) → map f shares ≡ map k ws → (q : ℕ)
-    → slice_get (get_or (map f shares) (q % length shares) []) (q / length shares) ≡ slice_get (get_or (map k ws) (q % length ws) []) (q / length ws)
-same_shares f k shares ws is q =
-    ap (λ n. slice_get (get_or (map f shares) (q % n) []) (q / n)) (sym (length-map shares f) ∙ (ap length is ∙ length-map ws k))
-    ∙ ap (λ z. slice_get (get_or z (q % length ws) []) (q / length ws)) is
-
 -- the workers are set up
 pub record StandReady {M S B U : Type 0} (plan : Plan) (x : Parts M S B U) (ws : List (WorkerState M S B)) (shares : List (List (LogicalProcess M S B))) (boxes : List (List (Letter B))) (ports : List (PortState (Letter B))) (seats : List SeatState) (its : BoardState) : Type 0 where
   pub many : length ws ≡ plan.workers
@@ -132,17 +128,17 @@ pub record StandReady {M S B U : Type 0} (plan : Plan) (x : Parts M S B U) (ws :
   pub new_ports : All IsNew ports
   pub new_seats : All (λ s. s ≡ new_seat its.board) seats
 
-pub set_up_from : {M S B U : Type 0} (plan : Plan) (x : Parts M S B U) (its : BoardState) (ws : List (WorkerState M S B)) → AreSetUp plan x.collected x.processes.items x.letters.items its ws
-    → StandReady plan x ws (map (λ w. w.processes) ws) (map (λ w. w.inbox) ws) (map (λ w. w.port) ws) (map (λ w. w.seat) ws) its
-set_up_from plan x its ws out = record {
+pub set_up_from : {M S B U : Type 0} (plan : Plan) (x : Parts M S B U) (its : BoardState) (shares : List (List (LogicalProcess M S B))) (ws : List (WorkerState M S B)) → AreSetUp plan x.collected shares x.letters.items its ws → AreDealt plan.workers shares x.processes.items
+    → StandReady plan x ws shares (map (λ w. w.inbox) ws) (map (λ w. w.port) ws) (map (λ w. w.seat) ws) its
+set_up_from plan x its shares ws out dealt = record {
   many = out.many;
   roles = out.roles;
-  processes = refl;
+  processes = out.own_processes;
   inboxes = refl;
   ports_are = refl;
   seats_are = refl;
   none = out.none;
-  dealt = out.own_processes;
+  dealt = dealt;
   sorted_out = out.own_letters;
   opening = out.opening;
   new_ports = out.new_ports;
@@ -288,18 +284,57 @@ module _ {M S B U : Type 0} {model : Ghosts M S B U} {order : B → B → Orderi
           let a : weigh h (flatten aside) ≡ sum_below plan.workers (λ i. weigh h (get_or ws' i d).aside) = ap (λ z. weigh h (flatten z)) too ∙ weigh_flatten h (λ w. w.aside) ws' d ∙ ap (λ n. sum_below n (λ i. weigh h (get_or ws' i d).aside)) many in
           omega (arith, k, a, total_add plan.workers (λ i. weigh h (get_or ws' i d).kept) (λ i. weigh h (get_or ws' i d).aside))
 
--- A round of these parts, which are split among its workers
+-- a list, with what f has for each of its places
+module _ {X : Type 0} where
+  abbrev or_else : Option X → X → X
+  or_else None x = x
+  or_else (Some y) x = y
+
+  abbrev pub relisted : (ℕ → Option X) → ℕ → List X → List X
+  relisted f k [] = []
+  relisted f k (x ∷ xs) = or_else (f k) x ∷ relisted f (suc k) xs
+
+  pub relisted-long : (f : ℕ → Option X) (k : ℕ) (xs : List X) → length (relisted f k xs) ≡ length xs
+  relisted-long f k [] = refl
+  relisted-long f k (x ∷ xs) = ap suc (relisted-long f (suc k) xs)
+
+  some_there : (o : Option X) (x : X) → (o ≡ None → ⊥) → Some (or_else o x) ≡ o
+  some_there None x some = absurd (some refl)
+  some_there (Some y) x some = refl
+
+  pub relisted-at : (f : ℕ → Option X) (k : ℕ) (xs : List X) (i : ℕ) → i < length xs → (f (i + k) ≡ None → ⊥) → slice_get (relisted f k xs) i ≡ f (i + k)
+  relisted-at f k [] i within some = absurd (omega arith)
+  relisted-at f k (x ∷ xs) zero within some =
+      let e : 0 + k ≡ k = omega arith in
+      some_there (f k) x (λ none. some (ap f e ∙ none)) ∙ ap f (sym e)
+  relisted-at f k (x ∷ xs) (suc i) within some =
+      let e : i + suc k ≡ suc i + k = omega arith in
+      relisted-at f (suc k) xs i (omega arith) (λ none. some (ap f (sym e) ∙ none)) ∙ ap f e
+
+-- a vector with as many other items
+abbrev pub with_items : {X Z : Type 0} (v : Vec X Z) (ys : List X) → length ys ≡ length v.items → Vec X Z
+with_items v ys long = record { ptr = v.ptr; len = v.len; cap = v.cap; alloc = v.alloc; items = ys; ok = (v.ok.0 ∙ sym long, v.ok.1); small = v.small }
+
+-- A round of workers that have the processes of these parts
 module _ {M S B U : Type 0} {model : Ghosts M S B U} {order : B → B → Ordering} (laws : Laws model order) {plan : Plan} {x : Parts M S B U} (ranges : IsInRanges plan) (whole : IsWhole model order x)
-    {work : RoundWork M S B U} {ws : List (WorkerState M S B)} {rest : Rest M S B U} (begun : IsBegun plan x work ws rest) where
-  ready : StandReady plan x ws (map (λ w. w.processes) ws) (map (λ w. w.inbox) ws) (map (λ w. w.port) ws) (map (λ w. w.seat) ws) work.board
-  ready = set_up_from plan x work.board ws begun.set_up
+    {G : Type 0} {b : Between M G S B U} {work : RoundWork M G S B U} {ws : List (WorkerState M S B)} {rest : Rest M S B U} (stands : IsBetween plan.workers x b) (begun : IsBegun plan b work ws rest) where
+  set_up : AreSetUp plan x.collected (map (λ h. h.items) b.shares.items) x.letters.items work.board ws
+  set_up =
+      subst (λ g. AreSetUp plan g (map (λ h. h.items) b.shares.items) x.letters.items work.board ws) stands.collected_is
+      (subst (λ ls. AreSetUp plan b.rest.collected (map (λ h. h.items) b.shares.items) ls work.board ws) stands.letters_are begun.set_up)
+
+  ready : StandReady plan x ws (map (λ h. h.items) b.shares.items) (map (λ w. w.inbox) ws) (map (λ w. w.port) ws) (map (λ w. w.seat) ws) work.board
+  ready = set_up_from plan x work.board (map (λ h. h.items) b.shares.items) ws set_up stands.dealt
+
+  its_model : work.model ≡ x.model
+  its_model = begun.model_is ∙ stands.model_is
 
   pub begun_seated : All (λ w. IsSeated model order work.model work.board w) ws
-  begun_seated = subst (λ m. All (λ w. IsSeated model order m work.board w) ws) (sym begun.model_is) (all_seated laws ranges whole ready)
+  begun_seated = subst (λ m. All (λ w. IsSeated model order m work.board w) ws) (sym its_model) (all_seated laws ranges whole ready)
 
   module _ {ws' : List (WorkerState M S B)} (took : AllTook model order work.model work.turns ws ws') where
     all_took : AllTook model order x.model plan.turns ws ws'
-    all_took = subst (λ m. AllTook model order m plan.turns ws ws') begun.model_is (subst (λ n. AllTook model order work.model n ws ws') begun.turns_are took)
+    all_took = subst (λ m. AllTook model order m plan.turns ws ws') its_model (subst (λ n. AllTook model order work.model n ws ws') begun.turns_are took)
 
     as_before : length ws' ≡ plan.workers
     as_before = took.long ∙ ready.many
@@ -307,40 +342,89 @@ module _ {M S B U : Type 0} {model : Ghosts M S B U} {order : B → B → Orderi
     one_of : WorkerState M S B
     one_of = some_of ws (omega (arith, ready.many, ranges.workers.0))
 
-    pub all_done : AreDone rest.count work.board ws'
+    there : (i : ℕ) → i < plan.workers → i < length ws'
+    there i li = subst (λ n. i < n) (sym as_before) li
+
+    pub all_done : AreDone work.board ws'
     all_done = record {
       opening = opening_after laws ranges whole ready all_took (map (λ w. w.port) ws') begun.set_up.stays refl;
       seats = as_before ∙ sym begun.set_up.seats;
       board = seats_after laws ranges whole ready all_took (map (λ w. w.seat) ws') refl;
-      some = omega (arith, as_before, ranges.workers.0);
-      complete = λ q within none.
-          there_after laws ranges whole ready all_took one_of q (subst (λ n. q < n) begun.count_is within)
-          (sym (from_hands_after laws ranges whole ready all_took (map (λ w. w.processes) ws') one_of q (length ws') refl as_before) ∙ none);
     }
 
-    pub round_made : (z : Parts M S B U) (floor : ℕ) → IsEnded work ws' rest z floor → Round model order plan x z floor
-    round_made z floor ended =
-        let got = ended.gathered in
-        let left = got.letters.left in
-        let there : (i : ℕ) → i < plan.workers → i < length ws' = λ i li. subst (λ n. i < n) (sym as_before) li in
-        record {
-          first = λ i. get_or ws i one_of;
-          last = λ i. get_or ws' i one_of;
-          left = left;
-          begins = λ i below. begins_at laws ranges whole ready i one_of below;
-          works = λ i below. all_took.went i one_of one_of (subst (λ n. i < n) (sym ready.many) below);
-          settled = settled laws ranges whole ready all_took (map (λ w. w.port) ws') left one_of refl (λ i k li lk. got.letters.settled i k (there i li) (there k lk));
-          floor_is = floor_after laws ranges whole ready all_took floor one_of got.floor_is;
-          model_is = ended.model_is ∙ begun.model_is;
-          starts_are = ended.starts_are ∙ begun.starts_are;
-          initial_are = ended.initial_are ∙ begun.initial_are;
-          collected_is = ended.collected_is ∙ begun.collected_is;
-          processes_are = joined laws ranges whole ready all_took z.processes.items (map (λ w. w.processes) ws') one_of (length ws') refl as_before (got.count ∙ begun.count_is) (λ q within. got.processes q (subst (λ n. q < n) (sym begun.count_is) within));
-          letters_are = λ h.
-              let kept = weigh h (flatten (map (λ w. w.kept) ws')) in
-              let aside = weigh h (flatten (map (λ w. w.aside) ws')) in
-              got.letters.letters_are h
-              ∙ add_assoc (sum_below (length ws') (λ i. sum_below (length ws') (λ k. weigh h (left i k)))) kept aside
-              ∙ ap (λ n. sum_below n (λ i. sum_below n (λ k. weigh h (left i k))) + (kept + aside)) as_before
-              ∙ ap (λ w. sum_below plan.workers (λ i. sum_below plan.workers (λ k. weigh h (left i k))) + w) (kept_after laws ranges whole ready all_took h (map (λ w. w.kept) ws') (map (λ w. w.aside) ws') one_of refl refl);
-        }
+    module _ (c : Between M G S B U) (floor : ℕ) (ended : IsEnded work ws' rest c floor) where
+      abbrev process_of : ℕ → Option (LogicalProcess M S B)
+      process_of q = slice_get (get_or (map (λ w. w.processes) ws') (q % plan.workers) []) (q / plan.workers)
+
+      -- the processes by their numbers, as the workers have them after the round
+      abbrev all : List (LogicalProcess M S B)
+      all = relisted process_of 0 x.processes.items
+
+      long : length all ≡ length x.processes.items
+      long = relisted-long process_of 0 x.processes.items
+
+      -- the parts that the segment then has
+      abbrev z : Parts M S B U
+      z = record { model = x.model; processes = with_items x.processes all long; letters = c.letters; collected = x.collected; starts = x.starts; initial = x.initial }
+
+      each : (q : ℕ) → q < length x.processes.items → slice_get all q ≡ process_of q
+      each q within =
+          let e : q + 0 ≡ q = omega arith in
+          relisted-at process_of 0 x.processes.items q within
+          (λ none. there_after laws ranges whole ready all_took one_of q within (sym (from_hands_after laws ranges whole ready all_took (map (λ w. w.processes) ws') one_of q plan.workers refl refl) ∙ ap process_of (sym e) ∙ none))
+          ∙ ap process_of e
+
+      by_number : (q : ℕ) → slice_get all q ≡ slice_get (get_or ws' (q % plan.workers) one_of).processes (q / plan.workers)
+      by_number = joined laws ranges whole ready all_took all (map (λ w. w.processes) ws') one_of plan.workers refl refl long each
+
+      made : Round model order plan x z floor
+      made =
+          let got = ended.gathered in
+          let left = got.letters.left in
+          record {
+            first = λ i. get_or ws i one_of;
+            last = λ i. get_or ws' i one_of;
+            left = left;
+            begins = λ i below. begins_at laws ranges whole ready i one_of below;
+            works = λ i below. all_took.went i one_of one_of (subst (λ n. i < n) (sym ready.many) below);
+            settled = settled laws ranges whole ready all_took (map (λ w. w.port) ws') left one_of refl (λ i k li lk. got.letters.settled i k (there i li) (there k lk));
+            floor_is = floor_after laws ranges whole ready all_took floor one_of got.floor_is;
+            model_is = refl;
+            starts_are = refl;
+            initial_are = refl;
+            collected_is = refl;
+            processes_are = by_number;
+            letters_are = λ h.
+                let kept = weigh h (flatten (map (λ w. w.kept) ws')) in
+                let aside = weigh h (flatten (map (λ w. w.aside) ws')) in
+                got.letters.letters_are h
+                ∙ add_assoc (sum_below (length ws') (λ i. sum_below (length ws') (λ k. weigh h (left i k)))) kept aside
+                ∙ ap (λ n. sum_below n (λ i. sum_below n (λ k. weigh h (left i k))) + (kept + aside)) as_before
+                ∙ ap (λ w. sum_below plan.workers (λ i. sum_below plan.workers (λ k. weigh h (left i k))) + w) (kept_after laws ranges whole ready all_took h (map (λ w. w.kept) ws') (map (λ w. w.aside) ws') one_of refl refl);
+          }
+
+      rest_is : c.rest ≡ b.rest
+      rest_is = ended.rest_is ∙ begun.rest_is
+
+      stands_after : IsBetween plan.workers z c
+      stands_after =
+          let got = ended.gathered in
+          record {
+            model_is = ended.model_is ∙ its_model;
+            many = sym (length-map c.shares.items (λ h. h.items)) ∙ (ap length got.shares_are ∙ (length-map ws' (λ w. w.processes) ∙ as_before));
+            dealt = λ i place below.
+                let at = number_place plan.workers i place below in
+                ap (λ hs. slice_get (get_or hs i []) place) got.shares_are
+                ∙ ap (λ h. slice_get h place) (get_or-map (λ w. w.processes) ws' i one_of [] (there i below))
+                ∙ ap (slice_get (get_or ws' i one_of).processes) (sym at.0)
+                ∙ ap (λ j. slice_get (get_or ws' j one_of).processes ((i + place * plan.workers) / plan.workers)) (sym at.1)
+                ∙ sym (by_number (i + place * plan.workers));
+            letters_are = refl;
+            count_is = ap (λ (r : Rest M S B U). r.count) rest_is ∙ (stands.count_is ∙ sym long);
+            collected_is = ap (λ (r : Rest M S B U). r.collected) rest_is ∙ stands.collected_is;
+            starts_are = ap (λ (r : Rest M S B U). r.starts) rest_is ∙ stands.starts_are;
+            initial_are = ap (λ (r : Rest M S B U). r.initial) rest_is ∙ stands.initial_are;
+          }
+
+      pub round_made : RoundTo model order plan x c floor
+      round_made = record { after = z; round = made; stands = stands_after }

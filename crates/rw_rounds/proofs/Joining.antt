@@ -16,15 +16,15 @@ use Rattle.rw_world.specs.declared.parts.Parts.{Parts}
 use Rattle.rw_world.specs.Calls.{system_of, simulation_of, world_of, IsWhole}
 use Rattle.rw_world.specs.Rounds.{all_letters, Exchanged}
 use Rattle.rw_exchange.specs.Ports.{sent_to, received_from}
-use Rattle.rw_crew.specs.Sums.{sum_below}
-use Rattle.rw_crew.proofs.Sums.{total_same, total_add, total_zero, total_one, total_swap}
-use Rattle.rw_worker.specs.declared.plan.Plan.{Plan}
-use Rattle.rw_worker.specs.Plans.{IsInRanges}
-use Rattle.rw_worker.specs.Bags.{weigh, only, Every}
-use Rattle.rw_worker.specs.Deeds.{IsFair}
-use Rattle.rw_worker.specs.Turns.{Role, WorkerState, owner, is_own, is_accepted, process_at}
+use Rattle.rw_pool.specs.Sums.{sum_below}
+use Rattle.rw_pool.proofs.Sums.{total_same, total_add, total_zero, total_one, total_swap}
+use Rattle.rw_rounds.specs.declared.plan.Plan.{Plan}
+use Rattle.rw_rounds.specs.Plans.{IsInRanges}
+use Rattle.rw_rounds.specs.Bags.{weigh, only, Every}
+use Rattle.rw_rounds.specs.Deeds.{IsFair}
+use Rattle.rw_rounds.specs.Turns.{Role, WorkerState, owner, is_own, is_accepted, process_at}
 use Rattle.rw_rounds.specs.Rounds.{role, Round}
-use Rattle.rw_worker.proofs.Cited.{Governs, StartsIn, every_front, governs, number_of, weigh-append, weigh_zero}
+use Rattle.rw_rounds.proofs.Cited.{Governs, StartsIn, every_front, governs, number_of, weigh-append, weigh_zero}
 use Rattle.rw_rounds.proofs.Totals.{weigh_by, weigh_joined, weightless, every_both, message, anti, messages_weigh, antis_weigh, every_counted}
 use Rattle.rw_rounds.proofs.Working.{IsConsistent, Worked, turns_keep, closing_keeps, inbox_empties}
 use Rattle.rw_rounds.proofs.Beginning.{in_world, begun_well}

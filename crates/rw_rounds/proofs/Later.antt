@@ -23,8 +23,8 @@ use Rattle.rw_lp.specs.Process.{ProcessState, done, Turn, Turned, Stays, with_fr
 use Rattle.rw_lp.specs.Arrival.{Way, Cancelling, Holding, undo_by, with_out, and_undo, undo_times, is_barred, Accepts, ArrivedBy}
 use Rattle.rw_lp.specs.Sound.{Stands, IsHeldFor, SoundAt, Keeps}
 use Rattle.rw_lp.proofs.Cited.{with_bags, IsSplit, split_is, open_accepts}
-use Rattle.rw_worker.specs.Bags.{Every}
-use Rattle.rw_worker.proofs.Cited.{StartsIn, every_append, every_back, every_front, governs, kept_of, undoings_keep}
+use Rattle.rw_rounds.specs.Bags.{Every}
+use Rattle.rw_rounds.proofs.Cited.{StartsIn, every_append, every_back, every_front, governs, kept_of, undoings_keep}
 
 every_of_all : {X : Type 0} (P Q : X → Type 0) → ((x : X) → P x → Q x) → (xs : List X) → All P xs → Every Q xs
 every_of_all P Q f [] all = tt

@@ -13,10 +13,10 @@ use Rattle.rw_bag.specs.Bags.{least_time}
 use Rattle.rw_lp.specs.Calls.{LogicalProcess, least_of_processes}
 use Rattle.rw_board.specs.Least as board
 use Rattle.rw_board.specs.Seats.{SeatState}
-use Rattle.rw_worker.specs.Bags.{Every}
+use Rattle.rw_rounds.specs.Bags.{Every}
 use Rattle.rw_rounds.specs.Rounds.{noted_below}
-use Rattle.rw_worker.specs.Working.{NoneBefore}
-use Rattle.rw_worker.proofs.Cited.{every_append, every_back, every_front}
+use Rattle.rw_rounds.specs.Working.{NoneBefore}
+use Rattle.rw_rounds.proofs.Cited.{every_append, every_back, every_front}
 
 module _ {B : Type 0} {cmp : Event B → Event B → Ordering} (o : IsExactOrder cmp) (t : ℕ) where
   within_least : (m : ℕ) (xs : List (Event B)) → t ≤ least_time m xs → (t ≤ m) × Each cmp (λ e. t ≤ e.time) xs

@@ -27,16 +27,16 @@ use Rattle.rw_world.specs.WorldState.{WorldState, floor}
 use Rattle.rw_world.specs.Sound.{IsQuiet, list_at}
 use Rattle.rw_world.specs.Laws.{FloorIsGreatest}
 use Rattle.rw_exchange.specs.Ports.{sent_to, received_from}
-use Rattle.rw_crew.specs.Sums.{sum_below}
-use Rattle.rw_crew.proofs.Dealing.{number_place}
-use Rattle.rw_crew.proofs.Sums.{total_zero, total_none}
-use Rattle.rw_worker.specs.declared.plan.Plan.{Plan}
-use Rattle.rw_worker.specs.Plans.{IsInRanges}
-use Rattle.rw_worker.specs.Bags.{weigh, Every}
-use Rattle.rw_worker.specs.Deeds.{Deed, Arrival, Undoing, Execution, Owned, Stepped, Did, Goes, arrivals, way_of}
-use Rattle.rw_worker.specs.Turns.{Role, WorkerState, is_own, is_accepted, process_at, weigh_all, if_own, if_other, if_passes, TookTurn, TookTurns, closing_times}
+use Rattle.rw_pool.specs.Sums.{sum_below}
+use Rattle.rw_pool.proofs.Dealing.{number_place}
+use Rattle.rw_pool.proofs.Sums.{total_zero, total_none}
+use Rattle.rw_rounds.specs.declared.plan.Plan.{Plan}
+use Rattle.rw_rounds.specs.Plans.{IsInRanges}
+use Rattle.rw_rounds.specs.Bags.{weigh, Every}
+use Rattle.rw_rounds.specs.Deeds.{Deed, Arrival, Undoing, Execution, Owned, Stepped, Did, Goes, arrivals, way_of}
+use Rattle.rw_rounds.specs.Turns.{Role, WorkerState, is_own, is_accepted, process_at, weigh_all, if_own, if_other, if_passes, TookTurn, TookTurns, closing_times}
 use Rattle.rw_rounds.specs.Rounds.{role, Round, noted_below}
-use Rattle.rw_worker.proofs.Cited.{StartsIn, Well, arrivals_more, at_place, did_gone, every_append, every_back, every_front, every_zero, governs, weigh-append, weigh_zero, well_after}
+use Rattle.rw_rounds.proofs.Cited.{StartsIn, Well, arrivals_more, at_place, did_gone, every_append, every_back, every_front, every_zero, governs, weigh-append, weigh_zero, well_after}
 use Rattle.rw_rounds.proofs.Later.{IsLate, executed_late, undone_late, arrived_late}
 use Rattle.rw_rounds.proofs.Least.{least_from, noted_all}
 use Rattle.rw_rounds.proofs.Totals.{total_more, weigh_split, every_filter}

@@ -21,14 +21,14 @@ use Rattle.rw_world.specs.declared.parts.Parts.{Parts}
 use Rattle.rw_world.specs.Calls.{system_of, simulation_of, world_of, IsWhole}
 use Rattle.rw_world.specs.Sound.{IsQuiet, list_at, held_in}
 use Rattle.rw_exchange.specs.Ports.{received_from}
-use Rattle.rw_crew.specs.Sums.{sum_below}
-use Rattle.rw_crew.proofs.Sums.{total_zero}
-use Rattle.rw_worker.specs.declared.plan.Plan.{Plan}
-use Rattle.rw_worker.specs.Plans.{IsInRanges}
-use Rattle.rw_worker.specs.Bags.{weigh, Every}
-use Rattle.rw_worker.specs.Turns.{WorkerState, process_at, closing_times}
+use Rattle.rw_pool.specs.Sums.{sum_below}
+use Rattle.rw_pool.proofs.Sums.{total_zero}
+use Rattle.rw_rounds.specs.declared.plan.Plan.{Plan}
+use Rattle.rw_rounds.specs.Plans.{IsInRanges}
+use Rattle.rw_rounds.specs.Bags.{weigh, Every}
+use Rattle.rw_rounds.specs.Turns.{WorkerState, process_at, closing_times}
 use Rattle.rw_rounds.specs.Rounds.{role, Round, noted_below}
-use Rattle.rw_worker.proofs.Cited.{every_back, every_zero, place_of, weigh_zero}
+use Rattle.rw_rounds.proofs.Cited.{every_back, every_zero, place_of, weigh_zero}
 use Rattle.rw_rounds.proofs.Least.{least_end, every_from_least, noted_each, none_before}
 use Rattle.rw_rounds.proofs.Totals.{every_counted}
 use Rattle.rw_rounds.proofs.Working.{early, early_none, none_early}

@@ -23,11 +23,13 @@ use Rattle.rw_world.specs.Steps.{apply}
 use Rattle.rw_world.specs.Sound.{Sound, StepKept}
 use Rattle.rw_world.specs.Laws.{ExchangesKeepSound, FloorIsGreatest, SoundIsInOrder, StepsKeepSound}
 use Rattle.rw_world.specs.Calls.{Simulation, system_of, simulation_of, with_world, world_of, AreNumbered, IsWhole}
-use Rattle.rw_worker.specs.declared.plan.Plan.{Plan}
-use Rattle.rw_worker.specs.Plans.{IsInRanges}
-use Rattle.rw_worker.specs.Turns.{IsInPlace}
-use Rattle.rw_rounds.specs.Rounds.{role, Round, SimState, Rounded, RoundedUntil}
-use Rattle.rw_worker.proofs.Cited.{number_of}
+use Rattle.rw_rounds.specs.declared.plan.Plan.{Plan}
+use Rattle.rw_rounds.specs.Plans.{IsInRanges}
+use Rattle.rw_rounds.specs.Turns.{IsInPlace}
+use Rattle.rw_rounds.specs.Rounds.{role, Round, SimState, Rounded}
+use Rattle.rw_rounds.specs.Segments.{Advanced}
+use Rattle.rw_rounds.specs.Between.{LeadsTo}
+use Rattle.rw_rounds.proofs.Cited.{number_of}
 use Rattle.rw_rounds.proofs.Joining.{owned, closed, workers_exchanged}
 use Rattle.rw_rounds.proofs.Outstanding.{floor_end, quiet_after}
 use Rattle.rw_rounds.proofs.Onward.{setting_of, floor_rises}
@@ -80,83 +82,100 @@ module _ {M S B U : Type 0} {model : Ghosts M S B U} {order : B → B → Orderi
   pub round_keeps : IsWhole model order z × (least ≤ floor (world_of z))
   round_keeps = (whole_after, floor_after)
 
-  -- so it may be collected up to any time before that
-  pub collects_up_to : (t : ℕ) → t ≤ least → apply (system_of model order (simulation_of z)) (world_of z) (Collect t) ≡ (record { processes = map (process.collect t) (world_of z).processes; letters = z.letters.items; collected = max z.collected t }, Done)
-  collects_up_to t below = let test : nat_le t (floor (world_of z)) ≡ true = le-leb t (floor (world_of z)) (omega (arith, below, floor_after)) in rw test refl
+-- a round leads from its parts to the next
+pub round_leads : {M S B U : Type 0} {model : Ghosts M S B U} {order : B → B → Ordering} (laws : Laws model order) (worlds : WorldLaws model order) (plan : Plan) (x z : Parts M S B U) (least : ℕ) → IsInRanges plan → IsWhole model order x → Round model order plan x z least → LeadsTo model order x z least
+round_leads laws worlds plan x z least ranges whole round =
+    let keeps = round_keeps laws worlds plan x z least ranges whole round in
+    record {
+      before = whole;
+      after = keeps.0;
+      model_is = round.model_is;
+      starts_are = round.starts_are;
+      initial_are = round.initial_are;
+      collected_is = round.collected_is;
+      rises = floor_rises laws worlds.every_floor plan x z least ranges whole round;
+      below = keeps.1;
+    }
+
+module _ {M S B U : Type 0} {model : Ghosts M S B U} {order : B → B → Ordering} (worlds : WorldLaws model order) (x z : Parts M S B U) (least : ℕ) (leads : LeadsTo model order x z least) where
+  one_system : system_of model order (simulation_of z) ≡ system_of model order (simulation_of x)
+  one_system =
+      ap (λ m. system model order m z.starts.value.items z.initial.value.items) leads.model_is
+      ∙ ap (λ ss. system model order x.model ss.value.items z.initial.value.items) leads.starts_are
+      ∙ ap (λ es. system model order x.model x.starts.value.items es.value.items) leads.initial_are
+
+  -- the floor of a world is not after the end of time
+  floor_within : floor (world_of z) ≤ 2 ^ 40
+  floor_within = ((worlds.every_floor (setting_of x leads.before.ready) (world_of z) (floor (world_of z))).0 (omega arith)).0
+
+  -- the joined world, collected up to a time
+  abbrev collected_at : ℕ → WorldState S B
+  collected_at t = record { processes = map (process.collect t) (world_of z).processes; letters = z.letters.items; collected = max z.collected t }
+
+  -- it may be collected up to any time before that
+  pub collects : (t : ℕ) → t ≤ least → apply (system_of model order (simulation_of z)) (world_of z) (Collect t) ≡ (collected_at t, Done)
+  collects t below = let test : nat_le t (floor (world_of z)) ≡ true = le-leb t (floor (world_of z)) (omega (arith, below, leads.below)) in rw test refl
 
   -- and what is outstanding stays so
-  floor_stays_up_to : (t : ℕ) → t ≤ least → floor (apply (system_of model order (simulation_of z)) (world_of z) (Collect t)).0 ≡ floor (world_of z)
-  floor_stays_up_to t below = ap (λ a. floor a.0) (collects_up_to t below) ∙ ap (λ k. least_of_letters k z.letters.items) (least_collected t (2 ^ 40) (world_of z).processes)
+  floor_stays : (t : ℕ) → t ≤ least → floor (apply (system_of model order (simulation_of z)) (world_of z) (Collect t)).0 ≡ floor (world_of z)
+  floor_stays t below = ap (λ a. floor a.0) (collects t below) ∙ ap (λ k. least_of_letters k z.letters.items) (least_collected t (2 ^ 40) (world_of z).processes)
 
-  -- a round, with the collecting of what is before another time too, is as it should be
-  pub rounded_until : (until : ℕ) (u v : SimState M S B) → u.simulation ≡ simulation_of x → u.plan ≡ plan → v.simulation ≡ with_world (simulation_of z) (apply (system_of model order (simulation_of z)) (world_of z) (Collect (min least until))).0 → v.plan ≡ plan → v.floor ≡ least → RoundedUntil until u v
-  rounded_until until u v before plan_before after plan_after floor_is = record {
-    model_is = ap (λ (s : Simulation M S B). s.model) after ∙ round.model_is ∙ sym (ap (λ (s : Simulation M S B). s.model) before);
-    starts_are = ap (λ (s : Simulation M S B). s.starts) after ∙ ap (λ ss. ss.value.items) round.starts_are ∙ sym (ap (λ (s : Simulation M S B). s.starts) before);
-    initial_are = ap (λ (s : Simulation M S B). s.initial) after ∙ ap (λ es. es.value.items) round.initial_are ∙ sym (ap (λ (s : Simulation M S B). s.initial) before);
-    plan_is = plan_after ∙ sym plan_before;
-    below_floor = (let same : floor v.simulation.world ≡ floor (world_of z) = ap (λ (s : Simulation M S B). floor s.world) after ∙ floor_stays_up_to (min least until) (min-le_left least until) in omega (arith, floor_after));
-    no_earlier = (let same : floor u.simulation.world ≡ floor (world_of x) = ap (λ (s : Simulation M S B). floor s.world) before in let rises : floor (world_of x) ≤ least = floor_rises laws worlds.every_floor plan x z least ranges whole round in omega arith);
-    collected =
-        ap (λ (s : Simulation M S B). s.world.collected) after
-        ∙ ap (λ a. a.0.collected) (collects_up_to (min least until) (min-le_left least until))
-        ∙ ap (λ g. max g (min least until)) round.collected_is
-        ∙ ap (λ (s : Simulation M S B). max s.world.collected (min least until)) (sym before)
-        ∙ ap (λ f. max u.simulation.world.collected (min f until)) (sym floor_is);
-  }
-
-  -- the joined world, collected up to there
-  abbrev collected_world : WorldState S B
-  collected_world = record { processes = map (process.collect least) (world_of z).processes; letters = z.letters.items; collected = max z.collected least }
-
-  collects : apply (system_of model order (simulation_of z)) (world_of z) (Collect least) ≡ (collected_world, Done)
-  collects = let test : nat_le least (floor (world_of z)) ≡ true = le-leb least (floor (world_of z)) floor_after in rw test refl
-
-  -- so it may be collected up to there
-  pub collecting_is_done : (apply (system_of model order (simulation_of z)) (world_of z) (Collect least)).1 ≡ Done
-  collecting_is_done = ap (λ a. a.1) collects
-
-  step_kept : StepKept (system_of model order (simulation_of z)) (world_of z) (Collect least)
-  step_kept = worlds.every_step (setting_of z whole_after.ready) (world_of z) (Collect least) whole_after.sound
-
-  floor_stays : floor (apply (system_of model order (simulation_of z)) (world_of z) (Collect least)).0 ≡ floor (world_of z)
-  floor_stays = ap (λ a. floor a.0) collects ∙ ap (λ k. least_of_letters k z.letters.items) (least_collected least (2 ^ 40) (world_of z).processes)
+  step_kept : (t : ℕ) → StepKept (system_of model order (simulation_of z)) (world_of z) (Collect t)
+  step_kept t = worlds.every_step (setting_of z leads.after.ready) (world_of z) (Collect t) leads.after.sound
 
   -- joining the workers commits nothing
   same_committed : (q : ℕ) (a c : ProcessState S B) → slice_get (world_of x).processes q ≡ Some a → slice_get (world_of z).processes q ≡ Some c → a.committed ≡ c.committed
   same_committed q a c was is =
-      let before = (worlds.every_sound_world (setting_of x whole.ready) (world_of x) whole.sound).committed q a was in
-      let after = (worlds.every_sound_world (setting_of z whole_after.ready) (world_of z) whole_after.sound).committed q c is in
-      before ∙ ap (λ y. journal_below y x.collected q) (sym same_system) ∙ ap (λ g. journal_below (system_of model order (simulation_of z)) g q) (sym round.collected_is) ∙ sym after
+      let before = (worlds.every_sound_world (setting_of x leads.before.ready) (world_of x) leads.before.sound).committed q a was in
+      let after = (worlds.every_sound_world (setting_of z leads.after.ready) (world_of z) leads.after.sound).committed q c is in
+      before ∙ ap (λ y. journal_below y x.collected q) (sym one_system) ∙ ap (λ g. journal_below (system_of model order (simulation_of z)) g q) (sym leads.collected_is) ∙ sym after
 
   -- no committed event is lost
-  committed_longer : (q : ℕ) (a b : ProcessState S B) → slice_get (world_of x).processes q ≡ Some a → slice_get (apply (system_of model order (simulation_of z)) (world_of z) (Collect least)).0.processes q ≡ Some b → (rest : List (Event B)) × (a.committed ++ rest ≡ b.committed)
-  committed_longer q a b was is =
+  committed_longer : (t : ℕ) → t ≤ least → (q : ℕ) (a b : ProcessState S B) → slice_get (world_of x).processes q ≡ Some a → slice_get (apply (system_of model order (simulation_of z)) (world_of z) (Collect t)).0.processes q ≡ Some b → (rest : List (Event B)) × (a.committed ++ rest ≡ b.committed)
+  committed_longer t below q a b was is =
       go (slice_get (world_of z).processes q) refl
-      (sym (slice_get-map (process.collect least) (world_of z).processes q) ∙ ap (λ r. slice_get r.0.processes q) (sym collects) ∙ is)
+      (sym (slice_get-map (process.collect t) (world_of z).processes q) ∙ ap (λ r. slice_get r.0.processes q) (sym (collects t below)) ∙ is)
     where
-      go : (o : Option (ProcessState S B)) → slice_get (world_of z).processes q ≡ o → option_map (process.collect least) o ≡ Some b → (rest : List (Event B)) × (a.committed ++ rest ≡ b.committed)
+      go : (o : Option (ProcessState S B)) → slice_get (world_of z).processes q ≡ o → option_map (process.collect t) o ≡ Some b → (rest : List (Event B)) × (a.committed ++ rest ≡ b.committed)
       go None at k = cc
       go (Some c) at k =
-          let more = step_kept.grows q c b at is in
+          let more = (step_kept t).grows q c b at is in
           (more.0, ap (λ es. es ++ more.0) (same_committed q a c was at) ∙ more.1)
 
-  -- a round, with the collecting that follows it, is as it should be
-  pub rounded : (u v : SimState M S B) → u.simulation ≡ simulation_of x → u.plan ≡ plan → v.simulation ≡ with_world (simulation_of z) (apply (system_of model order (simulation_of z)) (world_of z) (Collect least)).0 → v.plan ≡ plan → v.floor ≡ least → Rounded model order u v
-  rounded u v before plan_before after plan_after floor_is = record {
-    model_is = ap (λ (s : Simulation M S B). s.model) after ∙ round.model_is ∙ sym (ap (λ (s : Simulation M S B). s.model) before);
-    starts_are = ap (λ (s : Simulation M S B). s.starts) after ∙ ap (λ ss. ss.value.items) round.starts_are ∙ sym (ap (λ (s : Simulation M S B). s.starts) before);
-    initial_are = ap (λ (s : Simulation M S B). s.initial) after ∙ ap (λ es. es.value.items) round.initial_are ∙ sym (ap (λ (s : Simulation M S B). s.initial) before);
-    plan_is = plan_after ∙ sym plan_before;
-    sound = subst (λ (s : Simulation M S B). Sound (system_of model order s) s.world) (sym after) step_kept.sound;
-    below_floor = (let same : floor v.simulation.world ≡ floor (world_of z) = ap (λ (s : Simulation M S B). floor s.world) after ∙ floor_stays in omega (arith, floor_after));
-    no_earlier = (let same : floor u.simulation.world ≡ floor (world_of x) = ap (λ (s : Simulation M S B). floor s.world) before in let rises : floor (world_of x) ≤ least = floor_rises laws worlds.every_floor plan x z least ranges whole round in omega arith);
-    collected =
-        ap (λ (s : Simulation M S B). s.world.collected) after
-        ∙ ap (λ a. a.0.collected) collects
-        ∙ ap (λ g. max g least) round.collected_is
-        ∙ ap (λ (s : Simulation M S B). max s.world.collected least) (sym before)
-        ∙ ap (max u.simulation.world.collected) (sym floor_is);
-    longer = λ q a b was is.
-        committed_longer q a b (ap (λ (s : Simulation M S B). slice_get s.world.processes q) (sym before) ∙ was) (ap (λ (s : Simulation M S B). slice_get s.world.processes q) (sym after) ∙ is);
-  }
+  -- with the collecting of what is before the floor and another time, the world is as it should be
+  pub advanced : (until : ℕ) (u v : Simulation M S B) → u ≡ simulation_of x → v ≡ with_world (simulation_of z) (apply (system_of model order (simulation_of z)) (world_of z) (Collect (min least until))).0 → Advanced model order until u v least
+  advanced until u v was is =
+      let t : ℕ = min least until in
+      let below : t ≤ least = min-le_left least until in
+      record {
+        system = record {
+          model = ap (λ (s : Simulation M S B). s.model) is ∙ leads.model_is ∙ sym (ap (λ (s : Simulation M S B). s.model) was);
+          starts = ap (λ (s : Simulation M S B). s.starts) is ∙ ap (λ ss. ss.value.items) leads.starts_are ∙ sym (ap (λ (s : Simulation M S B). s.starts) was);
+          initial = ap (λ (s : Simulation M S B). s.initial) is ∙ ap (λ es. es.value.items) leads.initial_are ∙ sym (ap (λ (s : Simulation M S B). s.initial) was);
+        };
+        sound = subst (λ (s : Simulation M S B). Sound (system_of model order s) s.world) (sym is) (step_kept t).sound;
+        within = omega (arith, leads.below, floor_within);
+        below_floor = (let same : floor v.world ≡ floor (world_of z) = ap (λ (s : Simulation M S B). floor s.world) is ∙ floor_stays t below in omega (arith, leads.below));
+        no_earlier = (let same : floor u.world ≡ floor (world_of x) = ap (λ (s : Simulation M S B). floor s.world) was in omega (arith, leads.rises));
+        collected =
+            ap (λ (s : Simulation M S B). s.world.collected) is
+            ∙ ap (λ a. a.0.collected) (collects t below)
+            ∙ ap (λ g. max g t) leads.collected_is
+            ∙ ap (λ (s : Simulation M S B). max s.world.collected t) (sym was);
+        longer = λ q a b before after.
+            committed_longer t below q a b (ap (λ (s : Simulation M S B). slice_get s.world.processes q) (sym was) ∙ before) (ap (λ (s : Simulation M S B). slice_get s.world.processes q) (sym is) ∙ after);
+      }
+
+-- where nothing is kept back, all before the floor is committed
+pub rounded : {M S B U : Type 0} {model : Ghosts M S B U} {order : B → B → Ordering} (u v : SimState M S B) → v.plan ≡ u.plan → Advanced model order (2 ^ 40) u.simulation v.simulation v.floor → Rounded model order u v
+rounded u v plan_is a = record {
+  model_is = a.system.model;
+  starts_are = a.system.starts;
+  initial_are = a.system.initial;
+  plan_is = plan_is;
+  sound = a.sound;
+  below_floor = a.below_floor;
+  no_earlier = a.no_earlier;
+  collected = (let least : min v.floor (2 ^ 40) ≡ v.floor = omega (arith, a.within) in a.collected ∙ ap (max u.simulation.world.collected) least);
+  longer = a.longer;
+}

@@ -12,10 +12,10 @@ use Rattle.rw_vt.specs.System.{map_from, flatten}
 use Rattle.rw_vt.proofs.Sorting.{IsExactOrder, tied}
 use Rattle.rw_vt.proofs.Bags.{one_if-other}
 use Rattle.rw_vt.proofs.Letters.{count-letter}
-use Rattle.rw_crew.specs.Sums.{sum_below}
-use Rattle.rw_crew.proofs.Sums.{total_same, total_add, total_zero, total_one, total_first}
-use Rattle.rw_worker.specs.Bags.{weigh, only, Every}
-use Rattle.rw_worker.proofs.Cited.{weigh-append}
+use Rattle.rw_pool.specs.Sums.{sum_below}
+use Rattle.rw_pool.proofs.Sums.{total_same, total_add, total_zero, total_one, total_first}
+use Rattle.rw_rounds.specs.Bags.{weigh, only, Every}
+use Rattle.rw_rounds.proofs.Cited.{weigh-append}
 
 module _ {X : Type 0} where
   pub weigh_split : (p : X → Bool) (h : X → ℕ) (xs : List X) → weigh h xs ≡ weigh (only p h) xs + weigh (only (λ x. not (p x)) h) xs

@@ -5,12 +5,12 @@ use Rattle.std.proofs.lemmas.Bool.{cases_lt, lt-ltb, le-ltb}
 use Rattle.rw_vt.specs.declared.event.Letter.{Letter}
 use Rattle.rw_vt.specs.System.{Rules}
 use Rattle.rw_exchange.specs.Ports.{sent_to, received_from}
-use Rattle.rw_crew.specs.Sums.{sum_below}
-use Rattle.rw_crew.proofs.Sums.{total_none}
-use Rattle.rw_worker.specs.Bags.{weigh, only, Every}
-use Rattle.rw_worker.specs.Deeds.{IsFair, Goes, arrivals, way_of}
-use Rattle.rw_worker.specs.Turns.{Role, WorkerState, owner, is_own, is_accepted, process_at, TookTurn, TookTurns, Closes, closing_times}
-use Rattle.rw_worker.proofs.Cited.{Gone, Governs, Well, every_append, every_back, every_front, every_zero, goes_gone, gone_more, gone_none, weigh-append, weigh_zero, well_after}
+use Rattle.rw_pool.specs.Sums.{sum_below}
+use Rattle.rw_pool.proofs.Sums.{total_none}
+use Rattle.rw_rounds.specs.Bags.{weigh, only, Every}
+use Rattle.rw_rounds.specs.Deeds.{IsFair, Goes, arrivals, way_of}
+use Rattle.rw_rounds.specs.Turns.{Role, WorkerState, owner, is_own, is_accepted, process_at, TookTurn, TookTurns, Closes, closing_times}
+use Rattle.rw_rounds.proofs.Cited.{Gone, Governs, Well, every_append, every_back, every_front, every_zero, goes_gone, gone_more, gone_none, weigh-append, weigh_zero, well_after}
 use Rattle.rw_rounds.proofs.Totals.{total_more, total_split, weigh_split}
 
 -- 1 where the time is before f

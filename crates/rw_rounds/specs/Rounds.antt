@@ -1,5 +1,5 @@
 -- A round: each worker takes its turns and closes, and then all are joined.
-use Rattle.std.specs.Prelude.{◌≡◌, ℕ, zero, suc, ◌+◌, ◌*◌, ◌/◌, ◌%◌, ◌<◌, ◌≤◌, max, min, List, [], ◌++◌, length, map, filter, slice_get, Some}
+use Rattle.std.specs.Prelude.{◌≡◌, ℕ, zero, suc, ◌+◌, ◌*◌, ◌/◌, ◌%◌, ◌<◌, ◌≤◌, max, List, [], ◌++◌, length, map, filter, slice_get, Some}
 use Rattle.std.specs.declared.cmp.Ordering.{Ordering}
 use Rattle.rw_vt.specs.Words.{Count, Position, Process, Time, Worker}
 use Rattle.rw_vt.specs.declared.event.Letter.{Letter}
@@ -14,10 +14,10 @@ use Rattle.rw_world.specs.WorldState.{floor}
 use Rattle.rw_board.specs.Least.{least}
 use Rattle.rw_board.specs.Seats.{SeatState}
 use Rattle.rw_exchange.specs.Ports.{IsNew, IsWide, sent_to, received_from, sent_between, received_between}
-use Rattle.rw_crew.specs.Sums.{sum_below}
-use Rattle.rw_worker.specs.declared.plan.Plan.{Plan}
-use Rattle.rw_worker.specs.Bags.{weigh}
-use Rattle.rw_worker.specs.Turns.{Role, WorkerState, is_own, IsFit, TookTurns, Closes}
+use Rattle.rw_pool.specs.Sums.{sum_below}
+use Rattle.rw_rounds.specs.declared.plan.Plan.{Plan}
+use Rattle.rw_rounds.specs.Bags.{weigh}
+use Rattle.rw_rounds.specs.Turns.{Role, WorkerState, is_own, IsFit, TookTurns, Closes}
 
 -- what worker i is, where g is the greatest time collected
 abbrev pub role : Plan → Time → Worker → Role
@@ -124,15 +124,3 @@ pub record Rounded {M S B U : Type 0} (model : Ghosts M S B U) (order : B → B 
       → slice_get x.simulation.world.processes q ≡ Some a
       → slice_get z.simulation.world.processes q ≡ Some b
       → (rest : _) × (a.committed ++ rest ≡ b.committed)
-
--- what a round promises that commits nothing from the time `until` on
-pub record RoundedUntil {M S B : Type 0} (until : Time) (x z : SimState M S B) : Type 0 where
-  pub model_is : z.simulation.model ≡ x.simulation.model
-  pub starts_are : z.simulation.starts ≡ x.simulation.starts
-  pub initial_are : z.simulation.initial ≡ x.simulation.initial
-  pub plan_is : z.plan ≡ x.plan
-  -- its floor is as in a round that commits all before it
-  pub below_floor : z.floor ≤ floor z.simulation.world
-  pub no_earlier : floor x.simulation.world ≤ z.floor
-  pub collected : z.simulation.world.collected
-      ≡ max x.simulation.world.collected (min z.floor until)

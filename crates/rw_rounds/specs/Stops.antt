@@ -2,8 +2,8 @@
 use Rattle.std.specs.Prelude.{◌≢◌}
 use Rattle.rw_vt.specs.declared.refusal.Refusal.{Refusal}
 use Rattle.rw_vt.specs.declared.refusal.Refusal.TheVariants as refusal
-use Rattle.rw_crew.specs.declared.halt.Halt.{Halt}
-use Rattle.rw_crew.specs.declared.halt.Halt.TheVariants as halt
+use Rattle.rw_pool.specs.declared.halt.Halt.{Halt}
+use Rattle.rw_pool.specs.declared.halt.Halt.TheVariants as halt
 use Rattle.rw_rounds.specs.declared.stop.Stop.{Stop}
 use Rattle.rw_rounds.specs.declared.stop.Stop.TheVariants.{Memory, Exhausted, RoundsUsed, BadPlan, NoThread}
 

@@ -1,39 +1,39 @@
-ghost use Rattle.std.specs.Prelude.{◌≡◌, ◌+◌, ◌<◌, ◌++◌, ℕ, List, [], All, None, IfOk, OnOk, length, map, vec_capacity};
+ghost use Rattle.std.specs.Prelude.{◌≡◌, ◌+◌, ◌<◌, ◌++◌, ℕ, List, [], All, IfOk, OnOk, length, map, vec_capacity};
 ghost use Rattle.std.specs.VecDeque.{deque_capacity};
-ghost use Rattle.rw_vt.specs.Words.{Position, Process};
+ghost use Rattle.rw_vt.specs.Words.{Position};
 ghost use Rattle.rw_vt.specs.declared.event.Letter.{Letter};
 ghost use Rattle.rw_vt.specs.System.{flatten};
 ghost use Rattle.rw_exchange.specs.Ports.{entry, IsOpening, received_between, sent_between};
-ghost use Rattle.rw_crew.specs.Shares.{of_shares};
-ghost use Rattle.rw_crew.specs.Sums.{sum_below};
-ghost use Rattle.rw_worker.specs.Bags.{weigh};
+ghost use Rattle.rw_pool.specs.Sums.{sum_below};
+ghost use Rattle.rw_rounds.specs.Bags.{weigh};
 ghost use Rattle.rw_rounds.specs.Gathering.{IsGathered};
 ghost use Rattle.rw_rounds.specs.Rounds.{weigh_left};
 
+use crate::inner::Inner;
+use crate::processes::Processes;
+use crate::traffic::Traffic;
+use crate::worker::Worker;
 use rw_board::{Board, Seat};
 use rw_exchange::{Left, Port};
-use rw_lp::Lp;
 use rw_vt::{Letter, Model as VtModel, NoMemory};
-use rw_worker::{Belongings, Traffic, Worker};
 use std::alloc::Global;
 use std::collections::VecDeque;
 
-/// What a round comes to, once its workers are joined.
+/// What a round comes to, once its workers are taken apart.
 #[derive(Drop)]
 pub(crate) struct Gathered<M: VtModel> {
-    /// All processes in the order of their numbers.
-    pub(crate) processes: Vec<Lp<M>>,
+    /// The processes of each worker.
+    pub(crate) shares: VecDeque<Processes<M>>,
     /// The letters that are on their way.
     pub(crate) letters: Vec<Letter<M::Body>>,
     /// The least time noted, in ticks.
     pub(crate) floor: u64,
 }
 
-/// Joins the workers of a round, which have `count` processes, closes their board and adds what they did to the
-/// traffic.
+/// Takes the workers of a round apart, closes their board and adds what they did to the traffic. The processes stay with
+/// their workers.
 pub(crate) fn gather<M: VtModel>(
     alloc: Global,
-    count: usize,
     board: Board,
     workers: Vec<Worker<M>>,
     traffic: &mut Traffic,
@@ -41,13 +41,10 @@ pub(crate) fn gather<M: VtModel>(
     requires opening { IsOpening (map (λ w. w.port) workers.items) }
     requires seats { length workers.items ≡ board.seats }
     requires board { All (λ s. s.board ≡ board.board) (map (λ w. w.seat) workers.items) }
-    requires some { 0 < length workers.items }
-    requires complete { (q : Process) → q < count
-        → of_shares (length workers.items) (map (λ w. w.processes) workers.items) q ≡ None → ⊥ }
-    ensures { IfOk result (λ r.
-        IsGathered count workers.items r.processes.items r.letters.items r.floor) }
+    ensures { IfOk result (λ r. IsGathered workers.items
+        (map (λ h. h.items) r.shares.items) r.letters.items r.floor) }
 {
-    let Holdings {
+    let RoundParts {
         shares,
         kept,
         aside,
@@ -56,9 +53,8 @@ pub(crate) fn gather<M: VtModel>(
     } = take_apart(alloc, workers, traffic)?;
     let floor = rw_board::close(board, seats);
     let letters = letters_left(alloc, ports, kept, aside)?;
-    let processes = rw_crew::join(alloc, count, shares)?;
     Ok(Gathered {
-        processes,
+        shares,
         letters,
         floor,
     })
@@ -85,9 +81,9 @@ fn letters_left<B: Copy>(
 
 /// What the workers of a round hold at its end, by worker.
 #[derive(Drop)]
-struct Holdings<M: VtModel> {
+struct RoundParts<M: VtModel> {
     /// The processes of each.
-    shares: VecDeque<VecDeque<Lp<M>>>,
+    shares: VecDeque<Processes<M>>,
     /// The letters that each kept.
     kept: Vec<Vec<Letter<M::Body>>>,
     /// The letters that each set aside.
@@ -96,9 +92,9 @@ struct Holdings<M: VtModel> {
     seats: Vec<Seat>,
 }
 
-impl<M: VtModel> Holdings<M> {
+impl<M: VtModel> RoundParts<M> {
     /// Nothing yet, with room for what `workers` workers hold.
-    fn with_capacity(alloc: Global, workers: usize) -> Result<Holdings<M>, NoMemory>
+    fn with_capacity(alloc: Global, workers: usize) -> Result<RoundParts<M>, NoMemory>
         ensures none { IfOk result (λ l. (l.shares.items ≡ []) × (l.kept.items ≡ [])
             × (l.aside.items ≡ []) × (l.ports.items ≡ []) × (l.seats.items ≡ [])) }
         ensures room { IfOk result (λ l. (deque_capacity l.shares ≡ workers)
@@ -110,7 +106,7 @@ impl<M: VtModel> Holdings<M> {
         let aside = Vec::with_capacity(alloc, workers)?;
         let ports = Vec::with_capacity(alloc, workers)?;
         let seats = Vec::with_capacity(alloc, workers)?;
-        Ok(Holdings {
+        Ok(RoundParts {
             shares,
             kept,
             aside,
@@ -125,7 +121,7 @@ fn take_apart<M: VtModel>(
     alloc: Global,
     workers: Vec<Worker<M>>,
     traffic: &mut Traffic,
-) -> Result<Holdings<M>, NoMemory>
+) -> Result<RoundParts<M>, NoMemory>
     ensures shares { IfOk result (λ l.
         map (λ h. h.items) l.shares.items ≡ map (λ w. w.processes) workers.items) }
     ensures kept { IfOk result (λ l.
@@ -135,20 +131,19 @@ fn take_apart<M: VtModel>(
     ensures ports { IfOk result (λ l. l.ports.items ≡ map (λ w. w.port) workers.items) }
     ensures seats { IfOk result (λ l. l.seats.items ≡ map (λ w. w.seat) workers.items) }
 {
-    let mut holdings = Holdings::with_capacity(alloc, workers.len())?;
+    let mut holdings = RoundParts::with_capacity(alloc, workers.len())?;
     for worker in workers {
-        let Belongings {
+        let Inner {
             processes,
             kept,
             aside,
             port,
             seat,
             traffic: done,
-        } = worker.into_belongings();
+            ..
+        } = worker.into_inner();
         traffic.add(&done);
-        holdings
-            .shares
-            .push_back_reserved(VecDeque::from(processes));
+        holdings.shares.push_back_reserved(processes);
         holdings.kept.push_reserved(kept);
         holdings.aside.push_reserved(aside);
         holdings.ports.push_reserved(port);

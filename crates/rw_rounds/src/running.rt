@@ -1,26 +1,140 @@
-ghost use Rattle.std.specs.Prelude.{◌≡◌, ◌≤◌, ◌↔◌, ◌^◌, IfErr, IfOk, map};
+ghost use Rattle.std.specs.Prelude.{◌≡◌, ◌≢◌, ◌≤◌, ◌↔◌, ◌^◌, IfErr, IfOk, map, min};
 ghost use Rattle.rw_vt.specs.Limits.{end_of_time};
 ghost use Rattle.rw_vt.specs.System.{IsOutcome};
 ghost use Rattle.rw_world.specs.Calls.{system_of};
 ghost use Rattle.rw_world.specs.WorldState.{floor};
-ghost use Rattle.rw_worker.specs.Plans.{IsInRanges};
+ghost use Rattle.rw_rounds.specs.Plans.{IsInRanges};
+ghost use Rattle.rw_rounds.specs.Rounds.{Rounded};
+ghost use Rattle.rw_rounds.specs.Stops.{EndsRound};
 
-use crate::pace::Pace;
-use crate::round::{Gate, run_round};
+use crate::plan::Plan;
+use crate::round::Gate;
+use crate::segment::{Bounds, Segment, make_rounds};
 use crate::sim::Sim;
 use crate::stop::Stop;
+use crate::throttle::Throttle;
+use crate::traffic::Traffic;
+use rw_exchange::Port;
 use rw_lp::Lp;
+use rw_pool::{Halt, Job, Pool, may_move, shut_down};
 use rw_progress::{Progress, Silent};
-use rw_vt::{END, Model as VtModel, NoMemory, Outcome};
-use rw_worker::{Plan, Traffic};
+use rw_vt::{END, Letter, Model as VtModel, NoMemory, Outcome};
 use rw_world::{World, every_sound_world};
 use std::alloc::Global;
 use std::sync::Wait;
-use std::thread::Threads;
+use std::thread;
+use std::thread::{Scope, Threads};
+
+/// Makes one round by the plan as it is: each worker takes its turns in a thread of its own, the last one in the calling
+/// thread, and when all are done, what is final is committed.
+///
+/// What is final is before the round's floor, the least of all times that the workers noted. Nothing outstanding after the
+/// round is before it, and it is not before the least of what was outstanding when the round began: the floor never goes
+/// back (global virtual time: Jefferson 1985).
+///
+/// # Errors
+///
+/// `Memory` where memory was refused, `Exhausted` where a process was to execute an event in a state that can take no
+/// further one, and `NoThread` where the start of a thread was refused. Nothing is handed back then: the world is
+/// gone.
+pub fn run_round<M, G, R>(rt: &R, alloc: Global, sim: Sim<M>, gate: &G) -> Result<Sim<M>, Stop>
+where
+    M: VtModel + Drop + Send + Sync,
+    M::State: Send,
+    M::Body: Send,
+    M::Undo: Send,
+    G: Gate + Sync,
+    R: Threads + Wait + Sync,
+    ensures round { IfOk result (λ next. Rounded M.Model M.Body.cmp sim next) }
+    ensures others { IfErr result (λ stop. EndsRound stop) }
+{
+    thread::scope(
+        thread::scope_env(),
+        rt,
+        move |scope| -> Result<Sim<M>, Stop>
+            ensures round { IfOk result (λ next. Rounded M.Model M.Body.cmp sim next) }
+            ensures others { IfErr result (λ stop. EndsRound stop) }
+        { run_round_in(rt, scope, alloc, sim, gate) },
+    )
+}
+
+/// [`run_round`] in the scope of the threads that it starts.
+fn run_round_in<'s, E, M, G, R>(
+    rt: &'s R,
+    scope: &Scope<'s, E>,
+    alloc: Global,
+    sim: Sim<M>,
+    gate: &'s G,
+) -> Result<Sim<M>, Stop>
+where
+    M: VtModel + Drop + Send + Sync + 's,
+    M::State: Send,
+    M::Body: Send,
+    M::Undo: Send,
+    G: Gate + Sync,
+    R: Threads + Wait + Sync,
+    ensures round { IfOk result (λ next. Rounded M.Model M.Body.cmp sim next) }
+    ensures others { IfErr result (λ stop. EndsRound stop) }
+{
+    // On this rests that a worker may move.
+    may_move::<Port<Letter<M::Body>>>();
+    let Sim {
+        world,
+        plan,
+        floor: _,
+        mut traffic,
+    } = sim;
+    let bounds = Bounds {
+        plan,
+        until: END,
+        rounds: 1,
+        gate,
+    };
+    let mut pool = start_pool(rt, scope, alloc, plan.workers as usize)?;
+    let mut throttle = Throttle::new();
+    let made = make_rounds(&mut pool, alloc, world, bounds, &mut throttle, &mut Silent);
+    shut_down(pool);
+    let Segment {
+        world,
+        floor,
+        traffic: done,
+    } = made?;
+    traffic.add(&done);
+    Ok(Sim {
+        world,
+        plan,
+        floor,
+        traffic,
+    })
+}
+
+/// A pool of so many threads, the calling one among them.
+fn start_pool<'s, E, R, J, T>(
+    rt: &'s R,
+    scope: &Scope<'s, E>,
+    alloc: Global,
+    count: usize,
+) -> Result<Pool<'s, R, J, T>, Halt>
+where
+    R: Threads + Wait + Sync,
+    J: Job<T> + Send + Sync + Drop + 's,
+    T: Send + Drop + 's,
+{
+    let mut pool = rw_pool::alone(rt, alloc);
+    match rw_pool::grow(&mut pool, scope, alloc, count) {
+        Ok(()) => Ok(pool),
+        Err(halt) => {
+            shut_down(pool);
+            Err(halt)
+        }
+    }
+}
 
 /// Makes rounds until nothing is outstanding, and gives what each process has then executed and its state, and what the
-/// rounds did in counts. The first round is by the plan as it is; the plan bounds the later ones, which have as many
-/// workers, as large a batch and as wide a window as the rounds before have shown to pay.
+/// rounds did in counts. The first round is by the plan as it is; the plan bounds the later ones, which have as large a
+/// batch and as wide a window as the rounds before have shown to pay. The threads of the workers stay for the whole run; a
+/// plan of one worker starts none. The run is one segment: its events are committed at its end, so memory grows with the
+/// number of events executed.
 ///
 /// Whatever the plan is and however the threads interleave, a result is what executing all events in order of time
 /// leaves (Jefferson 1985).
@@ -41,7 +155,7 @@ pub fn run<M, G, R>(
     gate: &G,
 ) -> Result<(Outcome<M>, Traffic), Stop>
 where
-    M: VtModel + Drop + Sync,
+    M: VtModel + Drop + Send + Sync,
     M::State: Send,
     M::Body: Send,
     M::Undo: Send,
@@ -65,7 +179,7 @@ pub fn run_and_tell<M, G, P, R>(
     progress: &mut P,
 ) -> Result<(Outcome<M>, Traffic), Stop>
 where
-    M: VtModel + Drop + Sync,
+    M: VtModel + Drop + Send + Sync,
     M::State: Send,
     M::Body: Send,
     M::Undo: Send,
@@ -76,32 +190,86 @@ where
         (map (λ j. j.items) r.0.journals.items) r.0.states.items) }
     ensures plan { (result ≡ Err Stop.BadPlan) ↔ (IsInRanges plan → ⊥) }
 {
-    let mut sim = Sim::open(world, plan)?;
-    let mut pace = Pace::new();
-    for _round in 0..plan.max_rounds {
-        let before = sim.reached();
-        sim = run_round(rt, alloc, sim.by(pace.plan(&plan)), gate)?;
-        let after = sim.reached();
-        if after.floor == END {
-            return finish(alloc, sim);
-        }
-        pace.note_round(&plan, &before, &after);
-        progress.reach(after.floor);
-    }
-    Err(Stop::RoundsUsed)
+    let sim = Sim::open(world, plan)?;
+    thread::scope(
+        thread::scope_env(),
+        rt,
+        move |scope| -> Result<(Outcome<M>, Traffic), Stop>
+            ensures outcome { IfOk result (λ r.
+                IsOutcome (system_of M.Model M.Body.cmp sim.simulation) end_of_time
+                (map (λ j. j.items) r.0.journals.items) r.0.states.items) }
+            ensures others { IfErr result (λ stop. stop ≢ Stop.BadPlan) }
+        { run_in(rt, scope, alloc, sim, gate, progress) },
+    )
 }
 
-/// What a run comes to where nothing is outstanding and all is collected: the committed events and the state of each process,
-/// and what the rounds did.
-fn finish<M: VtModel + Drop>(alloc: Global, sim: Sim<M>) -> Result<(Outcome<M>, Traffic), Stop>
-    requires floor { end_of_time ≤ floor sim.simulation.world }
-    requires collected { end_of_time ≤ sim.simulation.world.collected }
-    ensures outcome { IfOk result (λ r. IsOutcome (system_of M.Model M.Body.cmp sim.simulation)
-        end_of_time (map (λ j. j.items) r.0.journals.items) r.0.states.items) }
-    ensures memory { IfErr result (λ stop. stop ≡ Stop.Memory) }
+/// Makes rounds until nothing is outstanding, in the scope of the threads that it starts.
+fn run_in<'s, E, M, G, P, R>(
+    rt: &'s R,
+    scope: &Scope<'s, E>,
+    alloc: Global,
+    sim: Sim<M>,
+    gate: &'s G,
+    progress: &mut P,
+) -> Result<(Outcome<M>, Traffic), Stop>
+where
+    M: VtModel + Drop + Send + Sync + 's,
+    M::State: Send,
+    M::Body: Send,
+    M::Undo: Send,
+    G: Gate + Sync,
+    P: Progress,
+    R: Threads + Wait + Sync,
+    ensures outcome { IfOk result (λ r.
+        IsOutcome (system_of M.Model M.Body.cmp sim.simulation) end_of_time
+        (map (λ j. j.items) r.0.journals.items) r.0.states.items) }
+    ensures others { IfErr result (λ stop. stop ≢ Stop.BadPlan) }
 {
-    let traffic = sim.traffic();
-    let outcome = outcome(alloc, sim.into_world())?;
+    // On this rests that a worker may move.
+    may_move::<Port<Letter<M::Body>>>();
+    let Sim {
+        world,
+        plan,
+        floor: _,
+        traffic: _,
+    } = sim;
+    let bounds = Bounds {
+        plan,
+        until: END,
+        rounds: plan.max_rounds,
+        gate,
+    };
+    let mut pool = start_pool(rt, scope, alloc, plan.workers as usize)?;
+    let mut throttle = Throttle::new();
+    let ran = make_rounds(&mut pool, alloc, world, bounds, &mut throttle, progress);
+    shut_down(pool);
+    finish(alloc, ran?)
+}
+
+/// What a run comes to, once its rounds are made: the committed events and the state of each process, and what the rounds did.
+///
+/// # Errors
+///
+/// `RoundsUsed` where the last round's floor is before the end of time, and `Memory`.
+fn finish<M: VtModel + Drop>(
+    alloc: Global,
+    segment: Segment<M>,
+) -> Result<(Outcome<M>, Traffic), Stop>
+    requires floor { segment.floor ≤ floor segment.world.world }
+    requires collected { min segment.floor end_of_time ≤ segment.world.world.collected }
+    ensures outcome { IfOk result (λ r. IsOutcome (system_of M.Model M.Body.cmp segment.world)
+        end_of_time (map (λ j. j.items) r.0.journals.items) r.0.states.items) }
+    ensures others { IfErr result (λ stop. stop ≢ Stop.BadPlan) }
+{
+    let Segment {
+        world,
+        floor,
+        traffic,
+    } = segment;
+    if floor < END {
+        return Err(Stop::RoundsUsed);
+    }
+    let outcome = outcome(alloc, world)?;
     Ok((outcome, traffic))
 }
 

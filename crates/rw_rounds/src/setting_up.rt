@@ -1,62 +1,62 @@
-ghost use Rattle.std.specs.Prelude.{◌≡◌, ◌≢◌, ◌+◌, ◌*◌, ◌%◌, ◌<◌, ◌≤◌, ◌==◌, ◌∷◌, [], IfOk, All, filter, length, map, slice_get, slice_index_or};
+ghost use Rattle.std.specs.Prelude.{◌≡◌, ◌≢◌, ◌%◌, ◌<◌, ◌≤◌, ◌==◌, ◌∷◌, [], IfOk, All, filter, length, map, slice_get, slice_index_or};
 ghost use Rattle.rw_vt.specs.Words.{Position};
 ghost use Rattle.rw_exchange.specs.Ports.{IsNew, IsOpening, StayAnOpening};
 ghost use Rattle.rw_board.specs.Seats.{new_seat};
-ghost use Rattle.rw_worker.specs.Plans.{IsInRanges};
+ghost use Rattle.rw_rounds.specs.Plans.{IsInRanges};
 ghost use Rattle.rw_rounds.specs.Rounds.{role};
 ghost use Rattle.rw_rounds.specs.Setting.{AreSetUp};
 
+use crate::inner::Inner;
+use crate::plan::Plan;
+use crate::processes::Processes;
+use crate::traffic::Traffic;
+use crate::worker::Worker;
 use rw_board::{Board, Seat};
-use rw_crew::first_of;
 use rw_exchange::Port;
-use rw_lp::Lp;
+use rw_pool::first_of;
 use rw_vt::{Letter, Model as VtModel, NoMemory, empty_lists};
-use rw_worker::{Plan, Worker};
 use std::alloc::Global;
 use std::collections::VecDeque;
 
 /// What the workers of a round begin with, in the order of their numbers.
 #[derive(Drop)]
-struct Supply<P, B> {
+struct SetUpParts<P, B> {
     /// The processes of each.
-    shares: VecDeque<Vec<P>>,
+    shares: VecDeque<P>,
     /// The letters on their way to each.
     inboxes: VecDeque<Vec<Letter<B>>>,
     ports: VecDeque<Port<Letter<B>>>,
     seats: VecDeque<Seat>,
 }
 
-/// Sets up a round: opens its board and its rings, and splits processes and letters among its workers.
-///
-/// Process q goes to worker q modulo their number, and a letter goes to the worker of its process.
+/// Sets up a round of workers that have these processes: opens its board and its rings, and splits the letters among the
+/// workers. A letter goes to the worker of its process.
 pub(crate) fn set_up<M: VtModel>(
     alloc: Global,
     plan: &Plan,
     collected: u64,
-    processes: Vec<Lp<M>>,
+    shares: VecDeque<Processes<M>>,
     letters: Vec<Letter<M::Body>>,
 ) -> Result<(Board, Vec<Worker<M>>), NoMemory>
-    requires { IsInRanges plan.now }
-    ensures { IfOk result (λ r.
-        AreSetUp plan.now collected processes.items letters.items r.0 r.1.items) }
+    requires plan { IsInRanges plan.now }
+    requires shares { length shares.items ≡ plan.now.workers }
+    ensures { IfOk result (λ r. AreSetUp plan.now collected
+        (map (λ h. h.items) shares.items) letters.items r.0 r.1.items) }
 {
-    let (board, supply) = supplies(alloc, plan, processes, letters)?;
+    let (board, supply) = supplies(alloc, plan, shares, letters)?;
     let workers = make_workers(alloc, plan, collected, supply)?;
     Ok((board, workers))
 }
 
-/// The board of a round, and what its workers begin with. What a process is does not matter here.
+/// The board of a round, and what its workers begin with. What a share of the processes is does not matter here.
 fn supplies<P: Drop, B: Copy>(
     alloc: Global,
     plan: &Plan,
-    processes: Vec<P>,
+    shares: VecDeque<P>,
     letters: Vec<Letter<B>>,
-) -> Result<(Board, Supply<P, B>), NoMemory>
+) -> Result<(Board, SetUpParts<P, B>), NoMemory>
     requires { IsInRanges plan.now }
-    ensures shares { IfOk result (λ r. (length r.1.shares.items ≡ plan.now.workers)
-        × ((i place : Position) → i < plan.now.workers
-        → slice_get (slice_index_or (map (λ h. h.items) r.1.shares.items) i []) place
-        ≡ slice_get processes.items (i + place * plan.now.workers))) }
+    ensures shares { IfOk result (λ r. r.1.shares.items ≡ shares.items) }
     ensures inboxes { IfOk result (λ r. (length r.1.inboxes.items ≡ plan.now.workers)
         × ((i : Position) → i < plan.now.workers
         → slice_index_or (map (λ b. b.items) r.1.inboxes.items) i []
@@ -67,12 +67,11 @@ fn supplies<P: Drop, B: Copy>(
         × (r.0.seats ≡ plan.now.workers) × All (λ s. s ≡ new_seat r.0.board) r.1.seats.items) }
 {
     let workers = plan.workers as usize;
-    let shares = rw_crew::deal_out(alloc, plan.workers, processes)?;
     let inboxes = split_letters(alloc, plan.workers, &letters)?;
     let ports = rw_exchange::open(alloc, workers, plan.ring as usize)?;
     let (board, seats) = rw_board::open(alloc, workers)?;
-    let supply = Supply {
-        shares: VecDeque::from(shares),
+    let supply = SetUpParts {
+        shares,
         inboxes: VecDeque::from(inboxes),
         ports: VecDeque::from(ports),
         seats: VecDeque::from(seats),
@@ -104,7 +103,7 @@ fn make_workers<M: VtModel>(
     alloc: Global,
     plan: &Plan,
     collected: u64,
-    supply: Supply<Lp<M>, M::Body>,
+    supply: SetUpParts<Processes<M>, M::Body>,
 ) -> Result<Vec<Worker<M>>, NoMemory>
     requires shares { length supply.shares.items ≡ plan.now.workers }
     requires inboxes { length supply.inboxes.items ≡ plan.now.workers }
@@ -138,7 +137,7 @@ fn next_worker<M: VtModel>(
     number: u32,
     plan: &Plan,
     collected: u64,
-    supply: &mut Supply<Lp<M>, M::Body>,
+    supply: &mut SetUpParts<Processes<M>, M::Body>,
 ) -> Worker<M>
     requires shares { supply.old.shares.items ≢ [] }
     requires inboxes { supply.old.inboxes.items ≢ [] }
@@ -157,5 +156,16 @@ fn next_worker<M: VtModel>(
     let inbox = first_of(&mut supply.inboxes);
     let port = first_of(&mut supply.ports);
     let seat = first_of(&mut supply.seats);
-    Worker::new(alloc, number, plan, processes, inbox, port, seat, collected)
+    let inner = Inner {
+        number,
+        plan: *plan,
+        collected,
+        processes,
+        kept: Vec::new(alloc),
+        aside: Vec::new(alloc),
+        port,
+        seat,
+        traffic: Traffic::default(),
+    };
+    Worker::of(inner, inbox)
 }

@@ -1,10 +1,11 @@
 ghost use Rattle.std.specs.Prelude.{◌≡◌, ◌↔◌, IfOk, IfErr};
-ghost use Rattle.rw_worker.specs.Plans.{IsInRanges};
+ghost use Rattle.rw_rounds.specs.Plans.{IsInRanges};
 ghost use Rattle.rw_rounds.specs.declared.stop.Stop.TheVariants.{BadPlan};
 
+use crate::plan::Plan;
 use crate::stop::Stop;
+use crate::traffic::Traffic;
 use rw_vt::Model as VtModel;
-use rw_worker::{Plan, Traffic};
 use rw_world::World;
 use std::marker::Model;
 
@@ -17,17 +18,8 @@ pub struct Sim<M: VtModel> {
     pub(crate) traffic: Traffic,
 }
 
-/// How far the rounds of a run have come.
-#[derive(Clone, Copy)]
-pub(crate) struct Reached {
-    /// What the last round gave as its floor, in ticks.
-    pub(crate) floor: u64,
-    /// What the rounds so far did, in counts.
-    pub(crate) traffic: Traffic,
-}
-
 impl<M: VtModel> Model for Sim<M> {
-    ghost use Rattle.rw_worker.specs.Plans.{IsInRanges};
+    ghost use Rattle.rw_rounds.specs.Plans.{IsInRanges};
     ghost use Rattle.rw_rounds.specs.Rounds.{SimState};
 
     ghost Value = { SimState M M.State M.Body };
@@ -71,35 +63,6 @@ impl<M: VtModel + Drop> Sim<M> {
     /// What the rounds so far did, in counts. Takes no memory.
     pub fn traffic(&self) -> Traffic {
         self.traffic
-    }
-
-    /// How far the rounds have come. Takes no memory.
-    pub(crate) fn reached(&self) -> Reached
-        ensures floor { result.floor ≡ self.now.floor }
-    {
-        Reached {
-            floor: self.floor,
-            traffic: self.traffic,
-        }
-    }
-
-    /// The same run, with its next round by `plan`. Takes no memory.
-    pub(crate) fn by(self, plan: Plan) -> Sim<M>
-        requires plan { IsInRanges plan }
-        ensures is { result ≡ record self { plan = plan } }
-    {
-        let Sim {
-            world,
-            plan: _,
-            floor,
-            traffic,
-        } = self;
-        Sim {
-            world,
-            plan,
-            floor,
-            traffic,
-        }
     }
 
     /// The world. Takes no memory.

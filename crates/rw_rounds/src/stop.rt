@@ -2,7 +2,7 @@ ghost use Rattle.std.specs.Prelude.{◌≡◌};
 ghost use Rattle.rw_rounds.specs.Stops.{stop_of, stop_of_halt, EndsRound};
 ghost use Rattle.rw_rounds.specs.declared.stop.Stop.TheVariants.{Memory};
 
-use rw_crew::Halt;
+use rw_pool::Halt;
 use rw_vt::{NoMemory, Refusal};
 use std::alloc::{AllocError, AllocFailed};
 

@@ -7,9 +7,9 @@ use Rattle.rw_vt.specs.declared.event.Event.{Event}
 use Rattle.rw_vt.specs.declared.model.Model.{Ghosts}
 use Rattle.rw_vt.specs.Order.{weigh, Has}
 use Rattle.rw_vt.proofs.Sorting.{IsExactOrder, each_of_all}
-use Rattle.rw_crew.specs.Sums.{sum_below}
-use Rattle.rw_crew.proofs.Sums.{total_same}
-use Rattle.rw_windows.specs.Batches.{BatchState, BeginFor, IsFor, MayFollow, events_in, batch_events, last_reach}
+use Rattle.rw_pool.specs.Sums.{sum_below}
+use Rattle.rw_pool.proofs.Sums.{total_same}
+use Rattle.rw_windows.specs.Batches.{BatchState, BeginFor, IsFor, MayFollow, events_in, batch_events, last_bound}
 use Rattle.rw_windows.proofs.Sums.{weigh-append, weigh_flatten, Has-flatten}
 
 module _ {M B : Type 0} where
@@ -41,10 +41,10 @@ module _ {M B : Type 0} where
       omega (arith, weigh_with h xss i b (omega arith), weigh-append h (batch_events xs) (events_in (slice_set xss i (slice_index_or xss i [] ++ b ∷ []))), weigh-append h (batch_events xs) (events_in xss))
 
   -- the last of these batches is the one behind
-  pub reach_behind : (bs : List (BatchState M B)) (b : BatchState M B) → last_reach (bs ++ b ∷ []) ≡ b.reach
-  reach_behind [] b = refl
-  reach_behind (a ∷ []) b = refl
-  reach_behind (a ∷ c ∷ bs) b = reach_behind (c ∷ bs) b
+  pub bound_behind : (bs : List (BatchState M B)) (b : BatchState M B) → last_bound (bs ++ b ∷ []) ≡ b.bound
+  bound_behind [] b = refl
+  bound_behind (a ∷ []) b = refl
+  bound_behind (a ∷ c ∷ bs) b = bound_behind (c ∷ bs) b
 
   -- with one batch behind them they begin as before
   pub begin_still : (m : M) (n v : ℕ) (bs : List (BatchState M B)) (b : BatchState M B) → BeginFor m n v bs → BeginFor m n v (bs ++ b ∷ [])
@@ -58,15 +58,15 @@ module _ {M B : Type 0} where
   -- batches that follow one another
   module _ {S U : Type 0} (model : Ghosts M S B U) (before xs : List (BatchState M B))
       (allowed : (i : ℕ) (d : BatchState M B) → i < length xs → MayFollow model (before ++ take i xs) (get_or xs i d)) where
-    rises : (d : BatchState M B) (j : ℕ) → j ≤ length xs → last_reach before ≤ last_reach (before ++ take j xs)
-    rises d zero l = let e = ap last_reach (append-nil before) in omega (arith, e)
+    rises : (d : BatchState M B) (j : ℕ) → j ≤ length xs → last_bound before ≤ last_bound (before ++ take j xs)
+    rises d zero l = let e = ap last_bound (append-nil before) in omega (arith, e)
     rises d (suc j) l =
         let within : j < length xs = omega (arith, l) in
         let ih = rises d j (omega (arith, l)) in
         let next = (allowed j d within).further in
         let more : take (suc j) xs ≡ take j xs ++ get_or xs j d ∷ [] = ap (λ i. take i xs) (sym (add-one j)) ∙ take_more xs j d within in
-        let is : last_reach (before ++ take (suc j) xs) ≡ (get_or xs j d).reach =
-        ap (λ z. last_reach (before ++ z)) more ∙ ap last_reach (sym (append_assoc before (take j xs) (get_or xs j d ∷ []))) ∙ reach_behind (before ++ take j xs) (get_or xs j d)
+        let is : last_bound (before ++ take (suc j) xs) ≡ (get_or xs j d).bound =
+        ap (λ z. last_bound (before ++ z)) more ∙ ap last_bound (sym (append_assoc before (take j xs) (get_or xs j d ∷ []))) ∙ bound_behind (before ++ take j xs) (get_or xs j d)
         in
         omega (arith, ih, next, is)
 
@@ -75,7 +75,7 @@ module _ {M B : Type 0} where
       terms c b rest zs is h = subst (λ l. IfSome (slice_get (l ++ zs) 0) (λ a. IsFor a.model a.workers a.to b)) is h
 
       -- their events are valid, and not before the last reach of those before them
-      pub left_events : (d : BatchState M B) (a : Event B) → Has cmp (batch_events xs) a → (model.is_valid m a ≡ true) × (last_reach before ≤ a.time)
+      pub left_events : (d : BatchState M B) (a : Event B) → Has cmp (batch_events xs) a → (model.is_valid m a ≡ true) × (last_bound before ≤ a.time)
       left_events d a h =
           let found = Has-flatten o (λ b. b.events) xs a d h in
           let j = found.0 in
@@ -83,6 +83,6 @@ module _ {M B : Type 0} where
           let it = allowed found.0 d found.1 in
           let same = terms begins.0 b begins.1 (take found.0 xs) begins.2 it.terms in
           let valid = each_of_all o (λ e. model.is_valid b.model e ≡ true) b.events it.valid a found.2 in
-          let late = each_of_all o (λ e. last_reach (before ++ take found.0 xs) ≤ e.time) b.events it.in_time a found.2 in
+          let late = each_of_all o (λ e. last_bound (before ++ take found.0 xs) ≤ e.time) b.events it.in_time a found.2 in
           let rise = rises d found.0 (omega (arith, found.1)) in
           (subst (λ z. model.is_valid z a ≡ true) (same.model ∙ begins.3.model) valid, omega (arith, late, rise))

@@ -21,11 +21,11 @@ use Rattle.rw_vt.proofs.Rest.{states_by, rest_lawful, rest_of}
 use Rattle.rw_vt.proofs.Partway.{parts_midway}
 use Rattle.rw_serial.proofs.Lists.{length-map_from}
 use Rattle.rw_exchange.specs.Ports.{IsOpening, IsOther, SamePort, entry, received_between, received_from, sent_between, sent_to}
-use Rattle.rw_crew.specs.Shares.{of_shares}
-use Rattle.rw_crew.specs.Sums.{sum_below}
-use Rattle.rw_crew.proofs.Lists.{get_there}
-use Rattle.rw_crew.proofs.Sums.{total_same, total_add, total_swap}
-use Rattle.rw_windows.specs.Batches.{BatchState, MayFollow, events_in, batch_events, last_reach}
+use Rattle.rw_pool.specs.Shares.{of_shares}
+use Rattle.rw_pool.specs.Sums.{sum_below}
+use Rattle.rw_pool.proofs.Lists.{get_there}
+use Rattle.rw_pool.proofs.Sums.{total_same, total_add, total_swap}
+use Rattle.rw_windows.specs.Batches.{BatchState, MayFollow, events_in, batch_events, last_bound}
 use Rattle.rw_windows.specs.Working.{HasDone, HasWorked, IsInTime, IsSeated, ShareState}
 use Rattle.rw_windows.specs.Running.{AreBegun, HaveEnded, IsLeftOfRun}
 use Rattle.rw_windows.proofs.Sums.{joined, weigh-append, weigh-joined, weigh_flatten, weigh_by, joined_one, Has-joined, Has-flatten, Has-flat, all_of_each, choose}
@@ -140,7 +140,7 @@ module _ {M S B U : Type 0} {model : Ghosts M S B U} {order : B → B → Orderi
 
   -- worker i has executed these journals
   record Executed (i : ℕ) (J : ℕ → List (Event B)) : Type 0 where
-    partway : IsPartway (record { rules = rules model order m; starts = states; initial = (at i).given ++ events_in (at i).port.received }) J (at i).waiting (events_in (at i).port.sent ++ flatten (at i).away)
+    partway : IsPartway (record { rules = rules model order m; starts = states; initial = (at i).given ++ events_in (at i).port.received }) J (at i).waiting (events_in (at i).port.sent ++ flatten (at i).outbox)
     idle : (q : ℕ) → (q % n ≡ i → ⊥) → J q ≡ []
     done : (q : ℕ) (a : Event B) → Has (rules model order m).order (J q) a → a.time < end
     states_are : (k : ℕ) → slice_get (at i).states k ≡ option_map (λ s. state_after ((rules model order m).step (i + k * n)) s (J (i + k * n))) (slice_get states (i + k * n))
@@ -149,7 +149,7 @@ module _ {M S B U : Type 0} {model : Ghosts M S B U} {order : B → B → Orderi
   executed i l = (
     (done_is i l).journal,
     record {
-      partway = subst (λ z. IsPartway (record { rules = rules model order m; starts = z; initial = (at i).given ++ events_in (at i).port.received }) (done_is i l).journal (at i).waiting (events_in (at i).port.sent ++ flatten (at i).away)) (starts_is i l) (done_is i l).partway;
+      partway = subst (λ z. IsPartway (record { rules = rules model order m; starts = z; initial = (at i).given ++ events_in (at i).port.received }) (done_is i l).journal (at i).waiting (events_in (at i).port.sent ++ flatten (at i).outbox)) (starts_is i l) (done_is i l).partway;
       idle = λ q ne. (done_is i l).own q (λ e. ne (ap (λ k. q % k) (sym (workers_is i l)) ∙ e ∙ number_is i l));
       done = λ q a h. let k = (done_is i l).before q a h in let e = until_is i l in omega (arith, k, e);
       states_are = λ k.
@@ -271,33 +271,33 @@ module _ {M S B U : Type 0} {model : Ghosts M S B U} {order : B → B → Orderi
           ∙ total_add n (λ i. sum_below n (λ k. W (received_from (at k).port i))) (λ i. sum_below n (λ k. W (entry left i k)))
           ∙ omega (arith, left_all, total_swap n n (λ i k. W (received_from (at k).port i)), total_same n (λ i. weigh h (events_in (at i).port.received)) (λ i. sum_below n (λ k. W (received_from (at i).port k))) received_one)
 
-    abbrev away_all : List (Event B)
-    away_all = joined n (λ i. flatten (at i).away)
+    abbrev outbox_all : List (Event B)
+    outbox_all = joined n (λ i. flatten (at i).outbox)
 
     abbrev way : List (Event B)
-    way = away_all ++ flatten (map events_in left)
+    way = outbox_all ++ flatten (map events_in left)
 
-    handed : (h : Event B → ℕ) → weigh h (joined n (λ i. events_in (at i).port.sent ++ flatten (at i).away)) ≡ weigh h came + weigh h way
+    handed : (h : Event B → ℕ) → weigh h (joined n (λ i. events_in (at i).port.sent ++ flatten (at i).outbox)) ≡ weigh h came + weigh h way
     handed h =
-        weigh-joined h n (λ i. events_in (at i).port.sent ++ flatten (at i).away)
-        ∙ total_same n (λ i. weigh h (events_in (at i).port.sent ++ flatten (at i).away)) (λ i. weigh h (events_in (at i).port.sent) + weigh h (flatten (at i).away)) (λ i l. weigh-append h (events_in (at i).port.sent) (flatten (at i).away))
-        ∙ total_add n (λ i. weigh h (events_in (at i).port.sent)) (λ i. weigh h (flatten (at i).away))
-        ∙ omega (arith, rings_all h, weigh-joined h n (λ i. events_in (at i).port.received), weigh-append h away_all (flatten (map events_in left)), weigh-joined h n (λ i. flatten (at i).away))
+        weigh-joined h n (λ i. events_in (at i).port.sent ++ flatten (at i).outbox)
+        ∙ total_same n (λ i. weigh h (events_in (at i).port.sent ++ flatten (at i).outbox)) (λ i. weigh h (events_in (at i).port.sent) + weigh h (flatten (at i).outbox)) (λ i l. weigh-append h (events_in (at i).port.sent) (flatten (at i).outbox))
+        ∙ total_add n (λ i. weigh h (events_in (at i).port.sent)) (λ i. weigh h (flatten (at i).outbox))
+        ∙ omega (arith, rings_all h, weigh-joined h n (λ i. events_in (at i).port.received), weigh-append h outbox_all (flatten (map events_in left)), weigh-joined h n (λ i. flatten (at i).outbox))
 
     -- and is valid, and not before the end
     abbrev Comes : Event B → Type 0
     Comes a = (model.is_valid m a ≡ true) × (end ≤ a.time)
 
-    away_comes : (i v : ℕ) (a : Event B) → i < n → v < n → Has (rules model order m).order (get_or (at i).away v []) a → Comes a
-    away_comes i v a l lv h = elim (cases_eq v i) [
+    outbox_comes : (i v : ℕ) (a : Event B) → i < n → v < n → Has (rules model order m).order (get_or (at i).outbox v []) a → Comes a
+    outbox_comes i v a l lv h = elim (cases_eq v i) [
       | inl e ↦
-          let none : get_or (at i).away v [] ≡ [] = ap (λ z. get_or (at i).away z []) (e ∙ sym (number_is i l)) ∙ (done_is i l).none in
+          let none : get_or (at i).outbox v [] ≡ [] = ap (λ z. get_or (at i).outbox z []) (e ∙ sym (number_is i l)) ∙ (done_is i l).none in
           let count = ap (copies (rules model order m).order a) none in
           absurd (omega (arith, count, h))
       | inr ne ↦
           let it = other i v l lv ne in
-          let valid = each_of_all law.exact (λ a. (a.to % (at i).workers ≡ v) × (model.is_valid m a ≡ true)) (get_or (at i).away v []) ((done_is i l).theirs v it) a h in
-          let time = each_of_all law.exact (λ a. ((at i).until ≤ a.time) × (last_reach (sent_to (at i).port v) ≤ a.time)) (get_or (at i).away v []) ((times i l).away v it) a h in
+          let valid = each_of_all law.exact (λ a. (a.to % (at i).workers ≡ v) × (model.is_valid m a ≡ true)) (get_or (at i).outbox v []) ((done_is i l).theirs v it) a h in
+          let time = each_of_all law.exact (λ a. ((at i).until ≤ a.time) × (last_bound (sent_to (at i).port v) ≤ a.time)) (get_or (at i).outbox v []) ((times i l).outbox v it) a h in
           let e = until_is i l in
           (valid.1, omega (arith, e, time.0))
     ]
@@ -313,20 +313,20 @@ module _ {M S B U : Type 0} {model : Ghosts M S B U} {order : B → B → Orderi
           let follow : (j : ℕ) (b : BatchState M B) → j < length (entry left i k) → MayFollow model (received_from (at k).port i ++ take j (entry left i k)) (get_or (entry left i k) j b) =
           λ j b lj. subst (λ z. MayFollow model (z ++ take j (entry left i k)) (get_or (entry left i k) j b)) (received_is i k lk) (allowed i k l lk j b lj)
           in
-          let got = left_events model (received_from (at k).port i) (entry left i k) follow law.exact m (at k).workers (at k).number ((seated k lk).hears i it) (record { events = []; reach = 0; model = m; workers = 0; to = 0 }) a h in
-          let heard = (times k lk).heard i it in
+          let got = left_events model (received_from (at k).port i) (entry left i k) follow law.exact m (at k).workers (at k).number ((seated k lk).hears i it) (record { events = []; bound = 0; model = m; workers = 0; to = 0 }) a h in
+          let bound_in = (times k lk).bound_in i it in
           let until = (times k lk).until.0 in
           let e = until_is k lk in
-          (got.0, omega (arith, got.1, heard, until, e))
+          (got.0, omega (arith, got.1, bound_in, until, e))
     ]
 
     way_comes : (a : Event B) → Has (rules model order m).order way a → Comes a
-    way_comes a h = elim (Has-append law.exact a away_all (flatten (map events_in left)) h) [
+    way_comes a h = elim (Has-append law.exact a outbox_all (flatten (map events_in left)) h) [
       | inl k ↦
-          let one = Has-joined law.exact n (λ i. flatten (at i).away) a k in
-          let two = Has-flat law.exact (at one.0).away a one.2 in
+          let one = Has-joined law.exact n (λ i. flatten (at i).outbox) a k in
+          let two = Has-flat law.exact (at one.0).outbox a one.2 in
           let lists = (seated one.0 one.1).lists ∙ workers_is one.0 one.1 in
-          away_comes one.0 two.0 a one.1 (omega (arith, two.1, lists)) two.2
+          outbox_comes one.0 two.0 a one.1 (omega (arith, two.1, lists)) two.2
       | inr k ↦
           let one = Has-flatten law.exact events_in left a [] k in
           let l : one.0 < n = omega (arith, one.1, long) in
@@ -345,9 +345,9 @@ module _ {M S B U : Type 0} {model : Ghosts M S B U} {order : B → B → Orderi
     abbrev waiting_all : List (Event B)
     waiting_all = joined n (λ i. (at i).waiting)
 
-    all_executed : IsPartway (record { rules = rules model order m; starts = states; initial = joined n (λ i. (at i).given ++ events_in (at i).port.received) }) whole_journal waiting_all (joined n (λ i. events_in (at i).port.sent ++ flatten (at i).away))
+    all_executed : IsPartway (record { rules = rules model order m; starts = states; initial = joined n (λ i. (at i).given ++ events_in (at i).port.received) }) whole_journal waiting_all (joined n (λ i. events_in (at i).port.sent ++ flatten (at i).outbox))
     all_executed =
-        all_joined (rules model order m) law states end n (λ i. (at i).given ++ events_in (at i).port.received) (λ i. (at i).waiting) (λ i. events_in (at i).port.sent ++ flatten (at i).away) journals.0
+        all_joined (rules model order m) law states end n (λ i. (at i).given ++ events_in (at i).port.received) (λ i. (at i).waiting) (λ i. events_in (at i).port.sent ++ flatten (at i).outbox) journals.0
         (λ i l. (journals.1 i l).partway) (λ i q l ne. (journals.1 i l).idle q ne) (λ i q a l h. (journals.1 i l).done q a h) (λ i a l h. late_waiting i a l h) n (omega arith)
 
     done_before : (q : ℕ) (a : Event B) → Has (rules model order m).order (whole_journal q) a → a.time < end
@@ -388,15 +388,15 @@ module _ {M S B U : Type 0} {model : Ghosts M S B U} {order : B → B → Orderi
             ∙ sym (slice_get_past (states_by y whole_journal) q (omega (arith, l, length-map_from 0 (λ p s. state_after ((rules model order m).step p) s (whole_journal p)) states)))
       ])
 
-      module _ (events' : List (Event B)) (bag : (h : Event B → ℕ) → weigh h events' ≡ weigh h (flatten (map (λ w. w.waiting ++ flatten w.away) ws)) + weigh h (flatten (map events_in left))) where
+      module _ (events' : List (Event B)) (bag : (h : Event B → ℕ) → weigh h events' ≡ weigh h (flatten (map (λ w. w.waiting ++ flatten w.outbox) ws)) + weigh h (flatten (map events_in left))) where
         same_events : (h : Event B → ℕ) → weigh h events' ≡ weigh h (waiting_all ++ way)
         same_events h =
             bag h
-            ∙ ap (λ z. z + weigh h (flatten (map events_in left))) (weigh_flatten h (λ w. w.waiting ++ flatten w.away) ws d
-            ∙ ap (λ z. sum_below z (λ i. weigh h ((at i).waiting ++ flatten (at i).away))) ended.many
-            ∙ total_same n (λ i. weigh h ((at i).waiting ++ flatten (at i).away)) (λ i. weigh h (at i).waiting + weigh h (flatten (at i).away)) (λ i l. weigh-append h (at i).waiting (flatten (at i).away))
-            ∙ total_add n (λ i. weigh h (at i).waiting) (λ i. weigh h (flatten (at i).away)))
-            ∙ omega (arith, weigh-append h waiting_all way, weigh-append h away_all (flatten (map events_in left)), weigh-joined h n (λ i. (at i).waiting), weigh-joined h n (λ i. flatten (at i).away))
+            ∙ ap (λ z. z + weigh h (flatten (map events_in left))) (weigh_flatten h (λ w. w.waiting ++ flatten w.outbox) ws d
+            ∙ ap (λ z. sum_below z (λ i. weigh h ((at i).waiting ++ flatten (at i).outbox))) ended.many
+            ∙ total_same n (λ i. weigh h ((at i).waiting ++ flatten (at i).outbox)) (λ i. weigh h (at i).waiting + weigh h (flatten (at i).outbox)) (λ i l. weigh-append h (at i).waiting (flatten (at i).outbox))
+            ∙ total_add n (λ i. weigh h (at i).waiting) (λ i. weigh h (flatten (at i).outbox)))
+            ∙ omega (arith, weigh-append h waiting_all way, weigh-append h outbox_all (flatten (map events_in left)), weigh-joined h n (λ i. (at i).waiting), weigh-joined h n (λ i. flatten (at i).outbox))
 
         left_midway : IsMidway y whole_journal events'
         left_midway = midway_reordered midway (λ e. same_events (one_if_same (rules model order m).order e))

@@ -18,9 +18,9 @@ use Rattle.rw_vt.proofs.Runs.{IsLawful, after-append}
 use Rattle.rw_vt.proofs.Partway.{next_fine, next_here, next_other, part_next}
 use Rattle.rw_serial.proofs.Lists.{there_below}
 use Rattle.rw_exchange.specs.Ports.{IsOther, sent_to}
-use Rattle.rw_crew.proofs.Dealing.{number_place}
-use Rattle.rw_windows.specs.Batches.{events_in, last_reach}
-use Rattle.rw_windows.specs.Working.{HasDone, IsAtWork, IsDealt, IsInTime, IsSeated, ShareState, away_to}
+use Rattle.rw_pool.proofs.Dealing.{number_place}
+use Rattle.rw_windows.specs.Batches.{events_in, last_bound}
+use Rattle.rw_windows.specs.Working.{HasDone, IsAtWork, IsDealt, IsInTime, IsSeated, ShareState, outbox_to}
 use Rattle.rw_windows.proofs.Sums.{weigh-append, weigh_permuted}
 
 -- what passes a test, does
@@ -112,11 +112,11 @@ module _ {M S B U : Type 0} {model : Ghosts M S B U} {order : B → B → Orderi
   rest : (P : Event B → Type 0) → All P x.waiting → All P R
   rest P all = All-tail P e R (All-permutation P x.waiting (e ∷ R) taken all)
 
-  said_soon : x.said ≤ e.time + x.lookahead
-  said_soon = each_of_all law.rules.exact (λ a. x.said ≤ a.time + x.lookahead) x.waiting at.times.far e there
+  bound_out_soon : x.bound_out ≤ e.time + x.lookahead
+  bound_out_soon = each_of_all law.rules.exact (λ a. x.bound_out ≤ a.time + x.lookahead) x.waiting at.times.far e there
 
   module _ (Q : List (Event B)) (A : List (List (Event B)))
-      (dealt : IsDealt (record x { states = slice_set x.states k (model.step m e.to now e).0; waiting = R; reached = e.time }) (record x { states = slice_set x.states k (model.step m e.to now e).0; waiting = Q; away = A; reached = e.time }) sent) where
+      (dealt : IsDealt (record x { states = slice_set x.states k (model.step m e.to now e).0; waiting = R; reached = e.time }) (record x { states = slice_set x.states k (model.step m e.to now e).0; waiting = Q; outbox = A; reached = e.time }) sent) where
     abbrev J : ℕ → List (Event B)
     J = with_next at.done.journal e
 
@@ -127,13 +127,13 @@ module _ {M S B U : Type 0} {model : Ghosts M S B U} {order : B → B → Orderi
     for_other v = filter (λ f. f.to % x.workers == v) sent
 
     moved : (a : Event B) → copies y.rules.order a Q + copies y.rules.order a (events_in x.port.sent ++ flatten A)
-        ≡ copies y.rules.order a R + (copies y.rules.order a (events_in x.port.sent ++ flatten x.away) + copies y.rules.order a sent)
+        ≡ copies y.rules.order a R + (copies y.rules.order a (events_in x.port.sent ++ flatten x.outbox) + copies y.rules.order a sent)
     moved a =
         omega (
           arith,
           dealt.all (one_if_same y.rules.order a),
           weigh-append (one_if_same y.rules.order a) (events_in x.port.sent) (flatten A),
-          weigh-append (one_if_same y.rules.order a) (events_in x.port.sent) (flatten x.away),
+          weigh-append (one_if_same y.rules.order a) (events_in x.port.sent) (flatten x.outbox),
         )
 
     from : (b : Event B) → Has y.rules.order Q b → Has y.rules.order R b ⊎ Has y.rules.order sent b
@@ -158,8 +158,8 @@ module _ {M S B U : Type 0} {model : Ghosts M S B U} {order : B → B → Orderi
         (all_passing (λ f. IsSentBy e.to e f × (model.is_valid m f ≡ true)) (λ f. f.to % x.workers == x.number) sent future)))
 
     -- what holds of what was to be handed over, and of all that was sent, holds of what is then
-    handed : (P : Event B → Type 0) (v : ℕ) → IsOther x.port v → All P (away_to x v) → All P (for_other v) → All P (slice_index_or A v [])
-    handed P v other before more = subst (All P) (sym (dealt.away v (λ same. other.1 (same ∙ sym at.seated.port)))) (All-append P (away_to x v) (for_other v) before more)
+    handed : (P : Event B → Type 0) (v : ℕ) → IsOther x.port v → All P (outbox_to x v) → All P (for_other v) → All P (slice_index_or A v [])
+    handed P v other before more = subst (All P) (sym (dealt.outbox v (λ same. other.1 (same ∙ sym at.seated.port)))) (All-append P (outbox_to x v) (for_other v) before more)
 
     theirs : (v : ℕ) → IsOther x.port v → All (λ a. (a.to % x.workers ≡ v) × (model.is_valid m a ≡ true)) (slice_index_or A v [])
     theirs v other =
@@ -184,9 +184,9 @@ module _ {M S B U : Type 0} {model : Ghosts M S B U} {order : B → B → Orderi
             ∙ sym (ap (λ q. option_map (λ s. state_after (y.rules.step q) s (J q)) (slice_get x.starts q)) there)
         by false h =
             let apart : j ≢ k = λ q. grind (arith, nat_tests) in
-            let away : x.number + j * x.workers ≢ e.to = λ q. apart (sym (number_place x.workers x.number j at.seated.number).0 ∙ ap (λ p. p / x.workers) q) in
+            let outbox : x.number + j * x.workers ≢ e.to = λ q. apart (sym (number_place x.workers x.number j at.seated.number).0 ∙ ap (λ p. p / x.workers) q) in
             get_set-other x.states k j (model.step m e.to now e).0 apart ∙ at.done.states_are j
-            ∙ ap (λ l. option_map (λ s. state_after (y.rules.step (x.number + j * x.workers)) s l) (slice_get x.starts (x.number + j * x.workers))) (sym (next_other at.done.journal e (x.number + j * x.workers) away))
+            ∙ ap (λ l. option_map (λ s. state_after (y.rules.step (x.number + j * x.workers)) s l) (slice_get x.starts (x.number + j * x.workers))) (sym (next_other at.done.journal e (x.number + j * x.workers) outbox))
 
     before : (q : ℕ) (a : Event B) → Has y.rules.order (J q) a → a.time < x.until
     before q a h = by (q == e.to) refl
@@ -201,28 +201,28 @@ module _ {M S B U : Type 0} {model : Ghosts M S B U} {order : B → B → Orderi
             ]
         by false t = at.done.before q a (subst (λ l. Has y.rules.order l a) (next_other at.done.journal e q (λ same. grind (arith, nat_tests))) h)
 
-    done : HasDone (rules model order m) (record x { states = slice_set x.states k (model.step m e.to now e).0; waiting = Q; away = A; reached = e.time })
+    done : HasDone (rules model order m) (record x { states = slice_set x.states k (model.step m e.to now e).0; waiting = Q; outbox = A; reached = e.time })
     done = record { journal = J; partway = partway; own = not_mine; ours = ours; theirs = theirs; none = dealt.none ∙ at.done.none; states_are = state_at; before = before }
 
-    times : IsInTime (record x { states = slice_set x.states k (model.step m e.to now e).0; waiting = Q; away = A; reached = e.time })
+    times : IsInTime (record x { states = slice_set x.states k (model.step m e.to now e).0; waiting = Q; outbox = A; reached = e.time })
     times = record {
       until = at.times.until;
       reached = let u = at.times.until.0 in omega (arith, u, soon);
-      heard = at.times.heard;
+      bound_in = at.times.bound_in;
       told = at.times.told;
       far =
-          All-permutation (λ a. x.said ≤ a.time + x.lookahead) (R ++ own) Q dealt.waiting
-          (All-append (λ a. x.said ≤ a.time + x.lookahead) R own (rest (λ a. x.said ≤ a.time + x.lookahead) at.times.far)
-          (All-filter (λ f. f.to % x.workers == x.number) (λ a. x.said ≤ a.time + x.lookahead) sent
-          (All-weaker (λ f. e.time + x.lookahead ≤ f.time) (λ a. x.said ≤ a.time + x.lookahead) (λ f h. omega (arith, h, said_soon)) sent ahead)));
+          All-permutation (λ a. x.bound_out ≤ a.time + x.lookahead) (R ++ own) Q dealt.waiting
+          (All-append (λ a. x.bound_out ≤ a.time + x.lookahead) R own (rest (λ a. x.bound_out ≤ a.time + x.lookahead) at.times.far)
+          (All-filter (λ f. f.to % x.workers == x.number) (λ a. x.bound_out ≤ a.time + x.lookahead) sent
+          (All-weaker (λ f. e.time + x.lookahead ≤ f.time) (λ a. x.bound_out ≤ a.time + x.lookahead) (λ f h. omega (arith, h, bound_out_soon)) sent ahead)));
       hears = at.times.hears;
-      away = λ v other. handed (λ a. (x.until ≤ a.time) × (last_reach (sent_to x.port v) ≤ a.time)) v other (at.times.away v other)
-          (All-filter (λ f. f.to % x.workers == v) (λ a. (x.until ≤ a.time) × (last_reach (sent_to x.port v) ≤ a.time)) sent
-          (All-weaker (λ f. e.time + x.lookahead ≤ f.time) (λ a. (x.until ≤ a.time) × (last_reach (sent_to x.port v) ≤ a.time))
-          (λ f h. let told = at.times.told v other in let u = at.times.until.1 in (omega (arith, h, said_soon, u), omega (arith, h, said_soon, told))) sent ahead));
+      outbox = λ v other. handed (λ a. (x.until ≤ a.time) × (last_bound (sent_to x.port v) ≤ a.time)) v other (at.times.outbox v other)
+          (All-filter (λ f. f.to % x.workers == v) (λ a. (x.until ≤ a.time) × (last_bound (sent_to x.port v) ≤ a.time)) sent
+          (All-weaker (λ f. e.time + x.lookahead ≤ f.time) (λ a. (x.until ≤ a.time) × (last_bound (sent_to x.port v) ≤ a.time))
+          (λ f h. let told = at.times.told v other in let u = at.times.until.1 in (omega (arith, h, bound_out_soon, u), omega (arith, h, bound_out_soon, told))) sent ahead));
     }
 
-    seated : IsSeated model m (record x { states = slice_set x.states k (model.step m e.to now e).0; waiting = Q; away = A; reached = e.time })
+    seated : IsSeated model m (record x { states = slice_set x.states k (model.step m e.to now e).0; waiting = Q; outbox = A; reached = e.time })
     seated = record {
       ready = at.seated.ready;
       ahead = at.seated.ahead;
@@ -239,7 +239,7 @@ module _ {M S B U : Type 0} {model : Ghosts M S B U} {order : B → B → Orderi
   executed x' dealt =
       subst (IsAtWork model order m) (sym dealt.same)
       (let one = subst (λ w. IsDealt (record x { states = slice_set x.states k (model.step m e.to now e).0; waiting = R; reached = e.time }) w sent) dealt.same dealt in
-      record { seated = seated x'.waiting x'.away one; done = done x'.waiting x'.away one; times = times x'.waiting x'.away one })
+      record { seated = seated x'.waiting x'.outbox one; done = done x'.waiting x'.outbox one; times = times x'.waiting x'.outbox one })
 
   -- the same of a state, a time and what was sent that are known by equations
   module _ (s : S) (is : s ≡ now) where

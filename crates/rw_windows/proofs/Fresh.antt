@@ -14,10 +14,10 @@ use Rattle.rw_vt.specs.System.{IsReady, flatten, rules, system}
 use Rattle.rw_vt.specs.Partway.{IsPartway}
 use Rattle.rw_vt.proofs.Laws.{Laws, lawful}
 use Rattle.rw_vt.proofs.Partway.{part_begins}
-use Rattle.rw_exchange.specs.Ports.{PortState, AreGreeted, IsOpening, IsOther, IsWide, NoneItself, StayAnOpening, items_of, received_between, received_from, sent_between, sent_to}
+use Rattle.rw_exchange.specs.Ports.{PortState, HaveFirst, IsOpening, IsOther, IsWide, NoneItself, StayAnOpening, items_of, received_between, received_from, sent_between, sent_to}
 use Rattle.rw_windows.specs.declared.beginning.Terms.{Terms}
-use Rattle.rw_windows.specs.Batches.{BatchState, batch_events, events_in, last_reach}
-use Rattle.rw_windows.specs.Beginning.{greeting, greeting_to, HasNotBegun}
+use Rattle.rw_windows.specs.Batches.{BatchState, batch_events, events_in, last_bound}
+use Rattle.rw_windows.specs.Beginning.{first_batch, first_batch_to, HasNotBegun}
 use Rattle.rw_windows.specs.Running.{AreBegun}
 use Rattle.rw_windows.specs.Working.{ShareState, CanBegin, HasDone, IsAhead, IsInTime, IsSeated}
 use Rattle.rw_windows.proofs.Sums.{weigh_permuted}
@@ -38,15 +38,15 @@ no_events [] none = refl
 no_events (bs ∷ lists) none = ap (λ l. l ++ events_in lists) (none 0 (omega arith)) ∙ no_events lists (λ v within. none (suc v) (omega arith))
 
 -- the port of worker i of n, through which the first batches went
-pub record IsGreeted {M B : Type 0} (m : M) (n reach i : ℕ) (p : PortState (BatchState M B)) : Type 0 where
+pub record HasFirst {M B : Type 0} (m : M) (n bound i : ℕ) (p : PortState (BatchState M B)) : Type 0 where
   pub worker : p.worker ≡ i
   pub wide : IsWide n p
-  pub sent : (v : ℕ) → v < n → v ≢ i → sent_to p v ≡ greeting_to m n reach v ∷ []
-  pub received : (v : ℕ) → v < n → v ≢ i → received_from p v ≡ greeting_to m n reach i ∷ []
+  pub sent : (v : ℕ) → v < n → v ≢ i → sent_to p v ≡ first_batch_to m n bound v ∷ []
+  pub received : (v : ℕ) → v < n → v ≢ i → received_from p v ≡ first_batch_to m n bound i ∷ []
   pub none_sent : sent_to p i ≡ []
   pub none_received : received_from p i ≡ []
 
-module _ {M B : Type 0} (m : M) (n reach i : ℕ) (p : PortState (BatchState M B)) (known : IsGreeted m n reach i p) where
+module _ {M B : Type 0} (m : M) (n bound i : ℕ) (p : PortState (BatchState M B)) (known : HasFirst m n bound i p) where
   no_events_sent : events_in p.sent ≡ []
   no_events_sent = no_events p.sent each
     where
@@ -72,17 +72,17 @@ module _ {M B : Type 0} (m : M) (n reach i : ℕ) (p : PortState (BatchState M B
   not_own v other e = other.1 (e ∙ sym known.worker)
 
 abbrev shown : {M S B : Type 0} → Terms → ShareState M S B → ShareState M S B
-shown t x = record x { workers = t.workers; end = t.end; lookahead = t.lookahead; reached = 0; away = replicate t.workers []; until = 0; heard = t.reach; said = t.reach }
+shown t x = record x { workers = t.workers; end = t.end; lookahead = t.lookahead; reached = 0; outbox = replicate t.workers []; until = 0; bound_in = t.bound; bound_out = t.bound }
 
 module _ {M S B U : Type 0} {model : Ghosts M S B U} {order : B → B → Ordering} (laws : Laws model order) (m : M) (t : Terms) (starts : List S) (events : List (Event B))
-    (ready : IsReady model m starts events) (ahead : IsAhead model m t.lookahead) (least : All (λ e. t.reach ≤ e.time + t.lookahead) events) (some : 0 < t.reach)
+    (ready : IsReady model m starts events) (ahead : IsAhead model m t.lookahead) (least : All (λ e. t.bound ≤ e.time + t.lookahead) events) (some : 0 < t.bound)
     (x : ShareState M S B) (inside : x.number < t.workers) (given : x.given ≡ filter (λ e. e.to % t.workers == x.number) events) (waiting : IsPermutation x.given x.waiting)
-    (states : (k : ℕ) → slice_get x.states k ≡ slice_get starts (x.number + k * t.workers)) (port : IsGreeted m t.workers t.reach x.number x.port) where
+    (states : (k : ℕ) → slice_get x.states k ≡ slice_get starts (x.number + k * t.workers)) (port : HasFirst m t.workers t.bound x.number x.port) where
   abbrev fresh : ShareState M S B
   fresh = record (shown t x) { starts = starts }
 
   initial_is : x.given ++ events_in x.port.received ≡ x.given
-  initial_is = ap (λ l. x.given ++ l) (no_events_received m t.workers t.reach x.number x.port port) ∙ append-nil x.given
+  initial_is = ap (λ l. x.given ++ l) (no_events_received m t.workers t.bound x.number x.port port) ∙ append-nil x.given
 
   -- what holds of all events holds of those that it was dealt, and of those that wait
   of_given : (P : Event B → Type 0) → All P events → All P x.given
@@ -104,21 +104,21 @@ module _ {M S B U : Type 0} {model : Ghosts M S B U} {order : B → B → Orderi
     wide = port.wide;
     lists = length-replicate t.workers [];
     sends = λ v other. (
-      greeting_to m t.workers t.reach v,
+      first_batch_to m t.workers t.bound v,
       [],
-      port.sent v (within m t.workers t.reach x.number x.port port v other) (not_own m t.workers t.reach x.number x.port port v other),
+      port.sent v (within m t.workers t.bound x.number x.port port v other) (not_own m t.workers t.bound x.number x.port port v other),
       record { model = refl; workers = refl; to = refl },
     );
     hears = λ v other. (
-      greeting_to m t.workers t.reach x.number,
+      first_batch_to m t.workers t.bound x.number,
       [],
-      port.received v (within m t.workers t.reach x.number x.port port v other) (not_own m t.workers t.reach x.number x.port port v other),
+      port.received v (within m t.workers t.bound x.number x.port port v other) (not_own m t.workers t.bound x.number x.port port v other),
       record { model = refl; workers = refl; to = refl },
     );
   }
 
   out_none : events_in x.port.sent ++ flatten (replicate t.workers []) ≡ []
-  out_none = ap (λ l. l ++ flatten (replicate t.workers [])) (no_events_sent m t.workers t.reach x.number x.port port) ∙ none_joined t.workers
+  out_none = ap (λ l. l ++ flatten (replicate t.workers [])) (no_events_sent m t.workers t.bound x.number x.port port) ∙ none_joined t.workers
 
   partway : IsPartway (system model order m starts (x.given ++ events_in x.port.received)) (λ _. []) x.waiting (events_in x.port.sent ++ flatten (replicate t.workers []))
   partway =
@@ -144,11 +144,11 @@ module _ {M S B U : Type 0} {model : Ghosts M S B U} {order : B → B → Orderi
   times = record {
     until = (omega arith, omega arith, omega arith);
     reached = some;
-    heard = λ v other. let e = ap last_reach (port.received v (within m t.workers t.reach x.number x.port port v other) (not_own m t.workers t.reach x.number x.port port v other)) in omega arith;
-    told = λ v other. let e = ap last_reach (port.sent v (within m t.workers t.reach x.number x.port port v other) (not_own m t.workers t.reach x.number x.port port v other)) in omega arith;
-    far = All-permutation (λ a. t.reach ≤ a.time + t.lookahead) x.given x.waiting waiting (of_given (λ a. t.reach ≤ a.time + t.lookahead) least);
+    bound_in = λ v other. let e = ap last_bound (port.received v (within m t.workers t.bound x.number x.port port v other) (not_own m t.workers t.bound x.number x.port port v other)) in omega arith;
+    told = λ v other. let e = ap last_bound (port.sent v (within m t.workers t.bound x.number x.port port v other) (not_own m t.workers t.bound x.number x.port port v other)) in omega arith;
+    far = All-permutation (λ a. t.bound ≤ a.time + t.lookahead) x.given x.waiting waiting (of_given (λ a. t.bound ≤ a.time + t.lookahead) least);
     hears = omega arith;
-    away = λ v other. subst (All (λ a. (0 ≤ a.time) × (last_reach (sent_to x.port v) ≤ a.time))) (sym (nothing_at t.workers v)) (All-nil (λ a. (0 ≤ a.time) × (last_reach (sent_to x.port v) ≤ a.time)));
+    outbox = λ v other. subst (All (λ a. (0 ≤ a.time) × (last_bound (sent_to x.port v) ≤ a.time))) (sym (nothing_at t.workers v)) (All-nil (λ a. (0 ≤ a.time) × (last_bound (sent_to x.port v) ≤ a.time)));
   }
 
   fresh_begins : CanBegin model order m fresh
@@ -158,11 +158,11 @@ module _ {M S B U : Type 0} {model : Ghosts M S B U} {order : B → B → Orderi
   new_begins new starts_are = subst (CanBegin model order m) (sym (new.is ∙ ap (λ l. record (shown t x) { starts = l }) starts_are)) fresh_begins
 
 -- the first batch is there
-greeted_by : {M B : Type 0} (m : M) (n reach from to : ℕ) → to < n → items_of (greeting {B = B} m n reach from to) ≡ greeting_to m n reach to ∷ []
-greeted_by m n reach from to within = ap (λ b. items_of (cond b (Some (greeting_to m n reach to)) None)) (lt-ltb to n within)
+first_sent_by : {M B : Type 0} (m : M) (n bound from to : ℕ) → to < n → items_of (first_batch {B = B} m n bound from to) ≡ first_batch_to m n bound to ∷ []
+first_sent_by m n bound from to within = ap (λ b. items_of (cond b (Some (first_batch_to m n bound to)) None)) (lt-ltb to n within)
 
 -- one port of an opening that greets
-module _ {M B : Type 0} (m : M) (n reach : ℕ) (ps : List (PortState (BatchState M B))) (long : length ps ≡ n) (opening : IsOpening ps) (greeted : AreGreeted n (greeting m n reach) ps) (own : NoneItself n ps)
+module _ {M B : Type 0} (m : M) (n bound : ℕ) (ps : List (PortState (BatchState M B))) (long : length ps ≡ n) (opening : IsOpening ps) (first_sent : HaveFirst n (first_batch m n bound) ps) (own : NoneItself n ps)
     (i : ℕ) (inside : i < n) (p : PortState (BatchState M B)) (is : get_or ps i p ≡ p) where
   there : i < length ps
   there = omega (arith, long)
@@ -173,22 +173,22 @@ module _ {M B : Type 0} (m : M) (n reach : ℕ) (ps : List (PortState (BatchStat
   received_is : (v : ℕ) → received_from p v ≡ received_between ps v i
   received_is v = ap (λ q. received_from q v) (sym is) ∙ ap (λ l. get_or l v []) (sym (get_or-map (λ q. q.received) ps i p [] there))
 
-  port_greeted : IsGreeted m n reach i p
-  port_greeted = record {
+  port_first_sent : HasFirst m n bound i p
+  port_first_sent = record {
     worker = ap (λ q. q.worker) (sym is) ∙ opening.numbered i p there;
     wide = subst (λ k. IsWide k p) long (subst (IsWide (length ps)) is (opening.wide i p there));
-    sent = λ v below other. sent_is v ∙ (greeted i v inside below (λ e. other (sym e))).0 ∙ greeted_by m n reach i v below;
-    received = λ v below other. received_is v ∙ (greeted v i below inside other).1 ∙ greeted_by m n reach v i inside;
+    sent = λ v below other. sent_is v ∙ (first_sent i v inside below (λ e. other (sym e))).0 ∙ first_sent_by m n bound i v below;
+    received = λ v below other. received_is v ∙ (first_sent v i below inside other).1 ∙ first_sent_by m n bound v i inside;
     none_sent = sent_is i ∙ (own i inside).0;
     none_received = received_is i ∙ (own i inside).1;
   }
 
 -- all workers, with their shares
 module _ {M S B U : Type 0} {model : Ghosts M S B U} {order : B → B → Ordering} (laws : Laws model order) (m : M) (t : Terms) (starts : List S) (events : List (Event B))
-    (ready : IsReady model m starts events) (ahead : IsAhead model m t.lookahead) (least : All (λ e. t.reach ≤ e.time + t.lookahead) events) (some : 0 < t.reach)
+    (ready : IsReady model m starts events) (ahead : IsAhead model m t.lookahead) (least : All (λ e. t.bound ≤ e.time + t.lookahead) events) (some : 0 < t.bound)
     (shares : List (List S)) (dealt : (i place : ℕ) → i < t.workers → slice_get (get_or shares i []) place ≡ slice_get starts (i + place * t.workers))
     (inboxes : List (List (Event B))) (sorted_out : (i : ℕ) → i < t.workers → get_or inboxes i [] ≡ filter (λ e. e.to % t.workers == i) events)
-    (ps : List (PortState (BatchState M B))) (long : length ps ≡ t.workers) (opening : IsOpening ps) (stays : StayAnOpening ps) (greeted : AreGreeted t.workers (greeting m t.workers t.reach) ps) (own : NoneItself t.workers ps)
+    (ps : List (PortState (BatchState M B))) (long : length ps ≡ t.workers) (opening : IsOpening ps) (stays : StayAnOpening ps) (first_sent : HaveFirst t.workers (first_batch m t.workers t.bound) ps) (own : NoneItself t.workers ps)
     (ws : List (ShareState M S B)) (count : length ws ≡ t.workers) (numbers : (i : ℕ) (d : ShareState M S B) → i < t.workers → (get_or ws i d).number ≡ i)
     (their_states : map (λ w. w.states) ws ≡ shares) (their_given : map (λ w. w.given) ws ≡ inboxes) (their_ports : map (λ w. w.port) ws ≡ ps) (their_starts : map (λ w. w.starts) ws ≡ replicate t.workers starts)
     (new : All (HasNotBegun t) ws) where
@@ -198,9 +198,9 @@ module _ {M S B U : Type 0} {model : Ghosts M S B U} {order : B → B → Orderi
   starts_are : (i : ℕ) (d : ShareState M S B) → i < t.workers → (get_or ws i d).starts ≡ starts
   starts_are i d inside = sym (get_or-map (λ w. w.starts) ws i d [] (omega (arith, count))) ∙ ap (λ l. get_or l i []) their_starts ∙ get_or-replicate t.workers i starts [] inside
 
-  port_of : (i : ℕ) (d : ShareState M S B) → i < t.workers → IsGreeted m t.workers t.reach i (get_or ws i d).port
+  port_of : (i : ℕ) (d : ShareState M S B) → i < t.workers → HasFirst m t.workers t.bound i (get_or ws i d).port
   port_of i d inside =
-      port_greeted m t.workers t.reach ps long opening greeted own i inside (get_or ws i d).port
+      port_first_sent m t.workers t.bound ps long opening first_sent own i inside (get_or ws i d).port
       (ap (λ l. get_or l i (get_or ws i d).port) (sym their_ports)
       ∙ get_or-map (λ w. w.port) ws i d (get_or ws i d).port (omega (arith, count)))
 
@@ -214,7 +214,7 @@ module _ {M S B U : Type 0} {model : Ghosts M S B U} {order : B → B → Orderi
       (given_is i d inside ∙ ap (λ j. filter (λ e. e.to % t.workers == j) events) number)
       fresh.waiting
       (λ k. ap (λ l. slice_get l k) (sym (get_or-map (λ w. w.states) ws i d [] within) ∙ ap (λ l. get_or l i []) their_states) ∙ dealt i k inside ∙ ap (λ j. slice_get starts (j + k * t.workers)) number)
-      (subst (λ j. IsGreeted m t.workers t.reach j x.port) number (port_of i d inside))
+      (subst (λ j. HasFirst m t.workers t.bound j x.port) number (port_of i d inside))
       fresh (starts_are i d inside)
 
   terms_at : (i : ℕ) (d : ShareState M S B) → i < length ws → ((get_or ws i d).workers ≡ t.workers) × ((get_or ws i d).end ≡ t.end) × ((get_or ws i d).starts ≡ starts)
@@ -234,8 +234,8 @@ module _ {M S B U : Type 0} {model : Ghosts M S B U} {order : B → B → Orderi
   }
 
 -- the first time that nothing is sent before
-pub first_reach : {B : Type 0} (events : List (Event B)) (least lookahead reach : ℕ) → All (λ e. least ≤ e.time) events → reach ≡ min (least + lookahead) (2 ^ 64 - 1) → All (λ e. reach ≤ e.time + lookahead) events
-first_reach events least lookahead reach all is = All-weaker (λ e. least ≤ e.time) (λ e. reach ≤ e.time + lookahead) (λ e h. omega (arith, is)) events all
+pub first_bound : {B : Type 0} (events : List (Event B)) (least lookahead bound : ℕ) → All (λ e. least ≤ e.time) events → bound ≡ min (least + lookahead) (2 ^ 64 - 1) → All (λ e. bound ≤ e.time + lookahead) events
+first_bound events least lookahead bound all is = All-weaker (λ e. least ≤ e.time) (λ e. bound ≤ e.time + lookahead) (λ e h. omega (arith, is)) events all
 
-pub some_reach : (least lookahead reach : ℕ) → 1 ≤ lookahead → reach ≡ min (least + lookahead) (2 ^ 64 - 1) → 0 < reach
-some_reach least lookahead reach some is = omega (arith, is)
+pub some_bound : (least lookahead bound : ℕ) → 1 ≤ lookahead → bound ≡ min (least + lookahead) (2 ^ 64 - 1) → 0 < bound
+some_bound least lookahead bound some is = omega (arith, is)

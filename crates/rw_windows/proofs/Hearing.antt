@@ -18,9 +18,9 @@ use Rattle.rw_vt.proofs.Laws.{Laws, lawful, rules_lawful}
 use Rattle.rw_vt.proofs.Partway.{part_more}
 use Rattle.rw_vt.proofs.Runs.{earlier_at_most}
 use Rattle.rw_exchange.specs.Ports.{SamePort, IsOther, PortState, after_receiving, received_from}
-use Rattle.rw_windows.specs.Batches.{BatchState, BeginFor, IsFor, MayFollow, events_in, last_reach}
+use Rattle.rw_windows.specs.Batches.{BatchState, BeginFor, IsFor, MayFollow, events_in, last_bound}
 use Rattle.rw_windows.specs.Working.{ShareState, IsAtWork, IsSeated, HasDone, IsInTime}
-use Rattle.rw_windows.proofs.Batched.{begin_still, reach_behind, weigh_with}
+use Rattle.rw_windows.proofs.Batched.{begin_still, bound_behind, weigh_with}
 use Rattle.rw_windows.proofs.Joined.{part_same_initial}
 use Rattle.rw_windows.proofs.Sums.{all_of_each, weigh_permuted}
 use Rattle.rw_windows.proofs.Workers.{at_times}
@@ -38,43 +38,43 @@ module _ {M S B U : Type 0} {model : Ghosts M S B U} {order : B → B → Orderi
           of_first k = record { model = k.model ∙ h.3.model; workers = k.workers ∙ h.3.workers; to = k.to ∙ h.3.to }
 
   -- none of it is before what was heard
-  heard_before : All (λ e. x.heard ≤ e.time) b.events
-  heard_before = All-weaker (λ e. last_reach (received_from x.port from) ≤ e.time) (λ e. x.heard ≤ e.time) (λ e h. let k = work.times.heard from other in omega (arith, h, k)) b.events allowed.in_time
+  bound_in_before : All (λ e. x.bound_in ≤ e.time) b.events
+  bound_in_before = All-weaker (λ e. last_bound (received_from x.port from) ≤ e.time) (λ e. x.bound_in ≤ e.time) (λ e h. let k = work.times.bound_in from other in omega (arith, h, k)) b.events allowed.in_time
 
   -- nor before the time that is reached
   pub reached_before : All (λ e. x.reached < e.time) b.events
-  reached_before = All-weaker (λ e. x.heard ≤ e.time) (λ e. x.reached < e.time) (λ e h. omega (arith, h, work.times.reached)) b.events heard_before
+  reached_before = All-weaker (λ e. x.bound_in ≤ e.time) (λ e. x.reached < e.time) (λ e h. omega (arith, h, work.times.reached)) b.events bound_in_before
 
   valid_here : All (λ e. model.is_valid m e ≡ true) b.events
   valid_here = All-weaker (λ e. model.is_valid b.model e ≡ true) (λ e. model.is_valid m e ≡ true) (λ e h. subst (λ w. model.is_valid w e ≡ true) for_it.model h) b.events allowed.valid
 
   module _ (waiting : List (Event B)) (joined : IsPermutation (x.waiting ++ b.events) waiting) where
     -- the worker, once it has heard that
-    abbrev hearing : ShareState M S B
-    hearing = record x { port = after_receiving x.port from b; waiting = waiting }
+    abbrev receiving : ShareState M S B
+    receiving = record x { port = after_receiving x.port from b; waiting = waiting }
 
     abbrev came : List (Event B)
     came = x.given ++ events_in x.port.received
 
     abbrev come : List (Event B)
-    come = x.given ++ events_in hearing.port.received
+    come = x.given ++ events_in receiving.port.received
 
     in_received : from < length x.port.received
     in_received = omega (arith, work.seated.wide.0, work.seated.wide.3, other.0)
 
-    received_here : received_from hearing.port from ≡ received_from x.port from ++ b ∷ []
+    received_here : received_from receiving.port from ≡ received_from x.port from ++ b ∷ []
     received_here = get_or-set_same x.port.received from (received_from x.port from ++ b ∷ []) [] in_received
 
-    received_there : (v : ℕ) → v ≢ from → received_from hearing.port v ≡ received_from x.port v
+    received_there : (v : ℕ) → v ≢ from → received_from receiving.port v ≡ received_from x.port v
     received_there v ne = get_or-set_other x.port.received from v (received_from x.port from ++ b ∷ []) [] ne
 
-    reach_here : last_reach (received_from hearing.port from) ≡ b.reach
-    reach_here = ap last_reach received_here ∙ reach_behind (received_from x.port from) b
+    bound_here : last_bound (received_from receiving.port from) ≡ b.bound
+    bound_here = ap last_bound received_here ∙ bound_behind (received_from x.port from) b
 
     come_counts : (e : Event B) → copies (rules model order m).order e come ≡ copies (rules model order m).order e (came ++ b.events)
     come_counts e =
         let o = (rules_lawful laws m).exact in
-        copies-append o e x.given (events_in hearing.port.received)
+        copies-append o e x.given (events_in receiving.port.received)
         ∙ omega (arith, weigh_with (one_if_same (rules model order m).order e) x.port.received from b in_received, copies-append o e came b.events, copies-append o e x.given (events_in x.port.received))
 
     each_valid : (a : Event B) → Has (rules model order m).order come a → model.is_valid m a ≡ true
@@ -89,14 +89,14 @@ module _ {M S B U : Type 0} {model : Ghosts M S B U} {order : B → B → Orderi
       valid = all_of_each (rules_lawful laws m).exact (λ e. model.is_valid m e ≡ true) come each_valid;
     }
 
-    hears : (v : ℕ) → IsOther x.port v → BeginFor m x.workers x.number (received_from hearing.port v)
+    hears : (v : ℕ) → IsOther x.port v → BeginFor m x.workers x.number (received_from receiving.port v)
     hears v o = elim (cases_eq v from) [
-      | inl e ↦ subst (BeginFor m x.workers x.number) (sym (ap (received_from hearing.port) e ∙ received_here)) (begin_still m x.workers x.number (received_from x.port from) b (work.seated.hears from other))
+      | inl e ↦ subst (BeginFor m x.workers x.number) (sym (ap (received_from receiving.port) e ∙ received_here)) (begin_still m x.workers x.number (received_from x.port from) b (work.seated.hears from other))
       | inr ne ↦ subst (BeginFor m x.workers x.number) (sym (received_there v ne)) (work.seated.hears v o)
     ]
 
-    hearing_seated : IsSeated model m hearing
-    hearing_seated = record {
+    receiving_seated : IsSeated model m receiving
+    receiving_seated = record {
       ready = ready;
       ahead = work.seated.ahead;
       number = work.seated.number;
@@ -111,14 +111,14 @@ module _ {M S B U : Type 0} {model : Ghosts M S B U} {order : B → B → Orderi
     after_done q a e h k =
         let law = rules_lawful laws m in
         let early = work.done.before q a h in
-        let late = each_of_all law.exact (λ z. x.heard ≤ z.time) b.events heard_before e k in
+        let late = each_of_all law.exact (λ z. x.bound_in ≤ z.time) b.events bound_in_before e k in
         earlier_at_most law a e (omega (arith, early, late, work.times.until.0))
 
-    partway : IsPartway (system model order m x.starts come) work.done.journal waiting (events_in x.port.sent ++ flatten x.away)
+    partway : IsPartway (system model order m x.starts come) work.done.journal waiting (events_in x.port.sent ++ flatten x.outbox)
     partway =
         let o = (rules_lawful laws m).exact in
         part_same_initial (system model order m x.starts (came ++ b.events)) (came ++ b.events) come
-        (part_more (system model order m x.starts came) (lawful laws m x.starts came work.seated.ready) work.done.journal x.waiting (events_in x.port.sent ++ flatten x.away) b.events waiting work.done.partway
+        (part_more (system model order m x.starts came) (lawful laws m x.starts came work.seated.ready) work.done.journal x.waiting (events_in x.port.sent ++ flatten x.outbox) b.events waiting work.done.partway
         (λ e. weigh_permuted (one_if_same (rules model order m).order e) (x.waiting ++ b.events) waiting joined ∙ copies-append o e x.waiting b.events)
         (each_of_all o (λ e. model.is_valid m e ≡ true) b.events valid_here) after_done)
         (λ e. sym (come_counts e))
@@ -128,8 +128,8 @@ module _ {M S B U : Type 0} {model : Ghosts M S B U} {order : B → B → Orderi
         (All-append (λ a. a.to % x.workers ≡ x.number) x.waiting b.events work.done.ours
         (All-weaker (λ e. e.to % b.workers ≡ b.to) (λ a. a.to % x.workers ≡ x.number) (λ a h. sym (ap (λ n. a.to % n) for_it.workers) ∙ h ∙ for_it.to) b.events allowed.theirs))
 
-    hearing_done : HasDone (rules model order m) hearing
-    hearing_done = record {
+    receiving_done : HasDone (rules model order m) receiving
+    receiving_done = record {
       journal = work.done.journal;
       partway = partway;
       own = work.done.own;
@@ -140,75 +140,75 @@ module _ {M S B U : Type 0} {model : Ghosts M S B U} {order : B → B → Orderi
       before = work.done.before;
     }
 
-    heard : (v : ℕ) → IsOther x.port v → x.heard ≤ last_reach (received_from hearing.port v)
-    heard v o = elim (cases_eq v from) [
-      | inl e ↦ let here = ap (λ w. last_reach (received_from hearing.port w)) e ∙ reach_here in let was = work.times.heard from other in omega (arith, here, was, allowed.further)
-      | inr ne ↦ subst (λ l. x.heard ≤ last_reach l) (sym (received_there v ne)) (work.times.heard v o)
+    bound_in : (v : ℕ) → IsOther x.port v → x.bound_in ≤ last_bound (received_from receiving.port v)
+    bound_in v o = elim (cases_eq v from) [
+      | inl e ↦ let here = ap (λ w. last_bound (received_from receiving.port w)) e ∙ bound_here in let was = work.times.bound_in from other in omega (arith, here, was, allowed.further)
+      | inr ne ↦ subst (λ l. x.bound_in ≤ last_bound l) (sym (received_there v ne)) (work.times.bound_in v o)
     ]
 
-    far : All (λ a. x.said ≤ a.time + x.lookahead) waiting
-    far = All-permutation (λ a. x.said ≤ a.time + x.lookahead) (x.waiting ++ b.events) waiting joined
-        (All-append (λ a. x.said ≤ a.time + x.lookahead) x.waiting b.events work.times.far
-        (All-weaker (λ e. x.heard ≤ e.time) (λ a. x.said ≤ a.time + x.lookahead) (λ a h. omega (arith, h, work.times.hears)) b.events heard_before))
+    far : All (λ a. x.bound_out ≤ a.time + x.lookahead) waiting
+    far = All-permutation (λ a. x.bound_out ≤ a.time + x.lookahead) (x.waiting ++ b.events) waiting joined
+        (All-append (λ a. x.bound_out ≤ a.time + x.lookahead) x.waiting b.events work.times.far
+        (All-weaker (λ e. x.bound_in ≤ e.time) (λ a. x.bound_out ≤ a.time + x.lookahead) (λ a h. omega (arith, h, work.times.hears)) b.events bound_in_before))
 
-    hearing_times : IsInTime hearing
-    hearing_times = record {
+    receiving_times : IsInTime receiving
+    receiving_times = record {
       until = work.times.until;
       reached = work.times.reached;
-      heard = heard;
+      bound_in = bound_in;
       told = work.times.told;
       far = far;
       hears = work.times.hears;
-      away = work.times.away;
+      outbox = work.times.outbox;
     }
 
-    hearing_at_work : IsAtWork model order m hearing
-    hearing_at_work = record { seated = hearing_seated; done = hearing_done; times = hearing_times }
+    receiving_at_work : IsAtWork model order m receiving
+    receiving_at_work = record { seated = receiving_seated; done = receiving_done; times = receiving_times }
 
     -- with the port and the time that is reached as given
-    pub hearing_with : (port : PortState (BatchState M B)) (reached : ℕ) → port ≡ after_receiving x.port from b → reached ≡ x.reached
+    pub receiving_with : (port : PortState (BatchState M B)) (reached : ℕ) → port ≡ after_receiving x.port from b → reached ≡ x.reached
         → IsAtWork model order m (record x { port = port; waiting = waiting; reached = reached })
-    hearing_with port reached p r =
+    receiving_with port reached p r =
         subst (λ q. IsAtWork model order m (record x { port = q; waiting = waiting; reached = reached })) (sym p)
-        (subst (λ t. IsAtWork model order m (record hearing { reached = t })) (sym r) hearing_at_work)
+        (subst (λ t. IsAtWork model order m (record receiving { reached = t })) (sym r) receiving_at_work)
 
     -- the reach of the batch is the last one of its worker
-    pub reach_with : (port : PortState (BatchState M B)) → port ≡ after_receiving x.port from b → b.reach ≤ last_reach (received_from port from)
-    reach_with port p = let r = ap (λ q. last_reach (received_from q from)) p ∙ reach_here in omega (arith, r)
+    pub bound_with : (port : PortState (BatchState M B)) → port ≡ after_receiving x.port from b → b.bound ≤ last_bound (received_from port from)
+    bound_with port p = let r = ap (λ q. last_bound (received_from q from)) p ∙ bound_here in omega (arith, r)
 
     pub others_with : (port : PortState (BatchState M B)) → port ≡ after_receiving x.port from b → (v : ℕ) → v ≢ from → received_from port v ≡ received_from x.port v
     others_with port p v ne = ap (λ q. received_from q v) p ∙ received_there v ne
 
 -- a worker at work that hears of nothing more before a later time
-hearing_further : {M S B U : Type 0} {model : Ghosts M S B U} {order : B → B → Ordering} (m : M) (x : ShareState M S B) → IsAtWork model order m x
-    → (t : ℕ) → x.heard ≤ t → ((v : ℕ) → IsOther x.port v → t ≤ last_reach (received_from x.port v)) → IsAtWork model order m (record x { heard = t })
-hearing_further m x work t more heard =
-    at_times m x work x.until t x.said (omega arith) (record {
+receiving_further : {M S B U : Type 0} {model : Ghosts M S B U} {order : B → B → Ordering} (m : M) (x : ShareState M S B) → IsAtWork model order m x
+    → (t : ℕ) → x.bound_in ≤ t → ((v : ℕ) → IsOther x.port v → t ≤ last_bound (received_from x.port v)) → IsAtWork model order m (record x { bound_in = t })
+receiving_further m x work t more bound_in =
+    at_times m x work x.until t x.bound_out (omega arith) (record {
       until = (omega (arith, work.times.until.0, more), work.times.until.1, work.times.until.2);
       reached = omega (arith, work.times.reached, more);
-      heard = heard;
+      bound_in = bound_in;
       told = work.times.told;
       far = work.times.far;
       hears = omega (arith, work.times.hears, more);
-      away = work.times.away;
+      outbox = work.times.outbox;
     })
 
 module _ {M S B : Type 0} where
   -- of each other worker that stands before the next one, no event of a later batch is before t
   abbrev pub HeardOf : ShareState M S B → ℕ → ℕ → Type 0
-  HeardOf x t next = (v : ℕ) → v < next → IsOther x.port v → t ≤ last_reach (received_from x.port v)
+  HeardOf x t next = (v : ℕ) → v < next → IsOther x.port v → t ≤ last_bound (received_from x.port v)
 
-  pub heard_own : (x : ShareState M S B) (t next : ℕ) → HeardOf x t next → next ≡ x.port.worker → HeardOf x t (next + 1)
-  heard_own x t next before own v h o = before v (below (λ e. o.1 (e ∙ own))) o
+  pub bound_in_own : (x : ShareState M S B) (t next : ℕ) → HeardOf x t next → next ≡ x.port.worker → HeardOf x t (next + 1)
+  bound_in_own x t next before own v h o = before v (below (λ e. o.1 (e ∙ own))) o
     where
       below : v ≢ next → v < next
       below ne = omega (arith, h, ne)
 
-  pub heard_next : (x y : ShareState M S B) (t next reach s : ℕ) → HeardOf x t next → SamePort x.port y.port → ((v : ℕ) → v ≢ next → received_from y.port v ≡ received_from x.port v)
-      → reach ≤ last_reach (received_from y.port next) → s ≡ min t reach → HeardOf y s (next + 1)
-  heard_next x y t next reach s before same others here s_is v h o = elim (cases_eq v next) [
-    | inl e ↦ let r = ap (λ w. last_reach (received_from y.port w)) e in omega (arith, r, here, s_is)
-    | inr ne ↦ let r = ap last_reach (others v ne) in let b = before v (below ne) (was o) in omega (arith, r, b, s_is)
+  pub bound_in_next : (x y : ShareState M S B) (t next bound s : ℕ) → HeardOf x t next → SamePort x.port y.port → ((v : ℕ) → v ≢ next → received_from y.port v ≡ received_from x.port v)
+      → bound ≤ last_bound (received_from y.port next) → s ≡ min t bound → HeardOf y s (next + 1)
+  bound_in_next x y t next bound s before same others here s_is v h o = elim (cases_eq v next) [
+    | inl e ↦ let r = ap (λ w. last_bound (received_from y.port w)) e in omega (arith, r, here, s_is)
+    | inr ne ↦ let r = ap last_bound (others v ne) in let b = before v (below ne) (was o) in omega (arith, r, b, s_is)
   ]
     where
       below : v ≢ next → v < next
@@ -218,11 +218,11 @@ module _ {M S B : Type 0} where
       was k = (subst (λ l. v < length l) same.out k.0, λ e. k.1 (e ∙ sym same.worker))
 
 -- what it has heard once it has heard of all others
-pub next_hearing : {M S B U : Type 0} {model : Ghosts M S B U} {order : B → B → Ordering} (m : M) (x : ShareState M S B) → IsAtWork model order m x
-    → (h t next : ℕ) → x.workers ≤ next → HeardOf x h next → t ≡ max x.heard h → IsAtWork model order m (record x { heard = t })
-next_hearing m x work h t next all before t_is =
-    hearing_further m x work t (omega (arith, t_is))
+pub next_receiving : {M S B U : Type 0} {model : Ghosts M S B U} {order : B → B → Ordering} (m : M) (x : ShareState M S B) → IsAtWork model order m x
+    → (h t next : ℕ) → x.workers ≤ next → HeardOf x h next → t ≡ max x.bound_in h → IsAtWork model order m (record x { bound_in = t })
+next_receiving m x work h t next all before t_is =
+    receiving_further m x work t (omega (arith, t_is))
     (λ v o.
     let b = before v (omega (arith, o.0, all, work.seated.wide.0)) o in
-    let was = work.times.heard v o in
+    let was = work.times.bound_in v o in
     omega (arith, t_is, b, was))

@@ -22,7 +22,7 @@ use Rattle.rw_windows.specs.Batches.{MayFollow}
 use Rattle.rw_windows.specs.contracts.batch.Batch as Batch
 use Rattle.rw_windows.specs.contracts.batch.Batch.TheInside as BatchInside
 use Rattle.rw_windows.specs.contracts.batch.InTime as InTime
-use Rattle.rw_windows.specs.contracts.bells.Bells as Bells
+use Rattle.rw_windows.specs.contracts.parkers.Parkers as Parkers
 use Rattle.crossbeam_channel.proofs.channel.Receiver.TheSendSync.{the_send as receiver_may_move}
 use Rattle.rw_windows.specs.contracts.domain.Domain as Domain
 use Rattle.rw_windows.specs.contracts.share.Share as Share
@@ -44,9 +44,9 @@ shot_may_move T = search (sendable, crosses) depth 20
 time_may_move : IsSend u64-field.row
 time_may_move = search sendable
 
-bells_may_move : IsSend (Bells.the_field).row
-bells_may_move =
-    let S = shape Bells.the_type in
+parkers_may_move : IsSend (Parkers.the_field).row
+parkers_may_move =
+    let S = shape Parkers.the_type in
     let all : AllSend S.fields = (search (sendable, crosses) depth 40, (search (sendable, crosses, receiver_may_move) depth 40, tt)) in
     struct_send S all
 
@@ -78,7 +78,7 @@ module _ (M S B U : RattleType) (g : Ghosts M.Denot S.Denot B.Denot U.Denot) (o 
       let t = time_may_move in
       let starts = shot_may_move (Snapshot.the_row (Vec.the_row S Global.the_row global.ghosts)) in
       let given = shot_may_move (Vec.the_row (Event.the_row B) Global.the_row global.ghosts) in
-      let all : AllSend (shape T).fields = (n, (n, (t, (t, (states_may_move s, (ends_may_move b, (bells_may_move, (lists_may_move b, (t, (t, (t, (t, (t, (starts, (given, tt))))))))))))))) in
+      let all : AllSend (shape T).fields = (n, (n, (t, (t, (states_may_move s, (ends_may_move b, (parkers_may_move, (lists_may_move b, (t, (t, (t, (t, (t, (starts, (given, tt))))))))))))))) in
       struct_send (shape T) all
 
   pub share_may_move : IsSend S → IsSend B → IsSend U → IsSend (Share.the_row M S B U g o w e p c)

@@ -10,8 +10,8 @@ use Rattle.std.proofs.lemmas.List.Sorted.{sum_by-IsPermutation}
 use Rattle.rw_vt.specs.Order.{weigh, Has}
 use Rattle.rw_vt.specs.System.{flatten}
 use Rattle.rw_vt.proofs.Sorting.{IsExactOrder, Has-append, Has-head, Has-tail}
-use Rattle.rw_crew.specs.Sums.{sum_below}
-use Rattle.rw_crew.proofs.Sums.{total_add, total_first, total_one, total_same, total_zero}
+use Rattle.rw_pool.specs.Sums.{sum_below}
+use Rattle.rw_pool.proofs.Sums.{total_add, total_first, total_one, total_same, total_zero}
 
 -- the lists f 0, .., f (n - 1), one after another
 abbrev pub joined : {X : Type 0} → ℕ → (ℕ → List X) → List X

@@ -8,8 +8,8 @@ use Rattle.rw_vt.specs.Order.{one_if_same}
 use Rattle.rw_vt.specs.System.{rules}
 use Rattle.rw_vt.proofs.Partway.{part_reordered}
 use Rattle.rw_exchange.specs.Ports.{sent_to}
-use Rattle.rw_windows.specs.Batches.{last_reach}
-use Rattle.rw_windows.specs.Working.{HandedOver, HasWorked, IsAtWork, IsInTime, IsReordered, SameWorker, ShareState, away_to}
+use Rattle.rw_windows.specs.Batches.{last_bound}
+use Rattle.rw_windows.specs.Working.{HandedOver, HasWorked, IsAtWork, IsInTime, IsReordered, SameWorker, ShareState, outbox_to}
 use Rattle.rw_windows.proofs.Ports.{same_port, same_port_then}
 use Rattle.rw_windows.proofs.Sums.{weigh_permuted}
 
@@ -30,8 +30,8 @@ module _ {M S B : Type 0} where
     port = same_port_then x.port y.port z.port f.port s.port;
   }
 
-  pub same_saying : (w x : ShareState M S B) (t : ℕ) → x ≡ w → SameWorker w (record x { said = t })
-  same_saying w x t e = record {
+  pub same_sending : (w x : ShareState M S B) (t : ℕ) → x ≡ w → SameWorker w (record x { bound_out = t })
+  same_sending w x t e = record {
     number = ap (λ z. z.number) e;
     workers = ap (λ z. z.workers) e;
     end = ap (λ z. z.end) e;
@@ -41,8 +41,8 @@ module _ {M S B : Type 0} where
     port = same_port w.port x.port (ap (λ z. z.port) e);
   }
 
-  pub same_hearing : (w x : ShareState M S B) (t : ℕ) → SameWorker w x → SameWorker w (record x { heard = t })
-  same_hearing w x t s = record {
+  pub same_receiving : (w x : ShareState M S B) (t : ℕ) → SameWorker w x → SameWorker w (record x { bound_in = t })
+  same_receiving w x t s = record {
     number = s.number;
     workers = s.workers;
     end = s.end;
@@ -65,15 +65,15 @@ module _ {M S B : Type 0} where
   }
 
   pub handed_over_too : (x x' : ShareState M S B) → IsReordered x x' → HandedOver x → HandedOver x'
-  handed_over_too x x' moved none v = ap (λ (w : ShareState M S B). away_to w v) moved.same ∙ none v
+  handed_over_too x x' moved none v = ap (λ (w : ShareState M S B). outbox_to w v) moved.same ∙ none v
 
 -- A worker at work
 
 module _ {M S B U : Type 0} {model : Ghosts M S B U} {order : B → B → Ordering} (m : M) (x : ShareState M S B) (at : IsAtWork model order m x) where
   -- it can work at other times, where they are in order
-  pub at_times : (until heard said : ℕ) → x.until ≤ until → IsInTime (record x { until = until; heard = heard; said = said })
-      → IsAtWork model order m (record x { until = until; heard = heard; said = said })
-  at_times until heard said more times = record {
+  pub at_times : (until bound_in bound_out : ℕ) → x.until ≤ until → IsInTime (record x { until = until; bound_in = bound_in; bound_out = bound_out })
+      → IsAtWork model order m (record x { until = until; bound_in = bound_in; bound_out = bound_out })
+  at_times until bound_in bound_out more times = record {
     seated = record {
       ready = at.seated.ready;
       ahead = at.seated.ahead;
@@ -98,16 +98,16 @@ module _ {M S B U : Type 0} {model : Ghosts M S B U} {order : B → B → Orderi
   }
 
   -- where nothing is to be handed over, it may go on to what it heard and said
-  pub further : HandedOver x → (u : ℕ) → x.until ≤ u → u ≤ x.heard → u ≤ x.said → u ≤ x.end → IsAtWork model order m (record x { until = u })
-  further none u more heard said end =
-      at_times u x.heard x.said more (record {
-        until = (heard, said, end);
+  pub further : HandedOver x → (u : ℕ) → x.until ≤ u → u ≤ x.bound_in → u ≤ x.bound_out → u ≤ x.end → IsAtWork model order m (record x { until = u })
+  further none u more bound_in bound_out end =
+      at_times u x.bound_in x.bound_out more (record {
+        until = (bound_in, bound_out, end);
         reached = at.times.reached;
-        heard = at.times.heard;
+        bound_in = at.times.bound_in;
         told = at.times.told;
         far = at.times.far;
         hears = at.times.hears;
-        away = λ v other. subst (All (λ a. (u ≤ a.time) × (last_reach (sent_to x.port v) ≤ a.time))) (sym (none v)) (All-nil (λ a. (u ≤ a.time) × (last_reach (sent_to x.port v) ≤ a.time)));
+        outbox = λ v other. subst (All (λ a. (u ≤ a.time) × (last_bound (sent_to x.port v) ≤ a.time))) (sym (none v)) (All-nil (λ a. (u ≤ a.time) × (last_bound (sent_to x.port v) ≤ a.time)));
       })
 
   -- what waits is in another order
@@ -136,11 +136,11 @@ module _ {M S B U : Type 0} {model : Ghosts M S B U} {order : B → B → Orderi
     times = record {
       until = at.times.until;
       reached = let r = at.times.reached in omega (arith, r);
-      heard = at.times.heard;
+      bound_in = at.times.bound_in;
       told = at.times.told;
-      far = All-permutation (λ a. x.said ≤ a.time + x.lookahead) x.waiting x'.waiting moved.waiting at.times.far;
+      far = All-permutation (λ a. x.bound_out ≤ a.time + x.lookahead) x.waiting x'.waiting moved.waiting at.times.far;
       hears = at.times.hears;
-      away = at.times.away;
+      outbox = at.times.outbox;
     };
   })
 

@@ -1,25 +1,25 @@
--- What a worker hands over to another after a window.
+-- What a worker sends another after a window.
 use Rattle.std.specs.Prelude.{◌≡◌, ◌≤◌, ◌%◌, true, List, [], ◌∷◌, All, IfSome, map, slice_get}
 use Rattle.rw_vt.specs.Words.{Count, Time, Worker}
 use Rattle.rw_vt.specs.declared.event.Event.{Event}
 use Rattle.rw_vt.specs.declared.model.Model.{Ghosts}
 use Rattle.rw_vt.specs.System.{flatten}
 
--- Events for another worker, and no event of a later batch is before the reach; of which model they are, how many
+-- Events for another worker, and no event of a later batch is before the bound; of which model they are, how many
 -- workers there are, and which one is meant
 pub record BatchState (M B : Type 0) : Type 0 where
   pub events : List (Event B)
-  pub reach : Time
+  pub bound : Time
   pub model : M
   pub workers : Count
   pub to : Worker
 
 module _ {M B : Type 0} where
-  -- the reach of the last batch: no event of a later one is before it
-  abbrev pub last_reach : List (BatchState M B) → Time
-  last_reach [] = 0
-  last_reach (b ∷ []) = b.reach
-  last_reach (b ∷ c ∷ bs) = last_reach (c ∷ bs)
+  -- the bound of the last batch: no event of a later one is before it
+  abbrev pub last_bound : List (BatchState M B) → Time
+  last_bound [] = 0
+  last_bound (b ∷ []) = b.bound
+  last_bound (b ∷ c ∷ bs) = last_bound (c ∷ bs)
 
   -- all events of these batches
   abbrev pub batch_events : List (BatchState M B) → List (Event B)
@@ -44,11 +44,11 @@ module _ {M B : Type 0} where
       × IsFor m n v b
 
   -- the batch may follow those before it: its events are valid, for processes of its worker, and not before the last
-  -- reach, which does not fall; it is for whom the first one was
+  -- bound, which does not fall; it is for whom the first one was
   pub record MayFollow {S U : Type 0} (model : Ghosts M S B U)
       (before : List (BatchState M B)) (b : BatchState M B) : Type 0 where
     pub valid : All (λ e. model.is_valid b.model e ≡ true) b.events
     pub theirs : All (λ e. e.to % b.workers ≡ b.to) b.events
-    pub in_time : All (λ e. last_reach before ≤ e.time) b.events
-    pub further : last_reach before ≤ b.reach
+    pub in_time : All (λ e. last_bound before ≤ e.time) b.events
+    pub further : last_bound before ≤ b.bound
     pub terms : IfSome (slice_get before 0) (λ a. IsFor a.model a.workers a.to b)

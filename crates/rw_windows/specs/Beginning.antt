@@ -6,13 +6,14 @@ use Rattle.rw_windows.specs.Batches.{BatchState}
 use Rattle.rw_windows.specs.Working.{ShareState}
 
 -- the first batch to worker v of n, which says how far all have come before they begin
-abbrev pub greeting_to : {M B : Type 0} → M → Count → Time → Worker → BatchState M B
-greeting_to m n reach v =
-    record { events = []; reach = reach; model = m; workers = n; to = v }
+abbrev pub first_batch_to : {M B : Type 0} → M → Count → Time → Worker → BatchState M B
+first_batch_to m n bound v =
+    record { events = []; bound = bound; model = m; workers = n; to = v }
 
 -- the first batch from a worker to another of n, which there is for each of them
-abbrev pub greeting : {M B : Type 0} → M → Count → Time → Worker → Worker → Option (BatchState M B)
-greeting m n reach from to = if nat_lt to n then Some (greeting_to m n reach to) else None
+abbrev pub first_batch : {M B : Type 0} → M → Count → Time → Worker → Worker
+    → Option (BatchState M B)
+first_batch m n bound from to = if nat_lt to n then Some (first_batch_to m n bound to) else None
 
 -- the worker has done nothing yet; all know these terms
 pub record HasNotBegun {M S B : Type 0} (t : Terms) (x : ShareState M S B) : Type 0 where
@@ -21,9 +22,9 @@ pub record HasNotBegun {M S B : Type 0} (t : Terms) (x : ShareState M S B) : Typ
     end = t.end;
     lookahead = t.lookahead;
     reached = 0;
-    away = replicate t.workers [];
+    outbox = replicate t.workers [];
     until = 0;
-    heard = t.reach;
-    said = t.reach;
+    bound_in = t.bound;
+    bound_out = t.bound;
   }
   pub waiting : IsPermutation x.given x.waiting

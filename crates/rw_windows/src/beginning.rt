@@ -1,17 +1,17 @@
 ghost use Rattle.std.specs.Prelude.{◌≡◌, ◌≤◌, ◌<◌, ◌%◌, ◌==◌, ◌+◌, ◌*◌, ◌∷◌, ◌≢◌, [], All, IfOk, filter, length, map, replicate, slice_get, slice_index_or};
 ghost use Rattle.rw_vt.specs.Words.{Position, Worker};
 ghost use Rattle.rw_vt.specs.System.{IsReady};
-ghost use Rattle.rw_exchange.specs.Ports.{AreGreeted, IsOpening, NoneItself, StayAnOpening};
-ghost use Rattle.rw_windows.specs.Beginning.{HasNotBegun, greeting};
+ghost use Rattle.rw_exchange.specs.Ports.{HaveFirst, IsOpening, NoneItself, StayAnOpening};
+ghost use Rattle.rw_windows.specs.Beginning.{HasNotBegun, first_batch};
 ghost use Rattle.rw_windows.specs.Running.{AreBegun};
 ghost use Rattle.rw_windows.specs.Working.{IsAhead};
 
 use crate::batch::{Batch, InTime};
-use crate::bells::{Bells, hang};
 use crate::domain::Domain;
+use crate::parkers::{Parkers, open_parkers};
 use crate::share::Share;
-use rw_crew::{deal_out, first_of};
-use rw_exchange::{Greeting, Port};
+use rw_exchange::{FirstMessage, Port};
+use rw_pool::{deal_out, first_of};
 use rw_vt::{Event, Model as VtModel, NoMemory, empty_lists};
 use std::alloc::{AllocError, Global};
 use std::collections::VecDeque;
@@ -29,8 +29,8 @@ struct Supply<M: VtModel> {
     inboxes: VecDeque<Vec<Event<M::Body>>>,
     /// The port of each.
     ports: VecDeque<Port<Batch<M>, InTime>>,
-    /// The bells of each.
-    bells: VecDeque<Bells>,
+    /// The parkers of each.
+    parkers: VecDeque<Parkers>,
 }
 
 /// What all workers of a run know of it.
@@ -43,13 +43,13 @@ struct Terms {
     /// How far ahead of an event all is that it sends, in ticks.
     lookahead: u64,
     /// Before which time nothing is sent, in ticks.
-    reach: u64,
+    bound: u64,
 }
 
 /// The shares of the workers of a run, from these states with these events.
 ///
 /// Process q goes to worker q modulo their number, and an event to the worker of its process. Nothing is sent before the
-/// lookahead after the first event: the first batch of each ring says so, which both its ends know from the start.
+/// lookahead after the first event: the first batch of each ring has that bound, which both its ends know from the start.
 ///
 /// # Errors
 ///
@@ -75,7 +75,7 @@ pub(crate) fn begin<M: VtModel>(
         workers,
         end,
         lookahead,
-        reach: first.saturating_add(lookahead),
+        bound: first.saturating_add(lookahead),
     };
     let starts = Snapshot::of(&states);
     let supply = supplies(alloc, model, terms, states, &events)?;
@@ -113,20 +113,20 @@ fn supplies<M: VtModel>(
         ≡ filter (λ e. e.to % terms.workers == i) events.now)) }
     ensures ports { IfOk result (λ s. (length s.ports.items ≡ terms.workers)
         × IsOpening s.ports.items × StayAnOpening s.ports.items) }
-    ensures greeted { IfOk result (λ s.
-        AreGreeted terms.workers (greeting model.now terms.workers terms.reach) s.ports.items
+    ensures first_sent { IfOk result (λ s.
+        HaveFirst terms.workers (first_batch model.now terms.workers terms.bound) s.ports.items
         × NoneItself terms.workers s.ports.items) }
-    ensures bells { IfOk result (λ s. length s.bells.items ≡ terms.workers) }
+    ensures parkers { IfOk result (λ s. length s.parkers.items ≡ terms.workers) }
 {
     let shares = deal_out(alloc, terms.workers, states)?;
     let inboxes = deal_events(alloc, terms.workers, events)?;
     let ports = open_ports(alloc, model, terms)?;
-    let bells = hang(alloc, terms.workers as usize)?;
+    let parkers = open_parkers(alloc, terms.workers as usize)?;
     Ok(Supply {
         shares: VecDeque::from(shares),
         inboxes: VecDeque::from(inboxes),
         ports: VecDeque::from(ports),
-        bells: VecDeque::from(bells),
+        parkers: VecDeque::from(parkers),
     })
 }
 
@@ -140,20 +140,20 @@ fn open_ports<M: VtModel>(
     ensures count { IfOk result (λ ports. length ports.items ≡ terms.workers) }
     ensures opening { IfOk result (λ ports. IsOpening ports.items) }
     ensures stays { IfOk result (λ ports. StayAnOpening ports.items) }
-    ensures greeted { IfOk result (λ ports.
-        AreGreeted terms.workers (greeting model.now terms.workers terms.reach) ports.items) }
+    ensures first_sent { IfOk result (λ ports.
+        HaveFirst terms.workers (first_batch model.now terms.workers terms.bound) ports.items) }
     ensures own { IfOk result (λ ports. NoneItself terms.workers ports.items) }
 {
-    let greet = Greet {
+    let first = FirstBatch {
         model,
         workers: terms.workers,
-        reach: terms.reach,
+        bound: terms.bound,
     };
-    rw_exchange::open_greeted::<Batch<M>, InTime, _>(
+    rw_exchange::open_with_first::<Batch<M>, InTime, _>(
         alloc,
         terms.workers as usize,
         CAPACITY,
-        &greet,
+        &first,
     )
 }
 
@@ -207,7 +207,7 @@ fn make_shares<M: VtModel>(
     requires shares { length supply.shares.items ≡ terms.workers }
     requires inboxes { length supply.inboxes.items ≡ terms.workers }
     requires ports { length supply.ports.items ≡ terms.workers }
-    requires bells { length supply.bells.items ≡ terms.workers }
+    requires parkers { length supply.parkers.items ≡ terms.workers }
     ensures count { IfOk result (λ ws. length ws.items ≡ terms.workers) }
     ensures numbers { IfOk result (λ ws. (i : Worker) (d : _) → i < terms.workers
         → (slice_index_or ws.items i d).number ≡ i) }
@@ -240,7 +240,7 @@ fn next_share<M: VtModel>(
     requires shares { supply.old.shares.items ≢ [] }
     requires inboxes { supply.old.inboxes.items ≢ [] }
     requires ports { supply.old.ports.items ≢ [] }
-    requires bells { supply.old.bells.items ≢ [] }
+    requires parkers { supply.old.parkers.items ≢ [] }
     ensures number { IfOk result (λ w. w.number ≡ number) }
     ensures states { IfOk result (λ w. map (λ h. h.items) supply.old.shares.items
         ≡ w.states ∷ map (λ h. h.items) supply.new.shares.items) }
@@ -248,12 +248,12 @@ fn next_share<M: VtModel>(
         ≡ w.given ∷ map (λ b. b.items) supply.new.inboxes.items) }
     ensures port { IfOk result (λ w.
         supply.old.ports.items ≡ w.port ∷ supply.new.ports.items) }
-    ensures bells { IfOk result (λ _.
-        length supply.old.bells.items ≡ length supply.new.bells.items + 1) }
+    ensures parkers { IfOk result (λ _.
+        length supply.old.parkers.items ≡ length supply.new.parkers.items + 1) }
     ensures starts { IfOk result (λ w. w.starts ≡ starts.now.value.items) }
     ensures new { IfOk result (HasNotBegun terms) }
 {
-    let away = empty_lists(alloc, terms.workers as usize)?;
+    let outbox = empty_lists(alloc, terms.workers as usize)?;
     let inbox = first_of(&mut supply.inboxes);
     let given = Snapshot::of(&inbox);
     let domain = Domain {
@@ -263,11 +263,11 @@ fn next_share<M: VtModel>(
         lookahead: terms.lookahead,
         states: first_of(&mut supply.shares),
         port: first_of(&mut supply.ports),
-        bells: first_of(&mut supply.bells),
-        away,
+        parkers: first_of(&mut supply.parkers),
+        outbox,
         until: 0,
-        heard: terms.reach,
-        said: terms.reach,
+        bound_in: terms.bound,
+        bound_out: terms.bound,
         executed: 0,
         received: 0,
         starts: Snapshot::of(starts),
@@ -279,27 +279,27 @@ fn next_share<M: VtModel>(
     })
 }
 
-/// Makes the first batch of each ring: it says before which time nothing is sent, and has no events.
+/// Makes the first batch of each ring: it has no events, and a bound before which nothing is sent.
 #[derive(Drop)]
-struct Greet<'a, M> {
+struct FirstBatch<'a, M> {
     model: &'a M,
     workers: u32,
-    reach: u64,
+    bound: u64,
 }
 
-impl<'a, M: VtModel> Greeting<Batch<M>> for Greet<'a, M> {
-    ghost use Rattle.rw_windows.specs.Beginning.{greeting};
+impl<'a, M: VtModel> FirstMessage<Batch<M>> for FirstBatch<'a, M> {
+    ghost use Rattle.rw_windows.specs.Beginning.{first_batch};
 
-    ghost greeting = { λ g. greeting g.model.now g.workers g.reach };
+    ghost first = { λ g. first_batch g.model.now g.workers g.bound };
 
-    fn greet(&self, alloc: Global, _from: usize, to: usize) -> Result<Option<Batch<M>>, NoMemory> {
+    fn make(&self, alloc: Global, _from: usize, to: usize) -> Result<Option<Batch<M>>, NoMemory> {
         if to >= self.workers as usize {
             return Ok(None);
         }
         let to = to as u32;
         Ok(Some(Batch {
             events: Vec::new(alloc),
-            reach: self.reach,
+            bound: self.bound,
             model: Snapshot::of(self.model),
             workers: Snapshot::of(&self.workers),
             to: Snapshot::of(&to),

@@ -1,5 +1,5 @@
 use crate::batch::{Batch, InTime};
-use crate::bells::Bells;
+use crate::parkers::Parkers;
 use rw_exchange::Port;
 use rw_vt::{Event, Model as VtModel};
 use std::snapshot::Snapshot;
@@ -20,19 +20,19 @@ pub(crate) struct Domain<M: VtModel> {
     pub(crate) states: Vec<M::State>,
     /// Its ends of the rings to and from the others.
     pub(crate) port: Port<Batch<M>, InTime>,
-    /// The bells beside its rings.
-    pub(crate) bells: Bells,
-    /// What is to be handed over to each worker.
-    pub(crate) away: Vec<Vec<Event<M::Body>>>,
+    /// How it sleeps while its rings are empty.
+    pub(crate) parkers: Parkers,
+    /// The events that are still to be sent to each worker.
+    pub(crate) outbox: Vec<Vec<Event<M::Body>>>,
     /// Up to which time it executes, in ticks.
     pub(crate) until: u64,
-    /// Before which time it hears of nothing more, in ticks.
-    pub(crate) heard: u64,
-    /// Before which time it sends nothing more, in ticks.
-    pub(crate) said: u64,
+    /// Nothing that it receives later is before this time, in ticks (EIT, earliest input time).
+    pub(crate) bound_in: u64,
+    /// Nothing that it sends later is before this time, in ticks (EOT, earliest output time).
+    pub(crate) bound_out: u64,
     /// How many events it executed.
     pub(crate) executed: u64,
-    /// How many events it heard of.
+    /// How many events it received.
     pub(crate) received: u64,
     /// Where all processes start, as it was seen before they were dealt out. For contracts alone.
     pub(crate) starts: Snapshot<Snapshot<Vec<M::State>>>,

@@ -9,8 +9,8 @@ ghost use Rattle.rw_windows.specs.Running.{HaveEnded, IsLeftOfRun};
 use crate::Left;
 use crate::batch::{Batch, InTime};
 use crate::share::Share;
-use rw_crew::join;
 use rw_exchange::Port;
+use rw_pool::join;
 use rw_vt::{Event, Model as VtModel, NoMemory};
 use std::alloc::Global;
 use std::collections::VecDeque;
@@ -67,7 +67,7 @@ struct Holdings<M: VtModel> {
     events: Vec<Event<M::Body>>,
     /// How many events all executed.
     executed: u64,
-    /// How many of them another worker handed over.
+    /// How many of them another worker sent.
     received: u64,
 }
 
@@ -79,12 +79,12 @@ impl<M: VtModel> Holdings<M> {
         ensures ports { OnOk result
             (self.new.ports.items ≡ self.old.ports.items ++ share.port ∷ []) }
         ensures events { OnOk result ((h : Event M.Body → ℕ) → weigh h self.new.events.items
-            ≡ weigh h self.old.events.items + weigh h (share.waiting ++ flatten share.away)) }
+            ≡ weigh h self.old.events.items + weigh h (share.waiting ++ flatten share.outbox)) }
     {
         let Share { domain, events } = share;
         self.executed = self.executed.wrapping_add(domain.executed);
         self.received = self.received.wrapping_add(domain.received);
-        add_events(&mut self.events, events, domain.away)?;
+        add_events(&mut self.events, events, domain.outbox)?;
         self.ports.push(domain.port)?;
         self.shares.push_back(VecDeque::from(domain.states))?;
         Ok(())
@@ -95,13 +95,13 @@ impl<M: VtModel> Holdings<M> {
 fn add_events<B: Copy>(
     events: &mut Vec<Event<B>>,
     waiting: Vec<Event<B>>,
-    away: Vec<Vec<Event<B>>>,
+    outbox: Vec<Vec<Event<B>>>,
 ) -> Result<(), NoMemory>
     ensures more { OnOk result (events.new.items ≡ events.old.items
-        ++ waiting.items ++ flatten (map (λ l. l.items) away.items)) }
+        ++ waiting.items ++ flatten (map (λ l. l.items) outbox.items)) }
 {
     events.extend_from_slice(&waiting)?;
-    add_lists(events, &away)
+    add_lists(events, &outbox)
 }
 
 /// Takes the shares apart.
@@ -110,7 +110,7 @@ fn take_apart<M: VtModel>(alloc: Global, shares: Vec<Share<M>>) -> Result<Holdin
         map (λ h. h.items) l.shares.items ≡ map (λ w. w.states) shares.items) }
     ensures ports { IfOk result (λ l. l.ports.items ≡ map (λ w. w.port) shares.items) }
     ensures events { IfOk result (λ l. (h : Event M.Body → ℕ) → weigh h l.events.items
-        ≡ weigh h (flatten (map (λ w. w.waiting ++ flatten w.away) shares.items))) }
+        ≡ weigh h (flatten (map (λ w. w.waiting ++ flatten w.outbox) shares.items))) }
 {
     let mut holdings = Holdings {
         shares: VecDeque::new(alloc),

@@ -1,7 +1,7 @@
 ghost use Rattle.std.specs.Prelude.{◌≡◌, ◌≢◌, ◌≤◌, [], IfOk, IfSome, OnOk, slice_set, true};
 ghost use Rattle.rw_vt.specs.Words.{Position};
 ghost use Rattle.rw_exchange.specs.Ports.{IsOther, received_from};
-ghost use Rattle.rw_windows.specs.Batches.{last_reach};
+ghost use Rattle.rw_windows.specs.Batches.{last_bound};
 ghost use Rattle.rw_windows.specs.Working.{HandedOver, IsAtWork, SameWorker};
 
 use crate::batch::Batch;
@@ -14,10 +14,16 @@ use std::snapshot::Snapshot;
 use std::sync::Wait;
 
 impl<M: VtModel> Worker<M> {
-    /// Tells each other worker how far it has come, with what there is for it. Answers whether all are still there.
+    /// Sends each other worker a batch: the events for it, and a lower bound on the times of all later ones. Answers whether all are
+    /// still there.
     ///
-    /// What it sends later is sent for what waits or for what it hears of later, so not before the lookahead after either.
-    pub(crate) fn say<R: Wait>(&mut self, rt: &R, alloc: Global, model: &M) -> Result<bool, Refusal>
+    /// Later events are sent by what waits or by what is received later, so they are not before the lookahead after either.
+    pub(crate) fn send_all<R: Wait>(
+        &mut self,
+        rt: &R,
+        alloc: Global,
+        model: &M,
+    ) -> Result<bool, Refusal>
         requires at_work { IsAtWork M.Model M.Body.cmp model.now self.old }
         ensures at_work { OnOk result (IsAtWork M.Model M.Body.cmp model.now self.new) }
         ensures same { OnOk result (SameWorker self.old self.new) }
@@ -27,23 +33,29 @@ impl<M: VtModel> Worker<M> {
     {
         let least = self.pending.least_time().unwrap_or(u64::MAX);
         let domain = &mut self.domain;
-        domain.said = domain
-            .said
-            .max(least.min(domain.heard).saturating_add(domain.lookahead));
+        domain.bound_out = domain.bound_out.max(
+            least.min(domain.bound_in).saturating_add(domain.lookahead),
+        );
         for to in 0..self.domain.workers {
             if to == self.domain.number {
                 continue;
             }
-            if !self.tell(rt, alloc, model, to)? {
+            if !self.send_to(rt, alloc, model, to)? {
                 return Ok(false);
             }
         }
         Ok(true)
     }
 
-    /// Tells worker `to` how far it has come, with what there is for it. Waits while the ring has no room. Answers whether
-    /// all are still there; nothing is told where not.
-    fn tell<R: Wait>(&mut self, rt: &R, alloc: Global, model: &M, to: u32) -> Result<bool, Refusal>
+    /// Sends worker `to` its batch. Waits while the ring has no room. Answers whether all are still there; nothing is sent where
+    /// not.
+    fn send_to<R: Wait>(
+        &mut self,
+        rt: &R,
+        alloc: Global,
+        model: &M,
+        to: u32,
+    ) -> Result<bool, Refusal>
         requires at_work { IsAtWork M.Model M.Body.cmp model.now self.old }
         requires other { IsOther self.old.port to }
         ensures at_work { OnOk result (IsAtWork M.Model M.Body.cmp model.now self.new) }
@@ -51,12 +63,12 @@ impl<M: VtModel> Worker<M> {
         ensures rest { OnOk result ((self.new.until ≡ self.old.until)
             × (self.new.waiting ≡ self.old.waiting)) }
         ensures told { IfOk result (λ there. there ≡ true
-            → self.new.away ≡ slice_set self.old.away to []) }
+            → self.new.outbox ≡ slice_set self.old.outbox to []) }
     {
-        let events = take_list(alloc, &mut self.domain.away[to as usize])?;
+        let events = take_list(alloc, &mut self.domain.outbox[to as usize])?;
         let batch = Batch {
             events,
-            reach: self.domain.said,
+            bound: self.domain.bound_out,
             model: Snapshot::of(model),
             workers: Snapshot::of(&self.domain.workers),
             to: Snapshot::of(&to),
@@ -64,20 +76,20 @@ impl<M: VtModel> Worker<M> {
         match send_waiting(
             rt,
             &mut self.domain.port,
-            &self.domain.bells,
+            &self.domain.parkers,
             to as usize,
             batch,
         ) {
             Ok(()) => Ok(true),
             Err(back) => {
-                self.domain.away[to as usize] = back.events;
+                self.domain.outbox[to as usize] = back.events;
                 Ok(false)
             }
         }
     }
 
-    /// Hears one batch of each other worker. Answers whether all are still there.
-    pub(crate) fn hear<R: Wait>(&mut self, rt: &R, model: &M) -> Result<bool, Refusal>
+    /// Receives one batch of each other worker. Answers whether all are still there.
+    pub(crate) fn receive_all<R: Wait>(&mut self, rt: &R, model: &M) -> Result<bool, Refusal>
         requires at_work { IsAtWork M.Model M.Body.cmp model.now self.old }
         requires handed_over { HandedOver self.old }
         ensures at_work { OnOk result (IsAtWork M.Model M.Body.cmp model.now self.new) }
@@ -85,46 +97,46 @@ impl<M: VtModel> Worker<M> {
         ensures until { OnOk result (self.new.until ≡ self.old.until) }
         ensures handed_over { OnOk result (HandedOver self.new) }
     {
-        let mut heard = u64::MAX;
+        let mut bound_in = u64::MAX;
         for from in 0..self.domain.workers {
             if from == self.domain.number {
                 continue;
             }
-            let Some(reach) = self.take_up(rt, model, from)? else {
+            let Some(bound) = self.take_batch(rt, model, from)? else {
                 return Ok(false);
             };
-            heard = heard.min(reach);
+            bound_in = bound_in.min(bound);
         }
-        self.domain.heard = self.domain.heard.max(heard);
+        self.domain.bound_in = self.domain.bound_in.max(bound_in);
         Ok(true)
     }
 
-    /// Takes up one batch of worker `from`, for which it waits, and answers its reach; `None` where another worker is gone.
-    fn take_up<R: Wait>(&mut self, rt: &R, model: &M, from: u32) -> Result<Option<u64>, Refusal>
+    /// Receives one batch of worker `from`, for which it waits, and answers its bound; `None` where another worker is gone.
+    fn take_batch<R: Wait>(&mut self, rt: &R, model: &M, from: u32) -> Result<Option<u64>, Refusal>
         requires at_work { IsAtWork M.Model M.Body.cmp model.now self.old }
         requires other { IsOther self.old.port from }
         requires handed_over { HandedOver self.old }
         ensures at_work { OnOk result (IsAtWork M.Model M.Body.cmp model.now self.new) }
         ensures same { OnOk result (SameWorker self.old self.new) }
         ensures times { OnOk result ((self.new.until ≡ self.old.until)
-            × (self.new.heard ≡ self.old.heard)) }
+            × (self.new.bound_in ≡ self.old.bound_in)) }
         ensures handed_over { OnOk result (HandedOver self.new) }
         ensures others { OnOk result ((v : Position) → v ≢ from
             → received_from self.new.port v ≡ received_from self.old.port v) }
-        ensures reach { IfOk result (λ heard. IfSome heard (λ reach.
-            reach ≤ last_reach (received_from self.new.port from))) }
+        ensures bound { IfOk result (λ bound_in. IfSome bound_in (λ bound.
+            bound ≤ last_bound (received_from self.new.port from))) }
     {
         let Some(batch) = receive_waiting(
             rt,
             &mut self.domain.port,
-            &self.domain.bells,
+            &self.domain.parkers,
             from as usize,
         ) else {
             return Ok(None);
         };
         self.pending.extend(&batch.events)?;
         self.domain.received = self.domain.received.wrapping_add(batch.events.len() as u64);
-        Ok(Some(batch.reach))
+        Ok(Some(batch.bound))
     }
 }
 

@@ -4,7 +4,7 @@
 //! Nothing is ever rolled back, so there are no undo records. A window is at least as wide as the
 //! model's lookahead, since no event sends a message nearer than that. A worker owns every process
 //! whose number is the worker's own modulo the number of workers, and runs in a thread of the caller's
-//! pool (`rw_crew::Hands`); its job is [`Work`] and its part of the run a [`Share`].
+//! pool (`rw_pool::Executor`); its job is [`Work`] and its part of the run a [`Share`].
 //!
 //! A worker executes its events before some time, in order. Then it sends each other worker one batch:
 //! the events for that worker, and a time before which it will send nothing more, the lookahead after
@@ -27,10 +27,10 @@
 
 mod batch;
 mod beginning;
-mod bells;
 mod domain;
 mod ending;
 mod exchanging;
+mod parkers;
 mod running;
 mod share;
 mod waiting;
@@ -38,6 +38,6 @@ mod work;
 mod worker;
 
 pub use running::{Left, run_in_windows};
-pub use rw_crew::Halt;
+pub use rw_pool::Halt;
 pub use share::Share;
 pub use work::Work;

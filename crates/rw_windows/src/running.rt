@@ -7,7 +7,7 @@ use crate::beginning::begin;
 use crate::ending::gather;
 use crate::share::Share;
 use crate::work::Work;
-use rw_crew::{Halt, Hands};
+use rw_pool::{Executor, Halt};
 use rw_vt::{Event, Model as VtModel};
 use std::alloc::Global;
 use std::sync::Wait;
@@ -23,18 +23,18 @@ pub struct Left<M: VtModel> {
     pub events: Vec<Event<M::Body>>,
     /// How many were executed.
     pub executed: u64,
-    /// How many of them another worker handed over.
+    /// How many of them another worker sent.
     pub received: u64,
 }
 
 /// Goes on with a run, from these states with these events, until all events before `end` are executed, in ticks, by
-/// `workers` workers, 1 to 16, each in a thread of its own. `hands` has the threads, the calling one among them.
+/// `workers` workers, 1 to 16, each in a thread of its own. `executor` has the threads, the calling one among them.
 ///
 /// They execute for good, so that nothing is ever undone (conservative synchronization: Chandy and Misra 1979). All that the
 /// model sends is at least `lookahead` ticks, 1 or more, after the event that it is sent for. So again and again a worker can
-/// say before which time it sends nothing more: the lookahead after the first event that it has or may still hear of. It says
-/// so to each other worker, with the events for that one, and hears what each other says. It may go on up to the least that
-/// was said, or up to `end`.
+/// promise that it sends nothing more before some time: the lookahead after the first event that it has or may still receive. It
+/// sends this bound to each other worker, with the events for that one, and receives theirs. It may go on up to the least of all
+/// bounds, or up to `end`.
 ///
 /// A window of the lookahead costs up to three batches from each worker to each other one, also where nothing waits, and behind
 /// the last event: so `end` should not be far behind that.
@@ -49,7 +49,7 @@ pub struct Left<M: VtModel> {
 /// refused. Nothing is handed back then: the model, the states and the events are gone.
 pub fn run_in_windows<'r, M, R, H>(
     rt: &'r R,
-    hands: &mut H,
+    executor: &mut H,
     alloc: Global,
     model: M,
     states: Vec<M::State>,
@@ -61,7 +61,7 @@ pub fn run_in_windows<'r, M, R, H>(
 where
     M: VtModel + Drop,
     R: Wait,
-    H: Hands<Work<'r, M, R>, Share<M>>,
+    H: Executor<Work<'r, M, R>, Share<M>>,
     requires ready { IsReady M.Model model states.items events.items }
     requires workers { (1 ≤ workers) × (workers ≤ 16) }
     requires lookahead { 1 ≤ lookahead }
@@ -73,7 +73,7 @@ where
     let count = states.len();
     let shares = begin(alloc, &model, states, events, workers, lookahead, end)?;
     let work = Work { rt, alloc, model };
-    let (work, shares) = hands.do_each(alloc, work, shares)?;
+    let (work, shares) = executor.run_each(alloc, work, shares)?;
     if !all_done(&shares) {
         return Err(Halt::NoThread);
     }

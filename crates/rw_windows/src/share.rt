@@ -33,10 +33,10 @@ impl<M: VtModel> Model for Share<M> {
       waiting = w.events.items;
       reached = 0;
       port = w.domain.port;
-      away = map (λ list. list.items) w.domain.away.items;
+      outbox = map (λ list. list.items) w.domain.outbox.items;
       until = w.domain.until;
-      heard = w.domain.heard;
-      said = w.domain.said;
+      bound_in = w.domain.bound_in;
+      bound_out = w.domain.bound_out;
     } };
 }
 

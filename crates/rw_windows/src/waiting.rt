@@ -2,7 +2,7 @@ ghost use Rattle.std.specs.Prelude.{◌≡◌, IfErr, IfNone, IfSome, OnOk};
 ghost use Rattle.rw_exchange.specs.Ports.{IsOther, SamePort};
 ghost use Rattle.rw_exchange.specs.Ports.{after_receiving, after_sending, free_to, received_from, sent_to};
 
-use crate::bells::Bells;
+use crate::parkers::Parkers;
 use rw_exchange::{Port, Protocol};
 use std::sync::Wait;
 use std::thread;
@@ -15,7 +15,7 @@ const TRIES: u32 = 128;
 pub(crate) fn send_waiting<T: Drop, P: Protocol<T>, R: Wait>(
     rt: &R,
     port: &mut Port<T, P>,
-    bells: &Bells,
+    parkers: &Parkers,
     to: usize,
     item: T,
 ) -> Result<(), T>
@@ -29,7 +29,7 @@ pub(crate) fn send_waiting<T: Drop, P: Protocol<T>, R: Wait>(
     for _ in rt.forever() {
         match port.send(to, item) {
             Ok(()) => {
-                bells.ring(rt, to);
+                parkers.unpark(rt, to);
                 return Ok(());
             }
             Err(back) => item = back,
@@ -47,7 +47,7 @@ pub(crate) fn send_waiting<T: Drop, P: Protocol<T>, R: Wait>(
 pub(crate) fn receive_waiting<T: Drop, P: Protocol<T>, R: Wait>(
     rt: &R,
     port: &mut Port<T, P>,
-    bells: &Bells,
+    parkers: &Parkers,
     from: usize,
 ) -> Option<T>
     requires other { IsOther port.old from }
@@ -69,7 +69,7 @@ pub(crate) fn receive_waiting<T: Drop, P: Protocol<T>, R: Wait>(
         if port.is_deserted() {
             return None;
         }
-        bells.hear(rt, from);
+        parkers.park(rt, from);
     }
     unreachable!()
 }

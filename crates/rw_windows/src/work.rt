@@ -3,7 +3,7 @@ ghost use Rattle.rw_windows.specs.Working.{CanBegin, HasWorked, IsAtWork, SameWo
 
 use crate::share::Share;
 use crate::worker::Worker;
-use rw_crew::Job;
+use rw_pool::Job;
 use rw_vt::{Event, Model as VtModel, Refusal};
 use std::alloc::Global;
 use std::sync::Wait;
@@ -20,18 +20,18 @@ pub struct Work<'r, M: VtModel, R> {
 }
 
 impl<'r, M: VtModel, R: Wait> Work<'r, M, R> {
-    /// Tells the others how far the worker has come, hears how far they had come some batches ago, and goes further. Answers
+    /// Sends each other worker a batch, receives a batch that each sent some steps ago, and moves the end of the window on. Answers
     /// whether all are still there.
     fn go_on(&self, worker: &mut Worker<M>) -> Result<bool, Refusal>
         requires at_work { IsAtWork M.Model M.Body.cmp self.now.model worker.old }
         ensures at_work { OnOk result (IsAtWork M.Model M.Body.cmp self.now.model worker.new) }
         ensures same { OnOk result (SameWorker worker.old worker.new) }
     {
-        if !worker.say(self.rt, self.alloc, &self.model)? {
+        if !worker.send_all(self.rt, self.alloc, &self.model)? {
             return Ok(false);
         }
         worker.note_idle();
-        if !worker.leaves_unheard() && !worker.hear(self.rt, &self.model)? {
+        if !worker.leaves_unread() && !worker.receive_all(self.rt, &self.model)? {
             return Ok(false);
         }
         worker.go_further(&self.model);

@@ -8,9 +8,9 @@ use rw_vt::{Event, Model as VtModel, Refusal};
 use std::alloc::{AllocError, Global};
 use std::marker::Model;
 
-/// How many batches of each other worker are left to be heard later, where the lookahead has as many parts and one: so workers
+/// How many batches of each other worker are left unread, where the lookahead has as many parts and one: so workers
 /// need not be equally fast in each of them. More parts would be more batches, and gain little.
-const UNHEARD: u32 = 2;
+const UNREAD: u32 = 2;
 
 /// One worker at work: its share of the run, of which what waits is in the order of execution.
 ///
@@ -21,9 +21,9 @@ pub(crate) struct Worker<M: VtModel> {
     pub(crate) domain: Domain<M>,
     /// What is still to be executed at its processes.
     pub(crate) pending: Pending<M::Body, Sorted<M::Body>>,
-    /// How many batches of each other worker it has left to be heard later.
-    pub(crate) unheard: u32,
-    /// In how many batches it has said that it has nothing to do before the end, nor hears of anything.
+    /// How many batches of each other worker it has left unread.
+    pub(crate) unread: u32,
+    /// How many batches it has sent since it had nothing to do before the end, and could receive nothing either.
     pub(crate) idle: u32,
 }
 
@@ -44,10 +44,10 @@ impl<M: VtModel> Model for Worker<M> {
       waiting = w.pending.events;
       reached = w.pending.time;
       port = w.domain.port;
-      away = map (λ list. list.items) w.domain.away.items;
+      outbox = map (λ list. list.items) w.domain.outbox.items;
       until = w.domain.until;
-      heard = w.domain.heard;
-      said = w.domain.said;
+      bound_in = w.domain.bound_in;
+      bound_out = w.domain.bound_out;
     } };
 }
 
@@ -61,7 +61,7 @@ impl<M: VtModel> Worker<M> {
         Ok(Worker {
             domain,
             pending,
-            unheard: 0,
+            unread: 0,
             idle: 0,
         })
     }
@@ -88,36 +88,37 @@ impl<M: VtModel> Worker<M> {
     }
 
     /// Whether it has executed all that is before the end, in the last window, and all workers have nothing to do before the
-    /// end any more, as they said, it too, in the batches that are heard by now. Each finds so after as many batches, so none
+    /// end any more, by the batches that are read by now, its own among them. Each finds so after as many batches, so none
     /// waits for one that does not come.
     pub(crate) fn is_at_the_end(&self) -> bool {
         let domain = &self.domain;
         domain.until >= domain.end
-            && domain.heard >= domain.end.saturating_add(domain.lookahead)
+            && domain.bound_in >= domain.end.saturating_add(domain.lookahead)
             && self.idle > self.lag()
     }
 
-    /// Counts the batch that it has just said, where it is idle by that.
+    /// Counts the batch that it has just sent, where that one says that it is idle.
     pub(crate) fn note_idle(&mut self)
         ensures same { self.new ≡ self.old }
     {
-        if self.domain.said >= self.domain.end.saturating_add(self.domain.lookahead) {
+        if self.domain.bound_out >= self.domain.end.saturating_add(self.domain.lookahead) {
             self.idle = self.idle.saturating_add(1);
         }
     }
 
-    /// Whether it leaves one more batch of each other worker to be heard later.
-    pub(crate) fn leaves_unheard(&mut self) -> bool
+    /// Whether it leaves one more batch of each other worker unread.
+    pub(crate) fn leaves_unread(&mut self) -> bool
         ensures same { self.new ≡ self.old }
     {
-        if self.unheard >= self.lag() {
+        if self.unread >= self.lag() {
             return false;
         }
-        self.unheard += 1;
+        self.unread += 1;
         true
     }
 
-    /// Goes further: up to what was heard and said, not past the end, and by a part of the lookahead, counted from what waits.
+    /// Moves the end of its window on: up to the bounds received and sent, not past the end, and by a part of the lookahead, counted
+    /// from what waits.
     pub(crate) fn go_further(&mut self, model: &M)
         requires at_work { IsAtWork M.Model M.Body.cmp model.now self.old }
         requires handed_over { HandedOver self.old }
@@ -132,17 +133,21 @@ impl<M: VtModel> Worker<M> {
             .until
             .max(first)
             .saturating_add(domain.lookahead.div_ceil(parts));
-        let bound = domain.heard.min(domain.said).min(domain.end).min(next);
+        let bound = domain
+            .bound_in
+            .min(domain.bound_out)
+            .min(domain.end)
+            .min(next);
         domain.until = domain.until.max(bound);
     }
 
     /// How many batches of each other worker it stays behind: less than the lookahead has ticks.
     fn lag(&self) -> u32 {
         let most = self.domain.lookahead.saturating_sub(1);
-        if most < u64::from(UNHEARD) {
+        if most < u64::from(UNREAD) {
             most as u32
         } else {
-            UNHEARD
+            UNREAD
         }
     }
 
@@ -173,10 +178,10 @@ impl<M: VtModel> Worker<M> {
         Ok(true)
     }
 
-    /// Deals out what an event sent: to its own processes, or to be handed over.
+    /// Deals out what an event sent: to its own processes, or to the outboxes.
     fn deal(&mut self, sent: &[Event<M::Body>]) -> Result<(), AllocError>
         requires number { self.old.number < self.old.workers }
-        requires lists { length self.old.away ≡ self.old.workers }
+        requires lists { length self.old.outbox ≡ self.old.workers }
         requires later { All (λ e. self.old.reached < e.time) sent.now }
         ensures dealt { OnOk result (IsDealt self.old self.new sent.now) }
     {
@@ -189,7 +194,7 @@ impl<M: VtModel> Worker<M> {
     /// Deals out one event.
     fn deal_one(&mut self, event: Event<M::Body>) -> Result<(), AllocError>
         requires number { self.old.number < self.old.workers }
-        requires lists { length self.old.away ≡ self.old.workers }
+        requires lists { length self.old.outbox ≡ self.old.workers }
         requires later { self.old.reached < event.time }
         ensures dealt { OnOk result (IsDealt self.old self.new (event ∷ [])) }
     {
@@ -198,7 +203,7 @@ impl<M: VtModel> Worker<M> {
             self.pending.put(event)?;
             return Ok(());
         }
-        self.domain.away[to as usize].push(event)?;
+        self.domain.outbox[to as usize].push(event)?;
         Ok(())
     }
 }

@@ -1,7 +1,7 @@
 use Rattle.std.proofs.Common.{◌+◌, ◌∙◌, ap, arith}
-use Rattle.rw_crew.proofs.Sums.{total_same}
+use Rattle.rw_pool.proofs.Sums.{total_same}
 use Rattle.rw_vt.proofs.Laws.{laws_of}
-use Rattle.rw_worker.specs.Bags.{weigh}
+use Rattle.rw_rounds.specs.Bags.{weigh}
 use Rattle.rw_rounds.specs.Rounds.{weigh_left}
 use Rattle.rw_rounds.proofs.Joining.{none_aside}
 use Rattle.rw_rounds.proofs.none_set_aside.Goals as goal

@@ -1,6 +1,6 @@
 use Rattle.std.proofs.Common.{◌+◌, ◌*◌, ◌/◌, refl, subst, sym}
 use Rattle.rw_engine.specs.Alone.{AreRoundsOf}
-use Rattle.rw_engine.proofs.Rounds.{rounds_are}
+use Rattle.rw_engine.proofs.Counting.{rounds_are}
 use Rattle.rw_engine.proofs.alone.traffic_of.Goals as goal
 
 pub returns : goal.returns

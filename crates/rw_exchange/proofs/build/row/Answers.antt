@@ -3,8 +3,8 @@ use Rattle.std.proofs.lemmas.List.{map_push, length-map}
 use Rattle.std.proofs.lemmas.List.Elements.{All-nil, All-same, All-push}
 use Rattle.rw_exchange.specs.Rings.{out_ring, out_rings, in_rings, in_table, out_sent, in_received, received_table, push_each, AllButOwn, HasCapacity, KnowsFree, NothingSent}
 use Rattle.rw_exchange.proofs.Tables.{push_none, row_more, all_but_more}
-use Rattle.rw_exchange.specs.Ports.{IsRowGreeted}
-use Rattle.rw_exchange.proofs.Greeted.{first_more}
+use Rattle.rw_exchange.specs.Ports.{HasRowFirst}
+use Rattle.rw_exchange.proofs.First.{first_more}
 use Rattle.rw_exchange.proofs.build.row.Goals as goal
 
 pub loop-k-init : goal.loop-k-init
@@ -18,7 +18,7 @@ loop-k-init g c =
       others = subst (λ xs. AllButOwn c.args.own (out_rings xs)) (sym none) (λ k lt. absurd (omega arith));
       capacity = All-same (HasCapacity c.args.capacity) _ _ none (All-nil (HasCapacity c.args.capacity));
       lists = sym (ap (λ xs. push_each (received_table c.args.columns.now.items) (map out_sent xs)) none ∙ push_none (received_table c.args.columns.now.items));
-      first = subst (λ xs. IsRowGreeted c.args.own (g.G.Greeting.greeting c.args.greeting.now c.args.own) (map out_sent xs)) (sym none) (λ k lt other. absurd (omega arith));
+      first = subst (λ xs. HasRowFirst c.args.own (g.G.FirstMessage.first c.args.opener.now c.args.own) (map out_sent xs)) (sym none) (λ k lt other. absurd (omega arith));
       free = λ quiet. All-same (KnowsFree c.args.capacity) _ _ none (All-nil (KnowsFree c.args.capacity));
       sent = λ quiet. All-same NothingSent _ _ none (All-nil NothingSent);
       received = λ quiet nothing. nothing;
@@ -47,7 +47,7 @@ loop-k-preserved g c =
       capacity = All-same (HasCapacity c.args.capacity) _ _ items (All-push (HasCapacity c.args.capacity) xs x inv.capacity c.in_ok-producer.ensures.capacity);
       lists = row_more _ _ (map out_sent xs) (out_sent x) c.loop-k.k (received_table c.args.columns.now.items) inv.lists much broad (◌∙◌ {b = set (received_table c.loop-k.columns.items) c.loop-k.k (get_or (received_table c.loop-k.columns.items) c.loop-k.k [] ++ in_received c.in_ok-producer.consumer ∷ [])} c.in_ok-push_at.ensures.lists (ap (λ o. set (received_table c.loop-k.columns.items) c.loop-k.k (get_or (received_table c.loop-k.columns.items) c.loop-k.k [] ++ o ∷ [])) c.in_ok-producer.ensures.same))
           ∙ ap (push_each (received_table c.args.columns.now.items)) (sym sent);
-      first = subst (IsRowGreeted c.args.own (g.G.Greeting.greeting c.args.greeting.now c.args.own)) (sym sent) (first_more c.args.own (g.G.Greeting.greeting c.args.greeting.now c.args.own) (map out_sent xs) (out_sent x) c.loop-k.k much inv.first c.in_ok-producer.ensures.first);
+      first = subst (HasRowFirst c.args.own (g.G.FirstMessage.first c.args.opener.now c.args.own)) (sym sent) (first_more c.args.own (g.G.FirstMessage.first c.args.opener.now c.args.own) (map out_sent xs) (out_sent x) c.loop-k.k much inv.first c.in_ok-producer.ensures.first);
       free = λ quiet. All-same (KnowsFree c.args.capacity) _ _ items (All-push (KnowsFree c.args.capacity) xs x (inv.free quiet) (c.in_ok-producer.ensures.free (quiet c.loop-k.k)));
       sent = λ quiet. All-same NothingSent _ _ items (All-push NothingSent xs x (inv.sent quiet) (c.in_ok-producer.ensures.new (quiet c.loop-k.k)).0);
       received = λ quiet nothing. c.in_ok-push_at.ensures.received (c.in_ok-producer.ensures.new (quiet c.loop-k.k)).1 (inv.received quiet nothing);

@@ -1,5 +1,5 @@
 use Rattle.std.proofs.Common.{refl}
-use Rattle.rw_exchange.proofs.Greeted.{all_new}
+use Rattle.rw_exchange.proofs.First.{all_new}
 use Rattle.rw_exchange.proofs.opening.open.Goals as goal
 
 pub returns-clause-new : goal.returns-clause-new

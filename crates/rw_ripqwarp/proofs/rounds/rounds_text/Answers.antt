@@ -7,7 +7,7 @@ use Rattle.rw_trace.specs.declared.Row.{Row}
 use Rattle.rw_trace.specs.Trace.{trace_of}
 use Rattle.rw_trace.specs.Unread.{records_of}
 use Rattle.rw_output.specs.declared.sim_fault.SimFault.TheVariants as sim
-use Rattle.rw_engine.specs.Stretches.{MayStopInRounds}
+use Rattle.rw_engine.specs.Segments.{MayStopInRounds}
 use Rattle.rw_photo.specs.Cache.{Cache, is_exhausted}
 use Rattle.rw_photo.specs.Simulation.{simulation}
 use Rattle.rw_photo.specs.declared.config.Config.{Config}

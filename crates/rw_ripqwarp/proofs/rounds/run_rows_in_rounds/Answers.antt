@@ -10,12 +10,12 @@ use Rattle.rw_photo.specs.declared.body.Body.{Body}
 use Rattle.rw_photo.specs.Events.{event_of}
 use Rattle.rw_rounds.specs.declared.stop.Stop.TheVariants as stop
 use Rattle.rw_engine.specs.Runs.{AreLastStates}
-use Rattle.rw_engine.specs.Stretches.{MayStopInRounds}
+use Rattle.rw_engine.specs.Segments.{MayStopInRounds}
 use Rattle.rw_engine.proofs.Stopping.{alone_in_rounds}
 use Rattle.rw_replay.proofs.Failing.{handed-on}
 use Rattle.rw_replay.proofs.Runs.{ready, ready-at, runs-rows}
 use Rattle.rw_ripqwarp.proofs.Stopping.{good-plan}
-use Rattle.rw_ripqwarp.proofs.Ways.{caches}
+use Rattle.rw_ripqwarp.proofs.Stepping.{caches}
 use Rattle.rw_ripqwarp.proofs.rounds.run_rows_in_rounds.Goals as goal
 
 pub run_in_rounds-requires-clause-ready : goal.run_in_rounds-requires-clause-ready

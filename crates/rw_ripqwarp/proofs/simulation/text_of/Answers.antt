@@ -18,20 +18,23 @@ returns-in_err-text-in-Serial-clause-still g c = IfOk-from_err c.from_residual.r
 pub returns-in_err-text-in-Serial-clause-in_range : goal.returns-in_err-text-in-Serial-clause-in_range
 returns-in_err-text-in-Serial-clause-in_range g c = IfOk-from_err c.from_residual.result _ c.from_residual.ensures.0
 
-pub returns-in_default-clause-text : goal.returns-in_default-clause-text
-returns-in_default-clause-text g c = c.engine_text.ensures.text
+pub returns-in_err-text-in-Journal-clause-text : goal.returns-in_err-text-in-Journal-clause-text
+returns-in_err-text-in-Journal-clause-text g c = IfOk-from_err c.from_residual-in_err-text-in-Journal.result _ c.from_residual-in_err-text-in-Journal.ensures.0
 
-pub returns-in_default-clause-still : goal.returns-in_default-clause-still
-returns-in_default-clause-still g c = c.engine_text.ensures.still
+pub returns-in_err-text-in-Journal-clause-still : goal.returns-in_err-text-in-Journal-clause-still
+returns-in_err-text-in-Journal-clause-still g c = IfOk-from_err c.from_residual-in_err-text-in-Journal.result _ c.from_residual-in_err-text-in-Journal.ensures.0
 
-pub returns-in_default-clause-in_range : goal.returns-in_default-clause-in_range
-returns-in_default-clause-in_range g c = c.engine_text.ensures.in_range
+pub returns-in_err-text-in-Journal-clause-in_range : goal.returns-in_err-text-in-Journal-clause-in_range
+returns-in_err-text-in-Journal-clause-in_range g c = IfOk-from_err c.from_residual-in_err-text-in-Journal.result _ c.from_residual-in_err-text-in-Journal.ensures.0
 
-pub returns-in_default-clause-fault : goal.returns-in_default-clause-fault
-returns-in_default-clause-fault g c = c.engine_text.ensures.fault
+pub returns-in_err-text-in-Journal-clause-fault : goal.returns-in_err-text-in-Journal-clause-fault
+returns-in_err-text-in-Journal-clause-fault g c =
+    handed-on c.from_residual-in_err-text-in-Journal.result c.in_err-text-in-Journal.field-0.0 (IsRunFault c.args.mode c.args.config.now c.args.bytes.now) c.from_residual-in_err-text-in-Journal.ensures.1
+    (subst (λ (mode : Mode). IsRunFault mode c.args.config.now c.args.bytes.now c.in_err-text-in-Journal.field-0.0) (sym c.in-Journal.is) c.in_err-text-in-Journal.ensures.fault)
 
-pub returns-in_default-clause-unwritten : goal.returns-in_default-clause-unwritten
-returns-in_default-clause-unwritten g c = c.engine_text.ensures.unwritten
+pub returns-in_err-text-in-Journal-clause-unwritten : goal.returns-in_err-text-in-Journal-clause-unwritten
+returns-in_err-text-in-Journal-clause-unwritten g c =
+    handed-on c.from_residual-in_err-text-in-Journal.result c.in_err-text-in-Journal.field-0.0 (λ e. e ≢ sim.Output) c.from_residual-in_err-text-in-Journal.ensures.1 c.in_err-text-in-Journal.ensures.unwritten
 
 pub returns-in_err-text-in-Serial-clause-fault : goal.returns-in_err-text-in-Serial-clause-fault
 returns-in_err-text-in-Serial-clause-fault g c =

@@ -1,6 +1,6 @@
 use Rattle.std.proofs.Common.{rules, ◌<◌, length, sym, subst, refl}
 use Rattle.std.specs.Prelude.{◌/◌}
-use Rattle.rw_worker.specs.Turns.{IsFit}
+use Rattle.rw_rounds.specs.Turns.{IsFit}
 use Rattle.rw_round_tests.proofs.FirstWorker.{all_in_place, only_even}
 use Rattle.rw_round_tests.proofs.relay_worker.first_worker.Goals as goal
 

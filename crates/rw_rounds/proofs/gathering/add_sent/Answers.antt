@@ -1,8 +1,8 @@
 use Rattle.std.proofs.Common.{ℕ, ◌+◌, sym, ap, ◌∙◌, add_assoc, add-one}
 use Rattle.rw_exchange.specs.Ports.{entry}
-use Rattle.rw_crew.specs.Sums.{sum_below}
-use Rattle.rw_worker.specs.Bags.{weigh}
-use Rattle.rw_worker.proofs.Cited.{weigh-append}
+use Rattle.rw_pool.specs.Sums.{sum_below}
+use Rattle.rw_rounds.specs.Bags.{weigh}
+use Rattle.rw_rounds.proofs.Cited.{weigh-append}
 use Rattle.rw_rounds.proofs.gathering.add_sent.Goals as goal
 
 pub loop-to-preserved : goal.loop-to-preserved

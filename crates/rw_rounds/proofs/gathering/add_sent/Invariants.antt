@@ -1,8 +1,8 @@
 use Rattle.std.proofs.Common.{◌≡◌, ◌+◌, ℕ}
 use Rattle.rw_vt.specs.declared.event.Letter.{Letter}
 use Rattle.rw_exchange.specs.Ports.{entry}
-use Rattle.rw_crew.specs.Sums.{sum_below}
-use Rattle.rw_worker.specs.Bags.{weigh}
+use Rattle.rw_pool.specs.Sums.{sum_below}
+use Rattle.rw_rounds.specs.Bags.{weigh}
 use Rattle.rw_rounds.proofs.gathering.add_sent.Given as goal
 
 abbrev pub invariant-loop-to : goal.invariant-loop-to

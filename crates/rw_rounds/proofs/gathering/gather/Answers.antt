@@ -1,12 +1,11 @@
-use Rattle.std.proofs.Common.{◌≡◌, ◌+◌, ◌++◌, ◌<◌, length, map, sym, ap, ◌∙◌, subst, arith, All}
+use Rattle.std.proofs.Common.{◌≡◌, ◌+◌, ◌++◌, ◌<◌, length, map, sym, ap, ◌∙◌, subst, All}
 use Rattle.std.proofs.lemmas.List.{length-map}
 use Rattle.rw_vt.specs.System.{flatten}
 use Rattle.rw_board.specs.Least.{least}
 use Rattle.rw_board.specs.Seats.{all_notes}
 use Rattle.rw_exchange.specs.Ports.{IsOpening, sent_between, received_between}
-use Rattle.rw_worker.specs.Bags.{weigh}
+use Rattle.rw_rounds.specs.Bags.{weigh}
 use Rattle.rw_rounds.specs.Rounds.{weigh_left}
-use Rattle.rw_rounds.proofs.Gathered.{same_shares}
 use Rattle.rw_rounds.proofs.gathering.gather.Goals as goal
 
 pub letters_left-requires : goal.letters_left-requires
@@ -21,16 +20,6 @@ close-floor-requires-clause-all g c =
 pub close-floor-requires-clause-board : goal.close-floor-requires-clause-board
 close-floor-requires-clause-board g c = subst (All (λ s. s.board ≡ c.args.board.board)) (sym c.in_ok-shares.ensures.seats) c.requires.board
 
-pub join-requires-clause-complete : goal.join-requires-clause-complete
-join-requires-clause-complete g c q within none =
-    c.requires.complete q within (sym (same_shares (λ h. h.items) (λ w. w.processes) c.in_ok-shares.field-0.shares.items c.args.workers.items c.in_ok-shares.ensures.shares q) ∙ none)
-
-pub join-requires-clause-some : goal.join-requires-clause-some
-join-requires-clause-some g c =
-    let ws = c.args.workers.items in
-    let shares = c.in_ok-shares.field-0.shares.items in
-    omega (arith, c.requires.some, ap length c.in_ok-shares.ensures.shares, length-map shares (λ h. h.items), length-map ws (λ w. w.processes))
-
 pub returns : goal.returns
 returns g c =
     let ws = c.args.workers.items in
@@ -43,8 +32,7 @@ returns g c =
     let aside = c.in_ok-shares.field-0.aside.items in
     let kept = c.in_ok-shares.field-0.kept.items in
     record {
-      count = c.in_ok-processes.ensures.count;
-      processes = λ q within. c.in_ok-processes.ensures.each q within ∙ same_shares (λ h. h.items) (λ w. w.processes) c.in_ok-shares.field-0.shares.items ws held.shares q;
+      shares_are = held.shares;
       letters = record {
         left = left;
         settled = λ i k li lk. subst (λ ps. received_between ps i k ++ left i k ≡ sent_between ps i k) held.ports

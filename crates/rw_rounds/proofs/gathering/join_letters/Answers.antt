@@ -1,9 +1,9 @@
 use Rattle.std.proofs.Common.{◌≡◌, ℕ, ◌+◌, ◌++◌, length, map, sym, ap, ◌∙◌, add-one, arith}
 use Rattle.rw_vt.specs.System.{flatten}
 use Rattle.rw_exchange.specs.Ports.{entry}
-use Rattle.rw_crew.specs.Sums.{sum_below}
-use Rattle.rw_worker.specs.Bags.{weigh}
-use Rattle.rw_worker.proofs.Cited.{weigh-append}
+use Rattle.rw_pool.specs.Sums.{sum_below}
+use Rattle.rw_rounds.specs.Bags.{weigh}
+use Rattle.rw_rounds.proofs.Cited.{weigh-append}
 use Rattle.rw_rounds.proofs.gathering.join_letters.Goals as goal
 
 pub loop-from-preserved : goal.loop-from-preserved

@@ -2,8 +2,8 @@ use Rattle.std.proofs.Common.{ℕ, ◌+◌, ◌<◌, length, map, sym, ap, ◌�
 use Rattle.std.proofs.lemmas.Result.{IfOk-weaker}
 use Rattle.rw_vt.specs.System.{flatten}
 use Rattle.rw_exchange.specs.Ports.{entry}
-use Rattle.rw_crew.specs.Sums.{sum_below}
-use Rattle.rw_worker.specs.Bags.{weigh}
+use Rattle.rw_pool.specs.Sums.{sum_below}
+use Rattle.rw_rounds.specs.Bags.{weigh}
 use Rattle.rw_rounds.proofs.gathering.letters_left.Goals as goal
 
 pub returns : goal.returns

@@ -1,6 +1,6 @@
 use Rattle.std.proofs.Common.{◌≡◌, [], ◌∷◌, ◌++◌, map, sym, ap, ◌∙◌}
 use Rattle.std.proofs.lemmas.List.{length-map}
-use Rattle.rw_crew.proofs.Lists.{one_done, all_walked}
+use Rattle.rw_pool.proofs.Lists.{one_done, all_walked}
 use Rattle.rw_rounds.proofs.Walking.{none_done, one_more, piece_done, room_for_one}
 use Rattle.rw_rounds.proofs.gathering.take_apart.Goals as goal
 
@@ -11,16 +11,16 @@ loop-worker-preserved g c =
     let w = c.in-Some.worker in
     let rest' = c.next.new.self.rest.items in
     let r : c.loop-worker.worker-iterator.rest.items ≡ w ∷ rest' = c.in-Some.ensures.steps.0 in
-    let its = c.into_belongings-processes.ensures in
+    let its = c.into_inner-processes.ensures in
     record {
       shares_room = (c.push_back_reserved.ensures.capacity ∙ known.shares_room.0, one_more _ r known.shares_room.1 c.push_back_reserved.ensures.len);
       kept_room = (c.push_reserved.ensures.capacity ∙ known.kept_room.0, one_more _ r known.kept_room.1 c.push_reserved.ensures.len);
       aside_room = (c.push_reserved-in-loop-worker.ensures.capacity ∙ known.aside_room.0, one_more _ r known.aside_room.1 c.push_reserved-in-loop-worker.ensures.len);
       ports_room = (c.push_reserved-in-loop-worker-2.ensures.capacity ∙ known.ports_room.0, one_more _ r known.ports_room.1 c.push_reserved-in-loop-worker-2.ensures.len);
       seats_room = (c.push_reserved-in-loop-worker-3.ensures.capacity ∙ known.seats_room.0, one_more _ r known.seats_room.1 c.push_reserved-in-loop-worker-3.ensures.len);
-      shares = one_done (λ h. h.items) l.shares.items _ _ (map (λ w. w.processes) rest') _ w.processes c.from.result known.shares (ap (map (λ w. w.processes)) r) (c.from.ensures.0 ∙ its.processes) c.push_back_reserved.ensures.items;
-      kept = one_done (λ k. k.items) l.kept.items _ _ (map (λ w. w.kept) rest') _ w.kept c.into_belongings-processes.result.kept known.kept (ap (map (λ w. w.kept)) r) its.kept c.push_reserved.ensures.items;
-      aside = one_done (λ a. a.items) l.aside.items _ _ (map (λ w. w.aside) rest') _ w.aside c.into_belongings-processes.result.aside known.aside (ap (map (λ w. w.aside)) r) its.aside c.push_reserved-in-loop-worker.ensures.items;
+      shares = one_done (λ h. h.items) l.shares.items _ _ (map (λ w. w.processes) rest') _ w.processes c.into_inner-processes.result.processes known.shares (ap (map (λ w. w.processes)) r) its.processes c.push_back_reserved.ensures.items;
+      kept = one_done (λ k. k.items) l.kept.items _ _ (map (λ w. w.kept) rest') _ w.kept c.into_inner-processes.result.kept known.kept (ap (map (λ w. w.kept)) r) its.kept c.push_reserved.ensures.items;
+      aside = one_done (λ a. a.items) l.aside.items _ _ (map (λ w. w.aside) rest') _ w.aside c.into_inner-processes.result.aside known.aside (ap (map (λ w. w.aside)) r) its.aside c.push_reserved-in-loop-worker.ensures.items;
       ports = piece_done l.ports.items _ _ (map (λ w. w.port) rest') _ (w.port ∷ []) known.ports (ap (map (λ w. w.port)) r) (c.push_reserved-in-loop-worker-2.ensures.items ∙ ap (λ p. l.ports.items ++ p ∷ []) its.port);
       seats = piece_done l.seats.items _ _ (map (λ w. w.seat) rest') _ (w.seat ∷ []) known.seats (ap (map (λ w. w.seat)) r) (c.push_reserved-in-loop-worker-3.ensures.items ∙ ap (λ s. l.seats.items ++ s ∷ []) its.seat);
     }

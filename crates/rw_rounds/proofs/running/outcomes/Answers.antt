@@ -1,6 +1,6 @@
 use Rattle.std.proofs.Common.{◌≡◌, [], ◌∷◌, ◌++◌, length, map, sym, ap, ◌∙◌, arith}
 use Rattle.std.proofs.lemmas.List.{length-map}
-use Rattle.rw_crew.proofs.Lists.{one_done, all_walked}
+use Rattle.rw_pool.proofs.Lists.{one_done, all_walked}
 use Rattle.rw_rounds.proofs.Walking.{one_more, piece_done, room_for_one}
 use Rattle.rw_rounds.proofs.running.outcomes.Goals as goal
 

@@ -2,7 +2,7 @@ use Rattle.std.proofs.Common.{◌≡◌, ◌+◌, [], ◌∷◌, ◌++◌, lengt
 use Rattle.std.specs.Prelude.{slice_get}
 use Rattle.std.proofs.lemmas.List.{length-map, map_push}
 use Rattle.std.proofs.lemmas.List.Elements.{All-same, All-push}
-use Rattle.rw_crew.proofs.Lists.{one_done, joined_more, all_walked}
+use Rattle.rw_pool.proofs.Lists.{one_done, joined_more, all_walked}
 use Rattle.rw_rounds.specs.Rounds.{role}
 use Rattle.rw_rounds.proofs.setting_up.make_workers.Goals as goal
 

@@ -1,5 +1,4 @@
-use Rattle.std.proofs.Common.{◌≡◌, sym, ap, ◌∙◌, subst, get_or, All, []}
-use Rattle.std.specs.Prelude.{slice_get}
+use Rattle.std.proofs.Common.{◌≡◌, sym, ap, ◌∙◌, subst, get_or, map, All, []}
 use Rattle.rw_exchange.specs.Ports.{IsNew, IsOpening, StayAnOpening}
 use Rattle.rw_board.specs.Seats.{new_seat}
 use Rattle.rw_rounds.proofs.setting_up.set_up.Goals as goal
@@ -12,7 +11,7 @@ returns g c =
     record {
       many = its.count;
       roles = its.roles;
-      own_processes = λ i place below. ap (λ hs. slice_get (get_or hs i []) place) its.processes ∙ had.shares.1 i place below;
+      own_processes = its.processes ∙ ap (map (λ h. h.items)) had.shares;
       own_letters = λ i below. ap (λ bs. get_or bs i []) its.inboxes ∙ had.inboxes.1 i below;
       none = its.none;
       opening = subst IsOpening (sym its.ports) had.ports.1;

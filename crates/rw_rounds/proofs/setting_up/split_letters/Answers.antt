@@ -1,7 +1,7 @@
 use Rattle.std.proofs.Common.{◌≡◌, ◌<◌, [], length, map, get_or, sym, ap, ◌∙◌, arith}
 use Rattle.std.specs.Prelude.{◌%◌}
 use Rattle.std.proofs.lemmas.List.{length-set, length-map, length-replicate, get_or-replicate}
-use Rattle.rw_crew.proofs.Lists.{pushed_at}
+use Rattle.rw_pool.proofs.Lists.{pushed_at}
 use Rattle.rw_rounds.proofs.Walking.{sorted_more}
 use Rattle.rw_rounds.proofs.setting_up.split_letters.Goals as goal
 

@@ -1,7 +1,7 @@
 use Rattle.std.proofs.Common.{◌≡◌, ◌<◌, [], length, map, get_or, sym, ap, ◌∙◌, arith}
 use Rattle.std.specs.Prelude.{◌%◌, ◌==◌, filter}
 use Rattle.std.proofs.lemmas.List.{take_all, length-set, length-map, length-replicate, get_or-replicate}
-use Rattle.rw_crew.proofs.Lists.{pushed_at}
+use Rattle.rw_pool.proofs.Lists.{pushed_at}
 use Rattle.rw_windows.proofs.Lists.{sorted_more}
 use Rattle.rw_windows.proofs.beginning.deal_events.Goals as goal
 

@@ -1,7 +1,7 @@
 use Rattle.std.proofs.Common.{◌≡◌, ◌+◌, [], ◌∷◌, ◌++◌, length, map, replicate, refl, sym, ap, ◌∙◌, arith}
 use Rattle.std.proofs.lemmas.List.{length-map, map_push, replicate_more}
 use Rattle.std.proofs.lemmas.List.Elements.{All-same, All-push}
-use Rattle.rw_crew.proofs.Lists.{all_walked, one_done}
+use Rattle.rw_pool.proofs.Lists.{all_walked, one_done}
 use Rattle.rw_windows.specs.Beginning.{HasNotBegun}
 use Rattle.rw_windows.proofs.Lists.{numbered_more}
 use Rattle.rw_windows.proofs.beginning.make_shares.Goals as goal
@@ -13,7 +13,7 @@ loop-number-init g c =
       shares_left = omega (arith, c.requires.shares);
       inboxes_left = omega (arith, c.requires.inboxes);
       ports_left = omega (arith, c.requires.ports);
-      bells_left = omega (arith, c.requires.bells);
+      parkers_left = omega (arith, c.requires.parkers);
       capacity = c.in_ok-shares.ensures.exact;
       count = c.in_ok-shares.ensures.len;
       numbers = λ i d below. absurd (omega arith);
@@ -33,8 +33,8 @@ next_share-requires-clause-inboxes g c = λ empty. omega (arith, ap length empty
 pub next_share-requires-clause-ports : goal.next_share-requires-clause-ports
 next_share-requires-clause-ports g c = λ empty. omega (arith, ap length empty, c.loop-number.invariant.ports_left, c.loop-number-test.true)
 
-pub next_share-requires-clause-bells : goal.next_share-requires-clause-bells
-next_share-requires-clause-bells g c = λ empty. omega (arith, ap length empty, c.loop-number.invariant.bells_left, c.loop-number-test.true)
+pub next_share-requires-clause-parkers : goal.next_share-requires-clause-parkers
+next_share-requires-clause-parkers g c = λ empty. omega (arith, ap length empty, c.loop-number.invariant.parkers_left, c.loop-number-test.true)
 
 pub push_reserved-requires : goal.push_reserved-requires
 push_reserved-requires g c = omega (arith, c.loop-number.invariant.capacity, c.loop-number.invariant.count, c.loop-number-test.true)
@@ -56,7 +56,7 @@ loop-number-preserved g c =
       shares_left = omega (arith, shares, known.shares_left);
       inboxes_left = omega (arith, inboxes, known.inboxes_left);
       ports_left = omega (arith, ap length is.port, known.ports_left);
-      bells_left = omega (arith, is.bells, known.bells_left);
+      parkers_left = omega (arith, is.parkers, known.parkers_left);
       capacity = c.push_reserved.ensures.capacity ∙ known.capacity;
       count = omega (arith, c.push_reserved.ensures.len, known.count);
       numbers = numbered_more (λ v. v.number) c.loop-number.number ws ws' w (sym c.loop-number.shares.ok.0 ∙ known.count) known.numbers is.number more;

@@ -7,7 +7,7 @@ invariant-loop-number g l = record {
   shares_left : l.number + length l.supply.shares.items ≡ l.terms.workers;
   inboxes_left : l.number + length l.supply.inboxes.items ≡ l.terms.workers;
   ports_left : l.number + length l.supply.ports.items ≡ l.terms.workers;
-  bells_left : l.number + length l.supply.bells.items ≡ l.terms.workers;
+  parkers_left : l.number + length l.supply.parkers.items ≡ l.terms.workers;
   capacity : vec_capacity l.shares ≡ l.terms.workers;
   count : vec_len l.shares ≡ l.number;
   numbers : (i : ℕ) (d : _) → i < l.number → (get_or l.shares.items i d).number ≡ i;

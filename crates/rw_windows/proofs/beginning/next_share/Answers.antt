@@ -11,7 +11,7 @@ pub first_of-requires-2 : goal.first_of-requires-2
 first_of-requires-2 g c = record { some = c.requires.ports }
 
 pub first_of-requires-3 : goal.first_of-requires-3
-first_of-requires-3 g c = record { some = c.requires.bells }
+first_of-requires-3 g c = record { some = c.requires.parkers }
 
 pub returns-clause-number : goal.returns-clause-number
 returns-clause-number g c = refl
@@ -27,8 +27,8 @@ returns-clause-given g c =
 pub returns-clause-port : goal.returns-clause-port
 returns-clause-port g c = c.first_of-2.ensures.first
 
-pub returns-clause-bells : goal.returns-clause-bells
-returns-clause-bells g c = omega (arith, ap length c.first_of-3.ensures.first)
+pub returns-clause-parkers : goal.returns-clause-parkers
+returns-clause-parkers g c = omega (arith, ap length c.first_of-3.ensures.first)
 
 pub returns-clause-starts : goal.returns-clause-starts
 returns-clause-starts g c = ap (λ s. s.value.items) c.of.ensures

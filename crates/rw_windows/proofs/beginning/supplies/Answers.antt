@@ -1,7 +1,7 @@
 use Rattle.std.proofs.Common.{[], length, map, sym, ap, ◌∙◌, subst, get_or}
 use Rattle.std.specs.Prelude.{slice_get}
-use Rattle.rw_exchange.specs.Ports.{AreGreeted, IsOpening, NoneItself, StayAnOpening}
-use Rattle.rw_windows.specs.Beginning.{greeting}
+use Rattle.rw_exchange.specs.Ports.{HaveFirst, IsOpening, NoneItself, StayAnOpening}
+use Rattle.rw_windows.specs.Beginning.{first_batch}
 use Rattle.rw_windows.proofs.beginning.supplies.Goals as goal
 
 pub returns-clause-shares : goal.returns-clause-shares
@@ -24,12 +24,12 @@ returns-clause-ports g c =
     let same = c.from-3.ensures.0 in
     (ap length same ∙ its.count, subst IsOpening (sym same) its.opening, subst StayAnOpening (sym same) its.stays)
 
-pub returns-clause-greeted : goal.returns-clause-greeted
-returns-clause-greeted g c =
+pub returns-clause-first_sent : goal.returns-clause-first_sent
+returns-clause-first_sent g c =
     let its = c.in_ok-ports.ensures in
     let same = c.from-3.ensures.0 in
     let t = c.args.terms in
-    (subst (AreGreeted t.workers (greeting c.args.model.now t.workers t.reach)) (sym same) its.greeted, subst (NoneItself t.workers) (sym same) its.own)
+    (subst (HaveFirst t.workers (first_batch c.args.model.now t.workers t.bound)) (sym same) its.first_sent, subst (NoneItself t.workers) (sym same) its.own)
 
-pub returns-clause-bells : goal.returns-clause-bells
-returns-clause-bells g c = ap length c.from-4.ensures.0 ∙ c.in_ok-bells.ensures.count
+pub returns-clause-parkers : goal.returns-clause-parkers
+returns-clause-parkers g c = ap length c.from-4.ensures.0 ∙ c.in_ok-parkers.ensures.count

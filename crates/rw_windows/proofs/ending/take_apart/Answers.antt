@@ -2,7 +2,7 @@ use Rattle.std.proofs.Common.{◌≡◌, ◌∷◌, ◌++◌, map, sym, ap, ◌�
 use Rattle.std.proofs.lemmas.List.{length-map, nil_from_length}
 use Rattle.rw_vt.specs.Order.{weigh}
 use Rattle.rw_vt.specs.System.{flatten}
-use Rattle.rw_crew.proofs.Lists.{all_walked}
+use Rattle.rw_pool.proofs.Lists.{all_walked}
 use Rattle.rw_windows.proofs.Lists.{one_walked}
 use Rattle.rw_windows.proofs.Sums.{weigh-append}
 use Rattle.rw_windows.proofs.ending.take_apart.Goals as goal
@@ -16,7 +16,7 @@ loop-share-init g c =
       ports = ap (λ z. z ++ map (λ w. w.port) rest) c.new-2.ensures.items ∙ ap (map (λ w. w.port)) begin;
       events = λ h.
           let none = ap (weigh h) c.new-3.ensures.items in
-          let all = ap (λ z. weigh h (flatten (map (λ w. w.waiting ++ flatten w.away) z))) begin in
+          let all = ap (λ z. weigh h (flatten (map (λ w. w.waiting ++ flatten w.outbox) z))) begin in
           omega (arith, none, all);
     }
 
@@ -32,7 +32,7 @@ loop-share-preserved g c =
       ports = one_walked _ _ _ (map (λ w. w.port) rest') _ w.port known.ports (ap (map (λ w. w.port)) r) more.ports;
       events = λ h.
           let all = known.events h in
-          let left = ap (λ z. weigh h (flatten (map (λ w. w.waiting ++ flatten w.away) z))) r ∙ weigh-append h (w.waiting ++ flatten w.away) (flatten (map (λ w. w.waiting ++ flatten w.away) rest')) in
+          let left = ap (λ z. weigh h (flatten (map (λ w. w.waiting ++ flatten w.outbox) z))) r ∙ weigh-append h (w.waiting ++ flatten w.outbox) (flatten (map (λ w. w.waiting ++ flatten w.outbox) rest')) in
           omega (arith, all, left, more.events h);
     }
 
@@ -41,7 +41,7 @@ returns-clause-events g c h =
     let rest = c.loop-share.share-iterator.rest in
     let none = nil_from_length rest.items (sym rest.ok.0 ∙ c.in-None.ensures.steps.0) in
     let all = c.loop-share.invariant.events h in
-    let left = ap (λ z. weigh h (flatten (map (λ w. w.waiting ++ flatten w.away) z))) none in
+    let left = ap (λ z. weigh h (flatten (map (λ w. w.waiting ++ flatten w.outbox) z))) none in
     omega (arith, all, left)
 
 pub returns-clause-shares : goal.returns-clause-shares

@@ -8,5 +8,5 @@ abbrev pub invariant-loop-share : goal.invariant-loop-share
 invariant-loop-share g l = record {
   shares : map (λ h. h.items) l.holdings.shares.items ++ map (λ w. w.states) l.share-iterator.rest.items ≡ map (λ w. w.states) l.fn.shares.items;
   ports : l.holdings.ports.items ++ map (λ w. w.port) l.share-iterator.rest.items ≡ map (λ w. w.port) l.fn.shares.items;
-  events : (h : Event g.row.M-Body.Denot → ℕ) → weigh h l.holdings.events.items + weigh h (flatten (map (λ w. w.waiting ++ flatten w.away) l.share-iterator.rest.items)) ≡ weigh h (flatten (map (λ w. w.waiting ++ flatten w.away) l.fn.shares.items));
+  events : (h : Event g.row.M-Body.Denot → ℕ) → weigh h l.holdings.events.items + weigh h (flatten (map (λ w. w.waiting ++ flatten w.outbox) l.share-iterator.rest.items)) ≡ weigh h (flatten (map (λ w. w.waiting ++ flatten w.outbox) l.fn.shares.items));
 }

@@ -30,8 +30,8 @@ returns-clause-left g c =
     subst (λ m. IsLeftOfRun g.M.Model g.M.Body.Ord.cmp m c.args.end c.args.states.items c.args.events.items left.states.items left.events.items) (same_model g at)
     (c.in_ok-left.ensures.left c.args.end c.args.states.items c.args.events.items as_many (came g at))
 
-pub do_each-requires : goal.do_each-requires
-do_each-requires g c = record { takes = c.in_ok-shares.ensures.begun.can_begin }
+pub run_each-requires : goal.run_each-requires
+run_each-requires g c = record { takes = c.in_ok-shares.ensures.begun.can_begin }
 
 pub gather-requires-clause-some : goal.gather-requires-clause-some
 gather-requires-clause-some g c = omega (arith, c.in_ok-work.ensures.count, c.in_ok-shares.ensures.begun.many, c.requires.workers)

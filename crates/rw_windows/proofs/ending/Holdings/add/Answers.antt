@@ -10,7 +10,7 @@ returns-clause-events g c h =
     let old = c.args.self.now.events.items in
     ap (weigh h) (c.in_ok-add_events.ensures.more ∙ append_assoc old c.share.inside.events.items _)
     ∙ weigh-append h old _
-    ∙ ap (λ v. weigh h old + weigh h (v.waiting ++ flatten v.away)) c.share.view_is
+    ∙ ap (λ v. weigh h old + weigh h (v.waiting ++ flatten v.outbox)) c.share.view_is
 
 pub returns-clause-shares : goal.returns-clause-shares
 returns-clause-shares g c =

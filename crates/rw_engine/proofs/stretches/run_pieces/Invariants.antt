@@ -1,6 +1,0 @@
-use Rattle.rw_engine.specs.Stretches.{GoesOn}
-use Rattle.rw_engine.proofs.stretches.run_pieces.Given as goal
-
-abbrev pub invariant-loop-segment : goal.invariant-loop-segment
-invariant-loop-segment g l =
-    GoesOn g.M.Model g.M.Body.Ord.cmp l.fn.at.model l.fn.at.states.items l.fn.pending.events l.at.model l.at.states.items l.pending.events

@@ -1,0 +1,6 @@
+mod Ending
+mod Lists
+mod Sorts
+mod Recording
+mod Between
+mod Segments

@@ -1,0 +1,4 @@
+pub mod Committed
+pub mod Until
+pub mod Recorded
+pub mod Laws

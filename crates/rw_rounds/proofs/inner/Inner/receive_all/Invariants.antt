@@ -1,0 +1,6 @@
+use Rattle.std.proofs.Common.{[]}
+use Rattle.rw_rounds.specs.Working.{DealsWithAll}
+use Rattle.rw_rounds.proofs.inner.Inner.receive_all.Given as goal
+
+abbrev pub invariant-loop-from : goal.invariant-loop-from
+invariant-loop-from g l = DealsWithAll g.M.Model g.M.Body.Ord.cmp l.context l.fn.self l.self [] l.at_hand.items 0
