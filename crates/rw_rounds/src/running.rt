@@ -108,7 +108,7 @@ where
     })
 }
 
-/// A pool of so many threads, the calling one among them.
+/// A pool of `count` threads, the calling one among them.
 fn start_pool<'s, E, R, J, T>(
     rt: &'s R,
     scope: &Scope<'s, E>,

@@ -34,7 +34,7 @@ impl Parkers {
     }
 }
 
-/// The parkers of so many workers, in the order of their numbers.
+/// The parkers of `workers` workers, in the order of their numbers.
 ///
 /// # Errors
 ///
