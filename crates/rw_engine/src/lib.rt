@@ -7,7 +7,7 @@
 //! the committed events are those of executing all events in order of time. A model implements the
 //! trait [`Model`].
 //!
-//! Worked examples: `rw_round_tests/src/phold_runs.rt`, and the program `phold`.
+//! Worked examples: `rw_round_tests/src/phold_runs.rt` and `src/made_models.rt`, and the program `phold`.
 
 mod alone;
 mod controller;

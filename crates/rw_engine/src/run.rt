@@ -12,7 +12,7 @@ use rw_progress::Progress;
 use rw_rounds::{Bounds, Open, Plan, RoundWork, Stop, Throttle, Traffic, Worker, run_segment};
 use rw_serial::{Pending, Source, go_on};
 use rw_vt::{END, Event, Lookahead, Model as VtModel};
-use rw_windows::{Left, Share, Work, run_in_windows};
+use rw_windows::{Left, Share, Stage, Windows, Work, run_in_windows};
 use rw_world::{Rest, World};
 use std::alloc::{AllocError, Global};
 use std::sync::Wait;
@@ -166,23 +166,26 @@ impl<M: Lookahead + Drop> Run<M> {
         let lookahead = window_of(&model);
         let until = pending.least_time().unwrap_or(END);
         let end = end_of_windows(&events, lookahead, size.times, until).min(until);
-        let Left {
+        let stage = Stage {
             model,
             states,
             events,
-            executed,
-            received,
-        } = run_in_windows(
-            rt,
-            workers,
-            alloc,
-            model,
-            states,
-            events,
-            plan.workers,
+        };
+        let windows = Windows {
+            workers: plan.workers,
             lookahead,
             end,
-        )?;
+        };
+        let Left {
+            stage,
+            executed,
+            received,
+        } = run_in_windows(rt, workers, alloc, stage, windows)?;
+        let Stage {
+            model,
+            states,
+            events,
+        } = stage;
         pending.put_back(events)?;
         traffic.add(&Traffic {
             executed,

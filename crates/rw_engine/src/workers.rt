@@ -3,7 +3,8 @@ ghost use Rattle.rw_vt.specs.Words.{Position};
 
 use rw_exchange::Port;
 use rw_pool::{
-    Either, Executor, Halt, Job, Pool, do_first, do_second, grow_for_both, may_move, shut_down,
+    Executor, FromTask, Halt, Job, JobTask, Runnable, TaskPool, alone_for_tasks, grow_for_tasks,
+    may_move, run_each,
 };
 use rw_rounds::{Open, RoundWork, Worker};
 use rw_vt::{Letter, Model as VtModel};
@@ -12,15 +13,128 @@ use std::alloc::Global;
 use std::sync::Wait;
 use std::thread::{Scope, Threads};
 
+/// A task of a worker in rounds or in windows. The types of both are parameters, since an enum may move where its parameters may.
+#[derive(Drop)]
+enum WorkerTask<A, B> {
+    Rounds(A),
+    Windows(B),
+}
+
+impl<A: Runnable, B: Runnable> Runnable for WorkerTask<A, B> {
+    ghost use Rattle.rw_engine.specs.Tasks.{may_run};
+
+    ghost MayRun = { may_run A.MayRun B.MayRun };
+
+    fn run(self) {
+        match self {
+            WorkerTask::Rounds(task) => task.run(),
+            WorkerTask::Windows(task) => task.run(),
+        }
+    }
+}
+
+/// A task of a worker in rounds.
+type RoundsTask<M> = JobTask<RoundWork<M, Open>, Worker<M>>;
+
+/// A task of a worker in windows.
+type WindowsTask<'r, M, R> = JobTask<Work<'r, M, R>, Share<M>>;
+
+impl<'r, M: VtModel + Drop, R: Wait> FromTask<RoundsTask<M>>
+    for WorkerTask<RoundsTask<M>, WindowsTask<'r, M, R>> {
+    fn from_task(task: RoundsTask<M>) -> WorkerTask<RoundsTask<M>, WindowsTask<'r, M, R>> {
+        WorkerTask::Rounds(task)
+    }
+}
+
+impl<'r, M: VtModel + Drop, R: Wait> FromTask<WindowsTask<'r, M, R>>
+    for WorkerTask<RoundsTask<M>, WindowsTask<'r, M, R>> {
+    fn from_task(task: WindowsTask<'r, M, R>) -> WorkerTask<RoundsTask<M>, WindowsTask<'r, M, R>> {
+        WorkerTask::Windows(task)
+    }
+}
+
+/// A pool of tasks of two jobs. What they consist of are the parameters, by which it is known how long each type lives.
+type BothPool<'r, R, J, T, K, U> = TaskPool<'r, R, WorkerTask<JobTask<J, T>, JobTask<K, U>>>;
+
+/// The calling thread alone. Takes no memory.
+fn pool_for_both<'r, R, J, T, K, U>(rt: &'r R, alloc: Global) -> BothPool<'r, R, J, T, K, U>
+where
+    J: Job<T> + Drop,
+    K: Job<U> + Drop,
+    T: Drop,
+    U: Drop,
+{
+    alone_for_tasks(rt, alloc)
+}
+
+/// Starts threads of a scope until there are `count`, the calling one among them.
+///
+/// # Errors
+///
+/// Those of [`start`].
+fn grow_for_both<'s, E, R, J, T, K, U>(
+    pool: &mut BothPool<'s, R, J, T, K, U>,
+    scope: &Scope<'s, E>,
+    alloc: Global,
+    count: usize,
+) -> Result<(), Halt>
+where
+    R: Threads + Wait + Sync,
+    J: Job<T> + Send + Sync + Drop + 's,
+    K: Job<U> + Send + Sync + Drop + 's,
+    T: Send + Drop + 's,
+    U: Send + Drop + 's,
+{
+    grow_for_tasks(pool, scope, alloc, count)
+}
+
+/// Ends the threads, once they have done what they do.
+fn end_for_both<'r, R, J, T, K, U>(_pool: BothPool<'r, R, J, T, K, U>)
+where
+    J: Job<T> + Drop,
+    K: Job<U> + Drop,
+    T: Drop,
+    U: Drop,
+{}
+
+/// Does a job, one of the two, as an [`Executor`] does.
+///
+/// # Errors
+///
+/// Those of [`Executor::run_each`].
+fn run_for_both<'r, R, J, T, K, U, L, V>(
+    pool: &mut BothPool<'r, R, J, T, K, U>,
+    alloc: Global,
+    job: L,
+    inputs: Vec<V>,
+) -> Result<(L, Vec<V>), Halt>
+where
+    R: Wait,
+    J: Job<T> + Drop,
+    K: Job<U> + Drop,
+    T: Drop,
+    U: Drop,
+    L: Job<V> + Drop,
+    V: Drop,
+    WorkerTask<JobTask<J, T>, JobTask<K, U>>: FromTask<JobTask<L, V>>,
+    requires takes { All (λ t. L.Takes job t) inputs.items }
+    ensures job { IfOk result (λ r. r.0 ≡ job) }
+    ensures count { IfOk result (λ r. length r.1.items ≡ length inputs.items) }
+    ensures each { IfOk result (λ r. (i : Position) (d : _) (e : _) → i < length inputs.items
+        → L.Gives job (slice_index_or inputs.items i d) (slice_index_or r.1.items i e)) }
+{
+    run_each(pool, alloc, job, inputs)
+}
+
 /// The threads of a run, the calling one among them, which do the work of its workers in rounds and in windows.
 pub(crate) struct Workers<'r, M: VtModel + Drop, R: Wait> {
-    pool: Pool<'r, R, Either<RoundWork<M, Open>, Work<'r, M, R>>, Either<Worker<M>, Share<M>>>,
+    pool: BothPool<'r, R, RoundWork<M, Open>, Worker<M>, Work<'r, M, R>, Share<M>>,
 }
 
 /// The calling thread alone. Takes no memory.
 pub(crate) fn alone<'r, M: VtModel + Drop, R: Wait>(rt: &'r R, alloc: Global) -> Workers<'r, M, R> {
     Workers {
-        pool: rw_pool::alone(rt, alloc),
+        pool: pool_for_both(rt, alloc),
     }
 }
 
@@ -50,7 +164,7 @@ where
 /// Ends the threads, once they have done what they do.
 pub(crate) fn end<'r, M: VtModel + Drop, R: Wait>(workers: Workers<'r, M, R>) {
     let Workers { pool } = workers;
-    shut_down(pool);
+    end_for_both(pool);
 }
 
 impl<'r, M: VtModel + Drop, R: Wait> Executor<RoundWork<M, Open>, Worker<M>> for Workers<'r, M, R> {
@@ -68,7 +182,7 @@ impl<'r, M: VtModel + Drop, R: Wait> Executor<RoundWork<M, Open>, Worker<M>> for
             → ⟦<RoundWork<M, Open> as Job<Worker<M>>>⟧.Gives job
             (slice_index_or inputs.items i d) (slice_index_or r.1.items i e)) }
     {
-        do_first(&mut self.pool, alloc, job, inputs)
+        run_for_both(&mut self.pool, alloc, job, inputs)
     }
 }
 
@@ -86,6 +200,6 @@ impl<'r, M: VtModel + Drop, R: Wait> Executor<Work<'r, M, R>, Share<M>> for Work
             → ⟦<Work<'r, M, R> as Job<Share<M>>>⟧.Gives job.entry
             (slice_index_or inputs.items i d) (slice_index_or r.1.items i e)) }
     {
-        do_second(&mut self.pool, alloc, job, inputs)
+        run_for_both(&mut self.pool, alloc, job, inputs)
     }
 }

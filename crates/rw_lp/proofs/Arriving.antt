@@ -12,11 +12,13 @@ use Rattle.rw_vt.proofs.Sorting.{IsExactOrder, at_most_chain, Has-head, Has-righ
 use Rattle.rw_vt.proofs.Bags.{Each-nil, Each-cons}
 use Rattle.rw_lp.specs.declared.answer.StepFault.TheVariants.{StillDone}
 use Rattle.rw_lp.specs.declared.answer.Answer.{Answer}
-use Rattle.rw_lp.specs.HeldMessages.{held_of, held_with, held_without}
-use Rattle.rw_lp.specs.Process.{ProcessState, Turn, Turned, Stays, split_last, is_less_than_last, after_undoing, sends_of_last, undo_last, undo_one, undo_last_lazily, undo_lazily, annihilate, deliver_anti, deliver_message, deliver}
+use Rattle.rw_lp.specs.HeldMessages.{held_with, held_without}
+use Rattle.rw_lp.specs.Process.{ProcessState, Turn, Turned, Stays, split_last, is_less_than_last, undo_last, undo_last_lazily, annihilate, deliver_anti, deliver_message, deliver}
 use Rattle.rw_lp.proofs.WithBags.{with_bags}
 use Rattle.rw_lp.specs.Calls.{LogicalProcess, Took, IsTaken}
-use Rattle.rw_lp.specs.Arrival.{Way, undo_by, undo_times, and_undo, with_out, is_barred, Accepts, ArrivedBy}
+use Rattle.rw_lp.specs.declared.way.Way.{Way}
+use Rattle.rw_lp.specs.declared.way.Way.TheVariants.{Aggressive, Lazy}
+use Rattle.rw_lp.specs.Arrival.{undo_by, undo_times, and_undo, with_out, is_barred, Accepts, ArrivedBy}
 use Rattle.rw_lp.proofs.Splits.{IsSplit, split_is}
 
 module _ {E : Type 0} {cmp : E → E → Ordering} (o : IsExactOrder cmp) (e : E) where
@@ -91,29 +93,23 @@ module _ {S B : Type 0} {cmp : Event B → Event B → Ordering} (o : IsExactOrd
       go false d k = true≢false (sym k)
 
 module _ {S B : Type 0} (y : Rules S B) (p : ℕ) where
+  -- a turn to a process with one event fewer that is processed
+  fewer : (x z after : ProcessState S B) (given out : List (Letter B)) (r : List (Event B) × Event B) → x.processed ≡ r.0 ++ r.1 ∷ [] → after.processed ≡ r.0 → z ≡ after → given ≡ out → (Turned after out ≡ Turned z given) × (length z.processed < length x.processed)
+  fewer x z after given out r q front is all =
+      (ap (λ w. Turned w out) (sym is) ∙ ap (Turned z) (sym all), omega (arith, ap (λ (w : ProcessState S B). length w.processed) is, ap length front, ap length q, length-append r.0 (r.1 ∷ [])))
+
   -- an undoing where something is processed
-  pub undo_taken : (x z : ProcessState S B) (a : Answer) (given : List (Letter B)) → (x.processed ≡ [] → ⊥) → Took x z a given (undo_one y p x) → (undo_one y p x ≡ Turned z given) × (length z.processed < length x.processed)
-  undo_taken x z a given some took = go (split_last x.processed) (split_is x.processed) took
+  pub undo_taken : (way : Way) (x z : ProcessState S B) (a : Answer) (given : List (Letter B)) → (x.processed ≡ [] → ⊥) → Took x z a given (undo_by way y p x) → (undo_by way y p x ≡ Turned z given) × (length z.processed < length x.processed)
+  undo_taken Aggressive x z a given some took = go (split_last x.processed) (split_is x.processed) took
     where
       go : (r : Option (List (Event B) × Event B)) → IsSplit x.processed r → Took x z a given (undo_last y p x r) → (undo_last y p x r ≡ Turned z given) × (length z.processed < length x.processed)
       go None q t = absurd (some q)
-      go (Some r) q t =
-          let is : z ≡ after_undoing y p x r.0 r.1 x.held = t.0 in
-          let front : length z.processed ≡ length r.0 = ap (λ (w : ProcessState S B). length w.processed) is in
-          let whole : length x.processed ≡ length (r.0 ++ r.1 ∷ []) = ap length q in
-          (ap (λ w. Turned w (letters_of true (sends_of_last y p x r.0 r.1))) (sym is) ∙ ap (Turned z) (sym t.2), omega (arith, front, whole, length-append r.0 (r.1 ∷ [])))
-
-  -- the same where its sends are held
-  pub lazy_undo_taken : (x z : ProcessState S B) (a : Answer) → (x.processed ≡ [] → ⊥) → Took x z a [] (undo_lazily y p x) → (undo_lazily y p x ≡ Turned z []) × (length z.processed < length x.processed)
-  lazy_undo_taken x z a some took = go (split_last x.processed) (split_is x.processed) took
+      go (Some r) q t = fewer x z _ given _ r q refl t.0 t.2
+  undo_taken Lazy x z a given some took = go (split_last x.processed) (split_is x.processed) took
     where
-      go : (r : Option (List (Event B) × Event B)) → IsSplit x.processed r → Took x z a [] (undo_last_lazily y p x r) → (undo_last_lazily y p x r ≡ Turned z []) × (length z.processed < length x.processed)
+      go : (r : Option (List (Event B) × Event B)) → IsSplit x.processed r → Took x z a given (undo_last_lazily y p x r) → (undo_last_lazily y p x r ≡ Turned z given) × (length z.processed < length x.processed)
       go None q t = absurd (some q)
-      go (Some r) q t =
-          let is : z ≡ after_undoing y p x r.0 r.1 (x.held ++ held_of r.1 (sends_of_last y p x r.0 r.1)) = t.0 in
-          let front : length z.processed ≡ length r.0 = ap (λ (w : ProcessState S B). length w.processed) is in
-          let whole : length x.processed ≡ length (r.0 ++ r.1 ∷ []) = ap length q in
-          (ap (λ w. Turned w []) (sym is), omega (arith, front, whole, length-append r.0 (r.1 ∷ [])))
+      go (Some r) q t = fewer x z _ given _ r q refl t.0 t.2
 
 module _ {S B : Type 0} (undo : ProcessState S B → Turn S B) (cmp : Event B → Event B → Ordering) (l : Letter B) where
   -- so many undoings led from x to w and gave these letters out, and no fewer would do

@@ -20,7 +20,9 @@ use Rattle.rw_lp.proofs.Holding.{count-held_append, count-held_of, count-held_pa
 use Rattle.rw_lp.specs.Process.{ProcessState, done, Turn, Turned, Stays, split_last, after_execution, after_undoing, undo_last, undo_one, undo_last_lazily, undo_lazily, sends_of_last, deliver}
 use Rattle.rw_lp.proofs.WithBags.{with_bags}
 use Rattle.rw_lp.specs.Calls.{Took, IsTaken, letters_taken}
-use Rattle.rw_lp.specs.Arrival.{Way, Cancelling, Holding, undo_by, undo_times, and_undo, with_out}
+use Rattle.rw_lp.specs.declared.way.Way.{Way}
+use Rattle.rw_lp.specs.declared.way.Way.TheVariants.{Aggressive, Lazy}
+use Rattle.rw_lp.specs.Arrival.{undo_by, undo_times, and_undo, with_out}
 use Rattle.rw_lp.specs.Sound.{Balance}
 use Rattle.rw_lp.proofs.Splits.{IsSplit, split_is}
 
@@ -197,8 +199,8 @@ module _ {S B : Type 0} (y : Rules S B) (o : IsExactOrder y.order) (p : ℕ) whe
 
   -- each way of undoing keeps the balance
   pub way_balanced : (way : Way) (x z : ProcessState S B) (out : List (Letter B)) → undo_by way y p x ≡ Turned z out → Balance y p x z [] out
-  way_balanced Cancelling x z out is = undo_balanced x z out is
-  way_balanced Holding x z out is = lazy_undo_balanced x z out is
+  way_balanced Aggressive x z out is = undo_balanced x z out is
+  way_balanced Lazy x z out is = lazy_undo_balanced x z out is
 
   stays_not : (fault : StepFault) (given : List (Letter B)) (z : ProcessState S B) (out : List (Letter B)) → with_out given (let t : Turn S B = Stays fault in t) ≡ Turned z out → ⊥
   stays_not fault given z out e = let k : (let t : Turn S B = Stays fault in t) ≡ Turned z out = e in cc

@@ -6,6 +6,8 @@ use Rattle.rw_vt.specs.declared.event.Event.{Event}
 use Rattle.rw_vt.specs.declared.event.Letter.{Letter}
 use Rattle.rw_vt.specs.Order.{AtMost, Each, has}
 use Rattle.rw_vt.specs.System.{Rules}
+use Rattle.rw_lp.specs.declared.way.Way.{Way}
+use Rattle.rw_lp.specs.declared.way.Way.TheVariants.{Aggressive, Lazy}
 use Rattle.rw_lp.specs.Process.{ProcessState, Turn, Turned, Stays, split_last, is_less_than_last, undo_one, undo_lazily, deliver}
 use Rattle.rw_lp.specs.Calls.{IsTaken}
 
@@ -14,15 +16,10 @@ abbrev pub with_out : {S B : Type 0} → List (Letter B) → Turn S B → Turn S
 with_out out (Stays fault) = Stays fault
 with_out out (Turned z more) = Turned z (out ++ more)
 
--- how what was done too early is taken back: what it sent is cancelled, or held
-pub data Way : Type 0 where
-  Cancelling : Way
-  Holding : Way
-
 -- the undoing of the last processed event, that way
 abbrev pub undo_by : {S B : Type 0} → Way → Rules S B → Process → ProcessState S B → Turn S B
-undo_by Cancelling y p x = undo_one y p x
-undo_by Holding y p x = undo_lazily y p x
+undo_by Aggressive y p x = undo_one y p x
+undo_by Lazy y p x = undo_lazily y p x
 
 -- a turn, and then such an undoing
 abbrev pub and_undo : {S B : Type 0} → (ProcessState S B → Turn S B) → Turn S B → Turn S B
@@ -69,8 +66,8 @@ pub record ArrivedBy {S B : Type 0} (way : Way) (y : Rules S B) (p : Process) (l
 -- what is undone is cancelled; or what it sent is held
 abbrev pub Arrived : {S B : Type 0} → Rules S B → Process → Letter B → ProcessState S B
     → ProcessState S B → List (Letter B) → Type 0
-Arrived = ArrivedBy Cancelling
+Arrived = ArrivedBy Aggressive
 
 abbrev pub ArrivedLazily : {S B : Type 0} → Rules S B → Process → Letter B → ProcessState S B
     → ProcessState S B → List (Letter B) → Type 0
-ArrivedLazily = ArrivedBy Holding
+ArrivedLazily = ArrivedBy Lazy

@@ -23,6 +23,7 @@ mod places;
 mod runs;
 mod sends;
 mod undo_record;
+mod way;
 
 pub use answer::{Answer, StepFault};
 pub use held::Held;
@@ -31,6 +32,7 @@ pub use lp::Lp;
 pub use places::put_back;
 pub use runs::every_limit;
 pub use rw_vt::{Event, Letter, Model, Refusal};
+pub use way::Way;
 
 /// Each step of a sound process that started well keeps it sound. It changes what is done and pending, less what is owed,
 /// by exactly the letter that came, and what its done events sent by exactly the letters that it gives out. This is the

@@ -16,12 +16,13 @@ ghost use Rattle.rw_lp.specs.declared.undo_record.Undone.{Undone};
 ghost use Rattle.rw_lp.specs.Own.{AreFor};
 ghost use Rattle.rw_lp.specs.HeldBack.{antis_unless, held_unless};
 ghost use Rattle.rw_lp.specs.Sound.{Balance, IsSoundOnceCollected, KeepsBalance, StartsWell};
-ghost use Rattle.rw_lp.specs.Arrival.{Arrived, ArrivedLazily, is_barred};
+ghost use Rattle.rw_lp.specs.Arrival.{Arrived, ArrivedBy, ArrivedLazily, is_barred, undo_by};
 
 use crate::answer::{Answer, StepFault};
 use crate::held_back::HeldBack;
 use crate::history::{Past, ends_after};
 use crate::undo_record::Undone;
+use crate::way::Way;
 use rw_bag::Bag;
 use rw_vt::{Event, Letter, Model as VtModel, Refusal};
 use std::alloc::{AllocError, Global};
@@ -191,6 +192,30 @@ impl<M: VtModel> Lp<M> {
         Ok((lp, answer))
     }
 
+    /// Takes the last processed event back: as [`undo_one`](Self::undo_one) does, or as
+    /// [`undo_lazily`](Self::undo_lazily) does. Refused only as `Memory`.
+    pub fn undo_by(
+        self,
+        alloc: Global,
+        model: &M,
+        way: Way,
+        out: &mut Vec<Letter<M::Body>>,
+    ) -> Result<(Lp<M>, Answer), Refusal>
+        requires model { model.now ≡ self.model }
+        ensures same { IfOk result (λ r. IsSameProcess self r.0) }
+        ensures turn { IfOk result (λ r. GivesOut out.old.items out.new.items (λ given.
+            Took self.process r.0.process r.1 given
+            (undo_by way (rules M.Model M.Body.cmp self.model) self.number self.process))) }
+        ensures balance { IfOk result (λ r. GivesOut out.old.items out.new.items
+            (KeepsBalance M.Model M.Body.cmp self r.0 [])) }
+        ensures memory { IfErr result (λ e. e ≡ Memory) }
+    {
+        match way {
+            Way::Aggressive => self.undo_one(alloc, model, out),
+            Way::Lazy => self.undo_lazily(alloc, model),
+        }
+    }
+
     /// A letter arrives: the fewest undoings are made after which it is accepted and, if it is a message, no processed event
     /// is greater than it; then it is delivered (Jefferson 1985: rollback). Anti-messages of what the undone events sent
     /// are appended to `out`, in the order of the undoings. Refused only as `Memory`.
@@ -212,13 +237,7 @@ impl<M: VtModel> Lp<M> {
             (KeepsBalance M.Model M.Body.cmp self lp (letter ∷ []))) }
         ensures memory { IfErr result (λ e. e ≡ Memory) }
     {
-        let mut lp = self;
-        'undoing: while lp.is_barred(&letter) {
-            let (undone, _answer) = lp.undo_one(alloc, model, out)?;
-            lp = undone;
-        }
-        let (lp, _answer) = lp.deliver(letter, out)?;
-        Ok(lp)
+        self.arrive_by(alloc, model, Way::Aggressive, letter, out)
     }
 
     /// A letter arrives as by [`arrive`](Self::arrive), but each undoing is one of [`undo_lazily`](Self::undo_lazily). Refused
@@ -241,9 +260,33 @@ impl<M: VtModel> Lp<M> {
             (KeepsBalance M.Model M.Body.cmp self lp (letter ∷ []))) }
         ensures memory { IfErr result (λ e. e ≡ Memory) }
     {
+        self.arrive_by(alloc, model, Way::Lazy, letter, out)
+    }
+
+    /// A letter arrives as by [`arrive`](Self::arrive), but each undoing is one of [`undo_by`](Self::undo_by), that way.
+    /// Refused only as `Memory`.
+    pub fn arrive_by(
+        self,
+        alloc: Global,
+        model: &M,
+        way: Way,
+        letter: Letter<M::Body>,
+        out: &mut Vec<Letter<M::Body>>,
+    ) -> Result<Lp<M>, Refusal>
+        requires model { model.now ≡ self.model }
+        requires valid { M.is_valid self.model letter.event ≡ true }
+        requires here { letter.event.to ≡ self.number }
+        ensures same { IfOk result (IsSameProcess self) }
+        ensures arrived { IfOk result (λ lp. GivesOut out.old.items out.new.items
+            (ArrivedBy way (rules M.Model M.Body.cmp self.model) self.number letter
+            self.process lp.process)) }
+        ensures balance { IfOk result (λ lp. GivesOut out.old.items out.new.items
+            (KeepsBalance M.Model M.Body.cmp self lp (letter ∷ []))) }
+        ensures memory { IfErr result (λ e. e ≡ Memory) }
+    {
         let mut lp = self;
         'undoing: while lp.is_barred(&letter) {
-            let (undone, _answer) = lp.undo_lazily(alloc, model)?;
+            let (undone, _answer) = lp.undo_by(alloc, model, way, out)?;
             lp = undone;
         }
         let (lp, _answer) = lp.deliver(letter, out)?;

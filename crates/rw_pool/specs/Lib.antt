@@ -1,4 +1,3 @@
-pub mod Eithers
 pub mod Halts
 pub mod Notes
 pub mod Shares

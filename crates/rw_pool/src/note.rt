@@ -14,13 +14,13 @@ use std::sync::Wait;
 
 /// What goes through the ring of an answer: what was asked, for contracts alone, and then what it came to.
 #[derive(Drop)]
-pub(crate) enum Note<J, T> {
+pub enum Note<J, T> {
     Asked(Snapshot<J>, Snapshot<T>),
     Done(Result<T, Refusal>),
 }
 
 /// The protocol of an answer: what comes is what the job gives for what was asked.
-pub(crate) struct Kept;
+pub struct Kept;
 
 impl<J: Job<T>, T> Protocol<Note<J, T>> for Kept {
     ghost use Rattle.rw_pool.specs.Notes.{may_answer_with};
@@ -29,7 +29,7 @@ impl<J: Job<T>, T> Protocol<Note<J, T>> for Kept {
 }
 
 /// The end of an answer's ring at which it is given, once.
-pub(crate) type Answer<J, T> = Producer<Note<J, T>, Global, Kept>;
+pub type Answer<J, T> = Producer<Note<J, T>, Global, Kept>;
 
 /// The end of an answer's ring at which it is awaited. A contract sees what came out of it.
 #[derive(Drop)]

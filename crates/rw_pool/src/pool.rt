@@ -9,8 +9,8 @@ ghost use Rattle.rw_pool.specs.declared.note.Note.TheVariants.{Done};
 use crate::executor::Executor;
 use crate::halt::Halt;
 use crate::job::{Job, outputs_of};
-use crate::note::{Answer, Awaited};
-use crate::task::{OnlyRunnable, Runnable, Task, ask};
+use crate::note::Awaited;
+use crate::task::{FromTask, JobTask, OnlyRunnable, Runnable, ask};
 use crossbeam_channel::{Receiver, Sender};
 use rtrb::{Consumer, Producer, RingBuffer};
 use rw_vt::Refusal;
@@ -50,17 +50,25 @@ struct PoolThread<X: Runnable> {
     done: Receiver<()>,
 }
 
-/// Threads that stay for one job after another, and end with the pool.
+/// Threads that stay for one task after another, and end with the pool.
 #[derive(Drop)]
-pub struct Pool<'r, R, J: Job<T> + Drop, T: Drop> {
+pub struct TaskPool<'r, R, X: Runnable + Drop> {
     /// With what the calling thread waits.
     rt: &'r R,
-    threads: Vec<PoolThread<Task<J, T, Answer<J, T>>>>,
+    threads: Vec<PoolThread<X>>,
 }
+
+/// Threads that do one job after another, all of one kind.
+pub type Pool<'r, R, J, T> = TaskPool<'r, R, JobTask<J, T>>;
 
 /// A pool of the calling thread alone. Takes no memory.
 pub fn alone<'r, R, J: Job<T> + Drop, T: Drop>(rt: &'r R, alloc: Global) -> Pool<'r, R, J, T> {
-    Pool {
+    alone_for_tasks(rt, alloc)
+}
+
+/// [`alone`] for a pool of tasks of several jobs. Takes no memory.
+pub fn alone_for_tasks<'r, R, X: Runnable + Drop>(rt: &'r R, alloc: Global) -> TaskPool<'r, R, X> {
+    TaskPool {
         rt,
         threads: Vec::new(alloc),
     }
@@ -87,6 +95,24 @@ where
     R: Threads + Wait + Sync,
     J: Job<T> + Send + Sync + Drop + 's,
     T: Send + Drop + 's,
+{
+    grow_for_tasks(pool, scope, alloc, count)
+}
+
+/// [`grow`] for a pool of tasks of several jobs.
+///
+/// # Errors
+///
+/// Those of `grow`.
+pub fn grow_for_tasks<'s, E, R, X>(
+    pool: &mut TaskPool<'s, R, X>,
+    scope: &Scope<'s, E>,
+    alloc: Global,
+    count: usize,
+) -> Result<(), Halt>
+where
+    R: Threads + Wait + Sync,
+    X: Runnable + Send + Drop + 's,
 {
     for _ in pool.threads.len() + 1..count {
         let thread = start_thread(pool.rt, scope, alloc)?;
@@ -117,7 +143,7 @@ where
     Ok(PoolThread { wake, tasks, done })
 }
 
-impl<'r, R: Wait, J: Job<T> + Drop, T: Drop> Executor<J, T> for Pool<'r, R, J, T> {
+impl<'r, R: Wait, J: Job<T> + Drop, T: Drop> Executor<J, T> for TaskPool<'r, R, JobTask<J, T>> {
     fn run_each(&mut self, alloc: Global, job: J, inputs: Vec<T>) -> Result<(J, Vec<T>), Halt>
         requires takes { All (λ t. J.Takes job t) inputs.items }
         ensures job { IfOk result (λ r. r.0 ≡ job) }
@@ -125,28 +151,48 @@ impl<'r, R: Wait, J: Job<T> + Drop, T: Drop> Executor<J, T> for Pool<'r, R, J, T
         ensures each { IfOk result (λ r. (i : Position) (d : _) (e : _) → i < length inputs.items
             → J.Gives job (slice_index_or inputs.items i d) (slice_index_or r.1.items i e)) }
     {
-        let mut others = inputs;
-        let Some(own) = others.pop() else {
-            return Ok((job, Vec::new(alloc)));
-        };
-        let job = Arc::new(alloc, job)?;
-        let awaited = submit_each(alloc, self.rt, &mut self.threads, &job, others)?;
-        let result = job.run(own);
-        let mut results = wait_for_each(alloc, self.rt, &self.threads, awaited)?;
-        results.push_reserved(result);
-        let Some(job) = Arc::into_inner(job) else {
-            return Err(Halt::NoThread);
-        };
-        let done = outputs_of(alloc, results)?;
-        Ok((job, done))
+        run_each(self, alloc, job, inputs)
     }
 }
 
+/// [`Executor::run_each`] by a pool of tasks of several jobs, of which this is one.
+///
+/// # Errors
+///
+/// Those of [`Executor::run_each`].
+pub fn run_each<'r, R: Wait, X: FromTask<JobTask<J, T>> + Drop, J: Job<T> + Drop, T: Drop>(
+    pool: &mut TaskPool<'r, R, X>,
+    alloc: Global,
+    job: J,
+    inputs: Vec<T>,
+) -> Result<(J, Vec<T>), Halt>
+    requires takes { All (λ t. J.Takes job t) inputs.items }
+    ensures job { IfOk result (λ r. r.0 ≡ job) }
+    ensures count { IfOk result (λ r. length r.1.items ≡ length inputs.items) }
+    ensures each { IfOk result (λ r. (i : Position) (d : _) (e : _) → i < length inputs.items
+        → J.Gives job (slice_index_or inputs.items i d) (slice_index_or r.1.items i e)) }
+{
+    let mut others = inputs;
+    let Some(own) = others.pop() else {
+        return Ok((job, Vec::new(alloc)));
+    };
+    let job = Arc::new(alloc, job)?;
+    let awaited = submit_each(alloc, pool.rt, &mut pool.threads, &job, others)?;
+    let result = job.run(own);
+    let mut results = wait_for_each(alloc, pool.rt, &pool.threads, awaited)?;
+    results.push_reserved(result);
+    let Some(job) = Arc::into_inner(job) else {
+        return Err(Halt::NoThread);
+    };
+    let done = outputs_of(alloc, results)?;
+    Ok((job, done))
+}
+
 /// Submits the job with each of these inputs, and gives where the answers come, in order.
-fn submit_each<J: Job<T> + Drop, T: Drop, R: Wait>(
+fn submit_each<X: FromTask<JobTask<J, T>> + Drop, J: Job<T> + Drop, T: Drop, R: Wait>(
     alloc: Global,
     rt: &R,
-    threads: &mut [PoolThread<Task<J, T, Answer<J, T>>>],
+    threads: &mut [PoolThread<X>],
     job: &Arc<J>,
     inputs: Vec<T>,
 ) -> Result<Vec<Awaited<J, T>>, Halt>
@@ -169,9 +215,9 @@ fn submit_each<J: Job<T> + Drop, T: Drop, R: Wait>(
 }
 
 /// Submits the job with an input to one thread, without waking it, and gives where the answer comes.
-fn submit<J: Job<T> + Drop, T: Drop>(
+fn submit<X: FromTask<JobTask<J, T>> + Drop, J: Job<T> + Drop, T: Drop>(
     alloc: Global,
-    thread: &mut PoolThread<Task<J, T, Answer<J, T>>>,
+    thread: &mut PoolThread<X>,
     job: &Arc<J>,
     input: T,
 ) -> Result<Awaited<J, T>, Halt>
@@ -179,17 +225,17 @@ fn submit<J: Job<T> + Drop, T: Drop>(
     ensures asked { IfOk result (λ r. IsAsked (arc_value job.now) input r.notes) }
 {
     let (task, answer) = ask(alloc, Arc::try_clone(job)?, input)?;
-    if thread.tasks.push(task).is_err() {
+    if thread.tasks.push(X::from_task(task)).is_err() {
         return Err(Halt::NoThread);
     }
     Ok(answer)
 }
 
 /// Waits for the answers, and gives them in order, with room for one more.
-fn wait_for_each<J: Job<T> + Drop, T: Drop, R: Wait>(
+fn wait_for_each<X: Runnable + Drop, J: Job<T> + Drop, T: Drop, R: Wait>(
     alloc: Global,
     rt: &R,
-    threads: &[PoolThread<Task<J, T, Answer<J, T>>>],
+    threads: &[PoolThread<X>],
     awaited: Vec<Awaited<J, T>>,
 ) -> Result<Vec<Result<T, Refusal>>, Halt>
     ensures answers { IfOk result (λ r.

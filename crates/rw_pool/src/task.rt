@@ -11,7 +11,7 @@ use std::alloc::Global;
 use std::sync::Arc;
 
 /// What is submitted to a thread of a pool, to be run once.
-pub(crate) trait Runnable {
+pub trait Runnable {
     /// Which may be run.
     ghost MayRun: { Self → Type 0 };
 
@@ -27,10 +27,24 @@ impl<X: Runnable> Protocol<X> for OnlyRunnable {
     ghost allows = { λ _. X.MayRun };
 }
 
+/// What a pool is submitted, where tasks of type `K` are among it.
+pub trait FromTask<K: Runnable>: Runnable {
+    /// This task.
+    fn from_task(task: K) -> Self
+        requires fits { K.MayRun task }
+        ensures fits { Self.MayRun result };
+}
+
+impl<K: Runnable> FromTask<K> for K {
+    fn from_task(task: K) -> K {
+        task
+    }
+}
+
 /// A job to do with an input, and where the answer goes: an [`Answer`], which is a parameter since a struct may move where its
 /// parameters may.
 #[derive(Drop)]
-pub(crate) struct Task<J, T, A> {
+pub struct Task<J, T, A> {
     job: Arc<J>,
     input: T,
     answer: A,
@@ -55,12 +69,15 @@ impl<J: Job<T> + Drop, T: Drop> Runnable for Task<J, T, Answer<J, T>> {
     }
 }
 
+/// A task of this job.
+pub type JobTask<J, T> = Task<J, T, Answer<J, T>>;
+
 /// A task, and where its answer comes.
 pub(crate) fn ask<J: Job<T> + Drop, T: Drop>(
     alloc: Global,
     job: Arc<J>,
     input: T,
-) -> Result<(Task<J, T, Answer<J, T>>, Awaited<J, T>), NoMemory>
+) -> Result<(JobTask<J, T>, Awaited<J, T>), NoMemory>
     requires takes { J.Takes (arc_value job) input }
     ensures task { IfOk result (λ r. IsTask J.Takes r.0) }
     ensures asked { IfOk result (λ r. IsAsked (arc_value job) input r.1.notes) }

@@ -1,13 +1,13 @@
 -- Which faults a run has of a call that failed.
 use Rattle.std.proofs.Common.{◌≡◌, ℕ, List, sym, subst}
 use Rattle.std.specs.Prelude.{◌≢◌}
-use Rattle.rw_output.specs.declared.sim_fault.SimFault.{SimFault}
-use Rattle.rw_output.specs.declared.sim_fault.SimFault.TheVariants as sim
+use Rattle.rw_report.specs.declared.sim_fault.SimFault.{SimFault}
+use Rattle.rw_report.specs.declared.sim_fault.SimFault.TheVariants as sim
 use Rattle.rw_photo.specs.declared.config.Config.{Config}
 use Rattle.rw_rounds.specs.declared.stop.Stop.{Stop}
 use Rattle.rw_rounds.specs.declared.stop.Stop.TheVariants as stop
-use Rattle.rw_replay.specs.Beginning.{IsBeginningFault}
-use Rattle.rw_replay.specs.Replay.{IsReplayFault}
+use Rattle.rw_report.specs.Beginning.{IsBeginningFault}
+use Rattle.rw_report.specs.Replay.{IsReplayFault}
 use Rattle.rw_ripqwarp.specs.declared.mode.Mode.{Mode}
 use Rattle.rw_ripqwarp.specs.declared.mode.Mode.TheVariants.{Serial}
 use Rattle.rw_ripqwarp.specs.Faults.{sim_stop_of}

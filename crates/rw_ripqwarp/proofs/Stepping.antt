@@ -3,7 +3,7 @@ use Rattle.std.proofs.Common.{◌≡◌, ℕ, List, Vec, sym, ◌∙◌, ap, sub
 use Rattle.std.specs.declared.alloc.Global.{Global}
 use Rattle.rw_vt.specs.declared.event.Event.{Event}
 use Rattle.rw_vt.specs.System.{System, system}
-use Rattle.rw_output.specs.declared.sim_fault.SimFault.{SimFault}
+use Rattle.rw_report.specs.declared.sim_fault.SimFault.{SimFault}
 use Rattle.rw_photo.specs.declared.body.Body.{Body}
 use Rattle.rw_photo.specs.declared.config.Config.{Config}
 use Rattle.rw_photo.specs.declared.photo.Photo.{Photo}
@@ -18,11 +18,11 @@ use Rattle.rw_world.specs.Calls.{MeetsAt, Simulation}
 use Rattle.rw_rounds.specs.declared.stop.Stop.{Stop}
 use Rattle.rw_rounds.specs.declared.stop.Stop.TheVariants as stop
 use Rattle.rw_engine.specs.Runs.{IsSteppedTo, MayStopBySteps}
-use Rattle.rw_replay.specs.Beginning.{IsBeginningOf}
-use Rattle.rw_replay.proofs.Runs.{simulates}
+use Rattle.rw_report.specs.Beginning.{IsBeginningOf}
+use Rattle.rw_report.proofs.Runs.{simulates}
 use Rattle.rw_ripqwarp.specs.declared.mode.Mode.TheVariants.{Journal}
 use Rattle.rw_ripqwarp.specs.Faults.{sim_stop_of}
-use Rattle.rw_journal.specs.Journal.{journal_text}
+use Rattle.rw_report.specs.Journal.{journal_text}
 use Rattle.rw_ripqwarp.specs.Simulate.{IsJournalOf, IsRunFault}
 
 -- the caches at work

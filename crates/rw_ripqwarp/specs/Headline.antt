@@ -5,11 +5,11 @@ use Rattle.std.specs.Prelude.{◌≡◌, List, Option}
 use Rattle.std.specs.Io.KnownBytes.{Appends}
 use Rattle.rw_vt.specs.System.{Setting, system_in}
 use Rattle.rw_trace.specs.Words.{Text}
-use Rattle.rw_output.specs.Sink.{AppendsBeginning}
+use Rattle.rw_report.specs.Sink.{AppendsBeginning}
 use Rattle.rw_photo.specs.declared.config.Config.{Config}
 use Rattle.rw_photo.specs.contracts.body.BodyOrd.TheImpl as order
 use Rattle.rw_photo.specs.contracts.photo.PhotoVtModel.TheImpl as model
-use Rattle.rw_replay.specs.Replay.{IsReportOf}
+use Rattle.rw_report.specs.Replay.{IsReportOf}
 use Rattle.rw_world.specs.declared.step.Step.{Step}
 use Rattle.rw_world.specs.WorldState.{opening_world}
 use Rattle.rw_world.specs.Steps.{run}

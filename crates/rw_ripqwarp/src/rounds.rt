@@ -6,17 +6,18 @@ ghost use Rattle.rw_trace.specs.Limits.{most_rows};
 ghost use Rattle.rw_engine.specs.Runs.{AreLastStates};
 ghost use Rattle.rw_engine.specs.Segments.{MayStopInRounds};
 ghost use Rattle.rw_ripqwarp.specs.Faults.{sim_stop_of};
-ghost use Rattle.rw_replay.specs.Replay.{IsReportOf};
+ghost use Rattle.rw_report.specs.Replay.{IsReportOf};
 ghost use Rattle.rw_ripqwarp.specs.Simulate.{HasGoodPlan, IsRunFault};
 
 use crate::mode::Mode;
 use rw_engine::{
     Plan, Start, Stop, Traffic, run_alone, run_alone_from, run_in_rounds, run_in_rounds_from,
 };
-use rw_output::SimFault;
 use rw_photo::{CacheState, Config, OrderedRequests, Photo, Policy};
 use rw_progress::Progress;
-use rw_replay::{Telling, begin_events, begin_rows, beginning_of_rows, report_of_states, starts};
+use rw_report::{
+    SimFault, Telling, begin_events, begin_rows, beginning_of_rows, report_of_states, starts,
+};
 use rw_trace::{Row, read_in_parts};
 use std::alloc::{AllocError, Global};
 use std::sync::Wait;
@@ -40,15 +41,11 @@ pub(crate) fn rounds_text<P: Progress, R: Threads + Wait + Clock + Sync>(
 {
     let readers = readers_of(config, &plan);
     let (rows, others) = read_in_parts(rt, alloc, bytes, config.edges(), readers)?;
-    match run_rows_in_rounds(
-        rt,
-        alloc,
-        rows.as_slice(),
-        others.as_slice(),
-        config,
-        plan,
-        progress,
-    ) {
+    let parts = RowParts {
+        rows: rows.as_slice(),
+        others: others.as_slice(),
+    };
+    match run_rows_in_rounds(rt, alloc, parts, config, plan, progress) {
         Ok((states, traffic)) => {
             let text = report_of_states(alloc, config, states.as_slice())?;
             Ok((text, traffic))
@@ -86,8 +83,16 @@ fn readers_of(config: &Config, plan: &Plan) -> u32 {
     }
 }
 
-/// The state of each cache once the requests of these rows, of which `others` follow `rows`, and all that follows from them, are
-/// executed in rounds, and what the rounds did. Tells `progress` how far it has come, but where one worker runs rows that do not stand in order of time.
+/// The rows of a trace in two parts, as [`read_in_parts`] gives them.
+#[derive(Clone, Copy)]
+struct RowParts<'a> {
+    rows: &'a [Row],
+    /// The rows that follow those.
+    others: &'a [Row],
+}
+
+/// The state of each cache once the requests of these rows, and all that follows from them, are executed in rounds, and what the
+/// rounds did. Tells `progress` how far it has come, but where one worker runs rows that do not stand in order of time.
 ///
 /// # Errors
 ///
@@ -95,20 +100,21 @@ fn readers_of(config: &Config, plan: &Plan) -> u32 {
 fn run_rows_in_rounds<P: Progress, R: Threads + Wait + Clock + Sync>(
     rt: &R,
     alloc: Global,
-    rows: &[Row],
-    others: &[Row],
+    parts: RowParts<'_>,
     config: &Config,
     plan: Plan,
     progress: &mut P,
 ) -> Result<(Vec<CacheState>, Traffic), Stop>
-    requires ranges { All (IsRow config.now.edges) (rows.now ++ others.now) }
-    requires few { length rows.now + length others.now ≤ most_rows }
-    ensures outcome { IfOk result (λ r.
-        AreLastStates (simulation config.now (rows.now ++ others.now)) r.0.items) }
+    requires ranges { All (IsRow config.now.edges) (parts.rows.now ++ parts.others.now) }
+    requires few { length parts.rows.now + length parts.others.now ≤ most_rows }
+    ensures outcome { IfOk result (λ r. AreLastStates
+        (simulation config.now (parts.entry.rows.now ++ parts.entry.others.now)) r.0.items) }
     ensures in_range { OnOk result (HasGoodPlan (Mode.Warp plan)) }
     ensures stops { IfErr result (MayStopInRounds
-        (simulation config.now (rows.now ++ others.now)) is_exhausted plan) }
+        (simulation config.now (parts.entry.rows.now ++ parts.entry.others.now))
+        is_exhausted plan) }
 {
+    let RowParts { rows, others } = parts;
     let photo = Photo::new(*config);
     let alone = goes_alone(config, &plan);
     let Some(source) = OrderedRequests::of_parts(rows, others) else {

@@ -1,6 +1,6 @@
 ghost use Rattle.std.specs.Prelude.{◌≡◌, ◌≢◌, ◌↔◌, Err, IfOk, IfErr, OnOk};
 ghost use Rattle.std.specs.Io.KnownBytes.{Appends};
-ghost use Rattle.rw_output.specs.Sink.{AppendsBeginning};
+ghost use Rattle.rw_report.specs.Sink.{AppendsBeginning};
 ghost use Rattle.rw_engine.specs.Runs.{no_traffic};
 ghost use Rattle.rw_ripqwarp.specs.Simulate.{HasGoodPlan, IsRunFault, IsTextOf, IsWarp};
 ghost use Rattle.rw_ripqwarp.specs.Headline.{HasWritten, HasWrittenBeginning};
@@ -9,10 +9,9 @@ use crate::mode::Mode;
 use crate::rounds::rounds_text;
 use crate::steps::steps_text;
 use rw_engine::Traffic;
-use rw_output::{Out, SimFault};
 use rw_photo::Config;
 use rw_progress::{Progress, Silent};
-use rw_replay::report_of_trace;
+use rw_report::{Out, SimFault, report_of_trace};
 use std::alloc::Global;
 use std::io::Write;
 use std::sync::Wait;
@@ -46,32 +45,47 @@ pub fn simulate<W: Write, R: Threads + Wait + Clock + Sync>(
         (W.contents out.old.writer) (W.contents out.new.writer) }
     ensures nothing { IfErr result (λ e. e ≢ SimFault.Output → out.new ≡ out.old) }
 {
-    simulate_and_tell(rt, alloc, bytes, config, mode, &mut Silent, out)
+    let run = TraceRun {
+        bytes,
+        config,
+        mode,
+    };
+    simulate_with_progress(rt, alloc, run, &mut Silent, out)
+}
+
+/// A run of a trace, which is yet to come.
+#[derive(Drop)]
+pub struct TraceRun<'a> {
+    /// The text of the trace.
+    pub bytes: &'a [u8],
+    /// The caches.
+    pub config: &'a Config,
+    /// How it is run.
+    pub mode: Mode,
 }
 
 /// [`simulate`], which tells `progress` how far it has come, in ticks of the trace's virtual time: up to which time all is final.
 /// By a schedule, and of a trace on one thread whose rows do not stand in order of time, nothing is told.
-pub fn simulate_and_tell<W: Write, P: Progress, R: Threads + Wait + Clock + Sync>(
+pub fn simulate_with_progress<W: Write, P: Progress, R: Threads + Wait + Clock + Sync>(
     rt: &R,
     alloc: Global,
-    bytes: &[u8],
-    config: &Config,
-    mode: Mode,
+    run: TraceRun<'_>,
     progress: &mut P,
     out: &mut Out<W>,
 ) -> Result<Traffic, SimFault>
-    ensures report { OnOk result (HasWritten mode config.now bytes.now
+    ensures report { OnOk result (HasWritten run.entry.mode run.entry.config.now run.entry.bytes.now
         (W.contents out.old.writer) (W.contents out.new.writer)) }
-    ensures still { IfOk result (λ traffic. (IsWarp mode → ⊥) → traffic ≡ no_traffic) }
-    ensures in_range { OnOk result (HasGoodPlan mode) }
-    ensures fault { IfErr result (IsRunFault mode config.now bytes.now) }
+    ensures still { IfOk result (λ traffic. (IsWarp run.entry.mode → ⊥) → traffic ≡ no_traffic) }
+    ensures in_range { OnOk result (HasGoodPlan run.entry.mode) }
+    ensures fault { IfErr result
+        (IsRunFault run.entry.mode run.entry.config.now run.entry.bytes.now) }
     ensures output { (result ≡ Err SimFault.Output) ↔ (out.new.failures ≢ out.old.failures) }
     ensures cut_off { result ≡ Err SimFault.Output
-        → HasWrittenBeginning mode config.now bytes.now
+        → HasWrittenBeginning run.entry.mode run.entry.config.now run.entry.bytes.now
         (W.contents out.old.writer) (W.contents out.new.writer) }
     ensures nothing { IfErr result (λ e. e ≢ SimFault.Output → out.new ≡ out.old) }
 {
-    let (text, traffic) = text_of(rt, alloc, bytes, config, mode, progress)?;
+    let (text, traffic) = text_of(rt, alloc, run, progress)?;
     progress.about_to_write();
     if out.write_text(text.as_slice()) {
         Ok(traffic)
@@ -84,17 +98,22 @@ pub fn simulate_and_tell<W: Write, P: Progress, R: Threads + Wait + Clock + Sync
 fn text_of<P: Progress, R: Threads + Wait + Clock + Sync>(
     rt: &R,
     alloc: Global,
-    bytes: &[u8],
-    config: &Config,
-    mode: Mode,
+    run: TraceRun<'_>,
     progress: &mut P,
 ) -> Result<(Vec<u8>, Traffic), SimFault>
-    ensures text { IfOk result (λ r. IsTextOf mode config.now bytes.now r.0.items) }
-    ensures still { IfOk result (λ r. (IsWarp mode → ⊥) → r.1 ≡ no_traffic) }
-    ensures in_range { OnOk result (HasGoodPlan mode) }
-    ensures fault { IfErr result (IsRunFault mode config.now bytes.now) }
+    ensures text { IfOk result (λ r.
+        IsTextOf run.entry.mode run.entry.config.now run.entry.bytes.now r.0.items) }
+    ensures still { IfOk result (λ r. (IsWarp run.entry.mode → ⊥) → r.1 ≡ no_traffic) }
+    ensures in_range { OnOk result (HasGoodPlan run.entry.mode) }
+    ensures fault { IfErr result
+        (IsRunFault run.entry.mode run.entry.config.now run.entry.bytes.now) }
     ensures unwritten { IfErr result (λ e. e ≢ SimFault.Output) }
 {
+    let TraceRun {
+        bytes,
+        config,
+        mode,
+    } = run;
     match mode {
         Mode::Serial => {
             let text = report_of_trace(alloc, bytes, config, progress)?;

@@ -4,11 +4,9 @@ ghost use Rattle.rw_ripqwarp.specs.Simulate.{IsJournalOf, IsRunFault};
 use crate::mode::Mode;
 use crate::rounds::why_it_stopped;
 use rw_engine::{Start, Step, run_by_steps};
-use rw_journal::journal;
-use rw_output::SimFault;
 use rw_photo::{Config, Photo};
 use rw_progress::Progress;
-use rw_replay::{begin_events, beginning};
+use rw_report::{SimFault, begin_events, beginning, journal};
 use rw_vt::Model;
 use std::alloc::Global;
 

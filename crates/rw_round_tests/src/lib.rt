@@ -7,6 +7,8 @@
 #[cfg(test)]
 mod board_of_two_seats;
 #[cfg(test)]
+mod made_models;
+#[cfg(test)]
 mod phold_runs;
 #[cfg(test)]
 mod photo_rounds;

@@ -10,7 +10,7 @@ use rw_relay::parcels::parcel;
 use rw_relay::{Relay, Station, parcels};
 use rw_serial::last_states;
 use rw_vt::{END, Model as VtModel};
-use rw_windows::{Halt, Left, run_in_windows};
+use rw_windows::{Halt, Left, Stage, Windows, run_in_windows};
 use std::alloc::Global;
 use std::sync::Wait;
 use std::test::Fail;
@@ -23,22 +23,12 @@ const BALLS: u32 = 200;
 /// From what all that is drawn comes.
 const SEED: u64 = 7;
 
-/// How a run goes on in windows: by how many workers, with which lookahead, and up to which time.
-#[derive(Clone, Copy)]
-struct Windows {
-    workers: u32,
-    lookahead: u64,
-    end: u64,
-    ghost few_workers: { (1 ≤ workers) × (workers ≤ 16) },
-    ghost some_lookahead: { 1 ≤ lookahead },
-}
-
 /// Goes on with a run in windows, in the threads of a pool that is there for them alone.
 fn by_a_pool<'s, E, M, R>(
     rt: &'s R,
     scope: &Scope<'s, E>,
     alloc: Global,
-    run: Left<M>,
+    stage: Stage<M>,
     windows: Windows,
 ) -> Result<Left<M>, Halt>
 where
@@ -47,29 +37,16 @@ where
     M::Body: Send,
     M::Undo: Send,
     R: Threads + Wait + Sync,
-    requires ready { IsReady M.Model run.model run.states.items run.events.items }
-    requires ahead { IsAhead M.Model run.model windows.lookahead }
-    ensures ready { IfOk result (λ l. IsReady M.Model l.model l.states.items l.events.items) }
+    requires ready { IsReady M.Model stage.model stage.states.items stage.events.items }
+    requires workers { (1 ≤ windows.workers) × (windows.workers ≤ 16) }
+    requires lookahead { 1 ≤ windows.lookahead }
+    requires ahead { IsAhead M.Model stage.model windows.lookahead }
+    ensures ready { IfOk result (λ l.
+        IsReady M.Model l.stage.model l.stage.states.items l.stage.events.items) }
 {
-    let Left {
-        model,
-        states,
-        events,
-        ..
-    } = run;
     let mut pool = rw_pool::alone(rt, alloc);
     let left = match rw_pool::grow(&mut pool, scope, alloc, windows.workers as usize) {
-        Ok(()) => run_in_windows(
-            rt,
-            &mut pool,
-            alloc,
-            model,
-            states,
-            events,
-            windows.workers,
-            windows.lookahead,
-            windows.end,
-        ),
+        Ok(()) => run_in_windows(rt, &mut pool, alloc, stage, windows),
         Err(halt) => Err(halt),
     };
     rw_pool::shut_down(pool);
@@ -77,18 +54,16 @@ where
 }
 
 /// A run of so many balls among 16 processes, half of which go to a drawn one, after 8 ticks or more, up to tick 4000.
-fn begun(alloc: Global, balls: u32) -> Result<Left<Phold>, Fail>
-    ensures ready { IfOk result (λ l.
-        IsReady of_phold.ghosts l.model l.states.items l.events.items) }
+fn begun(alloc: Global, balls: u32) -> Result<Stage<Phold>, Fail>
+    ensures ready { IfOk result (λ s.
+        IsReady of_phold.ghosts s.model s.states.items s.events.items) }
 {
     let model = Phold::new(16, 32768, 8, 24, 4000).ok_or("setting")?;
     let (states, events) = beginning(alloc, &model, balls, SEED)?;
-    Ok(Left {
+    Ok(Stage {
         model,
         states,
         events,
-        executed: 0,
-        received: 0,
     })
 }
 
@@ -96,23 +71,28 @@ fn begun(alloc: Global, balls: u32) -> Result<Left<Phold>, Fail>
 fn go_on<R: Threads + Wait + Sync>(
     rt: &R,
     alloc: Global,
-    run: Left<Phold>,
+    stage: Stage<Phold>,
     windows: Windows,
 ) -> Result<Left<Phold>, Halt>
-    requires ready { IsReady of_phold.ghosts run.model run.states.items run.events.items }
-    requires ahead { IsAhead of_phold.ghosts run.model windows.lookahead }
+    requires ready { IsReady of_phold.ghosts stage.model stage.states.items stage.events.items }
+    requires workers { (1 ≤ windows.workers) × (windows.workers ≤ 16) }
+    requires lookahead { 1 ≤ windows.lookahead }
+    requires ahead { IsAhead of_phold.ghosts stage.model windows.lookahead }
     ensures ready { IfOk result (λ l.
-        IsReady of_phold.ghosts l.model l.states.items l.events.items) }
+        IsReady of_phold.ghosts l.stage.model l.stage.states.items l.stage.events.items) }
 {
     thread::scope(
         thread::scope_env(),
         rt,
         move |scope| -> Result<Left<Phold>, Halt>
-            requires ready { IsReady of_phold.ghosts run.model run.states.items run.events.items }
-            requires ahead { IsAhead of_phold.ghosts run.model windows.lookahead }
+            requires ready { IsReady of_phold.ghosts stage.model
+                stage.states.items stage.events.items }
+            requires workers { (1 ≤ windows.workers) × (windows.workers ≤ 16) }
+            requires lookahead { 1 ≤ windows.lookahead }
+            requires ahead { IsAhead of_phold.ghosts stage.model windows.lookahead }
             ensures ready { IfOk result (λ l.
-                IsReady of_phold.ghosts l.model l.states.items l.events.items) }
-        { by_a_pool(rt, scope, alloc, run, windows) },
+                IsReady of_phold.ghosts l.stage.model l.stage.states.items l.stage.events.items) }
+        { by_a_pool(rt, scope, alloc, stage, windows) },
     )
 }
 
@@ -120,48 +100,47 @@ fn go_on<R: Threads + Wait + Sync>(
 fn go_on_by<R: Threads + Wait + Sync>(
     rt: &R,
     alloc: Global,
-    run: Left<Phold>,
+    stage: Stage<Phold>,
     workers: u32,
     end: u64,
 ) -> Result<Left<Phold>, Halt>
-    requires ready { IsReady of_phold.ghosts run.model run.states.items run.events.items }
+    requires ready { IsReady of_phold.ghosts stage.model stage.states.items stage.events.items }
     requires workers { (1 ≤ workers) × (workers ≤ 16) }
     ensures ready { IfOk result (λ l.
-        IsReady of_phold.ghosts l.model l.states.items l.events.items) }
+        IsReady of_phold.ghosts l.stage.model l.stage.states.items l.stage.events.items) }
 {
-    let lookahead = run.model.lookahead;
+    let lookahead = stage.model.lookahead;
     let windows = Windows {
         workers,
         lookahead,
         end,
     };
-    go_on(rt, alloc, run, windows)
+    go_on(rt, alloc, stage, windows)
 }
 
 /// The states to which a run of balls in order leads.
-fn in_order(alloc: Global, run: Left<Phold>) -> Result<Vec<Holder>, Fail>
-    requires ready { IsReady of_phold.ghosts run.model run.states.items run.events.items }
+fn in_order(alloc: Global, stage: Stage<Phold>) -> Result<Vec<Holder>, Fail>
+    requires ready { IsReady of_phold.ghosts stage.model stage.states.items stage.events.items }
 {
-    let Left {
+    let Stage {
         model,
         states,
         events,
-        ..
-    } = run;
+    } = stage;
     Ok(last_states(alloc, &model, states, events)?)
 }
 
 /// Whether no ball is left that comes before the end.
-fn is_late(left: &Left<Phold>, end: u64) -> bool {
-    left.events.iter().all(|event| end <= event.time)
+fn is_late(stage: &Stage<Phold>, end: u64) -> bool {
+    stage.events.iter().all(|event| end <= event.time)
 }
 
 /// Whether no ball is left before the end, and a run in order leads from what is left to where it does from the beginning.
-fn is_right(alloc: Global, left: Left<Phold>, end: u64) -> Result<bool, Fail>
-    requires ready { IsReady of_phold.ghosts left.model left.states.items left.events.items }
+fn is_right(alloc: Global, stage: Stage<Phold>, end: u64) -> Result<bool, Fail>
+    requires ready { IsReady of_phold.ghosts stage.model stage.states.items stage.events.items }
 {
-    let late = is_late(&left, end);
-    let states = in_order(alloc, left)?;
+    let late = is_late(&stage, end);
+    let states = in_order(alloc, stage)?;
     let want = in_order(alloc, begun(alloc, BALLS)?)?;
     Ok(late && states == want)
 }
@@ -171,7 +150,7 @@ fn agrees<R: Threads + Wait + Sync>(rt: &R, alloc: Global, workers: u32) -> Resu
     requires workers { (1 ≤ workers) × (workers ≤ 16) }
 {
     let left = go_on_by(rt, alloc, begun(alloc, BALLS)?, workers, 2000)?;
-    is_right(alloc, left, 2000)
+    is_right(alloc, left.stage, 2000)
 }
 
 #[test]
@@ -193,8 +172,13 @@ fn counted<R: Threads + Wait + Sync>(
     requires workers { (1 ≤ workers) × (workers ≤ 16) }
 {
     let left = go_on_by(rt, alloc, begun(alloc, balls)?, workers, end)?;
-    let report = report_of(left.states.as_slice());
-    Ok((left.executed, left.events.len(), left.states.len(), report))
+    let report = report_of(left.stage.states.as_slice());
+    Ok((
+        left.executed,
+        left.stage.events.len(),
+        left.stage.states.len(),
+        report,
+    ))
 }
 
 // No ball comes at tick 4000 or later. Worked out by a second implementation, in Python.
@@ -227,7 +211,7 @@ fn counts<R: Threads + Wait + Sync>(rt: &R, alloc: Global, workers: u32) -> Resu
 {
     let left = go_on_by(rt, alloc, begun(alloc, BALLS)?, workers, 1000)?;
     let told = (left.received > 0) == (workers > 1);
-    Ok(told && left.executed == report_of(left.states.as_slice()).events)
+    Ok(told && left.executed == report_of(left.stage.states.as_slice()).events)
 }
 
 #[test]
@@ -242,17 +226,17 @@ fn workers_count_what_they_execute_and_hear_of(rt: HostRuntime) -> Result<(), Fa
 fn further<R: Threads + Wait + Sync>(
     rt: &R,
     alloc: Global,
-    run: Left<Phold>,
+    stage: Stage<Phold>,
     workers: u32,
     end: u64,
 ) -> Result<Left<Phold>, Fail>
-    requires ready { IsReady of_phold.ghosts run.model run.states.items run.events.items }
+    requires ready { IsReady of_phold.ghosts stage.model stage.states.items stage.events.items }
     requires workers { (1 ≤ workers) × (workers ≤ 16) }
     ensures ready { IfOk result (λ l.
-        IsReady of_phold.ghosts l.model l.states.items l.events.items) }
+        IsReady of_phold.ghosts l.stage.model l.stage.states.items l.stage.events.items) }
 {
-    let left = go_on_by(rt, alloc, run, workers, end)?;
-    if is_late(&left, end) {
+    let left = go_on_by(rt, alloc, stage, workers, end)?;
+    if is_late(&left.stage, end) {
         Ok(left)
     } else {
         Err(Fail::from("a ball before the end is left"))
@@ -262,11 +246,11 @@ fn further<R: Threads + Wait + Sync>(
 /// Whether windows in pieces, of which one has nothing to do, leave what is right.
 fn pieces_agree<R: Threads + Wait + Sync>(rt: &R, alloc: Global) -> Result<bool, Fail> {
     let left = further(rt, alloc, begun(alloc, BALLS)?, 2, 500)?;
-    let left = further(rt, alloc, left, 3, 501)?;
-    let left = further(rt, alloc, left, 4, 501)?;
+    let left = further(rt, alloc, left.stage, 3, 501)?;
+    let left = further(rt, alloc, left.stage, 4, 501)?;
     let none_again = left.executed == 0;
-    let left = further(rt, alloc, left, 1, 2500)?;
-    Ok(none_again && is_right(alloc, left, 2500)?)
+    let left = further(rt, alloc, left.stage, 1, 2500)?;
+    Ok(none_again && is_right(alloc, left.stage, 2500)?)
 }
 
 #[test]
@@ -284,7 +268,7 @@ fn narrow_agree<R: Threads + Wait + Sync>(rt: &R, alloc: Global) -> Result<bool,
     };
     let whole = begun(alloc, BALLS)?;
     let left = go_on(rt, alloc, whole, narrow)?;
-    is_right(alloc, left, 400)
+    is_right(alloc, left.stage, 400)
 }
 
 #[test]
@@ -294,20 +278,18 @@ fn a_lookahead_may_be_less_than_the_model_keeps_to(rt: HostRuntime) -> Result<()
 }
 
 /// Two parcels of 9 and 12 hops that come to these stations, each of which passes `most` parcels on, for 3 ticks.
-fn posted(alloc: Global, first: u32, second: u32, most: u64) -> Result<Left<Relay>, Fail>
+fn posted(alloc: Global, first: u32, second: u32, most: u64) -> Result<Stage<Relay>, Fail>
     requires stations { (first ≤ 1) × (second ≤ 1) }
-    ensures ready { IfOk result (λ l.
-        IsReady of_relay.ghosts l.model l.states.items l.events.items) }
+    ensures ready { IfOk result (λ s.
+        IsReady of_relay.ghosts s.model s.states.items s.events.items) }
 {
     let model = Relay::new(3, most).ok_or("relay")?;
     let (first, second) = (parcel(5, 0, 0, first, 9), parcel(8, 0, 1, second, 12));
     let (states, events) = parcels::beginning(alloc, first, second)?;
-    Ok(Left {
+    Ok(Stage {
         model,
         states,
         events,
-        executed: 0,
-        received: 0,
     })
 }
 
@@ -315,14 +297,14 @@ fn posted(alloc: Global, first: u32, second: u32, most: u64) -> Result<Left<Rela
 fn pass_on<R: Threads + Wait + Sync>(
     rt: &R,
     alloc: Global,
-    run: Left<Relay>,
+    stage: Stage<Relay>,
     workers: u32,
     end: u64,
 ) -> Result<Left<Relay>, Halt>
-    requires ready { IsReady of_relay.ghosts run.model run.states.items run.events.items }
+    requires ready { IsReady of_relay.ghosts stage.model stage.states.items stage.events.items }
     requires workers { (1 ≤ workers) × (workers ≤ 16) }
 {
-    let lookahead = run.model.delay;
+    let lookahead = stage.model.delay;
     let windows = Windows {
         workers,
         lookahead,
@@ -332,9 +314,12 @@ fn pass_on<R: Threads + Wait + Sync>(
         thread::scope_env(),
         rt,
         move |scope| -> Result<Left<Relay>, Halt>
-            requires ready { IsReady of_relay.ghosts run.model run.states.items run.events.items }
-            requires ahead { IsAhead of_relay.ghosts run.model windows.lookahead }
-        { by_a_pool(rt, scope, alloc, run, windows) },
+            requires ready { IsReady of_relay.ghosts stage.model
+                stage.states.items stage.events.items }
+            requires workers { (1 ≤ windows.workers) × (windows.workers ≤ 16) }
+            requires lookahead { 1 ≤ windows.lookahead }
+            requires ahead { IsAhead of_relay.ghosts stage.model windows.lookahead }
+        { by_a_pool(rt, scope, alloc, stage, windows) },
     )
 }
 
@@ -373,7 +358,7 @@ fn before_exhaustion<R: Threads + Wait + Sync>(
     alloc: Global,
 ) -> Result<(u64, usize), Fail> {
     let left = pass_on(rt, alloc, posted(alloc, 0, 0, 1)?, 2, 8)?;
-    Ok((left.executed, left.events.len()))
+    Ok((left.executed, left.stage.events.len()))
 }
 
 #[test]
@@ -384,21 +369,20 @@ fn what_would_be_exhausted_after_the_end_is_left(rt: HostRuntime) -> Result<(), 
 
 /// The stations to which a run in order of parcels to both leads.
 fn passed_in_order(alloc: Global) -> Result<Vec<Station>, Fail> {
-    let run = posted(alloc, 0, 1, u64::MAX)?;
-    let Left {
+    let Stage {
         model,
         states,
         events,
-        ..
-    } = run;
+    } = posted(alloc, 0, 1, u64::MAX)?;
     Ok(last_states(alloc, &model, states, events)?)
 }
 
 /// How many events five workers execute and leave of two stations, where the states are those of the run in order.
 fn by_five<R: Threads + Wait + Sync>(rt: &R, alloc: Global) -> Result<Option<(u64, usize)>, Fail> {
     let left = pass_on(rt, alloc, posted(alloc, 0, 1, u64::MAX)?, 5, 100)?;
-    let counted = (left.executed, left.events.len());
-    let states = left.states;
+    let executed = left.executed;
+    let Stage { states, events, .. } = left.stage;
+    let counted = (executed, events.len());
     Ok((states == passed_in_order(alloc)?).then_some(counted))
 }
 

@@ -6,7 +6,7 @@ use Rattle.std.proofs.lemmas.List.{get_or-set_same, get_or-set_other}
 use Rattle.rw_vt.specs.declared.event.Letter.{Letter}
 use Rattle.rw_vt.specs.System.{Rules}
 use Rattle.rw_lp.specs.Process.{ProcessState}
-use Rattle.rw_lp.specs.Arrival.{Way}
+use Rattle.rw_lp.specs.declared.way.Way.{Way}
 use Rattle.rw_lp.specs.Calls.{LogicalProcess}
 use Rattle.rw_exchange.specs.Ports.{PortState, SamePort, sent_to, free_to, received_from, after_sending, after_receiving}
 use Rattle.rw_board.specs.Seats.{after_note}

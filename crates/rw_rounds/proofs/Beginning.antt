@@ -10,13 +10,15 @@ use Rattle.rw_vt.specs.System.{rules}
 use Rattle.rw_vt.proofs.Laws.{Laws}
 use Rattle.rw_lp.specs.Process.{ProcessState}
 use Rattle.rw_lp.specs.Calls.{LogicalProcess}
+use Rattle.rw_lp.specs.Sound.{SoundAt}
 use Rattle.rw_world.specs.declared.parts.Parts.{Parts}
 use Rattle.rw_world.specs.Calls.{world_of, IsWhole}
 use Rattle.rw_rounds.specs.declared.plan.Plan.{Plan}
 use Rattle.rw_rounds.specs.Plans.{IsInRanges}
 use Rattle.rw_rounds.specs.Bags.{Every}
 use Rattle.rw_rounds.specs.Deeds.{IsFair}
-use Rattle.rw_rounds.specs.Turns.{WorkerState, owner, is_own, process_at, IsInPlace, IsFit}
+use Rattle.rw_rounds.specs.Turns.{Role, WorkerState, owner, is_own, process_at, IsInPlace, IsFit}
+use Rattle.rw_rounds.specs.Working.{IsFitAndSound}
 use Rattle.rw_rounds.specs.Rounds.{role, Begins}
 use Rattle.rw_rounds.proofs.Cited.{Governs, StartsIn, Well, collected_of, fair_letters, get_within, governs, number_of, place_of, there_is}
 use Rattle.rw_rounds.proofs.Totals.{every_filter, every_passes}
@@ -43,15 +45,17 @@ module _ {M S B U : Type 0} {model : Ghosts M S B U} {order : B → B → Orderi
     there : (place : ℕ) (l : LogicalProcess M S B) → slice_get a.processes place ≡ Some l → slice_get x.processes.items (i + place * plan.workers) ≡ Some l
     there place l at = sym (begins.processes_are place) ∙ at
 
+    here : (place : ℕ) (l : LogicalProcess M S B) → slice_get a.processes place ≡ Some l → slice_get (world_of x).processes (i + place * plan.workers) ≡ Some l.process
+    here place l at = in_world (i + place * plan.workers) ∙ ap (option_map (λ l. l.process)) (there place l at)
+
     stands : (place : ℕ) (l : LogicalProcess M S B) → slice_get a.processes place ≡ Some l → IsInPlace order x.model (role plan x.collected i) place l
     stands place l at =
         let q : ℕ = i + place * plan.workers in
-        let here : slice_get (world_of x).processes q ≡ Some l.process = in_world q ∙ ap (option_map (λ l. l.process)) (there place l at) in
         let known = whole.numbered q l (there place l at) in
         record {
           model_is = known.0;
           number = known.1;
-          collected = collected_of model order x.model x.collected q l.process (whole.sound.each q l.process here);
+          collected = collected_of model order x.model x.collected q l.process (whole.sound.each q l.process (here place l at));
         }
 
     -- seen by numbers, the worker has its processes of the world
@@ -79,7 +83,7 @@ module _ {M S B U : Type 0} {model : Ghosts M S B U} {order : B → B → Orderi
         fair_letters (rules model order x.model) x.collected (model.process_count x.model) rule x.letters.items whole.sound.letters
 
     -- a worker that begins a round is fit for a turn
-    pub begins_fit : Laws model order → IsInRanges plan → IsFit model order x.model a
+    begins_fit : Laws model order → IsInRanges plan → IsFit model order x.model a
     begins_fit laws ranges = subst (IsFit model order x.model) (sym (ap (λ r. record a { role = r }) begins.role)) fit
       where
         fit : IsFit model order x.model (record a { role = role plan x.collected i })
@@ -94,3 +98,15 @@ module _ {M S B U : Type 0} {model : Ghosts M S B U} {order : B → B → Orderi
           port = begins.its_port;
           wide = begins.wide;
         }
+
+    -- and its processes start well and are sound
+    pub begins_fit_and_sound : Laws model order → IsInRanges plan → IsFitAndSound model order x.model a
+    begins_fit_and_sound laws ranges = record {
+      fit = begins_fit laws ranges;
+      starts = λ place l at. (let k = whole.numbered (i + place * plan.workers) l (there place l at) in
+          let s = subst (λ m. StartsIn model m l.number l.process.start) (sym k.0) (subst (λ n. StartsIn model x.model n l.process.start) (sym k.1) (started_there (i + place * plan.workers) l.process (here place l at))) in
+          record { number = s.0; start = s.1 });
+      sound = λ place l at. (let k = whole.numbered (i + place * plan.workers) l (there place l at) in
+          subst (λ (r : Role). SoundAt (rules model order x.model) r.collected l.number l.process) (sym begins.role)
+          (subst (λ n. SoundAt (rules model order x.model) x.collected n l.process) (sym k.1) (whole.sound.each (i + place * plan.workers) l.process (here place l at))));
+    }

@@ -16,7 +16,9 @@ use Rattle.rw_lp.specs.HeldMessages.{held_of, held_with, held_without}
 use Rattle.rw_lp.specs.Process.{ProcessState, done, Turn, Turned, Stays, split_last, after_undoing, sends_of_last, undo_last, undo_one, undo_last_lazily, undo_lazily, annihilate, deliver_message, deliver_anti, deliver, execute_next, execute_least, execute_event, after_execution, is_less_than_last}
 use Rattle.rw_lp.proofs.Cited.{with_bags, IsSplit, split_is}
 use Rattle.rw_lp.specs.Calls.{LogicalProcess}
-use Rattle.rw_lp.specs.Arrival.{Way, Cancelling, Holding, undo_by, with_out, and_undo, undo_times, ArrivedBy}
+use Rattle.rw_lp.specs.declared.way.Way.{Way}
+use Rattle.rw_lp.specs.declared.way.Way.TheVariants.{Aggressive, Lazy}
+use Rattle.rw_lp.specs.Arrival.{undo_by, with_out, and_undo, undo_times, ArrivedBy}
 use Rattle.rw_rounds.specs.Working.{size, sizes, dones}
 
 length-letters : {B : Type 0} (b : Bool) (es : List (Event B)) → length (letters_of b es) ≡ length es
@@ -76,8 +78,8 @@ module _ {S B : Type 0} (y : Rules S B) (p : ℕ) where
           ((omega arith), (omega arith))
 
   pub way_falls : (way : Way) (x : ProcessState S B) → Falls x (undo_by way y p x)
-  way_falls Cancelling x = undo_falls x
-  way_falls Holding x = lazily_falls x
+  way_falls Aggressive x = undo_falls x
+  way_falls Lazy x = lazily_falls x
 
   pub deliver_falls : (l : Letter B) (x : ProcessState S B) → Falls x (deliver y.order l x)
   deliver_falls l x = go l.anti
@@ -146,12 +148,12 @@ module _ {S B : Type 0} (y : Rules S B) (p : ℕ) where
       omega arith
 
   pub undo_counts : (way : Way) (x z : ProcessState S B) (out : List (Letter B)) → undo_by way y p x ≡ Turned z out → length (done z) + 1 ≡ length (done x)
-  undo_counts Cancelling x z out h = go (split_last x.processed) (split_is x.processed) h
+  undo_counts Aggressive x z out h = go (split_last x.processed) (split_is x.processed) h
     where
       go : (o : Option (List (Event B) × Event B)) → IsSplit x.processed o → undo_last y p x o ≡ Turned z out → length (done z) + 1 ≡ length (done x)
       go None q k = cc
       go (Some r) q k = one_fewer x z r x.held q (let is : after_undoing y p x r.0 r.1 x.held ≡ z = cc in is)
-  undo_counts Holding x z out h = go (split_last x.processed) (split_is x.processed) h
+  undo_counts Lazy x z out h = go (split_last x.processed) (split_is x.processed) h
     where
       held_then : List (Event B) × Event B → List (Held B)
       held_then r = x.held ++ held_of r.1 (sends_of_last y p x r.0 r.1)

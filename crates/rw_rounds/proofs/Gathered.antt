@@ -12,7 +12,7 @@ use Rattle.rw_vt.specs.declared.model.Model.{Ghosts}
 use Rattle.rw_vt.specs.System.{Rules, flatten, rules}
 use Rattle.rw_vt.proofs.Laws.{Laws}
 use Rattle.rw_lp.specs.Process.{ProcessState}
-use Rattle.rw_lp.specs.Arrival.{Way}
+use Rattle.rw_lp.specs.declared.way.Way.{Way}
 use Rattle.rw_lp.specs.Calls.{LogicalProcess}
 use Rattle.rw_world.specs.declared.parts.Parts.{Parts}
 use Rattle.rw_world.specs.Calls.{IsWhole}
@@ -37,7 +37,7 @@ use Rattle.rw_rounds.specs.Setting.{AreSetUp, IsBegun}
 use Rattle.rw_rounds.specs.Gathering.{AreDone, IsEnded}
 use Rattle.rw_rounds.specs.Between.{IsBetween, RoundTo}
 use Rattle.rw_rounds.proofs.Cited.{weigh-append}
-use Rattle.rw_rounds.proofs.Beginning.{as_many, begins_fit}
+use Rattle.rw_rounds.proofs.Beginning.{as_many, begins_fit_and_sound}
 
 pub some_of : {X : Type 0} (xs : List X) → 0 < length xs → X
 some_of [] h = absurd (omega arith)
@@ -186,7 +186,7 @@ module _ {M S B U : Type 0} {model : Ghosts M S B U} {order : B → B → Orderi
     pub all_seated : All (λ w. IsSeated model order x.model its w) ws
     all_seated i d lt =
         let below : i < plan.workers = subst (λ n. i < n) up.many lt in
-        record { fit = begins_fit x whole plan i below (get_or ws i d) (begins_at i d below) laws ranges; board = ap (λ s. s.board) (seat_new i d lt) }
+        record { fit = begins_fit_and_sound x whole plan i below (get_or ws i d) (begins_at i d below) laws ranges; board = ap (λ s. s.board) (seat_new i d lt) }
 
     module _ {ws' : List (WorkerState M S B)} (took : AllTook model order x.model plan.turns ws ws') where
       pub opening_after : (ports' : List (PortState (Letter B))) → StayAnOpening ports → ports' ≡ map (λ w. w.port) ws' → IsOpening ports'

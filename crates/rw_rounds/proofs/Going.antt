@@ -6,7 +6,8 @@ use Rattle.rw_vt.specs.System.{Rules}
 use Rattle.rw_vt.proofs.Letters.{count-letter}
 use Rattle.rw_vt.proofs.Bags.{one_if-itself}
 use Rattle.rw_lp.specs.Process.{ProcessState, execute_next}
-use Rattle.rw_lp.specs.Arrival.{Way, undo_by}
+use Rattle.rw_lp.specs.declared.way.Way.{Way}
+use Rattle.rw_lp.specs.Arrival.{undo_by}
 use Rattle.rw_lp.specs.Sound.{SoundAt, SoundLetters, Kept, KeptAt}
 use Rattle.rw_lp.proofs.Cited.{kept_more}
 use Rattle.rw_pool.specs.Sums.{sum_below}

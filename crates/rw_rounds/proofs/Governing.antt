@@ -10,7 +10,9 @@ use Rattle.rw_vt.proofs.Sorting.{IsExactOrder}
 use Rattle.rw_vt.proofs.Runs.{AreLawful}
 use Rattle.rw_vt.proofs.Laws.{Laws, rules_lawful}
 use Rattle.rw_lp.specs.Process.{ProcessState, execute_next, deliver}
-use Rattle.rw_lp.specs.Arrival.{Way, Cancelling, Holding, undo_by}
+use Rattle.rw_lp.specs.declared.way.Way.{Way}
+use Rattle.rw_lp.specs.declared.way.Way.TheVariants.{Aggressive, Lazy}
+use Rattle.rw_lp.specs.Arrival.{undo_by}
 use Rattle.rw_lp.specs.Sound.{Stands, SoundAt, Keeps}
 use Rattle.rw_lp.proofs.Cited.{execute_keeps, undo_keeps, undo_lazily_keeps, deliver_keeps}
 
@@ -32,8 +34,8 @@ module _ {M S B U : Type 0} (model : Ghosts M S B U) (order : B → B → Orderi
   law = rules_lawful laws m
 
   undoing_keeps : (g : ℕ) (way : Way) (p : ℕ) (x : ProcessState S B) → model.IsWellFormed m p x.start → SoundAt (rules model order m) g p x → Keeps (rules model order m) g p x [] (undo_by way (rules model order m) p x)
-  undoing_keeps g Cancelling = undo_keeps (rules model order m) law g
-  undoing_keeps g Holding = undo_lazily_keeps (rules model order m) law g
+  undoing_keeps g Aggressive = undo_keeps (rules model order m) law g
+  undoing_keeps g Lazy = undo_lazily_keeps (rules model order m) law g
 
   pub governs : (g : ℕ) → Governs (rules model order m) (StartsIn model m) g (model.process_count m)
   governs g = record {

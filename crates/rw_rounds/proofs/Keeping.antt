@@ -3,7 +3,8 @@ use Rattle.std.proofs.Common.{◌≡◌, ℕ, zero, suc, ◌≤◌, List, [], �
 use Rattle.rw_vt.specs.declared.event.Letter.{Letter}
 use Rattle.rw_vt.specs.System.{Rules}
 use Rattle.rw_lp.specs.Process.{ProcessState, Turn, Turned, Stays, deliver}
-use Rattle.rw_lp.specs.Arrival.{Way, undo_by, with_out, and_undo, undo_times, ArrivedBy}
+use Rattle.rw_lp.specs.declared.way.Way.{Way}
+use Rattle.rw_lp.specs.Arrival.{undo_by, with_out, and_undo, undo_times, ArrivedBy}
 use Rattle.rw_lp.specs.Sound.{Stands, SoundAt, Kept, Keeps}
 use Rattle.rw_lp.proofs.Cited.{kept_more, no_letters}
 use Rattle.rw_rounds.proofs.Governing.{Governs}

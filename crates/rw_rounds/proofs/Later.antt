@@ -20,7 +20,9 @@ use Rattle.rw_lp.specs.declared.held.Held.{Held}
 use Rattle.rw_lp.specs.declared.answer.StepFault.TheVariants.{Straggler, StillDone}
 use Rattle.rw_lp.specs.HeldMessages.{holds, held_without_first, unheld_sends, held_with, held_without}
 use Rattle.rw_lp.specs.Process.{ProcessState, done, Turn, Turned, Stays, with_front, split_last, is_less_than_last, execute_event, execute_least, execute_next, sends_of_last, undo_last, undo_last_lazily, annihilate, deliver_message, deliver_anti, deliver}
-use Rattle.rw_lp.specs.Arrival.{Way, Cancelling, Holding, undo_by, with_out, and_undo, undo_times, is_barred, Accepts, ArrivedBy}
+use Rattle.rw_lp.specs.declared.way.Way.{Way}
+use Rattle.rw_lp.specs.declared.way.Way.TheVariants.{Aggressive, Lazy}
+use Rattle.rw_lp.specs.Arrival.{undo_by, with_out, and_undo, undo_times, is_barred, Accepts, ArrivedBy}
 use Rattle.rw_lp.specs.Sound.{Stands, IsHeldFor, SoundAt, Keeps}
 use Rattle.rw_lp.proofs.Cited.{with_bags, IsSplit, split_is, open_accepts}
 use Rattle.rw_rounds.specs.Bags.{Every}
@@ -161,12 +163,12 @@ module _ {M S B U : Type 0} {model : Ghosts M S B U} {order : B → B → Orderi
       put_back e from = Each-insert exact (λ a. t ≤ a.time) e x.pending from late.pending
 
       undoing_late : (way : Way) → StaysLate (event_cmp order) t (undo_by way (rules model order m) p x)
-      undoing_late Cancelling = go (split_last x.processed) refl (split_is x.processed)
+      undoing_late Aggressive = go (split_last x.processed) refl (split_is x.processed)
         where
           go : (o : Option (List (Event B) × Event B)) → split_last x.processed ≡ o → IsSplit x.processed o → StaysLate (event_cmp order) t (undo_last (rules model order m) p x o)
           go None at is = tt
           go (Some r) at is = (record { pending = put_back r.1 (last_from r at); debts = late.debts }, letters_later t true (sends_of_last (rules model order m) p x r.0 r.1) (undone_sends r is (last_from r at)))
-      undoing_late Holding = go (split_last x.processed) refl
+      undoing_late Lazy = go (split_last x.processed) refl
         where
           go : (o : Option (List (Event B) × Event B)) → split_last x.processed ≡ o → StaysLate (event_cmp order) t (undo_last_lazily (rules model order m) p x o)
           go None at = tt

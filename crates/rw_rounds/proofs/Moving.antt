@@ -13,7 +13,9 @@ use Rattle.rw_lp.specs.declared.answer.Answer.TheVariants.{Done, Refused}
 use Rattle.rw_lp.specs.declared.answer.StepFault.TheVariants.{Straggler}
 use Rattle.rw_lp.specs.HeldMessages.{unheld_sends}
 use Rattle.rw_lp.specs.Process.{ProcessState, Turn, Turned, Stays, done, split_last, is_less_than_last, execute_event, execute_least, execute_next, undo_last, undo_last_lazily}
-use Rattle.rw_lp.specs.Arrival.{Way, Cancelling, Holding, undo_by}
+use Rattle.rw_lp.specs.declared.way.Way.{Way}
+use Rattle.rw_lp.specs.declared.way.Way.TheVariants.{Aggressive, Lazy}
+use Rattle.rw_lp.specs.Arrival.{undo_by}
 use Rattle.rw_lp.specs.Calls.{LogicalProcess, Took}
 use Rattle.rw_lp.specs.Sound.{HasCollected}
 use Rattle.rw_lp.proofs.Cited.{IsSplit, split_is}
@@ -62,12 +64,12 @@ module _ {S B : Type 0} (y : Rules S B) (p : ℕ) where
             go false k h = cc
 
     pub undone : (way : Way) (g : ℕ) (x z : ProcessState S B) (a : Answer) (given : List (Letter B)) → HasCollected y.order g x → execute_next y p x ≡ Stays Straggler → Took x z a given (undo_by way y p x) → undo_by way y p x ≡ Turned z given
-    undone Holding g x z a given collected refused took = go (split_last x.processed) (split_is x.processed) took
+    undone Lazy g x z a given collected refused took = go (split_last x.processed) (split_is x.processed) took
       where
         go : (r : Option (List (Event B) × Event B)) → IsSplit x.processed r → Took x z a given (undo_last_lazily y p x r) → undo_last_lazily y p x r ≡ Turned z given
         go None q k = absurd (never_stuck g x collected refused q)
         go (Some r) q k = taken x z a given (undo_last_lazily y p x (Some r)) k.1 k
-    undone Cancelling g x z a given collected refused took = go (split_last x.processed) (split_is x.processed) took
+    undone Aggressive g x z a given collected refused took = go (split_last x.processed) (split_is x.processed) took
       where
         go : (r : Option (List (Event B) × Event B)) → IsSplit x.processed r → Took x z a given (undo_last y p x r) → undo_last y p x r ≡ Turned z given
         go None q k = absurd (never_stuck g x collected refused q)

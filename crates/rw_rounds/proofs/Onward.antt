@@ -18,7 +18,7 @@ use Rattle.rw_vt.proofs.Bags.{one_if-itself}
 use Rattle.rw_vt.proofs.Letters.{count-letter}
 use Rattle.rw_vt.proofs.Laws.{Laws}
 use Rattle.rw_lp.specs.Process.{ProcessState}
-use Rattle.rw_lp.specs.Arrival.{Way}
+use Rattle.rw_lp.specs.declared.way.Way.{Way}
 use Rattle.rw_lp.specs.Calls.{LogicalProcess}
 use Rattle.rw_lp.specs.Sound.{IsHeldFor}
 use Rattle.rw_world.specs.declared.parts.Parts.{Parts}

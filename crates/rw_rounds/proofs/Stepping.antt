@@ -10,6 +10,7 @@ use Rattle.rw_vt.specs.System.{rules}
 use Rattle.rw_vt.proofs.Laws.{Laws}
 use Rattle.rw_lp.specs.Process.{ProcessState, Turned, Stays, execute_next}
 use Rattle.rw_lp.specs.Calls.{LogicalProcess}
+use Rattle.rw_lp.specs.declared.way.Way.{Way}
 use Rattle.rw_lp.specs.Arrival.{undo_by, ArrivedBy}
 use Rattle.rw_lp.specs.Sound.{SoundAt, HasCollected, Kept}
 use Rattle.rw_pool.proofs.Dealing.{number_place}
@@ -79,7 +80,7 @@ module _ {M S B U : Type 0} {model : Ghosts M S B U} {order : B → B → Orderi
   as_many : length b.processes ≡ length a.processes
   as_many = ap length set ∙ length_set a.processes place z
 
-  module _ (letter : Letter B) (fair : IsFair (rules model order m) a.role.collected letter) (own : is_own a.role letter ≡ true) (at : place ≡ letter.event.to / a.role.plan.workers) (given : List (Letter B)) (arrived : ArrivedBy (way_of a.role.plan.lazy) (rules model order l.model) l.number letter l.process z.process given) where
+  module _ (letter : Letter B) (fair : IsFair (rules model order m) a.role.collected letter) (own : is_own a.role letter ≡ true) (at : place ≡ letter.event.to / a.role.plan.workers) (way : Way) (way_is : way ≡ way_of a.role.plan.lazy) (given : List (Letter B)) (arrived : ArrivedBy way (rules model order l.model) l.number letter l.process z.process given) where
     owned : letter.event.to % a.role.plan.workers ≡ a.role.number
     owned = eqb-true (letter.event.to % a.role.plan.workers) a.role.number own
 
@@ -90,7 +91,7 @@ module _ {M S B U : Type 0} {model : Ghosts M S B U} {order : B → B → Orderi
     number_is = stands.number ∙ sym to_is
 
     by_model : ArrivedBy (way_of a.role.plan.lazy) (rules model order m) l.number letter l.process z.process given
-    by_model = subst (λ k. ArrivedBy (way_of a.role.plan.lazy) (rules model order k) l.number letter l.process z.process given) stands.model_is arrived
+    by_model = subst (λ w. ArrivedBy w (rules model order m) l.number letter l.process z.process given) way_is (subst (λ k. ArrivedBy way (rules model order k) l.number letter l.process z.process given) stands.model_is arrived)
 
     pub works_arrival : (old new : List (Letter B)) → new ≡ old ++ given → Works (rules model order m) a.role a b (old ++ letter ∷ []) new 0
     works_arrival old new is =
@@ -127,14 +128,14 @@ module _ {M S B U : Type 0} {model : Ghosts M S B U} {order : B → B → Orderi
       subst (λ (u : ProcessState S B). Each (rules model order m).order (λ g. AtMost (rules model order m).order e g) u.pending) f.2
       (subst (λ d. Each (rules model order m).order (λ g. AtMost (rules model order m).order d g) f.0.process.pending) same_event (next.least (q / a.role.plan.workers) f.0 f.1))
 
-  module _ (bound : ℕ) (next : IsNext (rules model order m) bound a.processes place) (given : List (Letter B)) where
-    executed_by : Moved (rules model order l.model) (way_of a.role.plan.lazy) l.number l.process z.process true given → execute_next (rules model order m) l.number l.process ≡ Turned z.process given
+  module _ (bound : ℕ) (next : IsNext (rules model order m) bound a.processes place) (way : Way) (way_is : way ≡ way_of a.role.plan.lazy) (given : List (Letter B)) where
+    executed_by : Moved (rules model order l.model) way l.number l.process z.process true given → execute_next (rules model order m) l.number l.process ≡ Turned z.process given
     executed_by moved = subst (λ k. execute_next (rules model order k) l.number l.process ≡ Turned z.process given) stands.model_is moved
 
-    undone_by : Moved (rules model order l.model) (way_of a.role.plan.lazy) l.number l.process z.process false given → (undo_by (way_of a.role.plan.lazy) (rules model order m) l.number l.process ≡ Turned z.process given) × (execute_next (rules model order m) l.number l.process ≡ Stays Rattle.rw_lp.specs.declared.answer.StepFault.TheVariants.Straggler)
-    undone_by moved = subst (λ k. (undo_by (way_of a.role.plan.lazy) (rules model order k) l.number l.process ≡ Turned z.process given) × (execute_next (rules model order k) l.number l.process ≡ Stays Rattle.rw_lp.specs.declared.answer.StepFault.TheVariants.Straggler)) stands.model_is moved
+    undone_by : Moved (rules model order l.model) way l.number l.process z.process false given → (undo_by (way_of a.role.plan.lazy) (rules model order m) l.number l.process ≡ Turned z.process given) × (execute_next (rules model order m) l.number l.process ≡ Stays Rattle.rw_lp.specs.declared.answer.StepFault.TheVariants.Straggler)
+    undone_by moved = subst (λ w. Moved (rules model order m) w l.number l.process z.process false given) way_is (subst (λ k. Moved (rules model order k) way l.number l.process z.process false given) stands.model_is moved)
 
-    pub works_moved : (executed : Bool) → Moved (rules model order l.model) (way_of a.role.plan.lazy) l.number l.process z.process executed given → Works (rules model order m) a.role a b [] given (cond executed 1 0)
+    pub works_moved : (executed : Bool) → Moved (rules model order l.model) way l.number l.process z.process executed given → Works (rules model order m) a.role a b [] given (cond executed 1 0)
     works_moved true moved =
         works_deed (rules model order m) a.role a b refl same_role inbox (Execution l.number) given [] as_many
         (l.process, z.process, stepped a.role up.fit.number a.processes b.processes place l z there set l.number _ given stands.number (executed_by moved), next_is_least bound next)
@@ -144,7 +145,7 @@ module _ {M S B U : Type 0} {model : Ghosts M S B U} {order : B → B → Orderi
         (l.process, z.process, stepped a.role up.fit.number a.processes b.processes place l z there set l.number _ given stands.number (undone_by moved).0, (undone_by moved).1)
         tt kept aside port seat (named_set a.role up.fit.number a.processes b.processes place l z there set same)
 
-    pub moved_fair : (executed : Bool) → Moved (rules model order l.model) (way_of a.role.plan.lazy) l.number l.process z.process executed given → Every (IsFair (rules model order m) a.role.collected) given
+    pub moved_fair : (executed : Bool) → Moved (rules model order l.model) way l.number l.process z.process executed given → Every (IsFair (rules model order m) a.role.collected) given
     moved_fair true moved =
         let k : Kept (rules model order m) a.role.collected l.number l.process z.process [] given = kept_of (rules model order m) a.role.collected l.number l.process z.process [] given (execute_next (rules model order m) l.number l.process) (executed_by moved) (rule_here.executes l.number l.process starts sound_here) in
         fair_letters (rules model order m) a.role.collected (model.process_count m) rule_here given k.letters
@@ -152,10 +153,10 @@ module _ {M S B U : Type 0} {model : Ghosts M S B U} {order : B → B → Orderi
         let k : Kept (rules model order m) a.role.collected l.number l.process z.process [] given = kept_of (rules model order m) a.role.collected l.number l.process z.process [] given (undo_by (way_of a.role.plan.lazy) (rules model order m) l.number l.process) (undone_by moved).0 (rule_here.undoes (way_of a.role.plan.lazy) l.number l.process starts sound_here) in
         fair_letters (rules model order m) a.role.collected (model.process_count m) rule_here given k.letters
 
-    pub executed_dones : Moved (rules model order l.model) (way_of a.role.plan.lazy) l.number l.process z.process true given → dones b.processes ≡ dones a.processes + 1
+    pub executed_dones : Moved (rules model order l.model) way l.number l.process z.process true given → dones b.processes ≡ dones a.processes + 1
     executed_dones moved = omega (arith, execute_counts (rules model order m) l.number l.process z.process given (executed_by moved), dones_set a.processes place l z there, ap dones set)
 
-    pub undone_dones : Moved (rules model order l.model) (way_of a.role.plan.lazy) l.number l.process z.process false given → dones b.processes + 1 ≡ dones a.processes
+    pub undone_dones : Moved (rules model order l.model) way l.number l.process z.process false given → dones b.processes + 1 ≡ dones a.processes
     undone_dones moved = omega (arith, undo_counts (rules model order m) l.number (way_of a.role.plan.lazy) l.process z.process given (undone_by moved).0, dones_set a.processes place l z there, ap dones set)
 
 -- where an own letter goes

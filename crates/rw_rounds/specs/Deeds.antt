@@ -6,7 +6,9 @@ use Rattle.rw_vt.specs.declared.event.Letter.{Letter}
 use Rattle.rw_vt.specs.Order.{AtMost, Each}
 use Rattle.rw_vt.specs.System.{Rules}
 use Rattle.rw_lp.specs.Process.{ProcessState, Turned, Stays, execute_next}
-use Rattle.rw_lp.specs.Arrival.{Way, Cancelling, Holding, undo_by, ArrivedBy}
+use Rattle.rw_lp.specs.declared.way.Way.{Way}
+use Rattle.rw_lp.specs.declared.way.Way.TheVariants.{Aggressive, Lazy}
+use Rattle.rw_lp.specs.Arrival.{undo_by, ArrivedBy}
 use Rattle.rw_lp.specs.declared.answer.StepFault.TheVariants.{Straggler}
 
 pub data Deed (B : Type 0) : Type 0 where
@@ -19,8 +21,8 @@ pub data Deed (B : Type 0) : Type 0 where
 
 -- how a worker takes events back, where it does so lazily or not
 abbrev pub way_of : Bool → Way
-way_of false = Cancelling
-way_of true = Holding
+way_of false = Aggressive
+way_of true = Lazy
 
 -- the processes that a worker has, by their numbers
 abbrev pub Owned : Type 0 → Type 0 → Type 0

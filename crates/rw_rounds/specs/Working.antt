@@ -9,7 +9,8 @@ use Rattle.rw_vt.specs.declared.model.Model.{Ghosts}
 use Rattle.rw_vt.specs.Order.{Each, AtMost}
 use Rattle.rw_vt.specs.System.{Rules, sends_of, rules}
 use Rattle.rw_lp.specs.Process.{ProcessState, done, Turned, Stays, execute_next}
-use Rattle.rw_lp.specs.Arrival.{Way, undo_by}
+use Rattle.rw_lp.specs.declared.way.Way.{Way}
+use Rattle.rw_lp.specs.Arrival.{undo_by}
 use Rattle.rw_lp.specs.Calls.{LogicalProcess}
 use Rattle.rw_lp.specs.Sound.{SoundAt, StartsWell}
 use Rattle.rw_lp.specs.declared.answer.StepFault.TheVariants.{Straggler}

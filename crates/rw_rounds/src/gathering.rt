@@ -131,7 +131,7 @@ fn take_apart<M: VtModel>(
     ensures ports { IfOk result (λ l. l.ports.items ≡ map (λ w. w.port) workers.items) }
     ensures seats { IfOk result (λ l. l.seats.items ≡ map (λ w. w.seat) workers.items) }
 {
-    let mut holdings = RoundParts::with_capacity(alloc, workers.len())?;
+    let mut parts = RoundParts::with_capacity(alloc, workers.len())?;
     for worker in workers {
         let Inner {
             processes,
@@ -143,13 +143,13 @@ fn take_apart<M: VtModel>(
             ..
         } = worker.into_inner();
         traffic.add(&done);
-        holdings.shares.push_back_reserved(processes);
-        holdings.kept.push_reserved(kept);
-        holdings.aside.push_reserved(aside);
-        holdings.ports.push_reserved(port);
-        holdings.seats.push_reserved(seat);
+        parts.shares.push_back_reserved(processes);
+        parts.kept.push_reserved(kept);
+        parts.aside.push_reserved(aside);
+        parts.ports.push_reserved(port);
+        parts.seats.push_reserved(seat);
     }
-    Ok(holdings)
+    Ok(parts)
 }
 
 /// The letters that are on their way: those left in the rings, by sender and then by receiver, those kept, and those

@@ -154,14 +154,8 @@ impl<M: VtModel> Inner<M> {
         ensures fewer { OnOk result (done_count self.new ≤ done_count self.old) }
     {
         let place = (letter.event.to / self.plan.workers) as usize;
-        let undone = self.processes.arrive(
-            context.alloc,
-            context.model,
-            self.plan.lazy,
-            place,
-            letter,
-            out,
-        )?;
+        let way = self.plan.way();
+        let undone = self.processes.arrive(context, way, place, letter, out)?;
         self.traffic.undone = self.traffic.undone.wrapping_add(undone as u64);
         Ok(())
     }
@@ -344,13 +338,8 @@ impl<M: VtModel> Inner<M> {
         ensures undone { IfOk result (λ executed.
             executed ≡ false → done_count self.new < done_count self.old) }
     {
-        let executed = self.processes.advance(
-            context.alloc,
-            context.model,
-            self.plan.lazy,
-            place,
-            at_hand,
-        )?;
+        let way = self.plan.way();
+        let executed = self.processes.advance(context, way, place, at_hand)?;
         self.traffic.executed = self.traffic.executed.wrapping_add(u64::from(executed));
         self.traffic.undone = self.traffic.undone.wrapping_add(u64::from(!executed));
         self.deal(context, at_hand)?;

@@ -38,7 +38,7 @@ mod worker;
 
 pub use plan::Plan;
 pub use round::{Gate, Open, RoundWork};
-pub use running::{run, run_and_tell, run_round};
+pub use running::{run, run_round};
 pub use rw_board::{Board, Seat};
 pub use rw_exchange::Port;
 pub use rw_lp::Lp;

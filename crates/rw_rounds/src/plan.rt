@@ -1,6 +1,8 @@
 ghost use Rattle.std.specs.Prelude.{◌≡◌, ◌↔◌, ◌^◌, IsTrue};
+ghost use Rattle.rw_rounds.specs.Deeds.{way_of};
 ghost use Rattle.rw_rounds.specs.Plans.{IsInRanges};
 
+use rw_lp::Way;
 use rw_vt::END;
 
 /// How rounds are run. The first round of a run is by its plan as it is; later ones may have a smaller
@@ -35,5 +37,16 @@ impl Plan {
             && (1..=END).contains(&self.window)
             && (1..=4096).contains(&self.ring)
             && (1..=1_048_576).contains(&self.max_rounds)
+    }
+
+    /// How the processes take events back. Takes no memory.
+    pub(crate) fn way(&self) -> Way
+        ensures { result ≡ way_of self.now.lazy }
+    {
+        if self.lazy {
+            Way::Lazy
+        } else {
+            Way::Aggressive
+        }
     }
 }

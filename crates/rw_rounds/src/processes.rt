@@ -4,15 +4,15 @@ ghost use Rattle.rw_vt.specs.Words.{Time};
 ghost use Rattle.rw_vt.specs.Order.{event_cmp};
 ghost use Rattle.rw_vt.specs.System.{rules};
 ghost use Rattle.rw_bag.specs.Bags.{IsNextOf};
-ghost use Rattle.rw_lp.specs.Arrival.{undo_by, ArrivedBy};
-ghost use Rattle.rw_lp.specs.Calls.{LogicalProcess, GivesOut, IsSameProcess, Took};
+ghost use Rattle.rw_lp.specs.Arrival.{ArrivedBy};
+ghost use Rattle.rw_lp.specs.Calls.{LogicalProcess, GivesOut};
 ghost use Rattle.rw_lp.specs.Sound.{HasCollected};
-ghost use Rattle.rw_rounds.specs.Deeds.{way_of};
 ghost use Rattle.rw_rounds.specs.Processes.{ChangesOne, TellsNext};
 ghost use Rattle.rw_rounds.specs.Working.{Advances, HeldBack, IsNext};
 
+use crate::inner::Context;
 use crate::tournament::Tournament;
-use rw_lp::{Answer, Lp, put_back};
+use rw_lp::{Answer, Lp, Way, put_back};
 use rw_vt::{Event, Letter, Model as VtModel, Refusal};
 use std::alloc::{AllocError, Global};
 use std::marker::Model;
@@ -82,35 +82,34 @@ impl<M: VtModel> Processes<M> {
         Ok(least_before(&self.items, &self.next, bound))
     }
 
-    /// The letter arrives at the process at `place`; what has to be undone is undone lazily, or not. What is given out is
+    /// The letter arrives at the process at `place`; what has to be undone is undone that way. What is given out is
     /// appended to `out`. Gives how many events were undone.
     ///
     /// # Errors
     ///
-    /// As [`Lp::arrive`]. Some processes are then gone.
+    /// As [`Lp::arrive_by`]. Some processes are then gone.
     pub(crate) fn arrive(
         &mut self,
-        alloc: Global,
-        model: &M,
-        lazy: bool,
+        context: &Context<'_, M>,
+        way: Way,
         place: usize,
         letter: Letter<M::Body>,
         out: &mut Vec<Letter<M::Body>>,
     ) -> Result<usize, Refusal>
         requires place { place < length self.old.items }
         requires model { (l : LogicalProcess M M.State M.Body)
-            → slice_get self.old.items place ≡ Some l → l.model ≡ model.now }
-        requires valid { M.is_valid model.now letter.event ≡ true }
+            → slice_get self.old.items place ≡ Some l → l.model ≡ context.now.model.now }
+        requires valid { M.is_valid context.now.model.now letter.event ≡ true }
         requires here { (l : LogicalProcess M M.State M.Body)
             → slice_get self.old.items place ≡ Some l → letter.event.to ≡ l.number }
         ensures arrived { OnOk result (ChangesOne self.old.items self.new.items place (λ l z.
-            GivesOut out.old.items out.new.items (ArrivedBy (way_of lazy)
+            GivesOut out.old.items out.new.items (ArrivedBy way
             (rules M.Model M.Body.cmp l.model) l.number letter l.process z.process))) }
     {
-        let mut next = mem::replace(&mut self.next, Tournament::none(alloc));
+        let mut next = mem::replace(&mut self.next, Tournament::none(context.alloc));
         let process = self.items.swap_remove(place);
         let before = process.processed().len();
-        let process = arrive_by(lazy, alloc, model, process, letter, out)?;
+        let process = process.arrive_by(context.alloc, context.model, way, letter, out)?;
         let undone = before.saturating_sub(process.processed().len());
         next.set(place, next_of(&process));
         put_back(&mut self.items, place, process)?;
@@ -118,23 +117,22 @@ impl<M: VtModel> Processes<M> {
         Ok(undone)
     }
 
-    /// The process at `place` executes what is next, or undoes its last event, lazily or not, where that is a straggler. What
-    /// it gives out is appended to `out`. Answers whether it executed.
+    /// The process at `place` executes what is next, or undoes its last event, that way, where that is a straggler. What it
+    /// gives out is appended to `out`. Answers whether it executed.
     ///
     /// # Errors
     ///
     /// As [`Lp::execute_next`]. Some processes are then gone.
     pub(crate) fn advance(
         &mut self,
-        alloc: Global,
-        model: &M,
-        lazy: bool,
+        context: &Context<'_, M>,
+        way: Way,
         place: usize,
         out: &mut Vec<Letter<M::Body>>,
     ) -> Result<bool, Refusal>
         requires place { place < length self.old.items }
         requires model { (l : LogicalProcess M M.State M.Body)
-            → slice_get self.old.items place ≡ Some l → l.model ≡ model.now }
+            → slice_get self.old.items place ≡ Some l → l.model ≡ context.now.model.now }
         requires pending { (l : LogicalProcess M M.State M.Body)
             → slice_get self.old.items place ≡ Some l → l.process.pending ≢ [] }
         requires undoable { (l : LogicalProcess M M.State M.Body)
@@ -142,11 +140,11 @@ impl<M: VtModel> Processes<M> {
             → (g : Time) × HasCollected (event_cmp M.Body.cmp) g l.process }
         ensures moved { IfOk result (λ executed.
             ChangesOne self.old.items self.new.items place (λ l z. Advances M.Model M.Body.cmp
-            (way_of lazy) l z executed out.old.items out.new.items)) }
+            way l z executed out.old.items out.new.items)) }
     {
-        let mut next = mem::replace(&mut self.next, Tournament::none(alloc));
+        let mut next = mem::replace(&mut self.next, Tournament::none(context.alloc));
         let process = self.items.swap_remove(place);
-        let (process, executed) = execute_or_undo(lazy, alloc, model, process, out)?;
+        let (process, executed) = execute_or_undo(context, way, process, out)?;
         next.set(place, next_of(&process));
         put_back(&mut self.items, place, process)?;
         self.next = next;
@@ -198,73 +196,26 @@ fn least_before<M: VtModel>(processes: &[Lp<M>], next: &Tournament<M>, bound: u6
     Some(first.place)
 }
 
-/// The process executes what is next, or undoes its last event, lazily or not, where that is a straggler. What it gives
+/// The process executes what is next, or undoes its last event, that way, where that is a straggler. What it gives
 /// out is appended to `out`. Answers whether it executed.
 fn execute_or_undo<M: VtModel>(
-    lazy: bool,
-    alloc: Global,
-    model: &M,
+    context: &Context<'_, M>,
+    way: Way,
     process: Lp<M>,
     out: &mut Vec<Letter<M::Body>>,
 ) -> Result<(Lp<M>, bool), Refusal>
-    requires model { model.now ≡ process.model }
+    requires model { context.now.model.now ≡ process.model }
     requires pending { process.process.pending ≢ [] }
     requires undoable { (g : Time) × HasCollected (event_cmp M.Body.cmp) g process.process }
     ensures same { IfOk result (λ r.
         (r.0.model ≡ process.model) × (r.0.number ≡ process.number)) }
     ensures moved { IfOk result (λ r.
-        Advances M.Model M.Body.cmp (way_of lazy) process r.0 r.1 out.old.items out.new.items) }
+        Advances M.Model M.Body.cmp way process r.0 r.1 out.old.items out.new.items) }
 {
-    let (process, answer) = process.execute_next(alloc, model, out)?;
+    let (process, answer) = process.execute_next(context.alloc, context.model, out)?;
     if let Answer::Done = answer {
         return Ok((process, true));
     }
-    let (process, _answer) = undo_by(lazy, alloc, model, process, out)?;
+    let (process, _answer) = process.undo_by(context.alloc, context.model, way, out)?;
     Ok((process, false))
-}
-
-/// The letter arrives at the process; what has to be undone is undone lazily, or not. What is given out is appended to `out`.
-fn arrive_by<M: VtModel>(
-    lazy: bool,
-    alloc: Global,
-    model: &M,
-    process: Lp<M>,
-    letter: Letter<M::Body>,
-    out: &mut Vec<Letter<M::Body>>,
-) -> Result<Lp<M>, Refusal>
-    requires model { model.now ≡ process.model }
-    requires valid { M.is_valid process.model letter.event ≡ true }
-    requires here { letter.event.to ≡ process.number }
-    ensures same { IfOk result (IsSameProcess process) }
-    ensures arrived { IfOk result (λ lp. GivesOut out.old.items out.new.items
-        (ArrivedBy (way_of lazy) (rules M.Model M.Body.cmp process.model) process.number letter
-        process.process lp.process)) }
-{
-    if lazy {
-        process.arrive_lazily(alloc, model, letter, out)
-    } else {
-        process.arrive(alloc, model, letter, out)
-    }
-}
-
-/// The process takes its last processed event back, lazily or not. What is given out is appended to `out`.
-fn undo_by<M: VtModel>(
-    lazy: bool,
-    alloc: Global,
-    model: &M,
-    process: Lp<M>,
-    out: &mut Vec<Letter<M::Body>>,
-) -> Result<(Lp<M>, Answer), Refusal>
-    requires model { model.now ≡ process.model }
-    ensures same { IfOk result (λ r. IsSameProcess process r.0) }
-    ensures turn { IfOk result (λ r. GivesOut out.old.items out.new.items (λ given.
-        Took process.process r.0.process r.1 given
-        (undo_by (way_of lazy) (rules M.Model M.Body.cmp process.model) process.number
-        process.process))) }
-{
-    if lazy {
-        process.undo_lazily(alloc, model)
-    } else {
-        process.undo_one(alloc, model, out)
-    }
 }

@@ -17,7 +17,7 @@ use crate::traffic::Traffic;
 use rw_exchange::Port;
 use rw_lp::Lp;
 use rw_pool::{Halt, Job, Pool, may_move, shut_down};
-use rw_progress::{Progress, Silent};
+use rw_progress::Silent;
 use rw_vt::{END, Letter, Model as VtModel, NoMemory, Outcome};
 use rw_world::{World, every_sound_world};
 use std::alloc::Global;
@@ -165,52 +165,26 @@ where
         (map (λ j. j.items) r.0.journals.items) r.0.states.items) }
     ensures plan { (result ≡ Err Stop.BadPlan) ↔ (IsInRanges plan → ⊥) }
 {
-    run_and_tell(rt, alloc, world, plan, gate, &mut Silent)
-}
-
-/// [`run`], which tells `progress` after each round but the last up to which time all is final: the round's floor (global virtual
-/// time: Jefferson 1985), which never goes back. Where the run goes from and to, the caller tells.
-pub fn run_and_tell<M, G, P, R>(
-    rt: &R,
-    alloc: Global,
-    world: World<M>,
-    plan: Plan,
-    gate: &G,
-    progress: &mut P,
-) -> Result<(Outcome<M>, Traffic), Stop>
-where
-    M: VtModel + Drop + Send + Sync,
-    M::State: Send,
-    M::Body: Send,
-    M::Undo: Send,
-    G: Gate + Sync,
-    P: Progress,
-    R: Threads + Wait + Sync,
-    ensures outcome { IfOk result (λ r. IsOutcome (system_of M.Model M.Body.cmp world) end_of_time
-        (map (λ j. j.items) r.0.journals.items) r.0.states.items) }
-    ensures plan { (result ≡ Err Stop.BadPlan) ↔ (IsInRanges plan → ⊥) }
-{
-    let sim = Sim::open(world, plan)?;
     thread::scope(
         thread::scope_env(),
         rt,
         move |scope| -> Result<(Outcome<M>, Traffic), Stop>
             ensures outcome { IfOk result (λ r.
-                IsOutcome (system_of M.Model M.Body.cmp sim.simulation) end_of_time
+                IsOutcome (system_of M.Model M.Body.cmp world) end_of_time
                 (map (λ j. j.items) r.0.journals.items) r.0.states.items) }
-            ensures others { IfErr result (λ stop. stop ≢ Stop.BadPlan) }
-        { run_in(rt, scope, alloc, sim, gate, progress) },
+            ensures plan { (result ≡ Err Stop.BadPlan) ↔ (IsInRanges plan → ⊥) }
+        { run_in(rt, scope, alloc, world, plan, gate) },
     )
 }
 
-/// Makes rounds until nothing is outstanding, in the scope of the threads that it starts.
-fn run_in<'s, E, M, G, P, R>(
+/// [`run`] in the scope of the threads that it starts.
+fn run_in<'s, E, M, G, R>(
     rt: &'s R,
     scope: &Scope<'s, E>,
     alloc: Global,
-    sim: Sim<M>,
+    world: World<M>,
+    plan: Plan,
     gate: &'s G,
-    progress: &mut P,
 ) -> Result<(Outcome<M>, Traffic), Stop>
 where
     M: VtModel + Drop + Send + Sync + 's,
@@ -218,12 +192,10 @@ where
     M::Body: Send,
     M::Undo: Send,
     G: Gate + Sync,
-    P: Progress,
     R: Threads + Wait + Sync,
-    ensures outcome { IfOk result (λ r.
-        IsOutcome (system_of M.Model M.Body.cmp sim.simulation) end_of_time
+    ensures outcome { IfOk result (λ r. IsOutcome (system_of M.Model M.Body.cmp world) end_of_time
         (map (λ j. j.items) r.0.journals.items) r.0.states.items) }
-    ensures others { IfErr result (λ stop. stop ≢ Stop.BadPlan) }
+    ensures plan { (result ≡ Err Stop.BadPlan) ↔ (IsInRanges plan → ⊥) }
 {
     // On this rests that a worker may move.
     may_move::<Port<Letter<M::Body>>>();
@@ -232,7 +204,7 @@ where
         plan,
         floor: _,
         traffic: _,
-    } = sim;
+    } = Sim::open(world, plan)?;
     let bounds = Bounds {
         plan,
         until: END,
@@ -241,7 +213,7 @@ where
     };
     let mut pool = start_pool(rt, scope, alloc, plan.workers as usize)?;
     let mut throttle = Throttle::new();
-    let ran = make_rounds(&mut pool, alloc, world, bounds, &mut throttle, progress);
+    let ran = make_rounds(&mut pool, alloc, world, bounds, &mut throttle, &mut Silent);
     shut_down(pool);
     finish(alloc, ran?)
 }

@@ -4,7 +4,7 @@ ghost use Rattle.rw_vt.specs.System.{rules};
 ghost use Rattle.rw_lp.specs.Calls.{LogicalProcess};
 ghost use Rattle.rw_lp.specs.Sound.{IsSoundOnceCollected, StartsWell};
 ghost use Rattle.rw_rounds.specs.Turns.{Closes, IsFit, TookTurn, TookTurns};
-ghost use Rattle.rw_rounds.specs.Working.{worker_of};
+ghost use Rattle.rw_rounds.specs.Working.{worker_of, IsFitAndSound};
 
 use crate::inner::{Context, Inner};
 use crate::plan::Plan;
@@ -188,7 +188,7 @@ impl<M: VtModel> Worker<M> {
         Ok((worker, executed))
     }
 
-    /// Takes so many turns, each through the gate: see [`turn`](Self::turn).
+    /// Takes `turns` turns, each through the gate: see [`turn`](Self::turn). The caller knows that the processes are sound.
     pub(crate) fn turns<G: Gate>(
         self,
         alloc: Global,
@@ -197,7 +197,7 @@ impl<M: VtModel> Worker<M> {
         gate: &G,
         turns: u32,
     ) -> Result<Worker<M>, Refusal>
-        requires fit { IsFit M.Model M.Body.cmp model.now self }
+        requires fit { IsFitAndSound M.Model M.Body.cmp model.now self }
         requires board { self.seat.board ≡ board.now.board }
         ensures turns { IfOk result (λ w.
             TookTurns (rules M.Model M.Body.cmp model.now) turns self w) }
@@ -210,8 +210,6 @@ impl<M: VtModel> Worker<M> {
             model,
             board,
         };
-        // What every process promises, once for all turns.
-        soundness(worker.inner.processes.as_slice());
         worker
             .inner
             .turns(&context, &mut worker.at_hand, gate, turns)?;

@@ -15,7 +15,7 @@ use Rattle.rw_vt.specs.Partway.{IsPartway}
 use Rattle.rw_vt.proofs.Laws.{Laws, lawful}
 use Rattle.rw_vt.proofs.Partway.{part_begins}
 use Rattle.rw_exchange.specs.Ports.{PortState, HaveFirst, IsOpening, IsOther, IsWide, NoneItself, StayAnOpening, items_of, received_between, received_from, sent_between, sent_to}
-use Rattle.rw_windows.specs.declared.beginning.Terms.{Terms}
+use Rattle.rw_windows.specs.declared.running.Windows.{Windows}
 use Rattle.rw_windows.specs.Batches.{BatchState, batch_events, events_in, last_bound}
 use Rattle.rw_windows.specs.Beginning.{first_batch, first_batch_to, HasNotBegun}
 use Rattle.rw_windows.specs.Running.{AreBegun}
@@ -71,18 +71,18 @@ module _ {M B : Type 0} (m : M) (n bound i : ℕ) (p : PortState (BatchState M B
   not_own : (v : ℕ) → IsOther p v → v ≢ i
   not_own v other e = other.1 (e ∙ sym known.worker)
 
-abbrev shown : {M S B : Type 0} → Terms → ShareState M S B → ShareState M S B
-shown t x = record x { workers = t.workers; end = t.end; lookahead = t.lookahead; reached = 0; outbox = replicate t.workers []; until = 0; bound_in = t.bound; bound_out = t.bound }
+abbrev shown : {M S B : Type 0} → Windows → ℕ → ShareState M S B → ShareState M S B
+shown t bound x = record x { workers = t.workers; end = t.end; lookahead = t.lookahead; reached = 0; outbox = replicate t.workers []; until = 0; bound_in = bound; bound_out = bound }
 
-module _ {M S B U : Type 0} {model : Ghosts M S B U} {order : B → B → Ordering} (laws : Laws model order) (m : M) (t : Terms) (starts : List S) (events : List (Event B))
-    (ready : IsReady model m starts events) (ahead : IsAhead model m t.lookahead) (least : All (λ e. t.bound ≤ e.time + t.lookahead) events) (some : 0 < t.bound)
+module _ {M S B U : Type 0} {model : Ghosts M S B U} {order : B → B → Ordering} (laws : Laws model order) (m : M) (t : Windows) (bound : ℕ) (starts : List S) (events : List (Event B))
+    (ready : IsReady model m starts events) (ahead : IsAhead model m t.lookahead) (least : All (λ e. bound ≤ e.time + t.lookahead) events) (some : 0 < bound)
     (x : ShareState M S B) (inside : x.number < t.workers) (given : x.given ≡ filter (λ e. e.to % t.workers == x.number) events) (waiting : IsPermutation x.given x.waiting)
-    (states : (k : ℕ) → slice_get x.states k ≡ slice_get starts (x.number + k * t.workers)) (port : HasFirst m t.workers t.bound x.number x.port) where
+    (states : (k : ℕ) → slice_get x.states k ≡ slice_get starts (x.number + k * t.workers)) (port : HasFirst m t.workers bound x.number x.port) where
   abbrev fresh : ShareState M S B
-  fresh = record (shown t x) { starts = starts }
+  fresh = record (shown t bound x) { starts = starts }
 
   initial_is : x.given ++ events_in x.port.received ≡ x.given
-  initial_is = ap (λ l. x.given ++ l) (no_events_received m t.workers t.bound x.number x.port port) ∙ append-nil x.given
+  initial_is = ap (λ l. x.given ++ l) (no_events_received m t.workers bound x.number x.port port) ∙ append-nil x.given
 
   -- what holds of all events holds of those that it was dealt, and of those that wait
   of_given : (P : Event B → Type 0) → All P events → All P x.given
@@ -104,21 +104,21 @@ module _ {M S B U : Type 0} {model : Ghosts M S B U} {order : B → B → Orderi
     wide = port.wide;
     lists = length-replicate t.workers [];
     sends = λ v other. (
-      first_batch_to m t.workers t.bound v,
+      first_batch_to m t.workers bound v,
       [],
-      port.sent v (within m t.workers t.bound x.number x.port port v other) (not_own m t.workers t.bound x.number x.port port v other),
+      port.sent v (within m t.workers bound x.number x.port port v other) (not_own m t.workers bound x.number x.port port v other),
       record { model = refl; workers = refl; to = refl },
     );
     hears = λ v other. (
-      first_batch_to m t.workers t.bound x.number,
+      first_batch_to m t.workers bound x.number,
       [],
-      port.received v (within m t.workers t.bound x.number x.port port v other) (not_own m t.workers t.bound x.number x.port port v other),
+      port.received v (within m t.workers bound x.number x.port port v other) (not_own m t.workers bound x.number x.port port v other),
       record { model = refl; workers = refl; to = refl },
     );
   }
 
   out_none : events_in x.port.sent ++ flatten (replicate t.workers []) ≡ []
-  out_none = ap (λ l. l ++ flatten (replicate t.workers [])) (no_events_sent m t.workers t.bound x.number x.port port) ∙ none_joined t.workers
+  out_none = ap (λ l. l ++ flatten (replicate t.workers [])) (no_events_sent m t.workers bound x.number x.port port) ∙ none_joined t.workers
 
   partway : IsPartway (system model order m starts (x.given ++ events_in x.port.received)) (λ _. []) x.waiting (events_in x.port.sent ++ flatten (replicate t.workers []))
   partway =
@@ -144,9 +144,9 @@ module _ {M S B U : Type 0} {model : Ghosts M S B U} {order : B → B → Orderi
   times = record {
     until = (omega arith, omega arith, omega arith);
     reached = some;
-    bound_in = λ v other. let e = ap last_bound (port.received v (within m t.workers t.bound x.number x.port port v other) (not_own m t.workers t.bound x.number x.port port v other)) in omega arith;
-    told = λ v other. let e = ap last_bound (port.sent v (within m t.workers t.bound x.number x.port port v other) (not_own m t.workers t.bound x.number x.port port v other)) in omega arith;
-    far = All-permutation (λ a. t.bound ≤ a.time + t.lookahead) x.given x.waiting waiting (of_given (λ a. t.bound ≤ a.time + t.lookahead) least);
+    bound_in = λ v other. let e = ap last_bound (port.received v (within m t.workers bound x.number x.port port v other) (not_own m t.workers bound x.number x.port port v other)) in omega arith;
+    told = λ v other. let e = ap last_bound (port.sent v (within m t.workers bound x.number x.port port v other) (not_own m t.workers bound x.number x.port port v other)) in omega arith;
+    far = All-permutation (λ a. bound ≤ a.time + t.lookahead) x.given x.waiting waiting (of_given (λ a. bound ≤ a.time + t.lookahead) least);
     hears = omega arith;
     outbox = λ v other. subst (All (λ a. (0 ≤ a.time) × (last_bound (sent_to x.port v) ≤ a.time))) (sym (nothing_at t.workers v)) (All-nil (λ a. (0 ≤ a.time) × (last_bound (sent_to x.port v) ≤ a.time)));
   }
@@ -154,8 +154,8 @@ module _ {M S B U : Type 0} {model : Ghosts M S B U} {order : B → B → Orderi
   fresh_begins : CanBegin model order m fresh
   fresh_begins = (record { seated = seated; done = done; times = times }, λ v. nothing_at t.workers v)
 
-  new_begins : HasNotBegun t x → x.starts ≡ starts → CanBegin model order m x
-  new_begins new starts_are = subst (CanBegin model order m) (sym (new.is ∙ ap (λ l. record (shown t x) { starts = l }) starts_are)) fresh_begins
+  new_begins : HasNotBegun t bound x → x.starts ≡ starts → CanBegin model order m x
+  new_begins new starts_are = subst (CanBegin model order m) (sym (new.is ∙ ap (λ l. record (shown t bound x) { starts = l }) starts_are)) fresh_begins
 
 -- the first batch is there
 first_sent_by : {M B : Type 0} (m : M) (n bound from to : ℕ) → to < n → items_of (first_batch {B = B} m n bound from to) ≡ first_batch_to m n bound to ∷ []
@@ -184,23 +184,23 @@ module _ {M B : Type 0} (m : M) (n bound : ℕ) (ps : List (PortState (BatchStat
   }
 
 -- all workers, with their shares
-module _ {M S B U : Type 0} {model : Ghosts M S B U} {order : B → B → Ordering} (laws : Laws model order) (m : M) (t : Terms) (starts : List S) (events : List (Event B))
-    (ready : IsReady model m starts events) (ahead : IsAhead model m t.lookahead) (least : All (λ e. t.bound ≤ e.time + t.lookahead) events) (some : 0 < t.bound)
+module _ {M S B U : Type 0} {model : Ghosts M S B U} {order : B → B → Ordering} (laws : Laws model order) (m : M) (t : Windows) (bound : ℕ) (starts : List S) (events : List (Event B))
+    (ready : IsReady model m starts events) (ahead : IsAhead model m t.lookahead) (least : All (λ e. bound ≤ e.time + t.lookahead) events) (some : 0 < bound)
     (shares : List (List S)) (dealt : (i place : ℕ) → i < t.workers → slice_get (get_or shares i []) place ≡ slice_get starts (i + place * t.workers))
     (inboxes : List (List (Event B))) (sorted_out : (i : ℕ) → i < t.workers → get_or inboxes i [] ≡ filter (λ e. e.to % t.workers == i) events)
-    (ps : List (PortState (BatchState M B))) (long : length ps ≡ t.workers) (opening : IsOpening ps) (stays : StayAnOpening ps) (first_sent : HaveFirst t.workers (first_batch m t.workers t.bound) ps) (own : NoneItself t.workers ps)
+    (ps : List (PortState (BatchState M B))) (long : length ps ≡ t.workers) (opening : IsOpening ps) (stays : StayAnOpening ps) (first_sent : HaveFirst t.workers (first_batch m t.workers bound) ps) (own : NoneItself t.workers ps)
     (ws : List (ShareState M S B)) (count : length ws ≡ t.workers) (numbers : (i : ℕ) (d : ShareState M S B) → i < t.workers → (get_or ws i d).number ≡ i)
     (their_states : map (λ w. w.states) ws ≡ shares) (their_given : map (λ w. w.given) ws ≡ inboxes) (their_ports : map (λ w. w.port) ws ≡ ps) (their_starts : map (λ w. w.starts) ws ≡ replicate t.workers starts)
-    (new : All (HasNotBegun t) ws) where
+    (new : All (HasNotBegun t bound) ws) where
   given_is : (i : ℕ) (d : ShareState M S B) → i < t.workers → (get_or ws i d).given ≡ filter (λ e. e.to % t.workers == i) events
   given_is i d inside = sym (get_or-map (λ w. w.given) ws i d [] (omega (arith, count))) ∙ ap (λ l. get_or l i []) their_given ∙ sorted_out i inside
 
   starts_are : (i : ℕ) (d : ShareState M S B) → i < t.workers → (get_or ws i d).starts ≡ starts
   starts_are i d inside = sym (get_or-map (λ w. w.starts) ws i d [] (omega (arith, count))) ∙ ap (λ l. get_or l i []) their_starts ∙ get_or-replicate t.workers i starts [] inside
 
-  port_of : (i : ℕ) (d : ShareState M S B) → i < t.workers → HasFirst m t.workers t.bound i (get_or ws i d).port
+  port_of : (i : ℕ) (d : ShareState M S B) → i < t.workers → HasFirst m t.workers bound i (get_or ws i d).port
   port_of i d inside =
-      port_first_sent m t.workers t.bound ps long opening first_sent own i inside (get_or ws i d).port
+      port_first_sent m t.workers bound ps long opening first_sent own i inside (get_or ws i d).port
       (ap (λ l. get_or l i (get_or ws i d).port) (sym their_ports)
       ∙ get_or-map (λ w. w.port) ws i d (get_or ws i d).port (omega (arith, count)))
 
@@ -209,17 +209,17 @@ module _ {M S B U : Type 0} {model : Ghosts M S B U} {order : B → B → Orderi
       let inside : i < t.workers = omega (arith, count) in
       let x : ShareState M S B = get_or ws i d in
       let number : i ≡ x.number = sym (numbers i d inside) in
-      let fresh : HasNotBegun t x = new i d within in
-      new_begins laws m t starts events ready ahead least some x (omega (arith, number))
+      let fresh : HasNotBegun t bound x = new i d within in
+      new_begins laws m t bound starts events ready ahead least some x (omega (arith, number))
       (given_is i d inside ∙ ap (λ j. filter (λ e. e.to % t.workers == j) events) number)
       fresh.waiting
       (λ k. ap (λ l. slice_get l k) (sym (get_or-map (λ w. w.states) ws i d [] within) ∙ ap (λ l. get_or l i []) their_states) ∙ dealt i k inside ∙ ap (λ j. slice_get starts (j + k * t.workers)) number)
-      (subst (λ j. HasFirst m t.workers t.bound j x.port) number (port_of i d inside))
+      (subst (λ j. HasFirst m t.workers bound j x.port) number (port_of i d inside))
       fresh (starts_are i d inside)
 
   terms_at : (i : ℕ) (d : ShareState M S B) → i < length ws → ((get_or ws i d).workers ≡ t.workers) × ((get_or ws i d).end ≡ t.end) × ((get_or ws i d).starts ≡ starts)
   terms_at i d within =
-      let fresh : HasNotBegun t (get_or ws i d) = new i d within in
+      let fresh : HasNotBegun t bound (get_or ws i d) = new i d within in
       (ap (λ w. w.workers) fresh.is, ap (λ w. w.end) fresh.is, starts_are i d (omega (arith, count)))
 
   pub all_begun : AreBegun model order m t.workers t.end starts events ws

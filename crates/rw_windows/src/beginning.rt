@@ -9,6 +9,7 @@ ghost use Rattle.rw_windows.specs.Working.{IsAhead};
 use crate::batch::{Batch, InTime};
 use crate::domain::Domain;
 use crate::parkers::{Parkers, open_parkers};
+use crate::running::Windows;
 use crate::share::Share;
 use rw_exchange::{FirstMessage, Port};
 use rw_pool::{deal_out, first_of};
@@ -22,7 +23,7 @@ const CAPACITY: usize = 8;
 
 /// What the workers begin with, in the order of their numbers.
 #[derive(Drop)]
-struct Supply<M: VtModel> {
+struct BeginningParts<M: VtModel> {
     /// The states of the processes of each.
     shares: VecDeque<Vec<M::State>>,
     /// The events for each.
@@ -31,19 +32,6 @@ struct Supply<M: VtModel> {
     ports: VecDeque<Port<Batch<M>, InTime>>,
     /// The parkers of each.
     parkers: VecDeque<Parkers>,
-}
-
-/// What all workers of a run know of it.
-#[derive(Clone, Copy)]
-struct Terms {
-    /// How many workers there are.
-    workers: u32,
-    /// Up to which time all execute, in ticks.
-    end: u64,
-    /// How far ahead of an event all is that it sends, in ticks.
-    lookahead: u64,
-    /// Before which time nothing is sent, in ticks.
-    bound: u64,
 }
 
 /// The shares of the workers of a run, from these states with these events.
@@ -59,27 +47,20 @@ pub(crate) fn begin<M: VtModel>(
     model: &M,
     states: Vec<M::State>,
     events: Vec<Event<M::Body>>,
-    workers: u32,
-    lookahead: u64,
-    end: u64,
+    windows: Windows,
 ) -> Result<Vec<Share<M>>, NoMemory>
     requires ready { IsReady M.Model model.now states.items events.items }
-    requires workers { (1 ≤ workers) × (workers ≤ 16) }
-    requires lookahead { 1 ≤ lookahead }
-    requires ahead { IsAhead M.Model model.now lookahead }
-    ensures begun { IfOk result (λ ws. AreBegun M.Model M.Body.cmp model.now workers end
-        states.items events.items ws.items) }
+    requires workers { (1 ≤ windows.workers) × (windows.workers ≤ 16) }
+    requires lookahead { 1 ≤ windows.lookahead }
+    requires ahead { IsAhead M.Model model.now windows.lookahead }
+    ensures begun { IfOk result (λ ws. AreBegun M.Model M.Body.cmp model.now windows.workers
+        windows.end states.items events.items ws.items) }
 {
-    let first = least_time(&events, end);
-    let terms = Terms {
-        workers,
-        end,
-        lookahead,
-        bound: first.saturating_add(lookahead),
-    };
+    let first = least_time(&events, windows.end);
+    let bound = first.saturating_add(windows.lookahead);
     let starts = Snapshot::of(&states);
-    let supply = supplies(alloc, model, terms, states, &events)?;
-    let shares = make_shares(alloc, terms, &starts, supply)?;
+    let parts = make_parts(alloc, model, windows, bound, states, &events)?;
+    let shares = make_shares(alloc, windows, bound, &starts, parts)?;
     Ok(shares)
 }
 
@@ -95,34 +76,35 @@ fn least_time<B: Copy>(events: &[Event<B>], end: u64) -> u64
 }
 
 /// What the workers begin with.
-fn supplies<M: VtModel>(
+fn make_parts<M: VtModel>(
     alloc: Global,
     model: &M,
-    terms: Terms,
+    windows: Windows,
+    bound: u64,
     states: Vec<M::State>,
     events: &[Event<M::Body>],
-) -> Result<Supply<M>, NoMemory>
-    requires workers { (1 ≤ terms.workers) × (terms.workers ≤ 16) }
-    ensures shares { IfOk result (λ s. (length s.shares.items ≡ terms.workers)
-        × ((i : Worker) (place : Position) → i < terms.workers
+) -> Result<BeginningParts<M>, NoMemory>
+    requires workers { (1 ≤ windows.workers) × (windows.workers ≤ 16) }
+    ensures shares { IfOk result (λ s. (length s.shares.items ≡ windows.workers)
+        × ((i : Worker) (place : Position) → i < windows.workers
         → slice_get (slice_index_or (map (λ h. h.items) s.shares.items) i []) place
-        ≡ slice_get states.items (i + place * terms.workers))) }
-    ensures inboxes { IfOk result (λ s. (length s.inboxes.items ≡ terms.workers)
-        × ((i : Worker) → i < terms.workers
+        ≡ slice_get states.items (i + place * windows.workers))) }
+    ensures inboxes { IfOk result (λ s. (length s.inboxes.items ≡ windows.workers)
+        × ((i : Worker) → i < windows.workers
         → slice_index_or (map (λ b. b.items) s.inboxes.items) i []
-        ≡ filter (λ e. e.to % terms.workers == i) events.now)) }
-    ensures ports { IfOk result (λ s. (length s.ports.items ≡ terms.workers)
+        ≡ filter (λ e. e.to % windows.workers == i) events.now)) }
+    ensures ports { IfOk result (λ s. (length s.ports.items ≡ windows.workers)
         × IsOpening s.ports.items × StayAnOpening s.ports.items) }
     ensures first_sent { IfOk result (λ s.
-        HaveFirst terms.workers (first_batch model.now terms.workers terms.bound) s.ports.items
-        × NoneItself terms.workers s.ports.items) }
-    ensures parkers { IfOk result (λ s. length s.parkers.items ≡ terms.workers) }
+        HaveFirst windows.workers (first_batch model.now windows.workers bound) s.ports.items
+        × NoneItself windows.workers s.ports.items) }
+    ensures parkers { IfOk result (λ s. length s.parkers.items ≡ windows.workers) }
 {
-    let shares = deal_out(alloc, terms.workers, states)?;
-    let inboxes = deal_events(alloc, terms.workers, events)?;
-    let ports = open_ports(alloc, model, terms)?;
-    let parkers = open_parkers(alloc, terms.workers as usize)?;
-    Ok(Supply {
+    let shares = deal_out(alloc, windows.workers, states)?;
+    let inboxes = deal_events(alloc, windows.workers, events)?;
+    let ports = open_ports(alloc, model, windows.workers, bound)?;
+    let parkers = open_parkers(alloc, windows.workers as usize)?;
+    Ok(BeginningParts {
         shares: VecDeque::from(shares),
         inboxes: VecDeque::from(inboxes),
         ports: VecDeque::from(ports),
@@ -134,27 +116,23 @@ fn supplies<M: VtModel>(
 fn open_ports<M: VtModel>(
     alloc: Global,
     model: &M,
-    terms: Terms,
+    workers: u32,
+    bound: u64,
 ) -> Result<Vec<Port<Batch<M>, InTime>>, NoMemory>
-    requires workers { (1 ≤ terms.workers) × (terms.workers ≤ 16) }
-    ensures count { IfOk result (λ ports. length ports.items ≡ terms.workers) }
+    requires workers { (1 ≤ workers) × (workers ≤ 16) }
+    ensures count { IfOk result (λ ports. length ports.items ≡ workers) }
     ensures opening { IfOk result (λ ports. IsOpening ports.items) }
     ensures stays { IfOk result (λ ports. StayAnOpening ports.items) }
     ensures first_sent { IfOk result (λ ports.
-        HaveFirst terms.workers (first_batch model.now terms.workers terms.bound) ports.items) }
-    ensures own { IfOk result (λ ports. NoneItself terms.workers ports.items) }
+        HaveFirst workers (first_batch model.now workers bound) ports.items) }
+    ensures own { IfOk result (λ ports. NoneItself workers ports.items) }
 {
     let first = FirstBatch {
         model,
-        workers: terms.workers,
-        bound: terms.bound,
+        workers,
+        bound,
     };
-    rw_exchange::open_with_first::<Batch<M>, InTime, _>(
-        alloc,
-        terms.workers as usize,
-        CAPACITY,
-        &first,
-    )
+    rw_exchange::open_with_first::<Batch<M>, InTime, _>(alloc, workers as usize, CAPACITY, &first)
 }
 
 /// The events for each worker, in order: an event goes to the worker of its process.
@@ -197,77 +175,79 @@ fn lists_with_room<T: Drop>(
     Ok(lists)
 }
 
-/// The shares, by worker, each with its part of the supply.
+/// The shares, by worker, each with its own of the parts.
 fn make_shares<M: VtModel>(
     alloc: Global,
-    terms: Terms,
+    windows: Windows,
+    bound: u64,
     starts: &Snapshot<Vec<M::State>>,
-    supply: Supply<M>,
+    parts: BeginningParts<M>,
 ) -> Result<Vec<Share<M>>, NoMemory>
-    requires shares { length supply.shares.items ≡ terms.workers }
-    requires inboxes { length supply.inboxes.items ≡ terms.workers }
-    requires ports { length supply.ports.items ≡ terms.workers }
-    requires parkers { length supply.parkers.items ≡ terms.workers }
-    ensures count { IfOk result (λ ws. length ws.items ≡ terms.workers) }
-    ensures numbers { IfOk result (λ ws. (i : Worker) (d : _) → i < terms.workers
+    requires shares { length parts.shares.items ≡ windows.workers }
+    requires inboxes { length parts.inboxes.items ≡ windows.workers }
+    requires ports { length parts.ports.items ≡ windows.workers }
+    requires parkers { length parts.parkers.items ≡ windows.workers }
+    ensures count { IfOk result (λ ws. length ws.items ≡ windows.workers) }
+    ensures numbers { IfOk result (λ ws. (i : Worker) (d : _) → i < windows.workers
         → (slice_index_or ws.items i d).number ≡ i) }
     ensures states { IfOk result (λ ws.
-        map (λ w. w.states) ws.items ≡ map (λ h. h.items) supply.shares.items) }
+        map (λ w. w.states) ws.items ≡ map (λ h. h.items) parts.shares.items) }
     ensures given { IfOk result (λ ws.
-        map (λ w. w.given) ws.items ≡ map (λ b. b.items) supply.inboxes.items) }
-    ensures ports { IfOk result (λ ws. map (λ w. w.port) ws.items ≡ supply.ports.items) }
+        map (λ w. w.given) ws.items ≡ map (λ b. b.items) parts.inboxes.items) }
+    ensures ports { IfOk result (λ ws. map (λ w. w.port) ws.items ≡ parts.ports.items) }
     ensures starts { IfOk result (λ ws.
-        map (λ w. w.starts) ws.items ≡ replicate terms.workers starts.now.value.items) }
-    ensures new { IfOk result (λ ws. All (HasNotBegun terms) ws.items) }
+        map (λ w. w.starts) ws.items ≡ replicate windows.workers starts.now.value.items) }
+    ensures new { IfOk result (λ ws. All (HasNotBegun windows bound) ws.items) }
 {
-    let mut supply = supply;
-    let mut shares = Vec::with_capacity(alloc, terms.workers as usize)?;
-    for number in 0..terms.workers {
-        let share = next_share(alloc, terms, number, starts, &mut supply)?;
+    let mut parts = parts;
+    let mut shares = Vec::with_capacity(alloc, windows.workers as usize)?;
+    for number in 0..windows.workers {
+        let share = next_share(alloc, windows, bound, number, starts, &mut parts)?;
         shares.push_reserved(share);
     }
     Ok(shares)
 }
 
-/// The share of worker `number`, which has done nothing yet, with what is next in the supply.
+/// The share of worker `number`, which has done nothing yet, with the next one of each of the parts.
 fn next_share<M: VtModel>(
     alloc: Global,
-    terms: Terms,
+    windows: Windows,
+    bound: u64,
     number: u32,
     starts: &Snapshot<Vec<M::State>>,
-    supply: &mut Supply<M>,
+    parts: &mut BeginningParts<M>,
 ) -> Result<Share<M>, NoMemory>
-    requires shares { supply.old.shares.items ≢ [] }
-    requires inboxes { supply.old.inboxes.items ≢ [] }
-    requires ports { supply.old.ports.items ≢ [] }
-    requires parkers { supply.old.parkers.items ≢ [] }
+    requires shares { parts.old.shares.items ≢ [] }
+    requires inboxes { parts.old.inboxes.items ≢ [] }
+    requires ports { parts.old.ports.items ≢ [] }
+    requires parkers { parts.old.parkers.items ≢ [] }
     ensures number { IfOk result (λ w. w.number ≡ number) }
-    ensures states { IfOk result (λ w. map (λ h. h.items) supply.old.shares.items
-        ≡ w.states ∷ map (λ h. h.items) supply.new.shares.items) }
-    ensures given { IfOk result (λ w. map (λ b. b.items) supply.old.inboxes.items
-        ≡ w.given ∷ map (λ b. b.items) supply.new.inboxes.items) }
+    ensures states { IfOk result (λ w. map (λ h. h.items) parts.old.shares.items
+        ≡ w.states ∷ map (λ h. h.items) parts.new.shares.items) }
+    ensures given { IfOk result (λ w. map (λ b. b.items) parts.old.inboxes.items
+        ≡ w.given ∷ map (λ b. b.items) parts.new.inboxes.items) }
     ensures port { IfOk result (λ w.
-        supply.old.ports.items ≡ w.port ∷ supply.new.ports.items) }
+        parts.old.ports.items ≡ w.port ∷ parts.new.ports.items) }
     ensures parkers { IfOk result (λ _.
-        length supply.old.parkers.items ≡ length supply.new.parkers.items + 1) }
+        length parts.old.parkers.items ≡ length parts.new.parkers.items + 1) }
     ensures starts { IfOk result (λ w. w.starts ≡ starts.now.value.items) }
-    ensures new { IfOk result (HasNotBegun terms) }
+    ensures new { IfOk result (HasNotBegun windows bound) }
 {
-    let outbox = empty_lists(alloc, terms.workers as usize)?;
-    let inbox = first_of(&mut supply.inboxes);
+    let outbox = empty_lists(alloc, windows.workers as usize)?;
+    let inbox = first_of(&mut parts.inboxes);
     let given = Snapshot::of(&inbox);
     let domain = Domain {
         number,
-        workers: terms.workers,
-        end: terms.end,
-        lookahead: terms.lookahead,
-        states: first_of(&mut supply.shares),
-        port: first_of(&mut supply.ports),
-        parkers: first_of(&mut supply.parkers),
+        workers: windows.workers,
+        end: windows.end,
+        lookahead: windows.lookahead,
+        states: first_of(&mut parts.shares),
+        port: first_of(&mut parts.ports),
+        parkers: first_of(&mut parts.parkers),
         outbox,
         until: 0,
-        bound_in: terms.bound,
-        bound_out: terms.bound,
+        bound_in: bound,
+        bound_out: bound,
         executed: 0,
         received: 0,
         starts: Snapshot::of(starts),

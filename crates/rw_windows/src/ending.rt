@@ -6,8 +6,8 @@ ghost use Rattle.rw_vt.specs.System.{flatten};
 ghost use Rattle.rw_windows.specs.Batches.{events_in, batch_events};
 ghost use Rattle.rw_windows.specs.Running.{HaveEnded, IsLeftOfRun};
 
-use crate::Left;
 use crate::batch::{Batch, InTime};
+use crate::running::{Left, Stage};
 use crate::share::Share;
 use rw_exchange::Port;
 use rw_pool::join;
@@ -28,16 +28,16 @@ pub(crate) fn gather<M: VtModel + Drop>(
         × (length states ≡ count)
         × HaveEnded M.Model M.Body.cmp model (length shares.items) end states events
         shares.items }
-    ensures model { IfOk result (λ r. r.model ≡ model) }
+    ensures model { IfOk result (λ r. r.stage.model ≡ model) }
     ensures left { IfOk result (λ r.
         (end : Time) (states : List M.State) (events : List (Event M.Body))
         → length states ≡ count
         → HaveEnded M.Model M.Body.cmp model (length shares.items) end states events
         shares.items
         → IsLeftOfRun M.Model M.Body.cmp model end states events
-        r.states.items r.events.items) }
+        r.stage.states.items r.stage.events.items) }
 {
-    let Holdings {
+    let EndingParts {
         shares,
         ports,
         mut events,
@@ -48,9 +48,11 @@ pub(crate) fn gather<M: VtModel + Drop>(
     add_left(&mut events, &left.into_lists())?;
     let states = join(alloc, count, shares)?;
     Ok(Left {
-        model,
-        states,
-        events,
+        stage: Stage {
+            model,
+            states,
+            events,
+        },
         executed,
         received,
     })
@@ -58,7 +60,7 @@ pub(crate) fn gather<M: VtModel + Drop>(
 
 /// What the workers of a run leave at its end.
 #[derive(Drop)]
-struct Holdings<M: VtModel> {
+struct EndingParts<M: VtModel> {
     /// The states of the processes of each.
     shares: VecDeque<VecDeque<M::State>>,
     /// The port of each, from whose rings the last batches are still to be taken.
@@ -71,7 +73,7 @@ struct Holdings<M: VtModel> {
     received: u64,
 }
 
-impl<M: VtModel> Holdings<M> {
+impl<M: VtModel> EndingParts<M> {
     /// Adds what one more worker leaves.
     fn add(&mut self, share: Share<M>) -> Result<(), NoMemory>
         ensures shares { OnOk result (map (λ h. h.items) self.new.shares.items
@@ -105,14 +107,14 @@ fn add_events<B: Copy>(
 }
 
 /// Takes the shares apart.
-fn take_apart<M: VtModel>(alloc: Global, shares: Vec<Share<M>>) -> Result<Holdings<M>, NoMemory>
+fn take_apart<M: VtModel>(alloc: Global, shares: Vec<Share<M>>) -> Result<EndingParts<M>, NoMemory>
     ensures shares { IfOk result (λ l.
         map (λ h. h.items) l.shares.items ≡ map (λ w. w.states) shares.items) }
     ensures ports { IfOk result (λ l. l.ports.items ≡ map (λ w. w.port) shares.items) }
     ensures events { IfOk result (λ l. (h : Event M.Body → ℕ) → weigh h l.events.items
         ≡ weigh h (flatten (map (λ w. w.waiting ++ flatten w.outbox) shares.items))) }
 {
-    let mut holdings = Holdings {
+    let mut parts = EndingParts {
         shares: VecDeque::new(alloc),
         ports: Vec::new(alloc),
         events: Vec::new(alloc),
@@ -120,9 +122,9 @@ fn take_apart<M: VtModel>(alloc: Global, shares: Vec<Share<M>>) -> Result<Holdin
         received: 0,
     };
     for share in shares {
-        holdings.add(share)?;
+        parts.add(share)?;
     }
-    Ok(holdings)
+    Ok(parts)
 }
 
 /// Adds the events of all `lists`.

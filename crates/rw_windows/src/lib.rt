@@ -37,7 +37,7 @@ mod waiting;
 mod work;
 mod worker;
 
-pub use running::{Left, run_in_windows};
+pub use running::{Left, Stage, Windows, run_in_windows};
 pub use rw_pool::Halt;
 pub use share::Share;
 pub use work::Work;

@@ -12,35 +12,53 @@ use rw_vt::{Event, Model as VtModel};
 use std::alloc::Global;
 use std::sync::Wait;
 
-/// What windows leave of a run, and what was done in them.
+/// A run at some stage, from which it goes on.
 #[derive(Drop)]
-pub struct Left<M: VtModel> {
-    /// The model, as it was.
+pub struct Stage<M: VtModel> {
+    /// The model.
     pub model: M,
     /// The state of each process.
     pub states: Vec<M::State>,
     /// The events that are still to be executed, in any order.
     pub events: Vec<Event<M::Body>>,
-    /// How many were executed.
+}
+
+/// How a run goes on in windows.
+#[derive(Clone, Copy)]
+pub struct Windows {
+    /// By how many workers, 1 to 16.
+    pub workers: u32,
+    /// How far ahead of an event all is that it sends, in ticks, 1 or more.
+    pub lookahead: u64,
+    /// Up to which time, in ticks: all events before it are executed.
+    pub end: u64,
+}
+
+/// What windows leave of a run, and what was done in them.
+#[derive(Drop)]
+pub struct Left<M: VtModel> {
+    /// The run at their end. The model is as it was.
+    pub stage: Stage<M>,
+    /// How many events were executed.
     pub executed: u64,
     /// How many of them another worker sent.
     pub received: u64,
 }
 
-/// Goes on with a run, from these states with these events, until all events before `end` are executed, in ticks, by
-/// `workers` workers, 1 to 16, each in a thread of its own. `executor` has the threads, the calling one among them.
+/// Goes on with a run from this stage, until all events before the end of the windows are executed, each worker in a thread of
+/// its own. `executor` has the threads, the calling one among them.
 ///
-/// They execute for good, so that nothing is ever undone (conservative synchronization: Chandy and Misra 1979). All that the
-/// model sends is at least `lookahead` ticks, 1 or more, after the event that it is sent for. So again and again a worker can
-/// promise that it sends nothing more before some time: the lookahead after the first event that it has or may still receive. It
-/// sends this bound to each other worker, with the events for that one, and receives theirs. It may go on up to the least of all
-/// bounds, or up to `end`.
+/// Workers execute for good, so that nothing is ever undone (conservative synchronization: Chandy and Misra 1979). All that the
+/// model sends is at least the lookahead after the event that it is sent for. So again and again a worker can promise that it
+/// sends nothing more before some time: the lookahead after the first event that it has or may still receive. It sends this
+/// bound to each other worker, with the events for that one, and receives theirs. It may go on up to the least of all bounds, or
+/// up to the end.
 ///
 /// A window of the lookahead costs up to three batches from each worker to each other one, also where nothing waits, and behind
-/// the last event: so `end` should not be far behind that.
+/// the last event: so the end should not be far behind that.
 ///
-/// What comes back is the model, and what is left of the run: no event before `end`, and from the states with the events that
-/// are left the run ends as it does from where it began, whatever more comes from outside, none of it before `end`.
+/// What comes back is the model, and what is left of the run: no event before the end, and from the states with the events that
+/// are left the run ends as it does from where it began, whatever more comes from outside, none of it before the end.
 ///
 /// # Errors
 ///
@@ -51,27 +69,28 @@ pub fn run_in_windows<'r, M, R, H>(
     rt: &'r R,
     executor: &mut H,
     alloc: Global,
-    model: M,
-    states: Vec<M::State>,
-    events: Vec<Event<M::Body>>,
-    workers: u32,
-    lookahead: u64,
-    end: u64,
+    stage: Stage<M>,
+    windows: Windows,
 ) -> Result<Left<M>, Halt>
 where
     M: VtModel + Drop,
     R: Wait,
     H: Executor<Work<'r, M, R>, Share<M>>,
-    requires ready { IsReady M.Model model states.items events.items }
-    requires workers { (1 ≤ workers) × (workers ≤ 16) }
-    requires lookahead { 1 ≤ lookahead }
-    requires ahead { IsAhead M.Model model lookahead }
-    ensures model { IfOk result (λ r. r.model ≡ model) }
-    ensures left { IfOk result (λ r. IsLeftOfRun M.Model M.Body.cmp model end
-        states.items events.items r.states.items r.events.items) }
+    requires ready { IsReady M.Model stage.model stage.states.items stage.events.items }
+    requires workers { (1 ≤ windows.workers) × (windows.workers ≤ 16) }
+    requires lookahead { 1 ≤ windows.lookahead }
+    requires ahead { IsAhead M.Model stage.model windows.lookahead }
+    ensures model { IfOk result (λ r. r.stage.model ≡ stage.model) }
+    ensures left { IfOk result (λ r. IsLeftOfRun M.Model M.Body.cmp stage.model windows.end
+        stage.states.items stage.events.items r.stage.states.items r.stage.events.items) }
 {
+    let Stage {
+        model,
+        states,
+        events,
+    } = stage;
     let count = states.len();
-    let shares = begin(alloc, &model, states, events, workers, lookahead, end)?;
+    let shares = begin(alloc, &model, states, events, windows)?;
     let work = Work { rt, alloc, model };
     let (work, shares) = executor.run_each(alloc, work, shares)?;
     if !all_done(&shares) {

@@ -15,13 +15,16 @@ use Rattle.rw_lp.specs.declared.answer.Answer.TheVariants.{Done, Refused}
 use Rattle.rw_lp.specs.declared.answer.StepFault.{StepFault}
 use Rattle.rw_lp.specs.declared.answer.StepFault.TheVariants.{NoSuchProcess, NoSuchLetter}
 use Rattle.rw_lp.specs.Process as process
-use Rattle.rw_lp.specs.Process.{ProcessState, Turn, Turned, Stays, execute_next, undo_one, undo_lazily}
+use Rattle.rw_lp.specs.declared.way.Way.{Way}
+use Rattle.rw_lp.specs.declared.way.Way.TheVariants.{Aggressive, Lazy}
+use Rattle.rw_lp.specs.Arrival.{undo_by}
+use Rattle.rw_lp.specs.Process.{ProcessState, Turn, Turned, Stays, execute_next}
 use Rattle.rw_lp.specs.Calls.{LogicalProcess, MeetsNext, Took}
 use Rattle.rw_world.specs.declared.parts.Parts.{Parts}
 use Rattle.rw_world.specs.declared.step.Step.{Step}
-use Rattle.rw_world.specs.declared.step.Step.TheVariants.{Execute, Undo, UndoLazily, Deliver}
+use Rattle.rw_world.specs.declared.step.Step.TheVariants.{Execute, Deliver}
 use Rattle.rw_world.specs.WorldState.{WorldState}
-use Rattle.rw_world.specs.Steps.{refusal, world_after, turn_at, remove_at, deliver_to, deliver_letter, apply}
+use Rattle.rw_world.specs.Steps.{refusal, world_after, turn_at, remove_at, deliver_to, deliver_letter, undoing, apply}
 use Rattle.rw_world.specs.Calls.{system_of, with_world, world_of, simulation_of, AreNumbered, IsWhole, Made, ExecutesAt}
 use Rattle.rw_world.proofs.Lookups.{get-set_same, get-set_other, set_there}
 
@@ -53,6 +56,11 @@ module _ {S B : Type 0} (w : WorldState S B) (p : ℕ) (u v : ProcessState S B) 
   pub undelivered_is : (left given : List (Letter B)) (t : Turn S B) → (answer ≡ Done → ⊥) → Took u v answer given t → world_after w p left t ≡ (record { processes = slice_set w.processes p v; letters = w.letters ++ given; collected = w.collected }, answer)
   undelivered_is left given (Turned after out) not_done k = absurd (not_done k.1)
   undelivered_is left given (Stays f) not_done k = let same = set_there w.processes p u at in rw (k.0, k.1, k.2, same, append-nil w.letters) refl
+
+-- an undoing is a turn
+undoing_is : {S B : Type 0} (y : System S B) (w : WorldState S B) (p : ℕ) (way : Way) → apply y w (undoing way p) ≡ turn_at w p (undo_by way y.rules p) (slice_get w.processes p)
+undoing_is y w p Aggressive = refl
+undoing_is y w p Lazy = refl
 
 -- process p of the parts x, which was `old`, is `new` in the parts z
 module _ {M S B U : Type 0} (model : Ghosts M S B U) (order : B → B → Ordering) (x z : Parts M S B U) (whole : IsWhole model order x)
@@ -98,19 +106,12 @@ module _ {M S B U : Type 0} (model : Ghosts M S B U) (order : B → B → Orderi
       made (Execute p) answer (x.letters.items ++ given) is
       (ap (turn_at (world_of x) p (execute_next y p)) process_there ∙ turned_is (world_of x) p old.process new.process answer process_there given (execute_next y p old.process) turn_taken)
 
-  pub made_undo : (answer : Answer) (given : List (Letter B)) → z.letters.items ≡ x.letters.items ++ given → Took old.process new.process answer given (undo_one (rules model order old.model) old.number old.process) → Made model order x z (Undo p) answer
-  made_undo answer given is took =
+  pub made_undo : (way : Way) (answer : Answer) (given : List (Letter B)) → z.letters.items ≡ x.letters.items ++ given → Took old.process new.process answer given (undo_by way (rules model order old.model) old.number old.process) → Made model order x z (undoing way p) answer
+  made_undo way answer given is took =
       let y : Rules S B = rules model order x.model in
-      let turn_taken = turn_there (λ y q u. undo_one y q u) answer given took in
-      made (Undo p) answer (x.letters.items ++ given) is
-      (ap (turn_at (world_of x) p (undo_one y p)) process_there ∙ turned_is (world_of x) p old.process new.process answer process_there given (undo_one y p old.process) turn_taken)
-
-  pub made_undo_lazily : (answer : Answer) → z.letters.items ≡ x.letters.items → Took old.process new.process answer [] (undo_lazily (rules model order old.model) old.number old.process) → Made model order x z (UndoLazily p) answer
-  made_undo_lazily answer is took =
-      let y : Rules S B = rules model order x.model in
-      let turn_taken = turn_there (λ y q u. undo_lazily y q u) answer [] took in
-      made (UndoLazily p) answer (x.letters.items ++ []) (is ∙ sym (append-nil x.letters.items))
-      (ap (turn_at (world_of x) p (undo_lazily y p)) process_there ∙ turned_is (world_of x) p old.process new.process answer process_there [] (undo_lazily y p old.process) turn_taken)
+      let turn_taken = turn_there (undo_by way) answer given took in
+      made (undoing way p) answer (x.letters.items ++ given) is
+      (undoing_is (system_of model order (simulation_of x)) (world_of x) p way ∙ ap (turn_at (world_of x) p (undo_by way y p)) process_there ∙ turned_is (world_of x) p old.process new.process answer process_there given (undo_by way y p old.process) turn_taken)
 
   -- letter i, which goes to p, comes
   module _ (i : ℕ) (letter : Letter B) (letter_there : slice_get x.letters.items i ≡ Some letter) (to : letter.event.to ≡ p) (answer : Answer) (given : List (Letter B)) (took : Took old.process new.process answer given (process.deliver (event_cmp order) letter old.process)) where
@@ -166,11 +167,8 @@ module _ {M S B U : Type 0} (model : Ghosts M S B U) (order : B → B → Orderi
   pub execute_nowhere : (p : ℕ) → length x.processes.items ≤ p → Made model order x x (Execute p) (Refused NoSuchProcess)
   execute_nowhere p h = made_refused (Execute p) NoSuchProcess (ap (turn_at (world_of x) p (execute_next (rules model order x.model) p)) (nowhere p h))
 
-  pub undo_nowhere : (p : ℕ) → length x.processes.items ≤ p → Made model order x x (Undo p) (Refused NoSuchProcess)
-  undo_nowhere p h = made_refused (Undo p) NoSuchProcess (ap (turn_at (world_of x) p (undo_one (rules model order x.model) p)) (nowhere p h))
-
-  pub undo_lazily_nowhere : (p : ℕ) → length x.processes.items ≤ p → Made model order x x (UndoLazily p) (Refused NoSuchProcess)
-  undo_lazily_nowhere p h = made_refused (UndoLazily p) NoSuchProcess (ap (turn_at (world_of x) p (undo_lazily (rules model order x.model) p)) (nowhere p h))
+  pub undo_nowhere : (way : Way) (p : ℕ) → length x.processes.items ≤ p → Made model order x x (undoing way p) (Refused NoSuchProcess)
+  undo_nowhere way p h = made_refused (undoing way p) NoSuchProcess (undoing_is (system_of model order (simulation_of x)) (world_of x) p way ∙ ap (turn_at (world_of x) p (undo_by way (rules model order x.model) p)) (nowhere p h))
 
   -- where there is no letter i, none comes
   pub deliver_nowhere : (i : ℕ) → length x.letters.items ≤ i → Made model order x x (Deliver i) (Refused NoSuchLetter)

@@ -7,6 +7,8 @@ use Rattle.rw_lp.specs.declared.answer.StepFault.{StepFault}
 use Rattle.rw_lp.specs.declared.answer.StepFault.TheVariants.{NoSuchProcess, NoSuchLetter, AboveFloor}
 use Rattle.rw_lp.specs.declared.answer.Answer.{Answer}
 use Rattle.rw_lp.specs.declared.answer.Answer.TheVariants.{Done, Refused}
+use Rattle.rw_lp.specs.declared.way.Way.{Way}
+use Rattle.rw_lp.specs.declared.way.Way.TheVariants.{Aggressive, Lazy}
 use Rattle.rw_lp.specs.Process as process
 use Rattle.rw_lp.specs.Process.{ProcessState, Turn, Turned, Stays, execute_next, undo_one, undo_lazily}
 use Rattle.rw_world.specs.declared.step.Step.{Step}
@@ -59,6 +61,11 @@ collect_to w t =
       Done,
     )
     else refusal w AboveFloor
+
+-- the step in which process p takes an event back, that way
+abbrev pub undoing : Way → Process → Step
+undoing Aggressive p = Undo p
+undoing Lazy p = UndoLazily p
 
 -- one step, and what it answers
 abbrev pub apply : {S B : Type 0} → System S B → WorldState S B → Step → WorldState S B × Answer

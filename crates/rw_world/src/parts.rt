@@ -7,10 +7,11 @@ ghost use Rattle.rw_lp.specs.Calls.{LogicalProcess};
 ghost use Rattle.rw_world.specs.WorldState.{floor};
 ghost use Rattle.rw_world.specs.Calls.{after_collecting, world_of, IsWhole, ExecutesAt, Made};
 ghost use Rattle.rw_world.specs.Leaving.{AreOfOneRun, HasNothingProcessed, KeepsOthersUndone};
+ghost use Rattle.rw_world.specs.Steps.{undoing};
 
 use crate::least::least_of_letters;
 use crate::step::Step;
-use rw_lp::{Answer, Lp, StepFault, least_of_processes, put_back};
+use rw_lp::{Answer, Lp, StepFault, Way, least_of_processes, put_back};
 use rw_vt::{Event, Letter, Model as VtModel, Refusal};
 use std::alloc::Global;
 use std::snapshot::Snapshot;
@@ -43,8 +44,8 @@ impl<M: VtModel> Parts<M> {
     {
         match step {
             Step::Execute(p) => self.execute(alloc, p),
-            Step::Undo(p) => self.undo(alloc, p),
-            Step::UndoLazily(p) => self.undo_lazily(alloc, p),
+            Step::Undo(p) => self.undo(alloc, p, Way::Aggressive),
+            Step::UndoLazily(p) => self.undo(alloc, p, Way::Lazy),
             Step::Deliver(number) => self.deliver(number),
             Step::Collect(time) => self.collect(time),
         }
@@ -69,11 +70,11 @@ impl<M: VtModel> Parts<M> {
         Ok(answer)
     }
 
-    /// Process `p` takes its last processed event back. On `Err` the parts are only good for dropping.
-    fn undo(&mut self, alloc: Global, p: u32) -> Result<Answer, Refusal>
+    /// Process `p` takes its last processed event back, that way. On `Err` the parts are only good for dropping.
+    fn undo(&mut self, alloc: Global, p: u32, way: Way) -> Result<Answer, Refusal>
         requires whole { IsWhole M.Model M.Body.cmp self.old }
         ensures made { IfOk result (λ a.
-            Made M.Model M.Body.cmp self.old self.new (Step.Undo p) a) }
+            Made M.Model M.Body.cmp self.old self.new (undoing way p) a) }
         ensures memory { IfErr result (λ e. e ≡ Memory) }
     {
         let place = p as usize;
@@ -81,25 +82,7 @@ impl<M: VtModel> Parts<M> {
             return Ok(Answer::Refused(StepFault::NoSuchProcess));
         }
         let process = self.processes.swap_remove(place);
-        let (process, answer) = process.undo_one(alloc, &self.model, &mut self.letters)?;
-        give_back(&mut self.processes, place, process)?;
-        Ok(answer)
-    }
-
-    /// Process `p` takes its last processed event back, and holds what that had sent. On `Err` the parts are only good for
-    /// dropping.
-    fn undo_lazily(&mut self, alloc: Global, p: u32) -> Result<Answer, Refusal>
-        requires whole { IsWhole M.Model M.Body.cmp self.old }
-        ensures made { IfOk result (λ a.
-            Made M.Model M.Body.cmp self.old self.new (Step.UndoLazily p) a) }
-        ensures memory { IfErr result (λ e. e ≡ Memory) }
-    {
-        let place = p as usize;
-        if self.processes.len() <= place {
-            return Ok(Answer::Refused(StepFault::NoSuchProcess));
-        }
-        let process = self.processes.swap_remove(place);
-        let (process, answer) = process.undo_lazily(alloc, &self.model)?;
+        let (process, answer) = process.undo_by(alloc, &self.model, way, &mut self.letters)?;
         give_back(&mut self.processes, place, process)?;
         Ok(answer)
     }
@@ -167,7 +150,7 @@ impl<M: VtModel> Parts<M> {
         ensures memory { IfErr result (λ e. e ≡ Memory) }
     {
         'undoing: while !self.processes[p as usize].processed().is_empty() {
-            let _answer = self.undo(alloc, p)?;
+            let _answer = self.undo(alloc, p, Way::Aggressive)?;
         }
         Ok(())
     }

@@ -10,7 +10,7 @@ grow_for_both-requires-send-T g c κs within =
     let t = c.type_bounds in
     let port = c.may_move.ensures.moves in
     let worker = worker_may_move (param 1 g.row.M) _ _ _ g.M.Model g.M.Body.Ord g.M.Body.Eq g.M.Body.PartialEq g.M.Body.PartialOrd t.send-M-State t.send-M-Body t.send-M-Undo (record { owned = port.owned; leaving = λ k d w. tt }) in
-    record { owned = worker.owned; leaving = λ k. (param_send 4 _ worker).leaving k }
+    record { owned = worker.owned; leaving = λ k. (param_send 3 _ worker).leaving k }
 
 -- a worker's share of windows may move to a thread of the run
 pub grow_for_both-requires-send-U : goal.grow_for_both-requires-send-U

@@ -1,4 +1,4 @@
-use Rattle.rw_replay.proofs.Runs.{ready-at}
+use Rattle.rw_report.proofs.Runs.{ready-at}
 use Rattle.rw_process_tests.proofs.purges.counted.Goals as goal
 
 pub run-requires : goal.run-requires

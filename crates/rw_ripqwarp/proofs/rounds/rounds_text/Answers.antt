@@ -6,14 +6,14 @@ use Rattle.rw_vt.specs.System.{IsOutcome}
 use Rattle.rw_trace.specs.declared.Row.{Row}
 use Rattle.rw_trace.specs.Trace.{trace_of}
 use Rattle.rw_trace.specs.Unread.{records_of}
-use Rattle.rw_output.specs.declared.sim_fault.SimFault.TheVariants as sim
+use Rattle.rw_report.specs.declared.sim_fault.SimFault.TheVariants as sim
 use Rattle.rw_engine.specs.Segments.{MayStopInRounds}
 use Rattle.rw_photo.specs.Cache.{Cache, is_exhausted}
 use Rattle.rw_photo.specs.Simulation.{simulation}
 use Rattle.rw_photo.specs.declared.config.Config.{Config}
-use Rattle.rw_replay.specs.Report.{report_text}
-use Rattle.rw_replay.proofs.Failing.{handed-on}
-use Rattle.rw_replay.proofs.Runs.{length-of-caches}
+use Rattle.rw_report.specs.Report.{report_text}
+use Rattle.rw_report.proofs.Failing.{handed-on}
+use Rattle.rw_report.proofs.Runs.{length-of-caches}
 use Rattle.rw_ripqwarp.specs.declared.mode.Mode.TheVariants.{Warp}
 use Rattle.rw_ripqwarp.specs.Simulate.{IsRunFault}
 use Rattle.rw_ripqwarp.proofs.Failing.{stop-unwritten}

@@ -1,11 +1,11 @@
 use Rattle.std.proofs.Common.{ℕ, List, ◌∙◌, ap}
 use Rattle.std.proofs.lemmas.Result.{IfOk-from_err}
 use Rattle.std.specs.Prelude.{◌≢◌}
-use Rattle.rw_output.specs.declared.sim_fault.SimFault.TheVariants as sim
+use Rattle.rw_report.specs.declared.sim_fault.SimFault.TheVariants as sim
 use Rattle.rw_photo.specs.Cache.{Cache}
-use Rattle.rw_replay.proofs.Failing.{handed-on}
-use Rattle.rw_replay.proofs.Runs.{ready-at}
-use Rattle.rw_journal.specs.Journal.{journal_text}
+use Rattle.rw_report.proofs.Failing.{handed-on}
+use Rattle.rw_report.proofs.Runs.{ready-at}
+use Rattle.rw_report.specs.Journal.{journal_text}
 use Rattle.rw_ripqwarp.specs.declared.mode.Mode.TheVariants.{Journal}
 use Rattle.rw_ripqwarp.specs.Simulate.{IsRunFault}
 use Rattle.rw_ripqwarp.proofs.Failing.{beginning-fault, beginning-unwritten, stop-unwritten}

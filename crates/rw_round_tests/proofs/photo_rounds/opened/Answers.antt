@@ -1,4 +1,4 @@
-use Rattle.rw_replay.proofs.Runs.{ready-at}
+use Rattle.rw_report.proofs.Runs.{ready-at}
 use Rattle.rw_round_tests.proofs.photo_rounds.opened.Goals as goal
 
 pub open-requires : goal.open-requires

@@ -7,7 +7,7 @@ use Rattle.rw_rounds.proofs.gathering.take_apart.Goals as goal
 pub loop-worker-preserved : goal.loop-worker-preserved
 loop-worker-preserved g c =
     let known = c.loop-worker.invariant in
-    let l = c.loop-worker.holdings in
+    let l = c.loop-worker.parts in
     let w = c.in-Some.worker in
     let rest' = c.next.new.self.rest.items in
     let r : c.loop-worker.worker-iterator.rest.items ≡ w ∷ rest' = c.in-Some.ensures.steps.0 in
@@ -54,8 +54,8 @@ pub loop-worker-init : goal.loop-worker-init
 loop-worker-init g c =
     let begin = c.into_iter-worker-iterator.ensures.into_iter_gives.0 in
     let rest = c.into_iter-worker-iterator.result.rest.items in
-    let its = c.in_ok-holdings.holdings in
-    let made = c.in_ok-holdings.ensures in
+    let its = c.in_ok-parts.parts in
+    let made = c.in_ok-parts.ensures in
     let all = c.args.workers.ok.0 in
     record {
       shares_room = (made.room.0 ∙ c.len.ensures, none_done its.shares.ok.0 made.none.0 begin all);

@@ -17,11 +17,11 @@ loop-number-init g c =
       capacity = c.in_ok-shares.ensures.exact;
       count = c.in_ok-shares.ensures.len;
       numbers = λ i d below. absurd (omega arith);
-      states = ap (λ ws. map (λ w. w.states) ws ++ map (λ h. h.items) c.args.supply.shares.items) none;
-      given = ap (λ ws. map (λ w. w.given) ws ++ map (λ b. b.items) c.args.supply.inboxes.items) none;
-      ports = ap (λ ws. map (λ w. w.port) ws ++ c.args.supply.ports.items) none;
+      states = ap (λ ws. map (λ w. w.states) ws ++ map (λ h. h.items) c.args.parts.shares.items) none;
+      given = ap (λ ws. map (λ w. w.given) ws ++ map (λ b. b.items) c.args.parts.inboxes.items) none;
+      ports = ap (λ ws. map (λ w. w.port) ws ++ c.args.parts.ports.items) none;
       starts = ap (map (λ w. w.starts)) none;
-      new = All-same (HasNotBegun c.args.terms) _ _ none (λ i d within. absurd (omega arith));
+      new = All-same (HasNotBegun c.args.windows c.args.bound) _ _ none (λ i d within. absurd (omega arith));
     }
 
 pub next_share-requires-clause-shares : goal.next_share-requires-clause-shares
@@ -44,8 +44,8 @@ loop-number-preserved g c =
     let known = c.loop-number.invariant in
     let ws = c.loop-number.shares.items in
     let ws' = c.push_reserved.new.self.items in
-    let before = c.loop-number.supply in
-    let after = c.next_share.new.supply in
+    let before = c.loop-number.parts in
+    let after = c.next_share.new.parts in
     let w = c.in_ok-share.share in
     let is = c.in_ok-share.ensures in
     let more : ws' ≡ ws ++ w ∷ [] = c.push_reserved.ensures.items in
@@ -60,15 +60,15 @@ loop-number-preserved g c =
       capacity = c.push_reserved.ensures.capacity ∙ known.capacity;
       count = omega (arith, c.push_reserved.ensures.len, known.count);
       numbers = numbered_more (λ v. v.number) c.loop-number.number ws ws' w (sym c.loop-number.shares.ok.0 ∙ known.count) known.numbers is.number more;
-      states = one_done (λ w. w.states) ws ws' (map (λ h. h.items) before.shares.items) (map (λ h. h.items) after.shares.items) (map (λ h. h.items) c.args.supply.shares.items) w.states w known.states is.states refl more;
-      given = one_done (λ w. w.given) ws ws' (map (λ b. b.items) before.inboxes.items) (map (λ b. b.items) after.inboxes.items) (map (λ b. b.items) c.args.supply.inboxes.items) w.given w known.given is.given refl more;
-      ports = one_done (λ w. w.port) ws ws' before.ports.items after.ports.items c.args.supply.ports.items w.port w known.ports is.port refl more;
+      states = one_done (λ w. w.states) ws ws' (map (λ h. h.items) before.shares.items) (map (λ h. h.items) after.shares.items) (map (λ h. h.items) c.args.parts.shares.items) w.states w known.states is.states refl more;
+      given = one_done (λ w. w.given) ws ws' (map (λ b. b.items) before.inboxes.items) (map (λ b. b.items) after.inboxes.items) (map (λ b. b.items) c.args.parts.inboxes.items) w.given w known.given is.given refl more;
+      ports = one_done (λ w. w.port) ws ws' before.ports.items after.ports.items c.args.parts.ports.items w.port w known.ports is.port refl more;
       starts = ap (map (λ w. w.starts)) more
           ∙ map_push (λ w. w.starts) ws w
           ∙ ap (λ l. l ++ w.starts ∷ []) known.starts
           ∙ ap (λ s. replicate c.loop-number.number starts ++ s ∷ []) is.starts
           ∙ replicate_more c.loop-number.number starts;
-      new = All-same (HasNotBegun c.args.terms) ws' (ws ++ w ∷ []) more (All-push (HasNotBegun c.args.terms) ws w known.new is.new);
+      new = All-same (HasNotBegun c.args.windows c.args.bound) ws' (ws ++ w ∷ []) more (All-push (HasNotBegun c.args.windows c.args.bound) ws w known.new is.new);
     }
 
 pub returns-clause-count : goal.returns-clause-count
@@ -79,16 +79,16 @@ returns-clause-numbers g c i d below = c.loop-number.invariant.numbers i d (omeg
 
 pub returns-clause-states : goal.returns-clause-states
 returns-clause-states g c =
-    let rest = c.loop-number.supply.shares.items in
+    let rest = c.loop-number.parts.shares.items in
     all_walked _ (map (λ h. h.items) rest) _ c.loop-number.invariant.states (length-map rest (λ h. h.items) ∙ omega (arith, c.loop-number.invariant.shares_left, c.loop-number-test.false))
 
 pub returns-clause-given : goal.returns-clause-given
 returns-clause-given g c =
-    let rest = c.loop-number.supply.inboxes.items in
+    let rest = c.loop-number.parts.inboxes.items in
     all_walked _ (map (λ b. b.items) rest) _ c.loop-number.invariant.given (length-map rest (λ b. b.items) ∙ omega (arith, c.loop-number.invariant.inboxes_left, c.loop-number-test.false))
 
 pub returns-clause-ports : goal.returns-clause-ports
-returns-clause-ports g c = all_walked _ c.loop-number.supply.ports.items _ c.loop-number.invariant.ports (omega (arith, c.loop-number.invariant.ports_left, c.loop-number-test.false))
+returns-clause-ports g c = all_walked _ c.loop-number.parts.ports.items _ c.loop-number.invariant.ports (omega (arith, c.loop-number.invariant.ports_left, c.loop-number-test.false))
 
 pub returns-clause-starts : goal.returns-clause-starts
 returns-clause-starts g c =

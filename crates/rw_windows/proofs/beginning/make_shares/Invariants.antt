@@ -4,16 +4,16 @@ use Rattle.rw_windows.proofs.beginning.make_shares.Given as goal
 
 abbrev pub invariant-loop-number : goal.invariant-loop-number
 invariant-loop-number g l = record {
-  shares_left : l.number + length l.supply.shares.items ≡ l.terms.workers;
-  inboxes_left : l.number + length l.supply.inboxes.items ≡ l.terms.workers;
-  ports_left : l.number + length l.supply.ports.items ≡ l.terms.workers;
-  parkers_left : l.number + length l.supply.parkers.items ≡ l.terms.workers;
-  capacity : vec_capacity l.shares ≡ l.terms.workers;
+  shares_left : l.number + length l.parts.shares.items ≡ l.windows.workers;
+  inboxes_left : l.number + length l.parts.inboxes.items ≡ l.windows.workers;
+  ports_left : l.number + length l.parts.ports.items ≡ l.windows.workers;
+  parkers_left : l.number + length l.parts.parkers.items ≡ l.windows.workers;
+  capacity : vec_capacity l.shares ≡ l.windows.workers;
   count : vec_len l.shares ≡ l.number;
   numbers : (i : ℕ) (d : _) → i < l.number → (get_or l.shares.items i d).number ≡ i;
-  states : map (λ w. w.states) l.shares.items ++ map (λ h. h.items) l.supply.shares.items ≡ map (λ h. h.items) l.fn.supply.shares.items;
-  given : map (λ w. w.given) l.shares.items ++ map (λ b. b.items) l.supply.inboxes.items ≡ map (λ b. b.items) l.fn.supply.inboxes.items;
-  ports : map (λ w. w.port) l.shares.items ++ l.supply.ports.items ≡ l.fn.supply.ports.items;
+  states : map (λ w. w.states) l.shares.items ++ map (λ h. h.items) l.parts.shares.items ≡ map (λ h. h.items) l.fn.parts.shares.items;
+  given : map (λ w. w.given) l.shares.items ++ map (λ b. b.items) l.parts.inboxes.items ≡ map (λ b. b.items) l.fn.parts.inboxes.items;
+  ports : map (λ w. w.port) l.shares.items ++ l.parts.ports.items ≡ l.fn.parts.ports.items;
   starts : map (λ w. w.starts) l.shares.items ≡ replicate l.number l.starts.value.items;
-  new : All (HasNotBegun l.terms) l.shares.items;
+  new : All (HasNotBegun l.windows l.bound) l.shares.items;
 }

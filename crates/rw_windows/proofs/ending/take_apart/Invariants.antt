@@ -6,7 +6,7 @@ use Rattle.rw_windows.proofs.ending.take_apart.Given as goal
 
 abbrev pub invariant-loop-share : goal.invariant-loop-share
 invariant-loop-share g l = record {
-  shares : map (λ h. h.items) l.holdings.shares.items ++ map (λ w. w.states) l.share-iterator.rest.items ≡ map (λ w. w.states) l.fn.shares.items;
-  ports : l.holdings.ports.items ++ map (λ w. w.port) l.share-iterator.rest.items ≡ map (λ w. w.port) l.fn.shares.items;
-  events : (h : Event g.row.M-Body.Denot → ℕ) → weigh h l.holdings.events.items + weigh h (flatten (map (λ w. w.waiting ++ flatten w.outbox) l.share-iterator.rest.items)) ≡ weigh h (flatten (map (λ w. w.waiting ++ flatten w.outbox) l.fn.shares.items));
+  shares : map (λ h. h.items) l.parts.shares.items ++ map (λ w. w.states) l.share-iterator.rest.items ≡ map (λ w. w.states) l.fn.shares.items;
+  ports : l.parts.ports.items ++ map (λ w. w.port) l.share-iterator.rest.items ≡ map (λ w. w.port) l.fn.shares.items;
+  events : (h : Event g.row.M-Body.Denot → ℕ) → weigh h l.parts.events.items + weigh h (flatten (map (λ w. w.waiting ++ flatten w.outbox) l.share-iterator.rest.items)) ≡ weigh h (flatten (map (λ w. w.waiting ++ flatten w.outbox) l.fn.shares.items));
 }

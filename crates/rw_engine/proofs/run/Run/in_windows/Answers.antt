@@ -9,9 +9,9 @@ returns-clause-onward g c =
     let model = g.M.Model in
     let order = g.M.Body.Ord.cmp in
     let laws = laws_of g.met.M.Model g.met.M.Body.Ord.total in
-    let out = c.in_ok-model.field-0 in
-    let left = c.in_ok-model.ensures.left in
-    let is = c.in_ok-model.ensures.model in
+    let out = c.in_ok-stage.field-0.stage in
+    let left = c.in_ok-stage.ensures.left in
+    let is = c.in_ok-stage.ensures.model in
     goes_by_rest model order laws c.in_ok-events.events.items c.take_ready.new.pending.events c.requires.ready c.in_ok-events.ensures.parts
     (late_from c.take_ready.new.pending.events c.least_time.result 1099511627776 c.unwrap_or-until.result c.least_time.ensures c.unwrap_or-until.ensures)
     (omega (arith, c.min-end.ensures))

@@ -2,7 +2,7 @@ use Rattle.std.proofs.Common.{◌≡◌, ◌+◌, cond, [], ◌++◌, refl, sym,
 use Rattle.rw_vt.specs.System.{rules}
 use Rattle.rw_vt.proofs.Laws.{laws_of}
 use Rattle.rw_rounds.specs.Bags.{Every}
-use Rattle.rw_rounds.specs.Deeds.{IsFair, way_of}
+use Rattle.rw_rounds.specs.Deeds.{IsFair}
 use Rattle.rw_rounds.specs.Working.{role_of, worker_of, Works, Moved}
 use Rattle.rw_rounds.proofs.Adding.{works_then}
 use Rattle.rw_rounds.proofs.Fits.{fit_after}
@@ -30,7 +30,7 @@ deal-requires-clause-ready g c =
     let moved = one.by in
     let given : c.advance.new.out.items ≡ moved.0 = moved.1 ∙ ap (λ l. l ++ moved.0) c.requires.none in
     record {
-      worker = fit_after laws c.args.context.now.model.now (role_of x) (worker_of x) _ [] moved.0 (cond c.in_ok-executed.executed 1 0) c.requires.ready.worker (works_moved laws c.args.context.now.model.now (worker_of x) _ c.requires.ready.worker refl refl refl refl refl refl c.args.place one.was one.is one.there one.set one.same next.0 next.1 moved.0 c.in_ok-executed.executed moved.2);
+      worker = fit_after laws c.args.context.now.model.now (role_of x) (worker_of x) _ [] moved.0 (cond c.in_ok-executed.executed 1 0) c.requires.ready.worker (works_moved laws c.args.context.now.model.now (worker_of x) _ c.requires.ready.worker refl refl refl refl refl refl c.args.place one.was one.is one.there one.set one.same next.0 next.1 _ c.way-way.ensures moved.0 c.in_ok-executed.executed moved.2);
       board = c.requires.ready.board;
     }
 
@@ -42,7 +42,7 @@ deal-requires-clause-fair g c =
     let one = c.in_ok-executed.ensures.moved in
     let moved = one.by in
     let given : c.advance.new.out.items ≡ moved.0 = moved.1 ∙ ap (λ l. l ++ moved.0) c.requires.none in
-    subst (Every (IsFair (rules g.M.Model g.M.Body.Ord.cmp c.args.context.now.model.now) x.collected)) (sym given) (moved_fair laws c.args.context.now.model.now (worker_of x) (record (worker_of x) { processes = c.advance.new.self.items }) c.requires.ready.worker refl refl refl refl refl refl c.args.place one.was one.is one.there one.set one.same next.0 next.1 moved.0 c.in_ok-executed.executed moved.2)
+    subst (Every (IsFair (rules g.M.Model g.M.Body.Ord.cmp c.args.context.now.model.now) x.collected)) (sym given) (moved_fair laws c.args.context.now.model.now (worker_of x) (record (worker_of x) { processes = c.advance.new.self.items }) c.requires.ready.worker refl refl refl refl refl refl c.args.place one.was one.is one.there one.set one.same next.0 next.1 _ c.way-way.ensures moved.0 c.in_ok-executed.executed moved.2)
 
 pub returns-clause-works : goal.returns-clause-works
 returns-clause-works g c =
@@ -52,7 +52,7 @@ returns-clause-works g c =
     let one = c.in_ok-executed.ensures.moved in
     let moved = one.by in
     let given : c.advance.new.out.items ≡ moved.0 = moved.1 ∙ ap (λ l. l ++ moved.0) c.requires.none in
-    let one = works_moved laws c.args.context.now.model.now (worker_of x) (record (worker_of x) { processes = c.advance.new.self.items }) c.requires.ready.worker refl refl refl refl refl refl c.args.place one.was one.is one.there one.set one.same next.0 next.1 moved.0 c.in_ok-executed.executed moved.2 in
+    let one = works_moved laws c.args.context.now.model.now (worker_of x) (record (worker_of x) { processes = c.advance.new.self.items }) c.requires.ready.worker refl refl refl refl refl refl c.args.place one.was one.is one.there one.set one.same next.0 next.1 _ c.way-way.ensures moved.0 c.in_ok-executed.executed moved.2 in
     let dealt = subst (λ ls. Works (rules g.M.Model g.M.Body.Ord.cmp c.args.context.now.model.now) (role_of x) (record (worker_of x) { processes = c.advance.new.self.items }) (worker_of c.deal.new.self) ls [] 0) given c.in_ok-deal.ensures.works.works in
     let n : cond c.in_ok-executed.executed 1 0 + 0 ≡ cond c.in_ok-executed.executed 1 0 = omega arith in
     record {
@@ -70,8 +70,8 @@ returns-clause-executed g c =
     let moved = one.by in
     let given : c.advance.new.out.items ≡ moved.0 = moved.1 ∙ ap (λ l. l ++ moved.0) c.requires.none in
     λ did.
-    let by = subst (λ b. Moved (rules g.M.Model g.M.Body.Ord.cmp one.was.model) (way_of x.plan.lazy) one.was.number one.was.process one.is.process b moved.0) did moved.2 in
-    omega (arith, c.in_ok-deal.ensures.fewer, executed_dones laws c.args.context.now.model.now (worker_of x) (record (worker_of x) { processes = c.advance.new.self.items }) c.requires.ready.worker refl refl refl refl refl refl c.args.place one.was one.is one.there one.set one.same next.0 next.1 moved.0 by)
+    let by = subst (λ b. Moved (rules g.M.Model g.M.Body.Ord.cmp one.was.model) c.way-way.result one.was.number one.was.process one.is.process b moved.0) did moved.2 in
+    omega (arith, c.in_ok-deal.ensures.fewer, executed_dones laws c.args.context.now.model.now (worker_of x) (record (worker_of x) { processes = c.advance.new.self.items }) c.requires.ready.worker refl refl refl refl refl refl c.args.place one.was one.is one.there one.set one.same next.0 next.1 _ c.way-way.ensures moved.0 by)
 
 pub returns-clause-undone : goal.returns-clause-undone
 returns-clause-undone g c =
@@ -82,5 +82,5 @@ returns-clause-undone g c =
     let moved = one.by in
     let given : c.advance.new.out.items ≡ moved.0 = moved.1 ∙ ap (λ l. l ++ moved.0) c.requires.none in
     λ did.
-    let by = subst (λ b. Moved (rules g.M.Model g.M.Body.Ord.cmp one.was.model) (way_of x.plan.lazy) one.was.number one.was.process one.is.process b moved.0) did moved.2 in
-    omega (arith, c.in_ok-deal.ensures.fewer, undone_dones laws c.args.context.now.model.now (worker_of x) (record (worker_of x) { processes = c.advance.new.self.items }) c.requires.ready.worker refl refl refl refl refl refl c.args.place one.was one.is one.there one.set one.same next.0 next.1 moved.0 by)
+    let by = subst (λ b. Moved (rules g.M.Model g.M.Body.Ord.cmp one.was.model) c.way-way.result one.was.number one.was.process one.is.process b moved.0) did moved.2 in
+    omega (arith, c.in_ok-deal.ensures.fewer, undone_dones laws c.args.context.now.model.now (worker_of x) (record (worker_of x) { processes = c.advance.new.self.items }) c.requires.ready.worker refl refl refl refl refl refl c.args.place one.was one.is one.there one.set one.same next.0 next.1 _ c.way-way.ensures moved.0 by)

@@ -34,7 +34,7 @@ returns-clause-works g c =
     let x = c.args.self.now in
     let one = c.in_ok-undone.ensures.arrived in
     let arrived = one.by in
-    works_arrival laws c.args.context.now.model.now (worker_of x) _ c.requires.ready.worker refl refl refl refl refl refl (c.args.letter.event.to / x.plan.workers) one.was one.is one.there one.set one.same c.args.letter c.requires.fair c.requires.own refl arrived.0 arrived.2 c.args.out.now.items c.arrive.new.out.items arrived.1
+    works_arrival laws c.args.context.now.model.now (worker_of x) _ c.requires.ready.worker refl refl refl refl refl refl (c.args.letter.event.to / x.plan.workers) one.was one.is one.there one.set one.same c.args.letter c.requires.fair c.requires.own refl _ c.way-way.ensures arrived.0 arrived.2 c.args.out.now.items c.arrive.new.out.items arrived.1
 
 pub returns-clause-ready : goal.returns-clause-ready
 returns-clause-ready g c =
@@ -43,7 +43,7 @@ returns-clause-ready g c =
     let one = c.in_ok-undone.ensures.arrived in
     let arrived = one.by in
     record {
-      worker = fit_after laws c.args.context.now.model.now (role_of x) (worker_of x) _ (c.args.out.now.items ++ c.args.letter ∷ []) c.arrive.new.out.items 0 c.requires.ready.worker (works_arrival laws c.args.context.now.model.now (worker_of x) _ c.requires.ready.worker refl refl refl refl refl refl (c.args.letter.event.to / x.plan.workers) one.was one.is one.there one.set one.same c.args.letter c.requires.fair c.requires.own refl arrived.0 arrived.2 c.args.out.now.items c.arrive.new.out.items arrived.1);
+      worker = fit_after laws c.args.context.now.model.now (role_of x) (worker_of x) _ (c.args.out.now.items ++ c.args.letter ∷ []) c.arrive.new.out.items 0 c.requires.ready.worker (works_arrival laws c.args.context.now.model.now (worker_of x) _ c.requires.ready.worker refl refl refl refl refl refl (c.args.letter.event.to / x.plan.workers) one.was one.is one.there one.set one.same c.args.letter c.requires.fair c.requires.own refl _ c.way-way.ensures arrived.0 arrived.2 c.args.out.now.items c.arrive.new.out.items arrived.1);
       board = c.requires.ready.board;
     }
 
@@ -53,7 +53,7 @@ returns-clause-fair g c =
     let x = c.args.self.now in
     let one = c.in_ok-undone.ensures.arrived in
     let arrived = one.by in
-    λ fair. subst (Every (IsFair (rules g.M.Model g.M.Body.Ord.cmp c.args.context.now.model.now) x.collected)) (sym arrived.1) (every_append (IsFair (rules g.M.Model g.M.Body.Ord.cmp c.args.context.now.model.now) x.collected) c.args.out.now.items arrived.0 fair (arrival_fair laws c.args.context.now.model.now (worker_of x) _ c.requires.ready.worker refl refl refl refl refl refl (c.args.letter.event.to / x.plan.workers) one.was one.is one.there one.set one.same c.args.letter c.requires.fair c.requires.own refl arrived.0 arrived.2))
+    λ fair. subst (Every (IsFair (rules g.M.Model g.M.Body.Ord.cmp c.args.context.now.model.now) x.collected)) (sym arrived.1) (every_append (IsFair (rules g.M.Model g.M.Body.Ord.cmp c.args.context.now.model.now) x.collected) c.args.out.now.items arrived.0 fair (arrival_fair laws c.args.context.now.model.now (worker_of x) _ c.requires.ready.worker refl refl refl refl refl refl (c.args.letter.event.to / x.plan.workers) one.was one.is one.there one.set one.same c.args.letter c.requires.fair c.requires.own refl _ c.way-way.ensures arrived.0 arrived.2))
 
 pub returns-clause-falls : goal.returns-clause-falls
 returns-clause-falls g c =
@@ -61,7 +61,7 @@ returns-clause-falls g c =
     let x = c.args.self.now in
     let one = c.in_ok-undone.ensures.arrived in
     let arrived = one.by in
-    omega (arith, arrival_sizes laws c.args.context.now.model.now (worker_of x) _ c.requires.ready.worker refl refl refl refl refl refl (c.args.letter.event.to / x.plan.workers) one.was one.is one.there one.set one.same c.args.letter c.requires.fair c.requires.own refl arrived.0 arrived.2, ap length arrived.1, length-append c.args.out.now.items arrived.0)
+    omega (arith, arrival_sizes laws c.args.context.now.model.now (worker_of x) _ c.requires.ready.worker refl refl refl refl refl refl (c.args.letter.event.to / x.plan.workers) one.was one.is one.there one.set one.same c.args.letter c.requires.fair c.requires.own refl _ c.way-way.ensures arrived.0 arrived.2, ap length arrived.1, length-append c.args.out.now.items arrived.0)
 
 pub returns-clause-fewer : goal.returns-clause-fewer
 returns-clause-fewer g c =
@@ -69,4 +69,4 @@ returns-clause-fewer g c =
     let x = c.args.self.now in
     let one = c.in_ok-undone.ensures.arrived in
     let arrived = one.by in
-    arrival_dones laws c.args.context.now.model.now (worker_of x) _ c.requires.ready.worker refl refl refl refl refl refl (c.args.letter.event.to / x.plan.workers) one.was one.is one.there one.set one.same c.args.letter c.requires.fair c.requires.own refl arrived.0 arrived.2
+    arrival_dones laws c.args.context.now.model.now (worker_of x) _ c.requires.ready.worker refl refl refl refl refl refl (c.args.letter.event.to / x.plan.workers) one.was one.is one.there one.set one.same c.args.letter c.requires.fair c.requires.own refl _ c.way-way.ensures arrived.0 arrived.2

@@ -1,28 +1,23 @@
-use Rattle.std.proofs.Common.{◌≡◌, sym, ap, ◌∙◌, subst}
-use Rattle.std.specs.Prelude.{slice_get}
+use Rattle.std.proofs.Common.{◌≡◌, sym, subst}
 use Rattle.rw_vt.specs.System.{rules}
 use Rattle.rw_vt.proofs.Laws.{laws_of}
-use Rattle.rw_rounds.specs.Turns.{IsFit, TookTurns}
-use Rattle.rw_rounds.specs.Working.{worker_of, with_inbox}
-use Rattle.rw_rounds.proofs.Fits.{fit_without_inbox, fit_and_sound}
+use Rattle.rw_rounds.specs.Turns.{TookTurns}
+use Rattle.rw_rounds.specs.Working.{worker_of, with_inbox, IsFitAndSound}
+use Rattle.rw_rounds.proofs.Fits.{fit_without_inbox}
 use Rattle.rw_rounds.proofs.worker.Worker.turns.Goals as goal
 
 pub turns-requires-clause-ready : goal.turns-requires-clause-ready
 turns-requires-clause-ready g c =
     let laws = laws_of g.met.M.Model g.met.M.Body.Ord.total in
     let x = c.worker.inside in
-    let own = subst (IsFit g.M.Model g.M.Body.Ord.cmp c.args.model.now) (sym c.worker.view_is) c.requires.fit in
+    let own = subst (IsFitAndSound g.M.Model g.M.Body.Ord.cmp c.args.model.now) (sym c.worker.view_is) c.requires.fit in
     record {
-      worker =
-          fit_and_sound g.M.Model g.M.Body.Ord.cmp c.args.model.now (worker_of x.inner)
-          (fit_without_inbox laws c.args.model.now (record (worker_of x.inner) { inbox = x.at_hand.items }) own)
-          (λ place l there. c.soundness.ensures.starts place l (ap (λ ls. slice_get ls place) c.as_slice.ensures ∙ there))
-          (λ place l there. c.soundness.ensures.sound place l (ap (λ ls. slice_get ls place) c.as_slice.ensures ∙ there));
+      worker = record { fit = fit_without_inbox laws c.args.model.now (record (worker_of x.inner) { inbox = x.at_hand.items }) own.fit; starts = own.starts; sound = own.sound };
       board = subst (λ w. w.seat.board ≡ c.args.board.now.board) (sym c.worker.view_is) c.requires.board;
     }
 
 pub turns-requires-clause-fit : goal.turns-requires-clause-fit
-turns-requires-clause-fit g c = subst (IsFit g.M.Model g.M.Body.Ord.cmp c.args.model.now) (sym c.worker.view_is) c.requires.fit
+turns-requires-clause-fit g c = (subst (IsFitAndSound g.M.Model g.M.Body.Ord.cmp c.args.model.now) (sym c.worker.view_is) c.requires.fit).fit
 
 pub returns-clause-turns : goal.returns-clause-turns
 returns-clause-turns g c =

@@ -2,7 +2,7 @@ use Rattle.std.proofs.Common.{◌+◌, ◌^◌, ◌∙◌, ap, length, map}
 use Rattle.std.proofs.lemmas.List.FromFn.{length-map-range_with_len}
 use Rattle.rw_photo.specs.declared.config.Config.{Config}
 use Rattle.rw_photo.specs.Cache.{start}
-use Rattle.rw_replay.proofs.Runs.{length-states, ready-at}
+use Rattle.rw_report.proofs.Runs.{length-states, ready-at}
 use Rattle.rw_schedules.proofs.schedules.Example.of.Goals as goal
 
 pub run-requires : goal.run-requires

@@ -1,5 +1,5 @@
 use Rattle.std.proofs.Common.{◌^◌, ◌∙◌, map}
-use Rattle.rw_replay.proofs.Runs.{length-states}
+use Rattle.rw_report.proofs.Runs.{length-states}
 use Rattle.rw_schedules.proofs.schedules.Example.run_through.Goals as goal
 
 pub report-requires : goal.report-requires

@@ -4,7 +4,7 @@ use Rattle.std.proofs.Common.{◌≡◌}
 use Rattle.rw_world.proofs.parts.Parts.make.Goals as goal
 
 pub returns-in-UndoLazily-clause-exhausted : goal.returns-in-UndoLazily-clause-exhausted
-returns-in-UndoLazily-clause-exhausted g c = λ e. let never = IfErr-at_err (λ r. r ≡ Memory) e c.undo_lazily.ensures.memory in cc
+returns-in-UndoLazily-clause-exhausted g c = λ e. let never = IfErr-at_err (λ r. r ≡ Memory) e c.undo-in-UndoLazily.ensures.memory in cc
 
 pub returns-in-Deliver-clause-exhausted : goal.returns-in-Deliver-clause-exhausted
 returns-in-Deliver-clause-exhausted g c = λ e. let never = IfErr-at_err (λ r. r ≡ Memory) e c.deliver.ensures.memory in cc

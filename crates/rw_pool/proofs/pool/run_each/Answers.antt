@@ -3,9 +3,9 @@ use Rattle.std.specs.List.{AllZip}
 use Rattle.std.specs.Arc.{arc_value}
 use Rattle.std.proofs.lemmas.List.Elements.{All-pop, AllZip-get_or, length_all_zip}
 use Rattle.rw_pool.proofs.Asking.{all_answered}
-use Rattle.rw_pool.proofs.pool.PoolExecutor.run_each.Given as given
-use Rattle.rw_pool.proofs.pool.PoolExecutor.run_each.Goals as goal
-use Rattle.rw_pool.proofs.pool.PoolExecutor.run_each.Goals.{In_ok-done}
+use Rattle.rw_pool.proofs.pool.run_each.Given as given
+use Rattle.rw_pool.proofs.pool.run_each.Goals as goal
+use Rattle.rw_pool.proofs.pool.run_each.Goals.{In_ok-done}
 
 -- what became of the inputs
 done : (g : given.Over) (c : In_ok-done g) → AllZip (g.J.Job.Gives c.args.job) c.args.inputs.items c.in_ok-done.done.items

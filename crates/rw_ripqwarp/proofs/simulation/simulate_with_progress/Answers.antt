@@ -1,10 +1,10 @@
 use Rattle.std.proofs.Common.{◌≡◌, refl, arith}
 use Rattle.std.proofs.lemmas.Result.{IfOk-from_err, err_from_is_err_and}
 use Rattle.std.specs.Prelude.{◌≢◌}
-use Rattle.rw_output.specs.declared.sim_fault.SimFault.TheVariants as sim
-use Rattle.rw_replay.proofs.Failing.{handed-on}
+use Rattle.rw_report.specs.declared.sim_fault.SimFault.TheVariants as sim
+use Rattle.rw_report.proofs.Failing.{handed-on}
 use Rattle.rw_ripqwarp.specs.Simulate.{IsRunFault}
-use Rattle.rw_ripqwarp.proofs.simulation.simulate_and_tell.Goals as goal
+use Rattle.rw_ripqwarp.proofs.simulation.simulate_with_progress.Goals as goal
 
 -- the writer failed: there is no report, and there was a failure more
 pub returns-clause-report : goal.returns-clause-report
@@ -23,7 +23,7 @@ pub returns-in_err-text-clause-in_range : goal.returns-in_err-text-clause-in_ran
 returns-in_err-text-clause-in_range g c = IfOk-from_err c.from_residual.result _ c.from_residual.ensures.0
 
 pub returns-in_err-text-clause-fault : goal.returns-in_err-text-clause-fault
-returns-in_err-text-clause-fault g c = handed-on c.from_residual.result c.in_err-text.field-0.0 (IsRunFault c.args.mode c.args.config.now c.args.bytes.now) c.from_residual.ensures.1 c.in_err-text.ensures.fault
+returns-in_err-text-clause-fault g c = handed-on c.from_residual.result c.in_err-text.field-0.0 (IsRunFault c.args.run.mode c.args.run.config.now c.args.run.bytes.now) c.from_residual.ensures.1 c.in_err-text.ensures.fault
 
 pub returns-then-write_text-clause-still : goal.returns-then-write_text-clause-still
 returns-then-write_text-clause-still g c = c.in_ok-text.ensures.still

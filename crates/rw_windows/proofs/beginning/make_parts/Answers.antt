@@ -2,7 +2,7 @@ use Rattle.std.proofs.Common.{[], length, map, sym, ap, ◌∙◌, subst, get_or
 use Rattle.std.specs.Prelude.{slice_get}
 use Rattle.rw_exchange.specs.Ports.{HaveFirst, IsOpening, NoneItself, StayAnOpening}
 use Rattle.rw_windows.specs.Beginning.{first_batch}
-use Rattle.rw_windows.proofs.beginning.supplies.Goals as goal
+use Rattle.rw_windows.proofs.beginning.make_parts.Goals as goal
 
 pub returns-clause-shares : goal.returns-clause-shares
 returns-clause-shares g c =
@@ -28,8 +28,8 @@ pub returns-clause-first_sent : goal.returns-clause-first_sent
 returns-clause-first_sent g c =
     let its = c.in_ok-ports.ensures in
     let same = c.from-3.ensures.0 in
-    let t = c.args.terms in
-    (subst (HaveFirst t.workers (first_batch c.args.model.now t.workers t.bound)) (sym same) its.first_sent, subst (NoneItself t.workers) (sym same) its.own)
+    let n = c.args.windows.workers in
+    (subst (HaveFirst n (first_batch c.args.model.now n c.args.bound)) (sym same) its.first_sent, subst (NoneItself n) (sym same) its.own)
 
 pub returns-clause-parkers : goal.returns-clause-parkers
 returns-clause-parkers g c = ap length c.from-4.ensures.0 ∙ c.in_ok-parkers.ensures.count

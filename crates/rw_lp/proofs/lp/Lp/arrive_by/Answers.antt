@@ -4,17 +4,17 @@ use Rattle.rw_vt.specs.Order.{event_cmp}
 use Rattle.rw_vt.proofs.EventOrder.{events_exact}
 use Rattle.rw_vt.proofs.Sorting.{IsExactOrder}
 use Rattle.rw_vt.specs.System.{rules}
-use Rattle.rw_lp.specs.Process.{Turned, undo_one}
-use Rattle.rw_lp.specs.Arrival.{Cancelling, undo_by, is_barred}
+use Rattle.rw_lp.specs.Process.{Turned}
+use Rattle.rw_lp.specs.Arrival.{undo_by, is_barred}
 use Rattle.rw_lp.proofs.Arriving.{barred_refuses, open_accepts, barred_some, undo_taken, going_start, going_more, arrived}
 use Rattle.rw_lp.specs.Sound.{Balance}
 use Rattle.rw_lp.specs.Calls.{letters_taken}
 use Rattle.rw_lp.proofs.Balance.{arrival_balanced}
-use Rattle.rw_lp.proofs.lp.Lp.arrive.Goals as goal
+use Rattle.rw_lp.proofs.lp.Lp.arrive_by.Goals as goal
 
 pub undoing-init : goal.undoing-init
 undoing-init g c =
-    record { model = refl; number = refl; given = []; out = sym (append-nil c.args.out.now.items); going = going_start (undo_by Cancelling (rules g.M.Model g.M.Body.Ord.cmp c.args.self.model) c.args.self.number) (event_cmp g.M.Body.Ord.cmp) c.args.letter c.args.self.process }
+    record { model = refl; number = refl; given = []; out = sym (append-nil c.args.out.now.items); going = going_start (undo_by c.args.way (rules g.M.Model g.M.Body.Ord.cmp c.args.self.model) c.args.self.number) (event_cmp g.M.Body.Ord.cmp) c.args.letter c.args.self.process }
 
 pub undoing-smaller : goal.undoing-smaller
 undoing-smaller g c =
@@ -22,7 +22,7 @@ undoing-smaller g c =
     let x = c.undoing.lp in
     let turn = c.in_ok-undone.ensures.turn in
     let barred : is_barred (event_cmp g.M.Body.Ord.cmp) c.args.letter x.process ≡ true = sym c.is_barred.ensures.is ∙ c.undoing-test.true in
-    (undo_taken (rules g.M.Model g.M.Body.Ord.cmp x.model) x.number x.process c.in_ok-undone.undone.process c.in_ok-undone._answer turn.0 (barred_some o c.args.letter x.process barred) turn.2).1
+    (undo_taken (rules g.M.Model g.M.Body.Ord.cmp x.model) x.number c.args.way x.process c.in_ok-undone.undone.process c.in_ok-undone._answer turn.0 (barred_some o c.args.letter x.process barred) turn.2).1
 
 pub undoing-preserved : goal.undoing-preserved
 undoing-preserved g c =
@@ -32,16 +32,16 @@ undoing-preserved g c =
     let known = c.undoing.invariant in
     let turn = c.in_ok-undone.ensures.turn in
     let barred : is_barred (event_cmp g.M.Body.Ord.cmp) c.args.letter x.process ≡ true = sym c.is_barred.ensures.is ∙ c.undoing-test.true in
-    let taken : undo_one (rules g.M.Model g.M.Body.Ord.cmp x.model) x.number x.process ≡ Turned z.process turn.0 = (undo_taken (rules g.M.Model g.M.Body.Ord.cmp x.model) x.number x.process z.process c.in_ok-undone._answer turn.0 (barred_some o c.args.letter x.process barred) turn.2).0 in
-    let one : undo_one (rules g.M.Model g.M.Body.Ord.cmp c.args.self.model) c.args.self.number x.process ≡ Turned z.process turn.0 =
-    subst (λ m. undo_one (rules g.M.Model g.M.Body.Ord.cmp m) c.args.self.number x.process ≡ Turned z.process turn.0) known.model
-    (subst (λ n. undo_one (rules g.M.Model g.M.Body.Ord.cmp x.model) n x.process ≡ Turned z.process turn.0) known.number taken) in
+    let taken : undo_by c.args.way (rules g.M.Model g.M.Body.Ord.cmp x.model) x.number x.process ≡ Turned z.process turn.0 = (undo_taken (rules g.M.Model g.M.Body.Ord.cmp x.model) x.number c.args.way x.process z.process c.in_ok-undone._answer turn.0 (barred_some o c.args.letter x.process barred) turn.2).0 in
+    let one : undo_by c.args.way (rules g.M.Model g.M.Body.Ord.cmp c.args.self.model) c.args.self.number x.process ≡ Turned z.process turn.0 =
+    subst (λ m. undo_by c.args.way (rules g.M.Model g.M.Body.Ord.cmp m) c.args.self.number x.process ≡ Turned z.process turn.0) known.model
+    (subst (λ n. undo_by c.args.way (rules g.M.Model g.M.Body.Ord.cmp x.model) n x.process ≡ Turned z.process turn.0) known.number taken) in
     record {
       model = c.in_ok-undone.ensures.same.0 ∙ known.model;
       number = c.in_ok-undone.ensures.same.1 ∙ known.number;
       given = known.given ++ turn.0;
       out = turn.1 ∙ ap (λ l. l ++ turn.0) known.out ∙ append_assoc c.args.out.now.items known.given turn.0;
-      going = going_more (undo_by Cancelling (rules g.M.Model g.M.Body.Ord.cmp c.args.self.model) c.args.self.number) (event_cmp g.M.Body.Ord.cmp) c.args.letter c.args.self.process x.process z.process known.given turn.0 known.going (barred_refuses o c.args.letter x.process barred) one;
+      going = going_more (undo_by c.args.way (rules g.M.Model g.M.Body.Ord.cmp c.args.self.model) c.args.self.number) (event_cmp g.M.Body.Ord.cmp) c.args.letter c.args.self.process x.process z.process known.given turn.0 known.going (barred_refuses o c.args.letter x.process barred) one;
     }
 
 pub returns-clause-arrived : goal.returns-clause-arrived
@@ -53,7 +53,7 @@ returns-clause-arrived g c =
     let free : is_barred (event_cmp g.M.Body.Ord.cmp) c.args.letter x.process ≡ false = sym c.is_barred.ensures.is ∙ c.undoing-test.false in (
       known.given ++ turn.0,
       turn.1 ∙ ap (λ l. l ++ turn.0) known.out ∙ append_assoc c.args.out.now.items known.given turn.0,
-      arrived Cancelling (rules g.M.Model g.M.Body.Ord.cmp c.args.self.model) c.args.self.number c.args.letter c.args.self.process x.process c.in_ok-lp.lp.process c.in_ok-lp._answer known.given turn.0 known.going (open_accepts o c.args.letter x.process c.is_barred.ensures.order free) turn.2,
+      arrived c.args.way (rules g.M.Model g.M.Body.Ord.cmp c.args.self.model) c.args.self.number c.args.letter c.args.self.process x.process c.in_ok-lp.lp.process c.in_ok-lp._answer known.given turn.0 known.going (open_accepts o c.args.letter x.process c.is_barred.ensures.order free) turn.2,
     )
 
 pub returns-clause-balance : goal.returns-clause-balance
@@ -72,5 +72,5 @@ returns-clause-balance g c =
     (subst (λ l. Balance (rules g.M.Model g.M.Body.Ord.cmp x.model) x.number x.process z.process (letters_taken c.in_ok-lp._answer c.args.letter) l) (sym both) change.2)) in (
       known.given ++ turn.0,
       turn.1 ∙ ap (λ l. l ++ turn.0) known.out ∙ append_assoc c.args.out.now.items known.given turn.0,
-      arrival_balanced (rules g.M.Model g.M.Body.Ord.cmp c.args.self.model) o c.args.self.number Cancelling c.args.self.process x.process z.process c.in_ok-lp._answer c.args.letter known.given turn.0 known.going.count known.going.undone (open_accepts o c.args.letter x.process c.is_barred.ensures.order free).taken turn.2 last,
+      arrival_balanced (rules g.M.Model g.M.Body.Ord.cmp c.args.self.model) o c.args.self.number c.args.way c.args.self.process x.process z.process c.in_ok-lp._answer c.args.letter known.given turn.0 known.going.count known.going.undone (open_accepts o c.args.letter x.process c.is_barred.ensures.order free).taken turn.2 last,
     )

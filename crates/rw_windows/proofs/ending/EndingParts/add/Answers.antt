@@ -3,7 +3,7 @@ use Rattle.std.proofs.lemmas.List.{map-append}
 use Rattle.rw_vt.specs.Order.{weigh}
 use Rattle.rw_vt.specs.System.{flatten}
 use Rattle.rw_windows.proofs.Sums.{weigh-append}
-use Rattle.rw_windows.proofs.ending.Holdings.add.Goals as goal
+use Rattle.rw_windows.proofs.ending.EndingParts.add.Goals as goal
 
 pub returns-clause-events : goal.returns-clause-events
 returns-clause-events g c h =
