@@ -38,19 +38,6 @@ impl Case {
         Ok(self.expects(&run))
     }
 
-    /// Whether it is of the command `serial`.
-    pub fn is_serial(&self) -> bool {
-        let args = self.value.get("args").and_then(Value::as_array);
-        args.and_then(|args| args.first()).and_then(Value::as_str) == Some("serial")
-    }
-
-    /// The same of the program whose one command is `serial`.
-    pub fn agrees_alone<R: Clock>(&self, rt: &R, alloc: Global) -> Result<bool, AllocError> {
-        let words = self.words(alloc)?;
-        let run = Run::alone(rt, alloc, words, self.text("stdin").as_bytes());
-        Ok(self.expects(&run))
-    }
-
     /// Whether the run is what the case says.
     fn expects(&self, run: &Run) -> bool {
         let status = self.value.get("status").and_then(Value::as_u64);

@@ -1,7 +1,7 @@
 #![tactic(auto)]
 //! Runs the cases of `cases.jsonl` through the program's command, with input and output in memory, and
 //! compares output and exit status with the case. Prints each case that differs and the number of cases
-//! that agree, then the number of `serial` cases that agree in the program with that command alone.
+//! that agree.
 //!
 //! Then runs random traces through random caches with several workers, under several plans, and
 //! compares each report with that of the sequential run. Some traces are short; in the long ones
@@ -38,11 +38,6 @@ fn main(rt: HostRuntime) -> Result<()> {
     let text = fs::read_to_string(&rt, "cases.jsonl").context("reading cases.jsonl")?;
     let stored = stored(&rt, alloc, &text)?;
     println!(rt; "{} agree, {} differ", stored.agree, stored.differ)?;
-    let alone = alone(&rt, alloc, &text)?;
-    println!(rt;
-        "{} of serial alone agree, {} differ",
-        alone.agree, alone.differ
-    )?;
     let short = drawn::compare_short(&rt, alloc, SHORT)?;
     println!(rt; "{} drawn runs agree, {} differ", short.agree, short.differ)?;
     let long = drawn::compare_long(&rt, alloc, LONG)?;
@@ -62,18 +57,6 @@ fn stored<R: Print + Threads + Wait + Clock + RandomSource + Sync>(
     let mut tally = Tally::default();
     for line in text.lines() {
         tally.count(agrees(rt, alloc, line)?);
-    }
-    Ok(tally)
-}
-
-/// Runs the cases of a text that are of the command `serial` by the program that has no other, and counts those that agree.
-fn alone<R: Clock>(rt: &R, alloc: Global, text: &str) -> Result<Tally> {
-    let mut tally = Tally::default();
-    for line in text.lines() {
-        let case = Case::parse(alloc, line).context("parsing a case")?;
-        if case.is_serial() {
-            tally.count(case.agrees_alone(rt, alloc)?);
-        }
     }
     Ok(tally)
 }

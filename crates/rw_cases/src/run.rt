@@ -1,6 +1,5 @@
 use crate::given::Given;
 use rw_command::{Out, command};
-use rw_runs::serial_alone;
 use std::alloc::Global;
 use std::random::RandomSource;
 use std::sync::Wait;
@@ -27,19 +26,6 @@ impl Run {
         let mut out = Out::new(Vec::new(alloc));
         let mut err = Vec::new(alloc);
         let status = command(rt, alloc, words, &mut given, &mut out, &mut err);
-        Run {
-            status,
-            out: out.into_inner(),
-            err,
-        }
-    }
-
-    /// The same, of the program whose one command is `serial`.
-    pub fn alone<R: Clock>(rt: &R, alloc: Global, words: Vec<String>, bytes: &[u8]) -> Run {
-        let mut given = Given { bytes };
-        let mut out = Out::new(Vec::new(alloc));
-        let mut err = Vec::new(alloc);
-        let status = serial_alone(rt, alloc, words, &mut given, &mut out, &mut err, false);
         Run {
             status,
             out: out.into_inner(),

@@ -2,7 +2,7 @@
 use Rattle.std.specs.Prelude.{◌≡◌, ◌≤◌, ◌<◌, ◌⊎◌, ◌++◌, ◌&&◌, ℕ, List, [], ◌∷◌, Bool, true, Option, Some, None, Ok, Err, Result, fold, is_some, length, map, nat_le, unwrap_or, if◌then◌else◌}
 use Rattle.std.specs.Io.KnownBytes.{Appends}
 use Rattle.rw_numbers.specs.Words.{Count, Position, Time}
-use Rattle.rw_output.specs.Sink.{one_more}
+use Rattle.rw_report.specs.Sink.{one_more}
 use Rattle.rw_trace.specs.Limits.{latest_time, most_streamed_rows}
 use Rattle.rw_trace.specs.Pieces.{ordered_trace_of}
 use Rattle.rw_trace.specs.Trace.{trace_of}

@@ -20,8 +20,8 @@ use crate::reading::Reading;
 use crate::stream::{
     Stream, add_line, empty_stream, end_stream, judge_since, judge_stream, send_full,
 };
-use rw_output::Out;
 use rw_progress::Progress;
+use rw_report::Out;
 use std::alloc::Global;
 use std::io::{BufReader, Read, Write};
 

@@ -1,7 +1,7 @@
 -- What the name of a line has of the rows that it joins.
 use Rattle.std.specs.Prelude.{unwrap_or}
-use Rattle.rw_tables.specs.declared.sample.Configuration.{Configuration}
-use Rattle.rw_tables.specs.declared.sample.Sample.{Sample}
+use Rattle.rw_plot.specs.declared.sample.Configuration.{Configuration}
+use Rattle.rw_plot.specs.declared.sample.Sample.{Sample}
 
 -- the sizes of the configuration of a row; all are 0 in a table of one configuration
 abbrev pub sizes_of_row : Sample → Configuration

@@ -2,12 +2,12 @@
 
 use crate::frame::{Frame, HEIGHT, LEFT};
 use crate::labels::{Pixels, Size, TickValue};
+use crate::sample::Sample;
 use crate::scale::{FlashAxis, Hundredths, ValueAxis};
 use crate::series::Extent;
 use crate::subject::Subject;
 use crate::time_axis::{MOST_LABELS, TimeAxis};
 use crate::x_axis::{Flash, XAxis};
-use rw_tables::Sample;
 use std::fmt::Display;
 use std::io::{self, Write};
 

@@ -7,10 +7,10 @@ use crate::frame::{Frame, MOST_ENTRIES};
 use crate::labels::{Pixels, PointValue, Size};
 use crate::legend::{Legend, open_group};
 use crate::looks::{Look, looks_of};
+use crate::sample::{Configuration, Sample};
 use crate::series::{AllSeries, Extent, Varying};
 use crate::subject::Subject;
 use crate::x_axis::XAxis;
-use rw_tables::{Configuration, Sample};
 use std::alloc::Global;
 use std::io::{self, Write};
 

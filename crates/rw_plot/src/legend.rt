@@ -4,11 +4,11 @@ use crate::dots::Dots;
 use crate::escaping::{escape, readable};
 use crate::frame::{Frame, MOST_ENTRIES};
 use crate::labels::{Pixels, Size};
+use crate::layout::Layout;
 use crate::looks::Look;
 use crate::scale::Hundredths;
 use crate::series::{Name, Varying};
 use crate::subject::caches_name;
-use rw_tables::Layout;
 use std::alloc::Global;
 use std::io::{self, Write};
 

@@ -1,36 +1,52 @@
 #![tactic(auto)]
 //! Draws a table as an SVG: CSV text in, the bytes of the picture out.
 //!
-//! [`plot`] draws one measure of the rows that [`rw_tables::read`] gives: over the size of the flash
-//! for a sweep, or over time for intervals. `specs/Escape.antt` defines how text is escaped, and
-//! `specs/Names.antt` what the name of a line keeps of its rows.
+//! There are three kinds of tables, told apart by the header: a sweep, with a row for each configuration
+//! and each of `edges`, `origins` and `all`; a table over time, with a row for each interval and each of
+//! these; and a sweep over time, with both. [`read`] gives the rows as numbers, or the first fault.
+//! `specs/Tables.antt` defines what a table means and which fault a bad one has, `specs/Layouts.antt`
+//! the headers.
+//!
+//! [`plot`] draws one measure of the rows: over the size of the flash for a sweep, or over time for
+//! intervals. `specs/Escape.antt` defines how text is escaped, and `specs/Names.antt` what the name of a
+//! line keeps of its rows.
 //!
 //! Worked examples: `rw_program_tests/src/plots.rt`.
 
 ghost use Rattle.std.specs.Prelude.{◌≡◌, ◌≢◌, Err, IfErr, IsOk, OnOk};
 ghost use Rattle.rw_trace.specs.Unread.{records_of};
-ghost use Rattle.rw_tables.specs.Tables.{table_of};
-ghost use Rattle.rw_tables.specs.declared.plot_fault.PlotFault.TheVariants as fault;
+ghost use Rattle.rw_plot.specs.Tables.{table_of};
+ghost use Rattle.rw_plot.specs.declared.plot_fault.PlotFault.TheVariants as fault;
 
 mod chart;
 mod dots;
 mod drawing;
 mod escaping;
 mod frame;
+mod header;
 mod labels;
+mod layout;
 mod legend;
 mod looks;
+mod measure;
+mod plot_fault;
+mod row;
+mod sample;
 mod scale;
 mod series;
 mod subject;
+mod table;
 mod time_axis;
 mod x_axis;
 
 pub use escaping::escape;
-pub use rw_tables::{Caches, Drawing, FlashOf, Measure, PlotFault};
-use rw_tables::{Table, read};
+pub use layout::Layout;
+pub use measure::{Caches, Drawing, FlashOf, Measure};
+pub use plot_fault::PlotFault;
+pub use sample::{Configuration, Figures, Interval, Line, Sample, Table};
 use std::alloc::Global;
 use subject::Subject;
+pub use table::{MAX_LINES, every_limit, read};
 use x_axis::XAxis;
 
 /// An SVG of one measure of a table, which is a sweep's, one over time, or a sweep's over time. `name` is what the picture calls
@@ -56,7 +72,7 @@ use x_axis::XAxis;
 ///
 /// # Errors
 ///
-/// Those of [`rw_tables::read`]: the first fault of the table. `Memory` where a request for memory was refused; nothing is said
+/// Those of [`read`]: the first fault of the table. `Memory` where a request for memory was refused; nothing is said
 /// of the table then.
 pub fn plot(alloc: Global, name: &str, bytes: &[u8], drawing: Drawing) -> Result<Vec<u8>, PlotFault>
     ensures drawn { OnOk result (IsOk (table_of drawing (records_of bytes.now))) }

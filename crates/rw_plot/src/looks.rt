@@ -1,7 +1,7 @@
 //! The colours and dashes of polylines.
 
+use crate::measure::Caches;
 use crate::series::{AllSeries, Name, Part, Varying};
-use rw_tables::Caches;
 use std::alloc::{AllocError, Global};
 use std::collections::BTreeMap;
 

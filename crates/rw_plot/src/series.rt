@@ -1,9 +1,10 @@
 ghost use Rattle.std.specs.Prelude.{◌≡◌, ◌⊎◌};
 ghost use Rattle.rw_plot.specs.Names.{sizes_of_row};
 
+use crate::measure::Caches;
+use crate::sample::{Line, Sample};
 use crate::subject::Subject;
 use crate::x_axis::{Along, XAxis, sizes_of};
-use rw_tables::{Caches, Line, Sample};
 use std::alloc::{AllocError, Global};
 use std::collections::BTreeMap;
 

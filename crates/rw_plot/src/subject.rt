@@ -1,8 +1,10 @@
 // What a picture shows: how its values are counted and named, and what the value of a row is.
 ghost use Rattle.std.specs.Prelude.{◌≡◌, ◌*◌, ◌/◌, ◌-◌, ◌<◌, ◌^◌};
 
+use crate::layout::Layout;
+use crate::measure::{Caches, Drawing, Measure};
+use crate::sample::{Interval, Sample};
 use crate::x_axis::XAxis;
-use rw_tables::{Caches, Drawing, Interval, Layout, Measure, Sample};
 use std::fmt;
 
 /// In what a value is counted.

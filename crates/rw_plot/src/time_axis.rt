@@ -1,8 +1,8 @@
 //! The axis of time: from the first tick to the last, linear, with labels in seconds, minutes, hours or days.
 
 use crate::labels::Decimals;
+use crate::sample::Interval;
 use crate::scale::{Hundredths, share};
-use rw_tables::Interval;
 use std::fmt;
 
 /// A second, in microseconds.

@@ -3,7 +3,9 @@
 ghost use Rattle.std.specs.Prelude.{◌≡◌};
 ghost use Rattle.rw_plot.specs.Names.{sizes_of_row};
 
-use rw_tables::{Caches, Configuration, Drawing, FlashOf, Layout, Line, Sample};
+use crate::layout::Layout;
+use crate::measure::{Caches, Drawing, FlashOf};
+use crate::sample::{Configuration, Line, Sample};
 use std::fmt;
 
 /// What stands on the x axis.

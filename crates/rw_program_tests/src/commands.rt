@@ -1,7 +1,7 @@
 // The program's words, what it says on standard error, and its exit status.
 use crate::pipe::Pipe;
 use rw_command::{
-    CommandFault, Fault, Out, ScheduleFault, SimFault, Source, SourceFault, command, command_at,
+    Fault, Out, ScheduleFault, SimFault, Source, SourceFault, Stderr, command, command_at,
 };
 use rw_trace::TraceFault;
 use std::alloc::{AllocError, Global};
@@ -12,14 +12,17 @@ use std::thread::Threads;
 use std::time::Clock;
 
 /// The trace of one request; its report with nothing stored has 409 bytes, as that of a trace without one.
-const TRACE: &[u8] = b"time,edge,object,size\n5,0,7,4\n";
+pub(crate) const TRACE: &[u8] = b"time,edge,object,size\n5,0,7,4\n";
 
 /// Whether a fault is told by this line and status.
 fn is_told<F: Into<Fault>>(alloc: Global, fault: F, line: &str, status: u8) -> bool {
     let fault = fault.into();
-    let mut err = Vec::new(alloc);
-    fault.tell(&mut err);
-    err.as_slice() == line.as_bytes() && fault.status() == status
+    let mut err = Stderr {
+        writer: Vec::new(alloc),
+        is_terminal: false,
+    };
+    err.tell(&fault);
+    err.writer.as_slice() == line.as_bytes() && fault.status() == status
 }
 
 // What the stored cases can't make the program say.
@@ -27,7 +30,7 @@ fn is_told<F: Into<Fault>>(alloc: Global, fault: F, line: &str, status: u8) -> b
 fn a_fault_is_one_line_and_a_status(rt: HostRuntime) {
     let alloc = rt.alloc();
     let many = SimFault::Trace(TraceFault::TooManyRows);
-    assert!(rt; is_told(alloc, CommandFault::Plan, "plan\n", 2));
+    assert!(rt; is_told(alloc, Fault::Plan, "plan\n", 2));
     assert!(rt; is_told(alloc, many, "trace: too many rows\n", 3));
     assert!(rt; is_told(alloc, SimFault::Plan, "plan\n", 2));
     assert!(rt; is_told(alloc, SimFault::NoThread, "no thread\n", 6));
@@ -38,7 +41,7 @@ fn a_fault_is_one_line_and_a_status(rt: HostRuntime) {
 #[test]
 fn want_of_memory_is_memory_wherever_it_is(rt: HostRuntime) {
     let alloc = rt.alloc();
-    assert!(rt; is_told(alloc, CommandFault::Memory, "memory\n", 5));
+    assert!(rt; is_told(alloc, Fault::Memory, "memory\n", 5));
     assert!(rt; is_told(alloc, ScheduleFault::Memory, "memory\n", 5));
     assert!(rt; is_told(alloc, SourceFault::Memory, "memory\n", 5));
     assert!(rt; is_told(alloc, SimFault::Memory, "memory\n", 5));
@@ -70,7 +73,11 @@ impl Source for Given {
 }
 
 /// Adds the words of a command line.
-fn push_words(alloc: Global, text: &str, words: &mut Vec<String>) -> Result<(), AllocError> {
+pub(crate) fn push_words(
+    alloc: Global,
+    text: &str,
+    words: &mut Vec<String>,
+) -> Result<(), AllocError> {
     for word in text.split(' ') {
         words.push(String::from_str(alloc, word)?)?;
     }
@@ -78,7 +85,7 @@ fn push_words(alloc: Global, text: &str, words: &mut Vec<String>) -> Result<(), 
 }
 
 /// The words of a command line.
-fn words_of(alloc: Global, text: &str) -> Result<Vec<String>, AllocError> {
+pub(crate) fn words_of(alloc: Global, text: &str) -> Result<Vec<String>, AllocError> {
     let mut words = Vec::new(alloc);
     push_words(alloc, text, &mut words)?;
     Ok(words)
@@ -99,7 +106,7 @@ fn ripqwarp<E: Write, R: Threads + Wait + Clock + RandomSource + Sync>(
 }
 
 /// Whether a command line has this exit status, with so many bytes written, and this on standard error.
-fn is_answered<R: Threads + Wait + Clock + RandomSource + Sync>(
+pub(crate) fn is_answered<R: Threads + Wait + Clock + RandomSource + Sync>(
     rt: &R,
     alloc: Global,
     words: &str,
@@ -113,7 +120,7 @@ fn is_answered<R: Threads + Wait + Clock + RandomSource + Sync>(
 }
 
 /// Whether a command line was tried, with this exit status and so many bytes written.
-fn is_answer(answered: Option<(u8, usize)>, (status, written): (u8, usize)) -> bool {
+pub(crate) fn is_answer(answered: Option<(u8, usize)>, (status, written): (u8, usize)) -> bool {
     matches!(answered, Some((ended, bytes)) if ended == status && bytes == written)
 }
 
@@ -152,27 +159,27 @@ fn a_run_in_rounds_tells_what_they_did(rt: HostRuntime) {
     }
 }
 
-/// Sweeps over lists that are none, or too long ones, each with what is told of it.
+/// Sweeps over lists with an item that is none, each with what is told of it.
 const NO_LISTS: [(&str, &str); 5] = [
     (
         "ripqwarp sweep --policy lru,slru9 nothing",
-        "error: --policy: no list of its values; see ripqwarp sweep --help\n",
+        "error: invalid value 'slru9' for '--policy': a list of off, lru and slru2 to slru8, with commas between them\n",
     ),
     (
         "ripqwarp sweep --sections 1,,2 nothing",
-        "error: --sections: no list of its values; see ripqwarp sweep --help\n",
+        "error: invalid value '' for '--sections': a number from 1 to 16, or a range such as 16..1024x2\n",
     ),
     (
         "ripqwarp sweep --block 0 nothing",
-        "error: --block: no list of its values; see ripqwarp sweep --help\n",
+        "error: invalid value '0' for '--block': 1 to 268435456 bytes, with K, M, G or T for powers of 1024, or a range such as 16..1024x2\n",
     ),
     (
         "ripqwarp sweep --edge-blocks 16..65537x2 nothing",
-        "error: --edge-blocks: no list of its values; see ripqwarp sweep --help\n",
+        "error: invalid value '16..65537x2' for '--edge-blocks': a number from 1 to 65536, or a range such as 16..1024x2\n",
     ),
     (
         "ripqwarp sweep --origin-blocks 4..64x1 nothing",
-        "error: --origin-blocks: no list of its values; see ripqwarp sweep --help\n",
+        "error: invalid value '4..64x1' for '--origin-blocks': a number from 1 to 65536, or a range such as 16..1024x2\n",
     ),
 ];
 
@@ -235,7 +242,7 @@ const STREAMED: [(&str, (u8, usize), &str); 7] = [
     (
         "ripqwarp import --stream --epoch x --time 0 --object 1 --size 2 -",
         (2, 0),
-        "error: --epoch: no time of a log\n",
+        "error: invalid value 'x' for '--epoch': a time as the log has them, with up to 9 decimals\n",
     ),
     (
         "ripqwarp import --epoch 10 --time 0 --object 1 --size 2 -",
@@ -267,7 +274,7 @@ fn a_log_is_imported_as_it_is_read(rt: HostRuntime) {
 
 /// Two requests of 4 bytes each. Each misses at the edge, and 3 ticks later at the origin; its answer comes 13 ticks after that, and
 /// nothing is stored.
-const APART: &[u8] = b"time,edge,object,size\n5,0,7,4\n100,0,8,4\n";
+pub(crate) const APART: &[u8] = b"time,edge,object,size\n5,0,7,4\n100,0,8,4\n";
 
 /// What is counted of them in each 50 ticks, up to the first mark at which nothing is left to do.
 const OVER_TIME: &[u8] =
@@ -278,7 +285,7 @@ const LAST_ONE: &[u8] =
     b"from,to,caches,requests,hits,misses,coalesced,late,bypassed,inserted,evicted,reinserted,promoted,writes,splits,merges,hit_bytes,request_bytes,hit_ratio,byte_hit_ratio,flash_bytes,written_bytes,backend_requests,backend_bytes\n100,150,edges,1,0,1,0,1,0,0,0,0,0,0,0,0,0,4,0.000000,0.000000,10,0,0,0\n100,150,origins,1,0,1,0,0,0,0,0,0,0,0,0,0,0,4,0.000000,0.000000,20,0,1,4\n100,150,all,2,0,2,0,1,0,0,0,0,0,0,0,0,0,8,0.000000,0.000000,30,0,1,4\n";
 
 /// What `text`, a command line, writes of a trace, if its exit status is 0.
-fn written<R: Threads + Wait + Clock + RandomSource + Sync>(
+pub(crate) fn written<R: Threads + Wait + Clock + RandomSource + Sync>(
     rt: &R,
     alloc: Global,
     text: &str,
@@ -292,7 +299,7 @@ fn written<R: Threads + Wait + Clock + RandomSource + Sync>(
 }
 
 /// Whether two command lines write the same, each of its trace.
-fn write_the_same<R: Threads + Wait + Clock + RandomSource + Sync>(
+pub(crate) fn write_the_same<R: Threads + Wait + Clock + RandomSource + Sync>(
     rt: &R,
     alloc: Global,
     first: (&str, &'static [u8]),
@@ -511,12 +518,15 @@ fn a_stream_shows_how_many_rows_are_read(rt: HostRuntime) -> Result<(), AllocErr
     ] {
         let words = words_of(alloc, text)?;
         let mut out = Out::new(Vec::new(alloc));
-        let mut err = Vec::new(alloc);
+        let mut err = Stderr {
+            writer: Vec::new(alloc),
+            is_terminal: true,
+        };
         let source = &mut Given { trace: APART };
-        let status = command_at(&rt, alloc, words, source, &mut out, &mut err, true);
+        let status = command_at(&rt, alloc, words, source, &mut out, &mut err);
         let shown = format!(in alloc; "\r\x1b[K{name} 0 rows read\r\x1b[K")?;
         assert!(rt;
-            status == 0 && err.as_slice() == shown.as_bytes(),
+            status == 0 && err.writer.as_slice() == shown.as_bytes(),
             "for {text}"
         );
     }
@@ -538,14 +548,13 @@ fn lines(text: &[u8]) -> usize {
 fn sweep_of_six<R: Threads + Wait + Clock + RandomSource + Sync>(
     rt: &R,
     alloc: Global,
-    err: &mut Vec<u8>,
-    terminal: bool,
+    err: &mut Stderr<Vec<u8>>,
 ) -> Option<(u8, usize)> {
     let text = "ripqwarp sweep --policy off,lru --edge-blocks 64..300x2 --workers 1 -";
     let words = words_of(alloc, text).ok()?;
     let mut out = Out::new(Vec::new(alloc));
     let source = &mut Given { trace: TRACE };
-    let status = command_at(rt, alloc, words, source, &mut out, err, terminal);
+    let status = command_at(rt, alloc, words, source, &mut out, err);
     Some((status, lines(out.into_inner().as_slice())))
 }
 
@@ -556,12 +565,17 @@ fn is_swept<R: Threads + Wait + Clock + RandomSource + Sync>(
     alloc: Global,
     terminal: bool,
 ) -> bool {
-    let mut err = Vec::new(alloc);
-    let is_done = is_answer(sweep_of_six(rt, alloc, &mut err, terminal), (0, 19));
+    let mut err = Stderr {
+        writer: Vec::new(alloc),
+        is_terminal: terminal,
+    };
+    let is_done = is_answer(sweep_of_six(rt, alloc, &mut err), (0, 19));
     let is_told = if terminal {
-        err.as_slice().ends_with(b"\r\x1b[Ksweep 6 of 6\r\x1b[K")
+        err.writer
+            .as_slice()
+            .ends_with(b"\r\x1b[Ksweep 6 of 6\r\x1b[K")
     } else {
-        err.is_empty()
+        err.writer.is_empty()
     };
     is_done && is_told
 }

@@ -1,11 +1,10 @@
 // Parts of a sweep: cut and joined again they are the sweep, and each fault of a part has its line.
 use crate::grids::grid;
 use crate::shown::is_shown;
-use rw_join::{join, join_of_parts};
 use rw_photo::Policy;
 use rw_progress::Silent;
 use rw_ripqwarp::Out;
-use rw_sweep::{Grid, Part, list, parts_make_the_sweep, sweep, sweep_part};
+use rw_sweep::{Grid, Part, join, join_of_parts, list, parts_make_the_sweep, sweep, sweep_part};
 use std::alloc::Global;
 use std::io::Write;
 use std::thread::Threads;

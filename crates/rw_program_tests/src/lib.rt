@@ -13,6 +13,8 @@ mod imports;
 #[cfg(test)]
 mod joins;
 #[cfg(test)]
+mod options;
+#[cfg(test)]
 mod parts;
 #[cfg(test)]
 mod pipe;

@@ -229,6 +229,6 @@ fn the_limits_are_stated(_rt: HostRuntime) {
     rw_ripq::every_limit();
     rw_photo::every_limit();
     rw_import::every_limit();
-    rw_tables::every_limit();
+    rw_plot::every_limit();
     rw_sweep::every_limit();
 }

@@ -16,13 +16,13 @@ use Rattle.rw_trace.specs.declared.pieces.RowsFault.TheVariants as refused
 use Rattle.rw_trace.specs.Laws.{IsRow}
 use Rattle.rw_trace.specs.Pieces.{Ahead, AreAll, ComeFirst, IsRefusal, RiseFrom, last_time}
 use Rattle.rw_trace.proofs.Piecewise.{refused_behind}
-use Rattle.rw_output.specs.Faults.{sim_refusal_of, sim_rows_fault_of}
-use Rattle.rw_output.specs.declared.sim_fault.SimFault.{SimFault}
+use Rattle.rw_report.specs.Faults.{sim_refusal_of, sim_rows_fault_of}
+use Rattle.rw_report.specs.declared.sim_fault.SimFault.{SimFault}
 use Rattle.rw_photo.specs.Cache.{is_exhausted}
 use Rattle.rw_photo.specs.Simulation.{simulation}
 use Rattle.rw_photo.specs.declared.config.Config.{Config}
-use Rattle.rw_replay.specs.History.{IsRecordingOf, RecordingState}
-use Rattle.rw_replay.specs.Streams.{IsExhaustingFirst}
+use Rattle.rw_report.specs.History.{IsRecordingOf, RecordingState}
+use Rattle.rw_report.specs.Streams.{IsExhaustingFirst}
 use Rattle.rw_sweep.specs.declared.point.Point.{Point}
 use Rattle.rw_sweep.specs.declared.ongoing.OngoingRun.{OngoingRun}
 use Rattle.rw_sweep.specs.Ongoing.{AreFed, HasNotEnded, HasTakenIn, HasTakenPiece, HaveTakenAll, IsExhaustedBy, IsFaultOfRuns, IsFed, IsGoingOn, IsStanding, MarksAt, MayTake, TakesPiece}

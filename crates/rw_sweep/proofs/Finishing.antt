@@ -17,10 +17,10 @@ use Rattle.rw_photo.specs.declared.config.Config.{Config}
 use Rattle.rw_photo.specs.contracts.photo.PhotoVtModel.TheImpl as model
 use Rattle.rw_photo.specs.Events.{event_of}
 use Rattle.rw_photo.specs.Simulation.{simulation, starts_of}
-use Rattle.rw_replay.specs.declared.intervals.Outlook.{Outlook}
-use Rattle.rw_replay.specs.declared.moments.Moment.{Moment}
-use Rattle.rw_replay.specs.History.{IsHistory, IsRecordingOf, RecordingState}
-use Rattle.rw_replay.proofs.Recorded.{last_early}
+use Rattle.rw_report.specs.declared.intervals.Outlook.{Outlook}
+use Rattle.rw_report.specs.declared.moments.Moment.{Moment}
+use Rattle.rw_report.specs.History.{IsHistory, IsRecordingOf, RecordingState}
+use Rattle.rw_report.proofs.Recorded.{last_early}
 use Rattle.rw_sweep.specs.declared.point.Point.{Point}
 use Rattle.rw_sweep.specs.declared.ongoing.OngoingRun.{OngoingRun}
 use Rattle.rw_sweep.specs.Ongoing.{HasNotEnded, HasTakenIn, HasTexts, IsExhaustedBy, IsGoingOn, IsToTell, MarksAt, MayFinish}

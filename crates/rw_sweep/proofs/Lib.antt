@@ -20,3 +20,9 @@ pub mod Ahead
 pub mod Feeding
 pub mod Finishing
 pub mod Streamed
+pub mod Cuts
+pub mod Gaining
+pub mod PartsRead
+pub mod Fields
+pub mod Refusing
+pub mod Unique

@@ -8,8 +8,8 @@ use Rattle.std.proofs.lemmas.Bool.{cases_eq}
 use Rattle.std.specs.Global.{Vec}
 use Rattle.rw_vt.specs.declared.refusal.Refusal.{Refusal}
 use Rattle.rw_trace.specs.declared.Row.{Row}
-use Rattle.rw_output.specs.declared.sim_fault.SimFault.{SimFault}
-use Rattle.rw_output.specs.declared.sim_fault.SimFault.TheVariants as sim
+use Rattle.rw_report.specs.declared.sim_fault.SimFault.{SimFault}
+use Rattle.rw_report.specs.declared.sim_fault.SimFault.TheVariants as sim
 use Rattle.rw_sweep.specs.declared.axes.Axes.{Axes}
 use Rattle.rw_sweep.specs.declared.point.Point.{Point}
 use Rattle.rw_sweep.specs.declared.entry.Entry.{Entry}

@@ -17,14 +17,14 @@ use Rattle.rw_trace.specs.Pieces.{Ahead, AreAll, IsRefusal, RiseFrom, last_time,
 use Rattle.rw_trace.specs.Trace.{trace_of}
 use Rattle.rw_trace.specs.Unread.{records_of}
 use Rattle.rw_trace.proofs.Ordered.{ordered_accepted}
-use Rattle.rw_output.specs.Faults.{sim_refusal_of}
-use Rattle.rw_output.specs.declared.sim_fault.SimFault.{SimFault}
-use Rattle.rw_output.specs.declared.sim_fault.SimFault.TheVariants as sim
+use Rattle.rw_report.specs.Faults.{sim_refusal_of}
+use Rattle.rw_report.specs.declared.sim_fault.SimFault.{SimFault}
+use Rattle.rw_report.specs.declared.sim_fault.SimFault.TheVariants as sim
 use Rattle.rw_photo.specs.declared.config.Config.{Config}
 use Rattle.rw_photo.specs.Cache.{is_exhausted}
 use Rattle.rw_photo.specs.Simulation.{simulation}
-use Rattle.rw_replay.specs.declared.intervals.Outlook.{Outlook}
-use Rattle.rw_replay.specs.Streams.{IsExhaustingFirst}
+use Rattle.rw_report.specs.declared.intervals.Outlook.{Outlook}
+use Rattle.rw_report.specs.Streams.{IsExhaustingFirst}
 use Rattle.rw_sweep.specs.declared.axes.Axes.{Axes}
 use Rattle.rw_sweep.specs.declared.part.Part.{Part}
 use Rattle.rw_sweep.specs.declared.point.Point.{Point}

@@ -10,12 +10,12 @@ use Rattle.rw_vt.specs.Words.{Position}
 use Rattle.rw_vt.specs.System.{Meets}
 use Rattle.rw_vt.specs.Limits.{end_of_time}
 use Rattle.rw_trace.specs.declared.Row.{Row}
-use Rattle.rw_output.specs.declared.sim_fault.SimFault.{SimFault}
-use Rattle.rw_output.specs.declared.sim_fault.SimFault.TheVariants as sim
+use Rattle.rw_report.specs.declared.sim_fault.SimFault.{SimFault}
+use Rattle.rw_report.specs.declared.sim_fault.SimFault.TheVariants as sim
 use Rattle.rw_photo.specs.declared.config.Config.{Config}
 use Rattle.rw_photo.specs.Cache.{is_exhausted}
 use Rattle.rw_photo.specs.Simulation.{simulation}
-use Rattle.rw_replay.specs.Intervals.{AreMarks}
+use Rattle.rw_report.specs.Intervals.{AreMarks}
 use Rattle.rw_sweep.specs.declared.axes.Axes.{Axes}
 use Rattle.rw_sweep.specs.declared.choice.Choice.{Choice}
 use Rattle.rw_sweep.specs.declared.point.Point.{Point}

@@ -3,9 +3,9 @@ use Rattle.std.proofs.Common.{◌≡◌, List, [], ◌∷◌, ◌++◌, append_a
 use Rattle.std.specs.List.{flat_map}
 use Rattle.rw_photo.specs.declared.config.Config.{Config}
 use Rattle.rw_photo.specs.declared.counters.Counters.{Counters}
-use Rattle.rw_replay.specs.Report.{totals}
+use Rattle.rw_report.specs.Report.{totals}
 use Rattle.rw_sweep.specs.declared.choice.Choice.{Choice}
-use Rattle.rw_replay.specs.declared.columns.Caches.TheVariants.{Edges, Origins, All}
+use Rattle.rw_report.specs.declared.columns.Caches.TheVariants.{Edges, Origins, All}
 use Rattle.rw_sweep.specs.Table.{line_with, sweep_lines}
 
 -- three lines one after another, each behind the same

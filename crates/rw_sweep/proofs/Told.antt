@@ -12,13 +12,13 @@ use Rattle.rw_photo.specs.declared.config.Config.{Config}
 use Rattle.rw_photo.specs.contracts.photo.PhotoVtModel.TheImpl as model
 use Rattle.rw_photo.specs.Events.{event_of}
 use Rattle.rw_photo.specs.Simulation.{simulation, starts_of}
-use Rattle.rw_replay.specs.declared.intervals.Outlook.{Outlook}
-use Rattle.rw_replay.specs.declared.moments.Moment.{Moment}
-use Rattle.rw_replay.specs.History.{IsHistory}
+use Rattle.rw_report.specs.declared.intervals.Outlook.{Outlook}
+use Rattle.rw_report.specs.declared.moments.Moment.{Moment}
+use Rattle.rw_report.specs.History.{IsHistory}
 use Rattle.rw_photo.specs.declared.counters.Counters.{Counters}
-use Rattle.rw_replay.specs.Intervals.{counted_by_each, last_counters, last_moment}
-use Rattle.rw_replay.proofs.Adding.{add_up}
-use Rattle.rw_replay.proofs.Told.{last-counted, last_is, last_states}
+use Rattle.rw_report.specs.Intervals.{counted_by_each, last_counters, last_moment}
+use Rattle.rw_report.proofs.Adding.{add_up}
+use Rattle.rw_report.proofs.Told.{last-counted, last_is, last_states}
 use Rattle.rw_sweep.specs.declared.choice.Choice.{Choice}
 use Rattle.rw_sweep.specs.OverTime.{HasLines, TellsOfChoice, counted_from, told_of_choice}
 use Rattle.rw_sweep.specs.Parts.{text_of_lines}

@@ -10,13 +10,13 @@ use Rattle.rw_photo.specs.declared.counters.Counters.{Counters}
 use Rattle.rw_ripq.specs.declared.Policy.{Policy}
 use Rattle.rw_ripq.specs.declared.Policy.TheVariants.{Off, Lru, Slru}
 use Rattle.rw_trace.specs.declared.Row.{Row}
-use Rattle.rw_replay.specs.declared.columns.Caches.{Caches}
-use Rattle.rw_replay.specs.declared.columns.Caches.TheVariants as whose
-use Rattle.rw_replay.specs.Columns.{caches_name, columns_of, counts_columns, counts_of, ratio_text, six_digits, those_of}
+use Rattle.rw_report.specs.declared.columns.Caches.{Caches}
+use Rattle.rw_report.specs.declared.columns.Caches.TheVariants as whose
+use Rattle.rw_report.specs.Columns.{caches_name, columns_of, counts_columns, counts_of, ratio_text, six_digits, those_of}
 use Rattle.rw_sweep.specs.declared.choice.Choice.{Choice}
 use Rattle.rw_sweep.specs.Joining.{IsLine, newline}
 use Rattle.rw_sweep.specs.Sweep.{AreLinesOf}
-use Rattle.rw_replay.specs.Report.{totals}
+use Rattle.rw_report.specs.Report.{totals}
 use Rattle.rw_sweep.specs.Table.{backend_requests, choice_columns, flash_bytes, line_with, policy_name, sweep_line}
 
 -- the bytes of digits, letters, commas and points

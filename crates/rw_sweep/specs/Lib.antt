@@ -11,3 +11,7 @@ pub mod Points
 pub mod Widening
 pub mod Working
 pub mod Ongoing
+pub mod PartLines
+pub mod Join
+pub mod JoinFaults
+pub mod JoinSlots

@@ -13,11 +13,11 @@ use Rattle.rw_trace.specs.Pieces.{Ahead, AreAll, RiseFrom, last_time}
 use Rattle.rw_trace.specs.Words.{Text}
 use Rattle.rw_photo.specs.Cache.{is_exhausted}
 use Rattle.rw_photo.specs.Simulation.{simulation}
-use Rattle.rw_replay.specs.declared.intervals.Outlook.{Outlook}
-use Rattle.rw_replay.specs.History.{IsRecordingOf, RecordingState}
-use Rattle.rw_replay.specs.Streams.{IsExhaustingFirst}
-use Rattle.rw_output.specs.declared.sim_fault.SimFault.{SimFault}
-use Rattle.rw_output.specs.declared.sim_fault.SimFault.TheVariants as sim
+use Rattle.rw_report.specs.declared.intervals.Outlook.{Outlook}
+use Rattle.rw_report.specs.History.{IsRecordingOf, RecordingState}
+use Rattle.rw_report.specs.Streams.{IsExhaustingFirst}
+use Rattle.rw_report.specs.declared.sim_fault.SimFault.{SimFault}
+use Rattle.rw_report.specs.declared.sim_fault.SimFault.TheVariants as sim
 use Rattle.rw_trace.specs.declared.pieces.RowsFault.TheVariants as rows
 use Rattle.rw_trace.specs.Pieces.{IsRefusal}
 use Rattle.rw_sweep.specs.declared.point.Point.{Point}

@@ -10,17 +10,17 @@ use Rattle.rw_trace.specs.Limits.{most_rows}
 use Rattle.rw_trace.specs.Trace.{trace_of}
 use Rattle.rw_trace.specs.Unread.{records_of}
 use Rattle.rw_trace.specs.Words.{Text}
-use Rattle.rw_output.specs.Sink.{AppendsBeginning}
-use Rattle.rw_output.specs.declared.sim_fault.SimFault.{SimFault}
-use Rattle.rw_output.specs.declared.sim_fault.SimFault.TheVariants as sim
+use Rattle.rw_report.specs.Sink.{AppendsBeginning}
+use Rattle.rw_report.specs.declared.sim_fault.SimFault.{SimFault}
+use Rattle.rw_report.specs.declared.sim_fault.SimFault.TheVariants as sim
 use Rattle.rw_photo.specs.declared.config.Config.{Config}
 use Rattle.rw_photo.specs.declared.counters.Counters.{Counters}
 use Rattle.rw_photo.specs.Cache.{is_exhausted}
 use Rattle.rw_photo.specs.Simulation.{simulation}
-use Rattle.rw_replay.specs.declared.intervals.Outlook.{Outlook}
-use Rattle.rw_replay.specs.declared.moments.Moment.{Moment}
-use Rattle.rw_replay.specs.History.{IsHistory}
-use Rattle.rw_replay.specs.Intervals.{AddUp, AreMarks, counted_by_each, intervals_header, last_counters, lines_of}
+use Rattle.rw_report.specs.declared.intervals.Outlook.{Outlook}
+use Rattle.rw_report.specs.declared.moments.Moment.{Moment}
+use Rattle.rw_report.specs.History.{IsHistory}
+use Rattle.rw_report.specs.Intervals.{AddUp, AreMarks, counted_by_each, intervals_header, last_counters, lines_of}
 use Rattle.rw_sweep.specs.declared.axes.Axes.{Axes}
 use Rattle.rw_sweep.specs.declared.choice.Choice.{Choice}
 use Rattle.rw_sweep.specs.declared.part.Part.{Part}

@@ -4,7 +4,7 @@ use Rattle.std.specs.List.{Contains}
 use Rattle.rw_sweep.specs.declared.axes.Axes.{Axes}
 use Rattle.rw_sweep.specs.declared.part.Part.{Part}
 use Rattle.rw_sweep.specs.declared.point.Point.{Point}
-use Rattle.rw_replay.specs.declared.intervals.Outlook.{Outlook}
+use Rattle.rw_report.specs.declared.intervals.Outlook.{Outlook}
 use Rattle.rw_vt.specs.Words.{Count, Position}
 use Rattle.rw_sweep.specs.Parts.{dealt}
 use Rattle.rw_sweep.specs.Grids.{IsConfigOf, IsInGridRanges, combinations}

@@ -10,13 +10,13 @@ use Rattle.rw_trace.specs.Pieces.{Ahead, AreAll, IsRefusal, RiseFrom, ordered_tr
 use Rattle.rw_trace.specs.Trace.{trace_of}
 use Rattle.rw_trace.specs.Unread.{records_of}
 use Rattle.rw_trace.specs.Words.{Text}
-use Rattle.rw_output.specs.Sink.{AppendsBeginning}
-use Rattle.rw_output.specs.declared.sim_fault.SimFault.{SimFault}
-use Rattle.rw_output.specs.declared.sim_fault.SimFault.TheVariants as sim
+use Rattle.rw_report.specs.Sink.{AppendsBeginning}
+use Rattle.rw_report.specs.declared.sim_fault.SimFault.{SimFault}
+use Rattle.rw_report.specs.declared.sim_fault.SimFault.TheVariants as sim
 use Rattle.rw_photo.specs.declared.config.Config.{Config}
-use Rattle.rw_replay.specs.declared.intervals.Outlook.{Outlook}
-use Rattle.rw_replay.specs.Intervals.{AreMarks}
-use Rattle.rw_replay.specs.Streams.{IsExhaustingFirst}
+use Rattle.rw_report.specs.declared.intervals.Outlook.{Outlook}
+use Rattle.rw_report.specs.Intervals.{AreMarks}
+use Rattle.rw_report.specs.Streams.{IsExhaustingFirst}
 use Rattle.rw_sweep.specs.declared.axes.Axes.{Axes}
 use Rattle.rw_sweep.specs.declared.choice.Choice.{Choice}
 use Rattle.rw_sweep.specs.declared.part.Part.{Part}

@@ -6,11 +6,11 @@ use Rattle.rw_photo.specs.declared.config.Config.{Config}
 use Rattle.rw_photo.specs.declared.counters.Counters.{Counters}
 use Rattle.rw_ripq.specs.declared.Policy.{Policy}
 use Rattle.rw_ripq.specs.declared.Policy.TheVariants.{Off, Lru, Slru}
-use Rattle.rw_replay.specs.Report.{totals}
+use Rattle.rw_report.specs.Report.{totals}
 use Rattle.rw_sweep.specs.declared.choice.Choice.{Choice}
-use Rattle.rw_replay.specs.declared.columns.Caches.{Caches}
-use Rattle.rw_replay.specs.declared.columns.Caches.TheVariants.{Edges, Origins, All}
-pub use Rattle.rw_replay.specs.Columns.{caches_name, columns_of, counts_columns, counts_of, those_of}
+use Rattle.rw_report.specs.declared.columns.Caches.{Caches}
+use Rattle.rw_report.specs.declared.columns.Caches.TheVariants.{Edges, Origins, All}
+pub use Rattle.rw_report.specs.Columns.{caches_name, columns_of, counts_columns, counts_of, those_of}
 
 -- the names of the columns
 abbrev pub header_line : Text

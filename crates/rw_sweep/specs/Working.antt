@@ -7,9 +7,9 @@ use Rattle.rw_vt.specs.declared.refusal.Refusal.{Refusal}
 use Rattle.rw_vt.specs.declared.refusal.Refusal.TheVariants.{Exhausted}
 use Rattle.rw_vt.specs.System.{Meets}
 use Rattle.rw_vt.specs.Limits.{end_of_time}
-use Rattle.rw_output.specs.Sink.{AppendsBeginning}
-use Rattle.rw_output.specs.declared.sim_fault.SimFault.{SimFault}
-use Rattle.rw_output.specs.declared.sim_fault.SimFault.TheVariants as sim
+use Rattle.rw_report.specs.Sink.{AppendsBeginning}
+use Rattle.rw_report.specs.declared.sim_fault.SimFault.{SimFault}
+use Rattle.rw_report.specs.declared.sim_fault.SimFault.TheVariants as sim
 use Rattle.rw_blocks.specs.State.{IsShape}
 use Rattle.rw_trace.specs.declared.Row.{Row}
 use Rattle.rw_trace.specs.Laws.{IsRow}
@@ -22,8 +22,8 @@ use Rattle.rw_photo.specs.Simulation.{simulation}
 use Rattle.rw_sweep.specs.declared.axes.Axes.{Axes}
 use Rattle.rw_sweep.specs.declared.point.Point.{Point}
 use Rattle.rw_sweep.specs.declared.entry.Entry.{Entry}
-use Rattle.rw_replay.specs.declared.intervals.Outlook.{Outlook}
-use Rattle.rw_replay.specs.Intervals.{AreMarks}
+use Rattle.rw_report.specs.declared.intervals.Outlook.{Outlook}
+use Rattle.rw_report.specs.Intervals.{AreMarks}
 use Rattle.rw_sweep.specs.OverTime.{HasLines, TellsOfChoice}
 
 -- a configuration can run these rows, its line can be written, and what is asked of it can be told

@@ -5,7 +5,7 @@ ghost use Rattle.rw_sweep.specs.Points.{chosen_points, points_of_part, points_un
 use crate::part::Part;
 use crate::point::Point;
 use rw_photo::NoMemory;
-use rw_replay::Outlook;
+use rw_report::Outlook;
 use std::alloc::Global;
 
 /// The configurations of a part, in order, told with their places.

@@ -10,13 +10,18 @@
 //! warm-up (`specs/OverTime.antt`). [`sweep_stream`] reads the trace once, while it runs, in little
 //! memory (`specs/Streams.antt`).
 //!
-//! Worked examples: `rw_program_tests/src/sweeps.rt`.
+//! [`join`] reads what [`sweep_part`] wrote, part by part, and writes all lines in the order of their
+//! places, without the places. `specs/Joining.antt` and `specs/Join.antt` define what a part means and
+//! what the parts become.
+//!
+//! Worked examples: `rw_program_tests/src/sweeps.rt` and `joins.rt`.
 
 mod axes;
 mod choice;
 mod chosen;
 mod entry;
 mod grid;
+mod joiner;
 mod listing;
 mod ongoing;
 mod over_time;
@@ -33,9 +38,10 @@ mod working;
 pub use axes::Axes;
 pub use choice::Choice;
 pub use grid::{Grid, GridFault, MAX_CONFIGURATIONS};
+pub use joiner::{JoinFault, join, join_of_parts};
 pub use listing::list;
 pub use over_time::{Sweeping, sweep_over_time, sweep_rows, sweep_stream};
 pub use part::{Part, parts_make_the_sweep};
-pub use rw_replay::Outlook;
+pub use rw_report::Outlook;
 pub use sweeping::{MAX_WORKERS, every_limit, sweep, sweep_part};
 pub use table::header_text;

@@ -12,7 +12,7 @@ ghost use Rattle.rw_sweep.specs.Working.{IsTextOfPoint};
 use crate::point::Point;
 use crate::telling::told_of_point;
 use rw_photo::NoMemory;
-use rw_replay::{Marks, Outlook, Recording};
+use rw_report::{Marks, Outlook, Recording};
 use rw_trace::Row;
 use rw_vt::Refusal;
 use std::alloc::Global;

@@ -1,6 +1,6 @@
 use crate::choice::Choice;
 use rw_photo::Config;
-use rw_replay::Outlook;
+use rw_report::Outlook;
 
 /// A choice and its configuration.
 #[derive(Clone, Copy)]

@@ -1,7 +1,7 @@
 ghost use Rattle.std.specs.Prelude.{◌≡◌, ◌≤◌, ◌^◌, All, IfErr, IfOk, length};
 ghost use Rattle.rw_blocks.specs.State.{IsShape};
 ghost use Rattle.rw_trace.specs.Laws.{IsRow};
-ghost use Rattle.rw_replay.specs.Intervals.{AreMarks};
+ghost use Rattle.rw_report.specs.Intervals.{AreMarks};
 ghost use Rattle.rw_sweep.specs.OverTime.{HasLines, TellsOfChoice};
 ghost use Rattle.rw_sweep.specs.Working.{CanRun, IsExhaustedAt, IsResultOf};
 
@@ -9,7 +9,7 @@ use crate::point::Point;
 use crate::table::lines;
 use crate::telling::told_of_point;
 use rw_progress::Silent;
-use rw_replay::{Outlook, counters_of, last_states_of_rows, record_rows};
+use rw_report::{Outlook, counters_of, last_states_of_rows, record_rows};
 use rw_trace::Row;
 use rw_vt::Refusal;
 use std::alloc::Global;

@@ -4,8 +4,7 @@ ghost use Rattle.rw_sweep.specs.Ongoing.{HaveTakenAll, IsFaultOfRuns};
 
 use crate::ongoing::{OngoingRun, begin_all, feed_all, first_refusal};
 use crate::point::Point;
-use rw_output::SimFault;
-use rw_replay::Marks;
+use rw_report::{Marks, SimFault};
 use rw_trace::{RowSource, next_piece};
 use std::alloc::Global;
 use std::thread::Threads;

@@ -1,6 +1,6 @@
 ghost use Rattle.std.specs.Prelude.{◌≡◌, ◌≢◌, ◌<◌, ◌↔◌, ◌⊎◌, ◌++◌, true, false, Err, All, IfErr, IfSome, OnOk};
 ghost use Rattle.rw_trace.specs.declared.TraceFault.{TraceFault};
-ghost use Rattle.rw_replay.specs.Intervals.{AreMarks};
+ghost use Rattle.rw_report.specs.Intervals.{AreMarks};
 ghost use Rattle.rw_sweep.specs.Limits.{most_configurations, most_workers};
 ghost use Rattle.rw_sweep.specs.Parts.{HasSweptPart, HasSweptPartBeginning, HasSweptPartFirst, IsPartSweepFault};
 ghost use Rattle.rw_sweep.specs.Points.{IsOfGrid};
@@ -13,8 +13,8 @@ use crate::part::Part;
 use crate::point::Point;
 use crate::table::{header_text, part_header};
 use crate::waves::write_all;
-use rw_output::{Out, SimFault};
 use rw_progress::Progress;
+use rw_report::{Out, SimFault};
 use rw_trace::read;
 use std::alloc::Global;
 use std::io::Write;

@@ -8,7 +8,7 @@ use crate::choice::Choice;
 use crate::part::Part;
 use crate::point::Point;
 use rw_photo::{Config, Counters, NoMemory, Policy};
-use rw_replay::{
+use rw_report::{
     Caches, caches_name, intervals_header, totals, write_columns, write_counts, write_number,
 };
 use std::alloc::Global;

@@ -1,12 +1,12 @@
 // What is told of a configuration, from the moments of its run.
 ghost use Rattle.std.specs.Prelude.{◌≡◌, ◌<◌, ◌^◌, IfOk};
-ghost use Rattle.rw_replay.specs.Intervals.{lines_of};
+ghost use Rattle.rw_report.specs.Intervals.{lines_of};
 ghost use Rattle.rw_sweep.specs.OverTime.{before_interval, counted_from, told_of_choice};
 
 use crate::point::Point;
 use crate::table::{lines, write_before_interval};
 use rw_photo::{Counters, NoMemory};
-use rw_replay::{Moment, Outlook, count_each, write_intervals};
+use rw_report::{Moment, Outlook, count_each, write_intervals};
 use std::alloc::Global;
 
 /// What an outlook asks to be told of a configuration, from the moments of its run: the lines of its intervals, or its three lines.

@@ -1,14 +1,14 @@
 ghost use Rattle.std.specs.Prelude.{◌≡◌, [], true, false, All, IfOk, IfErr, IfSome, MatchBool, MatchResult};
 ghost use Rattle.std.specs.List.{Any};
-ghost use Rattle.rw_output.specs.Sink.{one_more};
+ghost use Rattle.rw_report.specs.Sink.{one_more};
 ghost use Rattle.rw_sweep.specs.Working.{AreSlots, CanRun, HasTaken, HasTakenFirst, HasTakenPoint, IsExhaustedAt, IsResultOf};
 
 use crate::entry::Lines;
 use crate::point::Point;
 use crate::running::run_one;
 use crate::working::run_all;
-use rw_output::Out;
 use rw_progress::Progress;
+use rw_report::Out;
 use rw_trace::Row;
 use rw_vt::Refusal;
 use std::alloc::Global;

@@ -1,6 +1,6 @@
 use Rattle.std.proofs.Common.{◌≡◌, inl, inr}
-use Rattle.rw_studies.proofs.Statuses.{more-left}
-use Rattle.rw_studies.specs.Left.{LeavesLines, LeavesNoTrace, LeavesSome}
+use Rattle.rw_command.proofs.Statuses.{more-left}
+use Rattle.rw_command.specs.Left.{LeavesLines, LeavesNoTrace, LeavesSome}
 use Rattle.rw_command.proofs.command_line.carry_out.Goals as goal
 
 pub returns-in-import-clause-nothing : goal.returns-in-import-clause-nothing

@@ -1,7 +1,7 @@
 use Rattle.std.proofs.Common.{◌∙◌, refl}
 use Rattle.rw_sweep.proofs.Slots.{lines-so, table-so}
 use Rattle.rw_sweep.proofs.Under.{are-under, begun-under, fault-under, marks-under, swept-first-under, swept-under}
-use Rattle.rw_replay.specs.Intervals.{AreMarks}
+use Rattle.rw_report.specs.Intervals.{AreMarks}
 use Rattle.rw_sweep.proofs.over_time.sweep_over_time.Goals as goal
 
 pub sweep_points-requires-clause-of_grid : goal.sweep_points-requires-clause-of_grid

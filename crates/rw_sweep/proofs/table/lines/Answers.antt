@@ -1,7 +1,7 @@
 use Rattle.std.proofs.Common.{◌≡◌, ℕ, List, ap, ◌∙◌, take, drop, length, min, arith}
 use Rattle.std.proofs.lemmas.List.{drop_min, take_min}
 use Rattle.rw_photo.specs.declared.counters.Counters.{Counters}
-use Rattle.rw_replay.specs.Report.{totals}
+use Rattle.rw_report.specs.Report.{totals}
 use Rattle.rw_sweep.specs.Parts.{before_line}
 use Rattle.rw_sweep.proofs.ThreeLines.{three-lines}
 use Rattle.rw_sweep.proofs.table.lines.Goals as goal

@@ -1,0 +1,3 @@
+pub mod Status
+pub mod Written
+pub mod Left

@@ -1,0 +1,91 @@
+use crate::arguments::Argument;
+use crate::{generate, import, join, journal, plot, serial, sweep, warp};
+use clap::{Arg, Command};
+use std::alloc::{AllocError, Global};
+
+/// A command.
+pub(crate) struct Entry {
+    /// Its name.
+    pub(crate) name: &'static str,
+    /// What the help says of it.
+    pub(crate) about: &'static str,
+    /// Examples, which its help ends with.
+    pub(crate) examples: &'static str,
+    /// The arguments of its own, which the help names first.
+    pub(crate) own: &'static [Argument],
+    /// The arguments that other commands take too, which the help names last.
+    pub(crate) shared: &'static [Argument],
+}
+
+/// What the program is for.
+pub(crate) const ABOUT: &str = "Simulates edge and origin photo caches from a trace";
+
+/// The version of the program.
+pub(crate) const VERSION: &str = "1.0.0";
+
+/// The commands, in the order of the help.
+pub(crate) const ENTRIES: [Entry; 8] = [
+    serial::ENTRY,
+    warp::ENTRY,
+    journal::ENTRY,
+    import::ENTRY,
+    sweep::ENTRY,
+    join::ENTRY,
+    plot::ENTRY,
+    generate::ENTRY,
+];
+
+/// The program with its commands, as `clap` knows it, under its name whatever its file is called. The fault is memory that was
+/// refused.
+pub(crate) fn program<'a>(alloc: Global) -> Result<Command<'a>, AllocError> {
+    let commands = commands(alloc)?;
+    Command::new(alloc, "ripqwarp")
+        .bin_name("ripqwarp")?
+        .version(VERSION)
+        .about(ABOUT)
+        .subcommand_required(true)
+        .arg_required_else_help(true)
+        .subcommands(commands)
+}
+
+/// The commands as `clap` knows them.
+fn commands<'a>(alloc: Global) -> Result<Vec<Command<'a>>, AllocError> {
+    let mut commands = Vec::new(alloc);
+    for entry in &ENTRIES {
+        entry.add_to(alloc, &mut commands)?;
+    }
+    Ok(commands)
+}
+
+impl Entry {
+    /// Appends the command, as `clap` knows it.
+    fn add_to<'a>(&self, alloc: Global, commands: &mut Vec<Command<'a>>) -> Result<(), AllocError> {
+        let arguments = self.arguments(alloc)?;
+        let command = Command::new(alloc, self.name)
+            .about(self.about)
+            .after_help(self.examples)
+            .args(arguments)?;
+        commands.push(command)?;
+        Ok(())
+    }
+
+    /// Its arguments, as `clap` knows them.
+    fn arguments<'a>(&self, alloc: Global) -> Result<Vec<Arg<'a>>, AllocError> {
+        let mut arguments = Vec::new(alloc);
+        add_each(alloc, self.own, &mut arguments)?;
+        add_each(alloc, self.shared, &mut arguments)?;
+        Ok(arguments)
+    }
+}
+
+/// Appends these arguments, as `clap` knows them.
+fn add_each<'a>(
+    alloc: Global,
+    added: &[Argument],
+    arguments: &mut Vec<Arg<'a>>,
+) -> Result<(), AllocError> {
+    for argument in added {
+        argument.add_to(alloc, arguments)?;
+    }
+    Ok(())
+}

@@ -1,0 +1,313 @@
+// One trace through many configurations.
+ghost use Rattle.std.specs.Prelude.{◌≡◌, ◌≢◌, ◌↔◌, ◌⊎◌, IfErr, IsErrAnd};
+ghost use Rattle.rw_command.specs.Left.{LeavesLines};
+ghost use Rattle.rw_command.specs.Status.{status_of};
+
+use crate::arguments::{Argument, Given, Value};
+use crate::caches::{
+    BACK, DOWN, EDGE_TIER, EDGES, ORIGIN_TIER, ORIGINS, RECLAIM, TICKS_A_SECOND, UP, delays_of,
+    lists_of_blocks, policies,
+};
+use crate::entries::Entry;
+use crate::fault::Fault;
+use crate::files::{open, read, write};
+use crate::import::tell;
+use crate::logs::{EDGE_BY, EPOCH, FROM, TICKS, counts_of, names_log, open_log};
+use crate::options_file::OPTIONS;
+use crate::outlook::{EVERY, QUIET, STREAM, TRACE_HELP, WARM_UP, outlook};
+use crate::source::Source;
+use crate::stderr::Stderr;
+use crate::values::{Quantity, invalid, numbers};
+use clap::ArgMatches;
+use rw_photo::Shape;
+use rw_progress::{Measure, Progress};
+use rw_report::{Out, Telling};
+use rw_sweep::{
+    Axes, Grid, GridFault, MAX_CONFIGURATIONS, MAX_WORKERS, Part, Sweeping, list, sweep_over_time,
+    sweep_part, sweep_rows, sweep_stream,
+};
+use std::alloc::Global;
+use std::io::Write;
+use std::thread::{Threads, available_parallelism};
+use std::time::Clock;
+
+/// The command.
+pub(crate) const ENTRY: Entry = Entry {
+    name: "sweep",
+    about: "Runs a trace through every combination of some settings and prints a table, as CSV",
+    examples: "Examples:
+  ripqwarp sweep --policy lru,slru3 --edge-blocks 64..1024x2 --edges 4 trace.csv > table.csv
+  ripqwarp sweep --edge-flash 1G,2G,4G --origin-flash 16G trace.csv
+  ripqwarp sweep --list --policy lru,slru3 --sections 2..16x2
+  ripqwarp sweep --every 1h --ticks-a-second 1000 --policy lru,slru3 trace.csv > hours.csv",
+    own: &GRID,
+    shared: &[],
+};
+
+/// What a sweep varies, as lists, and what all its runs have in common.
+const GRID: [Argument; 27] = [
+    Argument {
+        name: "trace",
+        value: Value::File("TRACE"),
+        given: Given::Unless("list"),
+        help: TRACE_HELP,
+    },
+    Argument {
+        name: "policy",
+        value: Value::Text("LIST"),
+        given: Given::Or("slru3"),
+        help: "Policies, commas between: off, lru, slru2 to slru8",
+    },
+    Argument {
+        name: "sections",
+        value: Value::Text("LIST"),
+        given: Given::Or("8"),
+        help: "Insertion points of each cache, 1 to 16: numbers and ranges such as 2..16x2",
+    },
+    Argument {
+        name: "block",
+        value: Value::Text("LIST"),
+        given: Given::Or("1M"),
+        help: "Bytes of a block, 1 to 256M; K, M and G are powers of 1024",
+    },
+    Argument {
+        name: "edge-blocks",
+        value: Value::Text("LIST"),
+        given: Given::Or("64"),
+        help: "Full blocks on each edge's flash, 1 to 65536: 16,32,64 or 16..1024x2",
+    },
+    Argument {
+        name: "edge-flash",
+        value: Value::Text("LIST"),
+        given: Given::Maybe,
+        help: "Bytes of each edge's flash, in place of --edge-blocks, of one --block: 1G,2G or 1G..64Gx2",
+    },
+    Argument {
+        name: "origin-blocks",
+        value: Value::Text("LIST"),
+        given: Given::Or("64"),
+        help: "Full blocks on each origin's flash, 1 to 65536",
+    },
+    Argument {
+        name: "origin-flash",
+        value: Value::Text("LIST"),
+        given: Given::Maybe,
+        help: "Bytes of each origin's flash, in place of --origin-blocks, of one --block",
+    },
+    Argument {
+        name: "part",
+        value: Value::Text("I/N"),
+        given: Given::Maybe,
+        help: "Only the combinations whose place, from 0, is I modulo N; join puts parts together",
+    },
+    Argument {
+        name: "list",
+        value: Value::Flag,
+        given: Given::Maybe,
+        help: "Print the combinations with their places instead, and run nothing",
+    },
+    Argument {
+        name: "workers",
+        value: Value::Count(64),
+        given: Given::Maybe,
+        help: "Runs side by side, 1 to 64; by default as many as there are processors",
+    },
+    QUIET,
+    STREAM,
+    EVERY,
+    WARM_UP,
+    FROM,
+    TICKS,
+    EDGE_BY,
+    EPOCH,
+    EDGES,
+    ORIGINS,
+    UP,
+    DOWN,
+    BACK,
+    TICKS_A_SECOND,
+    RECLAIM,
+    OPTIONS,
+];
+
+/// Runs the trace that the options name through every combination of what they list, or through those of a part, and writes
+/// the table, the lines of each as they are done; or only lists them. Where `err` may be a terminal, one line shows how far it has come,
+/// unless the options ask for quiet. Where they ask for it, the trace, or a log in the oracle-general format, is read as it is run, and
+/// then the table comes at the end; and what is told of each combination is over time, or from a time on.
+///
+/// # Errors
+///
+/// A list or a part that is none, too many combinations, what the source answers, and a fault of a run ([`SimFault`](rw_report::SimFault)).
+pub(crate) fn sweep<S: Source, W: Write, E: Write, R: Threads + Clock + Sync>(
+    rt: &R,
+    alloc: Global,
+    options: &ArgMatches<'_>,
+    source: &mut S,
+    out: &mut Out<W>,
+    err: &mut Stderr<E>,
+) -> Result<(), Fault>
+    ensures output { IsErrAnd result (λ e. status_of e ≡ 8)
+        ↔ (out.new.failures ≢ out.old.failures) }
+    ensures nothing { IfErr result (λ e. status_of e ≢ 8 → (out.new ≡ out.old)
+        ⊎ LeavesLines (status_of e)
+        (W.contents out.old.writer) (W.contents out.new.writer)) }
+{
+    let part = part(alloc, options)?;
+    let grid = Grid::new(alloc, axes(alloc, options)?).map_err(fault_of_grid)?;
+    if options.get_flag("list") {
+        return write_list(alloc, &grid, part.unwrap_or(Part::whole()), out);
+    }
+    let sweeping = Sweeping {
+        grid: &grid,
+        part,
+        workers: workers(rt, options),
+        outlook: outlook(alloc, options)?,
+    };
+    let measure = if options.get_flag("stream") {
+        Measure::RowsSoFar
+    } else {
+        Measure::Pieces
+    };
+    let is_log = names_log(options)?;
+    let is_quiet = options.get_flag("quiet");
+    let mut line = err.progress(rt, "sweep", measure, is_quiet);
+    if !is_log && options.get_flag("stream") {
+        let reader = open(options, "trace", source)?;
+        return Ok(sweep_stream(rt, alloc, reader, &sweeping, &mut line, out)?);
+    }
+    if !is_log {
+        let trace = read(alloc, options, "trace", source)?;
+        return in_memory(rt, alloc, trace.as_slice(), &sweeping, &mut line, out);
+    }
+    let log = open_log(alloc, options, grid.edges(), source)?;
+    let mut rows = Telling::new(log, &mut line);
+    let swept = sweep_rows(rt, alloc, &mut rows, &sweeping, out);
+    let counts = counts_of(&rows.source);
+    drop(rows);
+    drop(line);
+    swept?;
+    tell("sweep", counts, err);
+    Ok(())
+}
+
+/// Runs a trace through the grid, or through a part of it.
+fn in_memory<P: Progress, W: Write, R: Threads + Sync>(
+    rt: &R,
+    alloc: Global,
+    trace: &[u8],
+    sweeping: &Sweeping<'_>,
+    progress: &mut P,
+    out: &mut Out<W>,
+) -> Result<(), Fault>
+    ensures output { IsErrAnd result (λ e. status_of e ≡ 8)
+        ↔ (out.new.failures ≢ out.old.failures) }
+    ensures nothing { IfErr result (λ e. status_of e ≢ 8 → (out.new ≡ out.old)
+        ⊎ LeavesLines (status_of e)
+        (W.contents out.old.writer) (W.contents out.new.writer)) }
+{
+    if sweeping.outlook.is_plain() {
+        sweep_plainly(rt, alloc, trace, sweeping, progress, out)
+    } else {
+        Ok(sweep_over_time(rt, alloc, trace, sweeping, progress, out)?)
+    }
+}
+
+/// Runs a trace through the grid, or through a part of it, and writes the lines of each combination as they are done.
+fn sweep_plainly<P: Progress, W: Write, R: Threads + Sync>(
+    rt: &R,
+    alloc: Global,
+    bytes: &[u8],
+    sweeping: &Sweeping<'_>,
+    progress: &mut P,
+    out: &mut Out<W>,
+) -> Result<(), Fault>
+    ensures output { IsErrAnd result (λ e. status_of e ≡ 8)
+        ↔ (out.new.failures ≢ out.old.failures) }
+    ensures nothing { IfErr result (λ e. status_of e ≢ 8 → (out.new ≡ out.old)
+        ⊎ LeavesLines (status_of e)
+        (W.contents out.old.writer) (W.contents out.new.writer)) }
+{
+    let (grid, workers) = (sweeping.grid, sweeping.workers);
+    match sweeping.part {
+        Some(part) => Ok(sweep_part(rt, alloc, bytes, grid, part, workers, progress, out)?),
+        None => Ok(rw_sweep::sweep(rt, alloc, bytes, grid, workers, progress, out)?),
+    }
+}
+
+/// Writes the configurations of a part as a list.
+fn write_list<W: Write>(
+    alloc: Global,
+    grid: &Grid,
+    part: Part,
+    out: &mut Out<W>,
+) -> Result<(), Fault>
+    ensures output { IsErrAnd result (λ e. status_of e ≡ 8)
+        ↔ (out.new.failures ≢ out.old.failures) }
+    ensures nothing { IfErr result (λ e. status_of e ≢ 8 → out.new ≡ out.old) }
+{
+    let text = list(alloc, grid, part).map_err(|_| Fault::Memory)?;
+    Ok(write(text.as_slice(), out)?)
+}
+
+/// The part that the options ask for, if they do.
+fn part(alloc: Global, options: &ArgMatches<'_>) -> Result<Option<Part>, Fault>
+    ensures unwritten { IfErr result (λ e. status_of e ≢ 8) }
+{
+    let Some(text) = options.get_str("part") else {
+        return Ok(None);
+    };
+    match part_of(text) {
+        Some(part) => Ok(Some(part)),
+        None => Err(invalid(alloc, text, "part", "I/N with I below N, as 0/4")),
+    }
+}
+
+/// The part that a text says, as `I/N`.
+fn part_of(text: &str) -> Option<Part> {
+    let (index, count) = text.split_once('/')?;
+    Part::new(index.parse().ok()?, count.parse().ok()?)
+}
+
+/// What the options list, and what all runs have in common.
+fn axes(alloc: Global, options: &ArgMatches<'_>) -> Result<Axes, Fault>
+    ensures unwritten { IfErr result (λ e. status_of e ≢ 8) }
+{
+    let delays = delays_of(alloc, options)?;
+    let sections = Quantity::things(Shape::MAX_SECTIONS);
+    let blocks = numbers(alloc, options, "block", Quantity::bytes(Shape::MAX_BLOCK))?;
+    Ok(Axes {
+        edges: options.get_one("edges").ok_or(Fault::Plan)?,
+        origins: options.get_one("origins").ok_or(Fault::Plan)?,
+        up: delays.up,
+        down: delays.down,
+        back: delays.back,
+        reclaim: options.get_flag("reclaim"),
+        policies: policies(alloc, options, "policy")?,
+        sections: numbers(alloc, options, "sections", sections)?,
+        edge_blocks: lists_of_blocks(alloc, options, EDGE_TIER, &blocks)?,
+        origin_blocks: lists_of_blocks(alloc, options, ORIGIN_TIER, &blocks)?,
+        blocks,
+    })
+}
+
+/// A grid that cannot be is a fault of the command line.
+fn fault_of_grid(fault: GridFault) -> Fault
+    ensures { status_of result ≢ 8 }
+{
+    match fault {
+        GridFault::TooMany => Fault::Combinations(MAX_CONFIGURATIONS),
+        GridFault::OutOfRange => Fault::Plan,
+        GridFault::Memory => Fault::Memory,
+    }
+}
+
+/// How many runs go side by side: as the options say, or else as many as there are processors.
+fn workers<R: Threads>(rt: &R, options: &ArgMatches<'_>) -> u32 {
+    if let Some(workers) = options.get_one("workers") {
+        return workers;
+    }
+    match available_parallelism(rt) {
+        Ok(processors) => (processors.get() as u64).min(u64::from(MAX_WORKERS)) as u32,
+        Err(_) => 1,
+    }
+}

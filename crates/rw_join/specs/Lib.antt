@@ -1,4 +1,0 @@
-pub mod Lines
-pub mod Join
-pub mod Faults
-pub mod Slots

@@ -1,6 +1,0 @@
-use Rattle.std.proofs.Common.{◌≡◌, take}
-use Rattle.rw_replay.specs.Report.{totals}
-use Rattle.rw_replay.proofs.columns.totals.Given as goal
-
-abbrev pub invariant-loop-counters : goal.invariant-loop-counters
-invariant-loop-counters l = l.total ≡ totals (take l.counters-index l.all)

@@ -1,6 +1,0 @@
-use Rattle.std.proofs.Common.{sym}
-use Rattle.rw_replay.proofs.Recorded.{last_some}
-use Rattle.rw_replay.proofs.recording.latest.Goals as goal
-
-pub returns-in-Some : goal.returns-in-Some
-returns-in-Some c = sym (last_some c.args.time c.args.rows.now c.in-Some.row.now (sym c.in-Some.ensures.value))

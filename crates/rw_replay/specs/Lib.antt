@@ -1,8 +1,0 @@
-pub mod Report
-pub mod Beginning
-pub mod Replay
-pub mod History
-pub mod Run
-pub mod Streams
-pub mod Columns
-pub mod Intervals

@@ -1,0 +1,14 @@
+pub mod Written
+pub mod Failing
+pub mod Lines
+pub mod Refused
+pub mod Runs
+pub mod Taking
+pub mod Recorded
+pub mod Adding
+pub mod Told
+pub mod Streamed
+pub mod Longer
+pub mod Known
+pub mod Journals
+pub mod Words

@@ -1,0 +1,12 @@
+pub mod Sink
+pub mod Faults
+pub mod Report
+pub mod Beginning
+pub mod Replay
+pub mod History
+pub mod Run
+pub mod Streams
+pub mod Columns
+pub mod Intervals
+pub mod Schedule
+pub mod Journal

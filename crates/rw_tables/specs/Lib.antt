@@ -1,3 +1,0 @@
--- what public contracts say
-pub mod Layouts
-pub mod Tables
