@@ -31,7 +31,7 @@ _ripqwarp() {
             import) words='--help --from --delimiter --quotes --multiline --time --object --size --missing-size --edge --kind --edges --edge-by --ticks --spread --strict --max-left-out --stream --epoch --quiet --options' ;;
             sweep) words='--help --policy --sections --block --edge-blocks --edge-flash --origin-blocks --origin-flash --part --list --workers --quiet --stream --every --warm-up --from --ticks --edge-by --epoch --edges --origins --up --down --back --ticks-a-second --reclaim --options' ;;
             join) words='--help --of' ;;
-            plot) words='--help --of --caches --x --ticks-a-second --options' ;;
+            plot) words='--help --of --caches --x --ticks-a-second --name --options' ;;
             generate) words='--help' ;;
             esac ;;
         esac

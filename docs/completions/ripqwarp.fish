@@ -125,6 +125,7 @@ complete -c ripqwarp -n '__fish_seen_subcommand_from plot' -l of -r -f -a 'hit_r
 complete -c ripqwarp -n '__fish_seen_subcommand_from plot' -l caches -r -f -a 'edges origins all' -d 'Of which caches; by default all, and of serial over time a line for each of the three'
 complete -c ripqwarp -n '__fish_seen_subcommand_from plot' -l x -r -f -a 'edge origin total' -d 'Whose flash is on the x axis; by default total, and where both block counts vary that of one cache'
 complete -c ripqwarp -n '__fish_seen_subcommand_from plot' -l ticks-a-second -r -d 'Ticks in a second of a table over time, 1 to 1000000000'
+complete -c ripqwarp -n '__fish_seen_subcommand_from plot' -l name -r -d 'What the picture calls the table; by default its file'
 complete -c ripqwarp -n '__fish_seen_subcommand_from plot' -l options -r -d 'Read options from this file too, one a line, as --policy=lru; # starts a comment'
 complete -c ripqwarp -n __fish_use_subcommand -f -a generate -d 'Prints the manual page, or completions for a shell'
 complete -c ripqwarp -n '__fish_seen_subcommand_from generate' -f -a 'man bash zsh fish' -d 'The manual page in the macros of man(7), or completions for this shell'

@@ -27,7 +27,7 @@ pub(crate) const ENTRY: Entry = Entry {
 };
 
 /// What is drawn of a table.
-const DRAWING: [Argument; 6] = [
+const DRAWING: [Argument; 7] = [
     Argument {
         name: "table",
         value: Value::File("TABLE"),
@@ -66,6 +66,12 @@ const DRAWING: [Argument; 6] = [
         value: Value::Count(MAX_TICKS as i64),
         given: Given::Or("1000"),
         help: "Ticks in a second of a table over time, 1 to 1000000000",
+    },
+    Argument {
+        name: "name",
+        value: Value::Text("TEXT"),
+        given: Given::Maybe,
+        help: "What the picture calls the table; by default its file",
     },
     OPTIONS,
 ];
@@ -148,8 +154,11 @@ fn edges_never(drawing: Drawing) -> Option<&'static str> {
     }
 }
 
-/// What the picture calls the table: its file, as it was named.
+/// What the picture calls the table: what the options say, or its file, as it was named.
 fn table_name<'a>(options: &ArgMatches<'a>) -> &'a str {
+    if let Some(name) = options.get_str("name") {
+        return name;
+    }
     match options.get_str("table") {
         None | Some("-") => "standard input",
         Some(path) => path,
