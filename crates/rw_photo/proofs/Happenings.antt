@@ -61,6 +61,7 @@ then_missed n d z requests misses bytes i =
       merges = plus-again n.merges d.merges i;
       hit_bytes = plus-again n.hit_bytes d.hit_bytes i;
       request_bytes = (ap (λ k. plus (plus n.request_bytes k) z) bytes ∙ plus-later n.request_bytes z) i;
+      inserted_bytes = plus-again n.inserted_bytes d.inserted_bytes i;
       purges = plus-again n.purges d.purges i;
       purged = plus-again n.purged d.purged i;
     }
@@ -84,6 +85,7 @@ then_late n d m late i =
       merges = plus-again n.merges d.merges i;
       hit_bytes = plus-again n.hit_bytes d.hit_bytes i;
       request_bytes = plus-again n.request_bytes d.request_bytes i;
+      inserted_bytes = plus-again n.inserted_bytes d.inserted_bytes i;
       purges = plus-again n.purges d.purges i;
       purged = plus-again n.purged d.purged i;
     }
@@ -98,7 +100,7 @@ record IsNoRequest (d : Counters) : Type 0 where
 placed-no_request : (k : Policy) (q : QueueState) (o z : ℕ) → IsNoRequest (placed k q o z).counts
 placed-no_request k q o z = go (nat_lt q.shape.block z)
   where
-    go : (b : Bool) → IsNoRequest (cond b (same_queue q one_bypassed) (insertion (insert k q o z 1))).counts
+    go : (b : Bool) → IsNoRequest (cond b (same_queue q one_bypassed) (insertion (insert k q o z 1) z)).counts
     go true = record { requests = refl; misses = refl; request_bytes = refl; late = refl }
     go false = record { requests = refl; misses = refl; request_bytes = refl; late = refl }
 

@@ -19,7 +19,7 @@ stored-placed Off q o z stores = absurd (stores refl)
 stored-placed Lru q o z stores = refl
 stored-placed (Slru levels) q o z stores = refl
 
-pub stored-small : (k : Policy) (q : QueueState) (o z : ℕ) → k ≢ Off → z ≤ q.shape.block → store k q o z ≡ insertion (insert k q o z 1)
+pub stored-small : (k : Policy) (q : QueueState) (o z : ℕ) → k ≢ Off → z ≤ q.shape.block → store k q o z ≡ insertion (insert k q o z 1) z
 stored-small k q o z stores small =
     let fits : nat_lt q.shape.block z ≡ false = grind (arith, nat_tests) in
     rw (stored-placed k q o z stores, fits) refl

@@ -33,6 +33,7 @@ counters_by count =
       merges = count (λ k. k.merges);
       hit_bytes = count (λ k. k.hit_bytes);
       request_bytes = count (λ k. k.request_bytes);
+      inserted_bytes = count (λ k. k.inserted_bytes);
       purges = count (λ k. k.purges);
       purged = count (λ k. k.purged);
     }
@@ -86,9 +87,9 @@ with_late n counts = record counts { late = n }
 abbrev pub one_bypassed : Counters
 one_bypassed = record no_counts { bypassed = 1 }
 
--- an object that is stored
-abbrev pub one_inserted : Tally → Counters
-one_inserted t =
+-- an object of so many bytes that is stored
+abbrev pub one_inserted : Tally → Size → Counters
+one_inserted t z =
     record no_counts {
       inserted = 1;
       evicted = t.evicted;
@@ -96,4 +97,5 @@ one_inserted t =
       writes = t.writes;
       splits = t.splits;
       merges = t.merges;
+      inserted_bytes = z;
     }

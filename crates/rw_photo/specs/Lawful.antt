@@ -37,7 +37,9 @@ use Rattle.rw_photo.specs.Events.{Happening, clears_of, edges_but, purge_happeni
 -- ---- the definitions with the test that each makes as an argument, for proofs by cases
 abbrev pub placed : Policy → QueueState → Object → Size → QueueAndCounts
 placed policy q o z =
-    if nat_lt q.shape.block z then same_queue q one_bypassed else insertion (insert policy q o z 1)
+    if nat_lt q.shape.block z
+    then same_queue q one_bypassed
+    else insertion (insert policy q o z 1) z
 
 abbrev pub requested_if : Config → Process → Cache → Time → Object → Size → Bool → Happening
 requested_if c p s t o z there =

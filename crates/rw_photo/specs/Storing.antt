@@ -30,9 +30,9 @@ hit policy q o z =
     let after = promote policy q o in
     record { queue = after; counts = one_hit (is_moved q after o) z }
 
--- what an insertion makes of a queue
-abbrev pub insertion : Work → QueueAndCounts
-insertion w = record { queue = w.queue; counts = one_inserted w.tally }
+-- what an insertion of an object of so many bytes makes of a queue
+abbrev pub insertion : Work → Size → QueueAndCounts
+insertion w z = record { queue = w.queue; counts = one_inserted w.tally z }
 
 -- an object that is not stored is inserted as one of level 1, unless the policy is to store nothing; one that is too
 -- large for a block passes by
@@ -41,7 +41,7 @@ store Off q o z = same_queue q no_counts
 store policy q o z =
     if nat_lt q.shape.block z
     then same_queue q one_bypassed
-    else insertion (insert policy q o z 1)
+    else insertion (insert policy q o z 1) z
 
 -- an object leaves, where it is stored; its home is taken out too where that is asked for and it has no object then
 abbrev pub purge_if_stored : Bool → QueueState → Object → QueueAndCounts

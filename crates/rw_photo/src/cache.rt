@@ -209,7 +209,7 @@ impl CacheState {
             Err(Refusal::Memory) => return Err(NoMemory),
             Err(Refusal::Exhausted) => unreachable!(),
         }
-        self.counters.insert(change.counts);
+        self.counters.insert(change.counts, size);
         Ok(())
     }
 

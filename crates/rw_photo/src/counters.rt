@@ -36,6 +36,8 @@ pub struct Counters {
     pub hit_bytes: u64,
     /// Bytes that were asked for by requests, hits and misses together.
     pub request_bytes: u64,
+    /// Bytes of the objects stored.
+    pub inserted_bytes: u64,
     /// Purges, of an object that was stored and of one that was not.
     pub purges: u64,
     /// Objects that left by a purge.
@@ -61,6 +63,7 @@ macro_rules! each_count {
             merges: $left.merges.$method($right.merges),
             hit_bytes: $left.hit_bytes.$method($right.hit_bytes),
             request_bytes: $left.request_bytes.$method($right.request_bytes),
+            inserted_bytes: $left.inserted_bytes.$method($right.inserted_bytes),
             purges: $left.purges.$method($right.purges),
             purged: $left.purged.$method($right.purged),
         }
@@ -127,10 +130,10 @@ impl Counters {
         self.bypassed = self.bypassed.wrapping_add(1);
     }
 
-    /// An object that was stored, with what its insertion counted.
-    pub(crate) fn insert(&mut self, tally: Tally)
+    /// An object of `size` bytes that was stored, with what its insertion counted.
+    pub(crate) fn insert(&mut self, tally: Tally, size: u64)
         requires { AreCounts self.old }
-        ensures { self.new ≡ sum_of self.old (one_inserted tally) }
+        ensures { self.new ≡ sum_of self.old (one_inserted tally size) }
     {
         self.inserted = self.inserted.wrapping_add(1);
         self.evicted = self.evicted.wrapping_add(tally.evicted);
@@ -138,6 +141,7 @@ impl Counters {
         self.writes = self.writes.wrapping_add(tally.writes);
         self.splits = self.splits.wrapping_add(tally.splits);
         self.merges = self.merges.wrapping_add(tally.merges);
+        self.inserted_bytes = self.inserted_bytes.wrapping_add(size);
     }
 
     /// Each count grows by what was counted, modulo 2^64. Takes no memory.

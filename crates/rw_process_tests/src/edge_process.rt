@@ -95,6 +95,7 @@ pub const NOTHING: Counters = Counters {
     merges: 0,
     hit_bytes: 0,
     request_bytes: 0,
+    inserted_bytes: 0,
     purges: 0,
     purged: 0,
 };
@@ -248,6 +249,7 @@ fn stored(alloc: Global) -> Result<Desk<Photo>, Fail> {
 fn a_fill_that_nobody_awaits_is_stored(rt: HostRuntime) -> Result<(), Fail> {
     let counted = Counters {
         inserted: 1,
+        inserted_bytes: 4,
         ..NOTHING
     };
     ends(stored(rt.alloc())?, rt.alloc(), &[], counted)

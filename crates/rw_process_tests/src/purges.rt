@@ -40,6 +40,7 @@ const EDGE: Counters = Counters {
     late: 2,
     inserted: 2,
     request_bytes: 8,
+    inserted_bytes: 8,
     purges: 1,
     purged: 1,
     ..NOTHING
@@ -52,6 +53,7 @@ const ORIGIN: Counters = Counters {
     inserted: 2,
     hit_bytes: 8,
     request_bytes: 16,
+    inserted_bytes: 8,
     purges: 1,
     purged: 1,
     ..NOTHING
