@@ -10,6 +10,7 @@ use Rattle.rw_trace.proofs.Ordered.{ordered_accepted}
 use Rattle.rw_report.specs.declared.sim_fault.SimFault.{SimFault}
 use Rattle.rw_report.specs.declared.sim_fault.SimFault.TheVariants as sim
 use Rattle.rw_photo.specs.declared.config.Config.{Config}
+use Rattle.rw_report.specs.declared.format.Format.TheVariants as format
 use Rattle.rw_report.specs.declared.intervals.Outlook.{Outlook}
 use Rattle.rw_report.specs.Replay.{HasBegunToStream, HasBegunToTellOfRows, HasStreamed, HasToldOfRows, IsReportOf, IsRowsTellingFault, IsStreamingFault, TellsOfRows, TellsOfStream}
 use Rattle.rw_report.specs.Streams.{IsExhaustingFirst}
@@ -65,10 +66,10 @@ pub begun_known : (c : Config) (o : Outlook) (ahead : Ahead) (known : Option Tex
 begun_known c o ahead known is before after h = (h.0, tells_known c o ahead known is h.0 h.1, h.2)
 
 -- what is told of the rows of a trace in memory, where nothing else is asked for, is its report
-pub report_known : (c : Config) (o : Outlook) (edges : ℕ) (ahead : Ahead) (bytes : Text) → o.warm_up ≡ None → o.every ≡ None → edges ≡ c.edges → ahead ≡ Some (ordered_trace_of edges (2 ^ 24) (records_of bytes))
+pub report_known : (c : Config) (o : Outlook) (edges : ℕ) (ahead : Ahead) (bytes : Text) → o.warm_up ≡ None → o.every ≡ None → o.format ≡ format.Text → edges ≡ c.edges → ahead ≡ Some (ordered_trace_of edges (2 ^ 24) (records_of bytes))
     → (text : Text) → TellsOfRows c o ahead text → IsReportOf c bytes text
-report_known c o edges ahead bytes no_warm_up no_every same is text h =
-    let run = h.tells.report no_warm_up no_every in
+report_known c o edges ahead bytes no_warm_up no_every as_text same is text h =
+    let run = h.tells.report no_warm_up no_every as_text in
     let known = is ∙ ap (λ n. Some (ordered_trace_of n (2 ^ 24) (records_of bytes))) same in
     record {
       rows = h.rows;

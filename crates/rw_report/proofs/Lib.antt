@@ -1,6 +1,7 @@
 pub mod Written
 pub mod Failing
 pub mod Lines
+pub mod Pieces
 pub mod Refused
 pub mod Runs
 pub mod Taking

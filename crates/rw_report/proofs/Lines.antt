@@ -59,10 +59,26 @@ three-pairs (Ok u) t a b c d e f t₁ t₂ t₃ t₄ t₅ t₆ h₁ h₂ h₃ h�
     h₆ ∙ (ap (λ x. x ++ f) (h₅ ∙ ap (λ x. x ++ e) (h₄ ∙ ap (λ x. x ++ d) (h₃ ∙ ap (λ x. x ++ c) (h₂ ∙ ap (λ x. x ++ b) h₁)))) ∙ joined)
 three-pairs (Err x) t a b c d e f t₁ t₂ t₃ t₄ t₅ t₆ h₁ h₂ h₃ h₄ h₅ h₆ = tt
 
--- nine pieces, one behind another
-pub nine-pieces : (t a b c d e f g h k t₁ t₂ t₃ t₄ t₅ t₆ t₇ t₈ t₉ : List ℕ)
-    → t₁ ≡ t ++ a → t₂ ≡ t₁ ++ b → t₃ ≡ t₂ ++ c → t₄ ≡ t₃ ++ d → t₅ ≡ t₄ ++ e → t₆ ≡ t₅ ++ f → t₇ ≡ t₆ ++ g → t₈ ≡ t₇ ++ h → t₉ ≡ t₈ ++ k
-    → t₉ ≡ t ++ (a ++ b ++ c ++ d ++ e ++ f ++ g ++ h ++ k)
-nine-pieces t a b c d e f g h k t₁ t₂ t₃ t₄ t₅ t₆ t₇ t₈ t₉ h₁ h₂ h₃ h₄ h₅ h₆ h₇ h₈ h₉ =
-    let joined : t ++ a ++ b ++ c ++ d ++ e ++ f ++ g ++ h ++ k ≡ t ++ (a ++ b ++ c ++ d ++ e ++ f ++ g ++ h ++ k) = simp append_assoc in
-    h₉ ∙ ap (λ x. x ++ k) (h₈ ∙ ap (λ x. x ++ h) (h₇ ∙ ap (λ x. x ++ g) (h₆ ∙ ap (λ x. x ++ f) (h₅ ∙ ap (λ x. x ++ e) (h₄ ∙ ap (λ x. x ++ d) (h₃ ∙ ap (λ x. x ++ c) (h₂ ∙ ap (λ x. x ++ b) h₁))))))) ∙ joined
+-- three pieces, one behind another
+pub three-pieces : (t a b c t₁ t₂ t₃ : List ℕ) → t₁ ≡ t ++ a → t₂ ≡ t₁ ++ b → t₃ ≡ t₂ ++ c → t₃ ≡ t ++ (a ++ b ++ c)
+three-pieces t a b c t₁ t₂ t₃ h₁ h₂ h₃ =
+    let joined : t ++ a ++ b ++ c ≡ t ++ (a ++ b ++ c) = simp append_assoc in
+    h₃ ∙ ap (λ x. x ++ c) (h₂ ∙ ap (λ x. x ++ b) h₁) ∙ joined
+
+-- five pieces
+pub five-pieces : (t a b c d e t₁ t₂ t₃ t₄ t₅ : List ℕ)
+    → t₁ ≡ t ++ a → t₂ ≡ t₁ ++ b → t₃ ≡ t₂ ++ c → t₄ ≡ t₃ ++ d → t₅ ≡ t₄ ++ e → t₅ ≡ t ++ (a ++ b ++ c ++ d ++ e)
+five-pieces t a b c d e t₁ t₂ t₃ t₄ t₅ h₁ h₂ h₃ h₄ h₅ =
+    let joined : t ++ a ++ b ++ c ++ d ++ e ≡ t ++ (a ++ b ++ c ++ d ++ e) = simp append_assoc in
+    h₅ ∙ ap (λ x. x ++ e) (h₄ ∙ ap (λ x. x ++ d) (h₃ ∙ ap (λ x. x ++ c) (h₂ ∙ ap (λ x. x ++ b) h₁))) ∙ joined
+
+-- two pieces, of which the last may not be written
+pub two-calls : {E : Type 0} (r : Result (Unit {0}) E) (t a b t₁ t₂ : List ℕ) → t₁ ≡ t ++ a → OnOk r (t₂ ≡ t₁ ++ b) → OnOk r (t₂ ≡ t ++ (a ++ b))
+two-calls (Ok u) t a b t₁ t₂ h₁ h₂ = h₂ ∙ ap (λ x. x ++ b) h₁ ∙ append_assoc t a b
+two-calls (Err x) t a b t₁ t₂ h₁ h₂ = tt
+
+-- three pieces, of which the last may not be written
+pub three-calls : {E : Type 0} (r : Result (Unit {0}) E) (t a b c t₁ t₂ t₃ : List ℕ)
+    → t₁ ≡ t ++ a → t₂ ≡ t₁ ++ b → OnOk r (t₃ ≡ t₂ ++ c) → OnOk r (t₃ ≡ t ++ (a ++ b ++ c))
+three-calls (Ok u) t a b c t₁ t₂ t₃ h₁ h₂ h₃ = three-pieces t a b c t₁ t₂ t₃ h₁ h₂ h₃
+three-calls (Err x) t a b c t₁ t₂ t₃ h₁ h₂ h₃ = tt

@@ -18,6 +18,7 @@ use Rattle.rw_photo.specs.Counts.{difference_of}
 use Rattle.rw_photo.specs.Events.{event_of}
 use Rattle.rw_photo.specs.Laws.{valid_ranges}
 use Rattle.rw_photo.specs.Simulation.{simulation, starts_of}
+use Rattle.rw_report.specs.declared.format.Format.TheVariants as format
 use Rattle.rw_report.specs.declared.intervals.Outlook.{Outlook}
 use Rattle.rw_report.specs.declared.moments.Moment.{Moment}
 use Rattle.rw_report.specs.History.{AreMomentsFrom, IsHistory, IsMoment}
@@ -128,9 +129,9 @@ module _ (c : Config) (rows : List Row) (ready : IsReady model.ghosts (record { 
     history = ms;
     is = history;
     told = is;
-    report = λ no_warm_up no_every. reports (unwrap_or o.warm_up 0) (unwrap_or o.every end_of_time) ms history text (is ∙ plain no_warm_up no_every);
+    report = λ no_warm_up no_every as_text. reports (unwrap_or o.warm_up 0) (unwrap_or o.every end_of_time) ms history text (is ∙ plain no_warm_up no_every as_text);
     add_up = add_up c ms;
   }
     where
-      plain : o.warm_up ≡ None → o.every ≡ None → told_of c o ms ≡ report_text c (last_counters ms)
-      plain no_warm_up no_every = rw (no_warm_up, no_every) refl
+      plain : o.warm_up ≡ None → o.every ≡ None → o.format ≡ format.Text → told_of c o ms ≡ report_text c (last_counters ms)
+      plain no_warm_up no_every as_text = rw (no_warm_up, no_every, as_text) refl

@@ -7,11 +7,12 @@ use Rattle.rw_photo.specs.declared.config.Config.{Config}
 use Rattle.rw_photo.specs.declared.counters.Counters.{Counters}
 use Rattle.rw_report.specs.declared.columns.Caches.{Caches}
 use Rattle.rw_report.specs.declared.columns.Caches.TheVariants.{Edges, Origins, All}
+use Rattle.rw_report.specs.declared.columns.Measured.{Measured}
 
 -- the names of these columns, from the counts on
 abbrev pub counts_names : Text
 counts_names =
-    codes "requests,hits,misses,coalesced,late,bypassed,inserted,evicted,reinserted,promoted,writes,splits,merges,hit_bytes,request_bytes,hit_ratio,byte_hit_ratio,flash_bytes,written_bytes,backend_requests"
+    codes "requests,hits,misses,coalesced,late,bypassed,inserted,evicted,reinserted,promoted,writes,splits,merges,hit_bytes,request_bytes,hit_ratio,byte_hit_ratio,flash_bytes,written_bytes,backend_requests,backend_bytes,inserted_bytes"
 
 abbrev pub caches_name : Caches → Text
 caches_name Edges = codes "edges"
@@ -51,11 +52,16 @@ counts_of k =
     ∷ k.reinserted ∷ k.promoted ∷ k.writes ∷ k.splits ∷ k.merges ∷ k.hit_bytes ∷ k.request_bytes
     ∷ []
 
--- the columns of counts, of the two ratios and of bytes and requests: what was counted, the bytes of the flash, those
--- written to it, and how often the backend was asked
-abbrev pub counts_columns : Counters → ℕ → ℕ → Count → Text
-counts_columns k flash written backend =
+-- the columns of counts, of the two ratios, and of bytes and requests: what was counted, the bytes of the flash, those
+-- written to it, how often the backend was asked and for how many bytes, and the bytes of the objects stored
+abbrev pub counts_columns : Counters → ℕ → ℕ → Count → Count → Text
+counts_columns k flash written asked fetched =
     columns_of (counts_of k)
     ++ codes "," ++ ratio_text k.hits k.requests
     ++ codes "," ++ ratio_text k.hit_bytes k.request_bytes
-    ++ columns_of (flash ∷ written ∷ backend ∷ [])
+    ++ columns_of (flash ∷ written ∷ asked ∷ fetched ∷ k.inserted_bytes ∷ [])
+
+-- the same columns, of caches of which this is measured
+abbrev pub measured_columns : Counters → Measured → Text
+measured_columns k m =
+    counts_columns k m.flash_bytes m.written_bytes m.backend_requests m.backend_bytes

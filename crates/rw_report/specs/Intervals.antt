@@ -1,9 +1,9 @@
--- What is told of a run over time: three lines for each interval between two marks; or the report of what was counted
--- from a time on.
-use Rattle.std.specs.Prelude.{◌≡◌, ◌≤◌, ◌<◌, ℕ, ◌+◌, ◌*◌, List, [], ◌∷◌, ◌++◌, Option, Some, None, codes, decimal, fold, map, unwrap_or}
+-- What is told of a run: a table with three lines for each interval between two marks; or what was counted in all, or
+-- from a time on, as a report or a table.
+use Rattle.std.specs.Prelude.{◌≡◌, ◌≤◌, ◌<◌, List, [], ◌∷◌, ◌++◌, Option, Some, None, codes, decimal, fold, map, unwrap_or}
 use Rattle.rw_vt.specs.Limits.{end_of_time}
 use Rattle.rw_vt.specs.System.{IsOutcome}
-use Rattle.rw_vt.specs.Words.{Count, Time}
+use Rattle.rw_vt.specs.Words.{Time}
 use Rattle.rw_vt.specs.declared.event.Event.{Event}
 use Rattle.rw_trace.specs.Words.{Text}
 use Rattle.rw_trace.specs.declared.Row.{Row}
@@ -11,23 +11,20 @@ use Rattle.rw_photo.specs.declared.config.Config.{Config}
 use Rattle.rw_photo.specs.declared.counters.Counters.{Counters}
 use Rattle.rw_photo.specs.declared.body.Body.{Body}
 use Rattle.rw_photo.specs.Cache.{Cache}
-use Rattle.rw_photo.specs.Counts.{difference_of, minus, no_counts, sum_of}
+use Rattle.rw_photo.specs.Counts.{difference_of, no_counts, sum_of}
 use Rattle.rw_photo.specs.Simulation.{simulation}
 use Rattle.rw_report.specs.declared.columns.Caches.{Caches}
 use Rattle.rw_report.specs.declared.columns.Caches.TheVariants.{Edges, Origins, All}
+use Rattle.rw_report.specs.declared.format.Format.{Format}
+use Rattle.rw_report.specs.declared.format.Format.TheVariants as format
 use Rattle.rw_report.specs.declared.intervals.Outlook.{Outlook}
 use Rattle.rw_report.specs.declared.moments.Moment.{Moment}
-use Rattle.rw_report.specs.Columns.{caches_name, counts_columns, counts_names, those_of}
+use Rattle.rw_report.specs.declared.sums.Sums.{Sums}
+use Rattle.rw_report.specs.Columns.{counts_names, those_of}
+use Rattle.rw_report.specs.Formats.{caches_header, caches_lines, json_lines}
 use Rattle.rw_report.specs.History.{IsHistory}
 use Rattle.rw_report.specs.Report.{report_text, totals}
-
--- the bytes of all device blocks of these caches
-abbrev pub bytes_of_flash : Config → Caches → ℕ
-bytes_of_flash c Edges = c.edges * c.edge_shape.blocks * c.edge_shape.block
-bytes_of_flash c Origins = c.origins * c.origin_shape.blocks * c.origin_shape.block
-bytes_of_flash c All =
-    c.edges * c.edge_shape.blocks * c.edge_shape.block
-    + c.origins * c.origin_shape.blocks * c.origin_shape.block
+use Rattle.rw_report.specs.Sums.{sums_line}
 
 -- what these caches have counted together from one moment to a later one
 abbrev pub counted_between : Config → Caches → Moment → Moment → Counters
@@ -35,42 +32,30 @@ counted_between c caches a b =
     difference_of (totals (those_of c caches b.counters.items))
     (totals (those_of c caches a.counters.items))
 
--- the bytes that they have written to flash in that time
-abbrev pub written_between : Config → Caches → Moment → Moment → ℕ
-written_between c Edges a b = (counted_between c Edges a b).writes * c.edge_shape.block
-written_between c Origins a b = (counted_between c Origins a b).writes * c.origin_shape.block
-written_between c All a b =
-    (counted_between c Edges a b).writes * c.edge_shape.block
-    + (counted_between c Origins a b).writes * c.origin_shape.block
+-- the same of the edges, of the origins, and of all
+abbrev pub sums_between : Config → Moment → Moment → Sums
+sums_between c a b =
+    record {
+      edges = counted_between c Edges a b;
+      origins = counted_between c Origins a b;
+      all = counted_between c All a b;
+    }
 
--- how often they have asked the backend: once for each miss at an origin
-abbrev pub asked_between : Config → Caches → Moment → Moment → Count
-asked_between c Edges a b = 0
-asked_between c Origins a b = (counted_between c Origins a b).misses
-asked_between c All a b = (counted_between c Origins a b).misses
+-- what stands before the caches in each line of an interval, behind a text
+abbrev pub interval_start : Text → Moment → Moment → Text
+interval_start before a b = before ++ decimal a.time ++ codes "," ++ decimal b.time ++ codes ","
 
--- the bytes that they have had of it: those of each miss at an origin
-abbrev pub fetched_between : Config → Caches → Moment → Moment → Count
-fetched_between c Edges a b = 0
-fetched_between c Origins a b =
-    minus (counted_between c Origins a b).request_bytes (counted_between c Origins a b).hit_bytes
-fetched_between c All a b =
-    minus (counted_between c Origins a b).request_bytes (counted_between c Origins a b).hit_bytes
-
--- the line of an interval for these caches
-abbrev pub interval_line : Config → Moment → Moment → Caches → Text
-interval_line c a b caches =
-    decimal a.time ++ codes "," ++ decimal b.time ++ codes "," ++ caches_name caches
-    ++ counts_columns (counted_between c caches a b) (bytes_of_flash c caches)
-    (written_between c caches a b) (asked_between c caches a b)
-    ++ codes "," ++ decimal (fetched_between c caches a b) ++ codes "\n"
+-- the line of an interval for these caches, behind a text
+abbrev pub interval_line : Config → Text → Moment → Moment → Caches → Text
+interval_line c before a b caches =
+    interval_start before a b ++ sums_line c (sums_between c a b) caches
 
 -- the three lines of an interval, each behind a text
 abbrev pub interval_lines : Config → Text → Moment → Moment → Text
 interval_lines c before a b =
-    before ++ interval_line c a b Edges
-    ++ (before ++ interval_line c a b Origins)
-    ++ (before ++ interval_line c a b All)
+    interval_line c before a b Edges
+    ++ interval_line c before a b Origins
+    ++ interval_line c before a b All
 
 -- the lines from a moment on, from each moment to the next one
 abbrev pub lines_from : Config → Text → Moment → List Moment → Text
@@ -83,7 +68,7 @@ lines_of c before (a ∷ ms) = lines_from c before a ms
 
 -- the names of the columns
 abbrev pub intervals_header : Text
-intervals_header = codes "from,to,caches," ++ counts_names ++ codes ",backend_bytes\n"
+intervals_header = codes "from,to,caches," ++ counts_names ++ codes "\n"
 
 -- the counters of each cache by the first moment
 abbrev pub first_counters : List Moment → List Counters
@@ -102,16 +87,34 @@ counted_by_each [] later = []
 counted_by_each (k ∷ ks) [] = []
 counted_by_each (k ∷ ks) (l ∷ ls) = difference_of l k ∷ counted_by_each ks ls
 
--- what is told where a table of intervals is asked for, and where it is not; where the caches warm up, and where not
-abbrev pub told : Config → Option Time → Option Time → List Moment → Text
-told c warm_up (Some every) ms = intervals_header ++ lines_of c [] ms
-told c None None ms = report_text c (last_counters ms)
-told c (Some start) None ms = report_text c (counted_by_each (first_counters ms) (last_counters ms))
+-- what each cache has counted by the last moment, from the first one on where the caches warm up till then
+abbrev pub counted_from : Option Time → List Moment → List Counters
+counted_from None ms = last_counters ms
+counted_from (Some start) ms = counted_by_each (first_counters ms) (last_counters ms)
 
--- what is told of the moments of a run: where intervals are asked for their table; else the report of what each cache
--- has counted, from the first moment on where the caches warm up till then
+-- the names of the columns of a table: of intervals where they are asked for, and else of caches
+abbrev pub table_header : Option Time → Text
+table_header None = caches_header
+table_header (Some every) = intervals_header
+
+-- its lines
+abbrev pub table_lines : Config → Option Time → Option Time → List Moment → Text
+table_lines c warm_up None ms = caches_lines c (counted_from warm_up ms)
+table_lines c warm_up (Some every) ms = lines_of c [] ms
+
+-- what is told in a format, where the caches warm up or not, and where intervals are asked for or not: as text the
+-- report, or the table of intervals; as CSV the table; as JSON its lines as objects
+abbrev pub told : Config → Format → Option Time → Option Time → List Moment → Text
+told c format.Text warm_up None ms = report_text c (counted_from warm_up ms)
+told c format.Text warm_up (Some every) ms =
+    table_header (Some every) ++ table_lines c warm_up (Some every) ms
+told c format.Csv warm_up every ms = table_header every ++ table_lines c warm_up every ms
+told c format.Json warm_up every ms =
+    json_lines (table_header every) (table_lines c warm_up every ms)
+
+-- what an outlook asks to be told of the moments of a run
 abbrev pub told_of : Config → Outlook → List Moment → Text
-told_of c o ms = told c o.warm_up o.every ms
+told_of c o ms = told c o.format o.warm_up o.every ms
 
 -- the numbers of an outlook are in their ranges
 pub record AreMarks (o : Outlook) : Type 0 where
@@ -145,12 +148,13 @@ pub record ReportsRun (c : Config) (rows : List Row) (text : Text) : Type 0 wher
   pub outcome : IsOutcome (simulation c rows) end_of_time journals states
   pub told : text ≡ report_text c (map (λ s. s.counters) states)
 
--- the text tells of a run of these rows what an outlook asks for; where it asks for nothing else, the report; and the
--- intervals add up
+-- the text tells of a run of these rows what an outlook asks for; where it asks for nothing else, the report as text;
+-- and the intervals add up
 pub record TellsOf (c : Config) (o : Outlook) (rows : List Row) (text : Text) : Type 0 where
   pub history : List Moment
   pub is : IsHistory (simulation c rows) (unwrap_or o.warm_up 0) (unwrap_or o.every end_of_time)
       history
   pub told : text ≡ told_of c o history
-  pub report : o.warm_up ≡ None → o.every ≡ None → ReportsRun c rows text
+  pub report : o.warm_up ≡ None → o.every ≡ None → o.format ≡ format.Text
+      → ReportsRun c rows text
   pub add_up : AddUp c history

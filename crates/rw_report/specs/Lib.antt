@@ -7,6 +7,8 @@ pub mod History
 pub mod Run
 pub mod Streams
 pub mod Columns
+pub mod Sums
+pub mod Formats
 pub mod Intervals
 pub mod Schedule
 pub mod Journal

@@ -1,6 +1,6 @@
 // The columns that tables have in common.
 ghost use Rattle.std.specs.Prelude.{◌≡◌, ◌+◌, ◌*◌, ◌/◌, ◌%◌, ◌<◌, ◌++◌, codes, decimal, OnOk};
-ghost use Rattle.rw_report.specs.Columns.{caches_name, columns_of, counts_columns, counts_of, millionths, ratio_text, six_digits};
+ghost use Rattle.rw_report.specs.Columns.{caches_name, columns_of, counts_of, measured_columns, millionths, ratio_text, six_digits};
 ghost use Rattle.rw_report.specs.Report.{totals};
 
 use itoa::Buffer;
@@ -15,6 +15,19 @@ pub enum Caches {
     Origins,
     /// All caches of the configuration.
     All,
+}
+
+/// What a line of a table tells of some caches beside what they have counted together.
+#[derive(Clone, Copy)]
+pub struct Measured {
+    /// The bytes of all their device blocks.
+    pub flash_bytes: u128,
+    /// The bytes that they have written to flash.
+    pub written_bytes: u128,
+    /// How often they have asked the backend.
+    pub backend_requests: u64,
+    /// The bytes that they have asked it for, modulo 2^64.
+    pub backend_bytes: u64,
 }
 
 /// The word for these caches.
@@ -39,24 +52,29 @@ pub fn totals(all: &[Counters]) -> Counters
     total
 }
 
-/// The columns of counts, of the two ratios and of bytes and requests, each behind a comma: what was counted, the bytes of the flash,
-/// those written to it, and how often the backend was asked.
+/// The columns of counts, of the two ratios, and of bytes and requests, each behind a comma: what was counted, what is measured beside
+/// it, and the bytes of the objects stored.
 pub fn write_counts(
     text: &mut Vec<u8>,
     total: &Counters,
-    flash: u128,
-    written: u128,
-    backend: u64,
+    measured: Measured,
 ) -> Result<(), NoMemory>
     ensures { OnOk result
-        (text.new.items ≡ text.old.items ++ counts_columns total.now flash written backend) }
+        (text.new.items ≡ text.old.items ++ measured_columns total.now measured) }
 {
     write_columns(text, &counts_of(total))?;
     text.push(b',')?;
     write_ratio(text, total.hits, total.requests)?;
     text.push(b',')?;
     write_ratio(text, total.hit_bytes, total.request_bytes)?;
-    write_columns(text, &[flash, written, u128::from(backend)])
+    let numbers = [
+        measured.flash_bytes,
+        measured.written_bytes,
+        u128::from(measured.backend_requests),
+        u128::from(measured.backend_bytes),
+        u128::from(total.inserted_bytes),
+    ];
+    write_columns(text, &numbers)
 }
 
 /// The counts of a line, in the order of its columns.
@@ -121,7 +139,7 @@ fn millionths(part: u64, whole: u64) -> u128
 }
 
 /// Which part of the whole, with six decimals, rounded down; 0.000000 where there is nothing.
-fn write_ratio(text: &mut Vec<u8>, part: u64, whole: u64) -> Result<(), NoMemory>
+pub fn write_ratio(text: &mut Vec<u8>, part: u64, whole: u64) -> Result<(), NoMemory>
     ensures { OnOk result (text.new.items ≡ text.old.items ++ ratio_text part whole) }
 {
     let millionths = millionths(part, whole);

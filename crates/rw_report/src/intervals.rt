@@ -1,31 +1,36 @@
-// What is told of a run over time.
-ghost use Rattle.std.specs.Prelude.{◌≡◌, ◌<◌, ◌*◌, ◌^◌, ◌++◌, ◌↔◌, [], None, IfOk, IfSome, IsSome, IsTrue, OnOk, unwrap_or};
+// What is told of a run, over time or in all.
+ghost use Rattle.std.specs.Prelude.{◌≡◌, ◌++◌, ◌↔◌, None, IfOk, IfSome, IsSome, IsTrue, OnOk, unwrap_or};
 ghost use Rattle.rw_vt.specs.Limits.{end_of_time};
-ghost use Rattle.rw_report.specs.Columns.{those_of};
-ghost use Rattle.rw_report.specs.Intervals.{AreMarks, asked_between, counted_between, counted_by_each, fetched_between, bytes_of_flash, first_counters, interval_line, interval_lines, intervals_header, last_counters, lines_of, told_of, written_between};
+ghost use Rattle.rw_report.specs.Intervals.{AreMarks, counted_between, counted_by_each, counted_from, first_counters, interval_lines, interval_start, intervals_header, last_counters, lines_of, sums_between, table_header, table_lines, told, told_of};
 
-use crate::columns::{Caches, caches_name, totals, write_counts, write_number};
+use crate::cache_table::{caches_header, write_caches};
+use crate::columns::{Caches, totals, write_number};
+use crate::format::{Format, json_lines};
 use crate::moments::{Marks, Moment};
 use crate::report_text::report_of_counters;
-use rw_photo::{Config, Counters, NoMemory, Shape};
+use crate::sums::{Sums, those, write_sums};
+use rw_photo::{Config, Counters, NoMemory};
 use rw_vt::END;
 use std::alloc::Global;
 
-/// What is told of a run: its report, or a table of intervals.
+/// What is told of a run: its report, or a table.
 #[derive(Clone, Copy)]
 pub struct Outlook {
     /// From when on what is counted is told, in ticks, where the caches warm up till then: at most [`END`].
     pub warm_up: Option<u64>,
-    /// How long an interval is, in ticks, where a table is asked for: 1 to [`END`].
+    /// How long an interval is, in ticks, where a table of intervals is asked for: 1 to [`END`].
     pub every: Option<u64>,
+    /// How it is written.
+    pub format: Format,
 }
 
 impl Outlook {
-    /// Whether it is the report of the whole run. Takes no memory.
+    /// Whether it is the report of the whole run, as text. Takes no memory.
     pub fn is_plain(&self) -> bool
-        ensures { IsTrue result ↔ ((self.now.warm_up ≡ None) × (self.now.every ≡ None)) }
+        ensures { IsTrue result ↔ ((self.now.warm_up ≡ None) × (self.now.every ≡ None)
+            × (self.now.format ≡ Format.Text)) }
     {
-        self.warm_up.is_none() && self.every.is_none()
+        self.warm_up.is_none() && self.every.is_none() && self.format == Format::Text
     }
 
     /// The marks at which a run is looked at for it. `None` exactly where one of the two is out of its range. Takes no memory.
@@ -40,7 +45,7 @@ impl Outlook {
 
 /// The names of the columns of a table of intervals.
 const HEADER: &[u8] =
-    b"from,to,caches,requests,hits,misses,coalesced,late,bypassed,inserted,evicted,reinserted,promoted,writes,splits,merges,hit_bytes,request_bytes,hit_ratio,byte_hit_ratio,flash_bytes,written_bytes,backend_requests,backend_bytes\n";
+    b"from,to,caches,requests,hits,misses,coalesced,late,bypassed,inserted,evicted,reinserted,promoted,writes,splits,merges,hit_bytes,request_bytes,hit_ratio,byte_hit_ratio,flash_bytes,written_bytes,backend_requests,backend_bytes,inserted_bytes\n";
 
 /// The line with the names of the columns of a table of intervals. Takes no memory.
 pub fn intervals_header() -> &'static [u8]
@@ -49,8 +54,9 @@ pub fn intervals_header() -> &'static [u8]
     HEADER
 }
 
-/// Tells of the moments of a run: a table where intervals are asked for, else the report of what each cache has counted, from the
-/// first moment on where the caches warm up till then.
+/// Tells of the moments of a run, in the format that is asked for: as text a table where intervals are asked for, and else the report;
+/// as CSV that table, and else a table of caches; as JSON the lines of the table of CSV. Where the caches warm up, what they have
+/// counted from the first moment on is told.
 ///
 /// # Errors
 ///
@@ -63,24 +69,93 @@ pub fn tell(
 ) -> Result<Vec<u8>, NoMemory>
     ensures { IfOk result (λ text. text.items ≡ told_of config.now outlook moments.now) }
 {
-    match (outlook.every, outlook.warm_up) {
-        (Some(_), _) => table(alloc, config, moments),
-        (None, None) => report_of_counters(alloc, config, last_counters(moments)),
-        (None, Some(_)) => {
-            let counted = count_each(alloc, first_counters(moments), last_counters(moments))?;
+    match outlook.format {
+        Format::Text => report_or_table(alloc, config, outlook, moments),
+        Format::Csv => table(alloc, config, outlook, moments),
+        Format::Json => {
+            let mut lines = Vec::new(alloc);
+            write_lines(&mut lines, alloc, config, outlook, moments)?;
+            json_lines(alloc, table_header(outlook.every), lines.as_slice())
+        }
+    }
+}
+
+/// What is told as text: the table where intervals are asked for, and else the report.
+fn report_or_table(
+    alloc: Global,
+    config: &Config,
+    outlook: Outlook,
+    moments: &[Moment],
+) -> Result<Vec<u8>, NoMemory>
+    ensures { IfOk result (λ text. text.items
+        ≡ told config.now Format.Text outlook.warm_up outlook.every moments.now) }
+{
+    match outlook.every {
+        Some(_) => table(alloc, config, outlook, moments),
+        None => {
+            let counted = counted_from(alloc, outlook.warm_up, moments)?;
             report_of_counters(alloc, config, counted.as_slice())
         }
     }
 }
 
-/// The table of the intervals between some moments.
-fn table(alloc: Global, config: &Config, moments: &[Moment]) -> Result<Vec<u8>, NoMemory>
-    ensures { IfOk result (λ text.
-        text.items ≡ intervals_header ++ lines_of config.now [] moments.now) }
+/// The table: of intervals where they are asked for, and else of caches.
+fn table(
+    alloc: Global,
+    config: &Config,
+    outlook: Outlook,
+    moments: &[Moment],
+) -> Result<Vec<u8>, NoMemory>
+    ensures { IfOk result (λ text. text.items ≡ table_header outlook.every
+        ++ table_lines config.now outlook.warm_up outlook.every moments.now) }
 {
-    let mut text = Vec::from_slice(alloc, intervals_header())?;
-    write_intervals(&mut text, config, b"", moments)?;
+    let mut text = Vec::from_slice(alloc, table_header(outlook.every))?;
+    write_lines(&mut text, alloc, config, outlook, moments)?;
     Ok(text)
+}
+
+/// The line with the names of the columns of the table.
+fn table_header(every: Option<u64>) -> &'static [u8]
+    ensures { result.now ≡ table_header every }
+{
+    match every {
+        Some(_) => intervals_header(),
+        None => caches_header(),
+    }
+}
+
+/// Writes the lines of the table.
+fn write_lines(
+    text: &mut Vec<u8>,
+    alloc: Global,
+    config: &Config,
+    outlook: Outlook,
+    moments: &[Moment],
+) -> Result<(), NoMemory>
+    ensures { OnOk result (text.new.items ≡ text.old.items
+        ++ table_lines config.now outlook.warm_up outlook.every moments.now) }
+{
+    match outlook.every {
+        Some(_) => write_intervals(text, config, b"", moments),
+        None => {
+            let counted = counted_from(alloc, outlook.warm_up, moments)?;
+            write_caches(text, config, counted.as_slice())
+        }
+    }
+}
+
+/// What each cache has counted by the last moment; from the first one on, where the caches warm up till then.
+fn counted_from(
+    alloc: Global,
+    warm_up: Option<u64>,
+    moments: &[Moment],
+) -> Result<Vec<Counters>, NoMemory>
+    ensures { IfOk result (λ counted. counted.items ≡ counted_from warm_up moments.now) }
+{
+    match warm_up {
+        Some(_) => count_each(alloc, first_counters(moments), last_counters(moments)),
+        None => Ok(Vec::from_slice(alloc, last_counters(moments))?),
+    }
 }
 
 /// The counters of each cache by the first moment.
@@ -134,133 +209,51 @@ fn write_interval(
     ensures { OnOk result (text.new.items
         ≡ text.old.items ++ interval_lines config.now before.now from.now to.now) }
 {
-    text.extend_from_slice(before)?;
-    write_line(text, config, from, to, Caches::Edges)?;
-    text.extend_from_slice(before)?;
-    write_line(text, config, from, to, Caches::Origins)?;
-    text.extend_from_slice(before)?;
-    write_line(text, config, from, to, Caches::All)
+    let sums = sums_between(config, from, to);
+    write_start(text, before, from, to)?;
+    write_sums(text, config, &sums, Caches::Edges)?;
+    write_start(text, before, from, to)?;
+    write_sums(text, config, &sums, Caches::Origins)?;
+    write_start(text, before, from, to)?;
+    write_sums(text, config, &sums, Caches::All)
 }
 
-/// Writes the line of an interval for these caches.
-fn write_line(
+/// Writes what stands before the caches in each line of an interval.
+fn write_start(
     text: &mut Vec<u8>,
-    config: &Config,
+    before: &[u8],
     from: &Moment,
     to: &Moment,
-    caches: Caches,
 ) -> Result<(), NoMemory>
-    ensures { OnOk result
-        (text.new.items ≡ text.old.items ++ interval_line config.now from.now to.now caches) }
+    ensures { OnOk result (text.new.items
+        ≡ text.old.items ++ interval_start before.now from.now to.now) }
 {
+    text.extend_from_slice(before)?;
     write_number(text, u128::from(from.time))?;
     text.push(b',')?;
     write_number(text, u128::from(to.time))?;
     text.push(b',')?;
-    text.extend_from_slice(caches_name(caches))?;
-    write_counts(
-        text,
-        &between(config, caches, from, to),
-        flash(config, caches),
-        written(config, caches, from, to),
-        asked(config, caches, from, to),
-    )?;
-    text.push(b',')?;
-    write_number(text, u128::from(fetched(config, caches, from, to)))?;
-    text.push(b'\n')?;
     Ok(())
 }
 
+/// What the edges, the origins and all caches have counted together from one moment to a later one.
+fn sums_between(config: &Config, from: &Moment, to: &Moment) -> Sums
+    ensures { result ≡ sums_between config.now from.now to.now }
+{
+    Sums {
+        edges: counted_between(config, Caches::Edges, from, to),
+        origins: counted_between(config, Caches::Origins, from, to),
+        all: counted_between(config, Caches::All, from, to),
+    }
+}
+
 /// What these caches have counted together from one moment to a later one.
-fn between(config: &Config, caches: Caches, from: &Moment, to: &Moment) -> Counters
+fn counted_between(config: &Config, caches: Caches, from: &Moment, to: &Moment) -> Counters
     ensures { result ≡ counted_between config.now caches from.now to.now }
 {
     let mut counted = totals(those(config, caches, to.counters.as_slice()));
     counted.take_off(&totals(those(config, caches, from.counters.as_slice())));
     counted
-}
-
-/// Of what is said of each cache, the edges first, that of these caches.
-fn those<'a>(config: &Config, caches: Caches, all: &'a [Counters]) -> &'a [Counters]
-    ensures { result.now ≡ those_of config.now caches all.now }
-{
-    let edges = (config.edges() as usize).min(all.len());
-    match caches {
-        Caches::Edges => &all[..edges],
-        Caches::Origins => &all[edges..],
-        Caches::All => all,
-    }
-}
-
-/// The bytes of all device blocks of these caches.
-fn flash(config: &Config, caches: Caches) -> u128
-    ensures { result ≡ bytes_of_flash config.now caches }
-{
-    let edges = shape_bytes(config.edges(), config.edge_shape());
-    let origins = shape_bytes(config.origins(), config.origin_shape());
-    match caches {
-        Caches::Edges => edges,
-        Caches::Origins => origins,
-        Caches::All => edges + origins,
-    }
-}
-
-/// The bytes of all device blocks of so many caches of a shape.
-fn shape_bytes(count: u32, shape: Shape) -> u128
-    ensures bytes { result ≡ count * shape.blocks * shape.block }
-    ensures few { result < 2 ^ 80 }
-{
-    let (_, block, blocks) = shape.limits();
-    u128::from(count) * u128::from(blocks) * u128::from(block)
-}
-
-/// The bytes that these caches have written to flash from one moment to a later one.
-fn written(config: &Config, caches: Caches, from: &Moment, to: &Moment) -> u128
-    ensures { result ≡ written_between config.now caches from.now to.now }
-{
-    let edges = written_by(
-        &between(config, Caches::Edges, from, to),
-        config.edge_shape(),
-    );
-    let origins = written_by(
-        &between(config, Caches::Origins, from, to),
-        config.origin_shape(),
-    );
-    match caches {
-        Caches::Edges => edges,
-        Caches::Origins => origins,
-        Caches::All => edges + origins,
-    }
-}
-
-/// The bytes of the blocks that caches of a shape have written.
-fn written_by(counted: &Counters, shape: Shape) -> u128
-    ensures bytes { result ≡ counted.now.writes * shape.block }
-    ensures few { result < 2 ^ 100 }
-{
-    let (_, block, _) = shape.limits();
-    u128::from(counted.writes) * u128::from(block)
-}
-
-/// How often these caches have asked the backend from one moment to a later one: once for each miss at an origin.
-fn asked(config: &Config, caches: Caches, from: &Moment, to: &Moment) -> u64
-    ensures { result ≡ asked_between config.now caches from.now to.now }
-{
-    match caches {
-        Caches::Edges => 0,
-        Caches::Origins | Caches::All => between(config, Caches::Origins, from, to).misses,
-    }
-}
-
-/// The bytes that they have had of it: those of each miss at an origin.
-fn fetched(config: &Config, caches: Caches, from: &Moment, to: &Moment) -> u64
-    ensures { result ≡ fetched_between config.now caches from.now to.now }
-{
-    let origins = between(config, Caches::Origins, from, to);
-    match caches {
-        Caches::Edges => 0,
-        Caches::Origins | Caches::All => origins.request_bytes.wrapping_sub(origins.hit_bytes),
-    }
 }
 
 /// What each cache has counted from one time to another.

@@ -13,14 +13,16 @@
 //! [`replay_stream`] reads a trace while it runs it, [`replay_rows`] runs the rows of any source, and
 //! [`replay_over_time`] runs a trace in memory; an [`Outlook`] says what they report. Inside, a [`Run`]
 //! takes rows as they come and can advance to any time, a [`Recording`] stores the [`Moment`]s at its
-//! [`Marks`] on the way, and [`tell`] turns them into a report or a table.
+//! [`Marks`] on the way, and [`tell`] turns them into a report or a table, in a [`Format`].
 //!
 //! [`schedule`] parses the steps of a run by hand, and [`journal`] writes what they lead to.
 //! [`World::run_steps`](rw_world::World::run_steps) makes the steps, so this crate needs no engine.
 //!
 //! Worked examples: `rw_program_tests/src/reports.rt`, and the cases of `rw_cases`.
 
+mod cache_table;
 mod columns;
+mod format;
 mod intervals;
 mod journal_text;
 mod moments;
@@ -33,9 +35,13 @@ mod running;
 mod schedule_text;
 mod sim_fault;
 mod streaming;
+mod sums;
 mod telling;
 
-pub use columns::{Caches, caches_name, totals, write_columns, write_counts, write_number};
+pub use columns::{
+    Caches, Measured, caches_name, totals, write_columns, write_counts, write_number, write_ratio,
+};
+pub use format::{Format, json_lines};
 pub use intervals::{Outlook, count_each, intervals_header, tell, write_intervals};
 pub use journal_text::journal;
 pub use moments::{Marks, Moment, counters_of};

@@ -55,7 +55,7 @@ pub fn report_of_counters(
 }
 
 /// The name of a cache, at the beginning of its line.
-fn write_name(text: &mut Vec<u8>, config: &Config, process: u64) -> Result<(), NoMemory>
+pub(crate) fn write_name(text: &mut Vec<u8>, config: &Config, process: u64) -> Result<(), NoMemory>
     ensures { OnOk result (text.new.items ≡ text.old.items ++ name_of config.now process) }
 {
     let edges = u64::from(config.edges());

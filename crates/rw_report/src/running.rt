@@ -3,6 +3,7 @@ ghost use Rattle.std.specs.Io.KnownBytes.{Appends};
 ghost use Rattle.rw_report.specs.Sink.{AppendsBeginning};
 ghost use Rattle.rw_report.specs.Replay.{HasBegunToReport, HasBegunToStream, HasBegunToTell, HasBegunToTellOfRows, HasReported, HasStreamed, HasTold, HasToldOfRows, IsReplayFault, IsReportOf, IsRowsTellingFault, IsRowsTextFault, IsStreamingFault, IsTellingFault, IsTextFault, IsWritingFault, TellsOfRows, TellsOfTrace};
 
+use crate::format::Format;
 use crate::intervals::{Outlook, tell};
 use crate::output::Out;
 use crate::replaying::last_states_and_tell;
@@ -92,6 +93,7 @@ fn report_in_order<P: Progress>(
     let outlook = Outlook {
         warm_up: None,
         every: None,
+        format: Format::Text,
     };
     text_of_rows(alloc, &mut rows, config, outlook, progress).ok()
 }

@@ -2,6 +2,7 @@ use Rattle.std.proofs.Common.{◌≡◌, None, Option, Ok, Err, Result, refl, su
 use Rattle.std.specs.Prelude.{IfOk, IfSome}
 use Rattle.std.specs.Result.{result_ok}
 use Rattle.rw_photo.specs.declared.config.Config.{Config}
+use Rattle.rw_report.specs.declared.format.Format.TheVariants as format
 use Rattle.rw_report.specs.declared.intervals.Outlook.{Outlook}
 use Rattle.rw_report.specs.Replay.{IsReportOf, TellsOfRows}
 use Rattle.rw_report.proofs.Known.{report_known}
@@ -15,7 +16,7 @@ pub returns : goal.returns
 returns g c =
     let config : Config = c.args.config.now in
     let bytes = c.args.bytes.now in
-    let o : Outlook = record { warm_up = None; every = None } in
+    let o : Outlook = record { warm_up = None; every = None; format = format.Text } in
     let ahead = c.in_ok-rows.rows.ahead in
     ok_some (λ text. TellsOfRows config o ahead text.items) (λ text. IsReportOf config bytes text.items)
-    (λ text told. report_known config o c.edges.result ahead bytes refl refl c.edges.ensures c.in_ok-rows.ensures.ahead text.items told) c.text_of_rows.result c.ok.result c.ok.ensures.value c.text_of_rows.ensures.text
+    (λ text told. report_known config o c.edges.result ahead bytes refl refl refl c.edges.ensures c.in_ok-rows.ensures.ahead text.items told) c.text_of_rows.result c.ok.result c.ok.ensures.value c.text_of_rows.ensures.text
