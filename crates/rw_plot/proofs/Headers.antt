@@ -2,12 +2,14 @@
 use Rattle.std.proofs.Common.{◌≡◌, ◌+◌, ◌==◌, ◌↔◌, ◌∙◌, ℕ, List, [], ◌∷◌, Bool, true, false, Option, Some, None, Result, Ok, Err, refl, sym, subst, if◌then◌else◌}
 use Rattle.std.specs.Prelude.{◌≢◌, nat_lt}
 use Rattle.std.specs.Result.{IfErr, IsErrAnd}
-use Rattle.rw_plot.specs.Layouts.{caches_column, is_layout, layout_of}
-use Rattle.rw_plot.specs.Tables.{DrawnRow, OrPlotFault, backend_bytes_of, caches_of_column, configuration_of, count_of_column, drawn_before, drawn_caches, drawn_of, drawn_row, figures_of, five_counts, flash_of_column, has_table_header, interval_of, is_drawn, lacks_flash_axis, lacks_measure, most_lines, or_plot_fault, policy_of_fields, ratio_of_column, rows_drawn, sample_of, sizes_of, some_count, some_rows, table_of, ticks_of, ◌>>=◌}
-use Rattle.rw_plot.specs.declared.layout.Layout.{Layout}
-use Rattle.rw_plot.specs.declared.layout.Layout.TheVariants.{Sweep, OverTime, SweepOverTime}
+use Rattle.rw_plot.specs.Layouts.{is_layout, layout_at, table_places}
+use Rattle.rw_plot.specs.Tables.{DrawnRow, OrPlotFault, backend_bytes_of, caches_of_column, configuration_of, count_if, count_of_column, drawn_before, drawn_caches, drawn_of, drawn_row, figures_of, flash_of_column, has_table_header, interval_of, is_drawn, lacks_flash_axis, lacks_measure, most_lines, or_plot_fault, policy_of_fields, ratio_of_column, rows_drawn, sample_of, sizes_of, some_rows, some_value, table_of, ticks_of, ◌>>=◌}
 use Rattle.rw_plot.specs.declared.measure.Caches.{Caches}
 use Rattle.rw_plot.specs.declared.measure.Drawing.{Drawing}
+use Rattle.rw_plot.specs.declared.places.ConfigurationPlaces.{ConfigurationPlaces}
+use Rattle.rw_plot.specs.declared.places.FigurePlaces.{FigurePlaces}
+use Rattle.rw_plot.specs.declared.places.IntervalPlaces.{IntervalPlaces}
+use Rattle.rw_plot.specs.declared.places.Places.{Places}
 use Rattle.rw_plot.specs.declared.plot_fault.PlotFault.{PlotFault}
 use Rattle.rw_plot.specs.declared.plot_fault.PlotFault.TheVariants as fault
 
@@ -45,72 +47,66 @@ flash-other : (row column : ℕ) (fields : List (List ℕ)) → NotHeader (flash
 unfolding flash_of_column
 flash-other row column fields = bind-other (count_of_column row column fields) _ (count-other row column fields) (λ n. if-other (n == 0) _ _ (λ q. cc) (λ q. cc))
 
-five-other : (row column : ℕ) (fields : List (List ℕ)) → NotHeader (five_counts row column fields)
-unfolding five_counts
-five-other row column fields =
-    bind-other (count_of_column row column fields) _ (count-other row column fields)
-    (λ a. bind-other (count_of_column row (column + 1) fields) _ (count-other row (column + 1) fields)
-    (λ b. bind-other (count_of_column row (column + 2) fields) _ (count-other row (column + 2) fields)
-    (λ c. bind-other (count_of_column row (column + 3) fields) _ (count-other row (column + 3) fields)
-    (λ d. count-other row (column + 4) fields))))
+if-there-other : (row : ℕ) (column : Option ℕ) (fields : List (List ℕ)) → NotHeader (count_if row column fields)
+if-there-other row None fields = ok-other 0
+if-there-other row (Some column) fields = count-other row column fields
 
-sizes-other : (row : ℕ) (fields : List (List ℕ)) → NotHeader (sizes_of row fields)
+sizes-other : (places : ConfigurationPlaces) (row : ℕ) (fields : List (List ℕ)) → NotHeader (sizes_of places row fields)
 unfolding sizes_of
-sizes-other row fields =
-    bind-other (count_of_column row 1 fields) _ (count-other row 1 fields)
-    (λ a. bind-other (count_of_column row 2 fields) _ (count-other row 2 fields)
-    (λ b. bind-other (count_of_column row 3 fields) _ (count-other row 3 fields)
-    (λ c. bind-other (count_of_column row 4 fields) _ (count-other row 4 fields)
-    (λ d. ok-other _))))
+sizes-other places row fields =
+    bind-other (count_of_column row places.sections fields) _ (count-other row places.sections fields)
+    (λ a. bind-other (count_of_column row places.block fields) _ (count-other row places.block fields)
+    (λ b. bind-other (count_of_column row places.edge_blocks fields) _ (count-other row places.edge_blocks fields)
+    (λ c. bind-other (count_of_column row places.origin_blocks fields) _ (count-other row places.origin_blocks fields)
+    (λ d. bind-other (count_if row places.edges fields) _ (if-there-other row places.edges fields)
+    (λ e. bind-other (count_if row places.origins fields) _ (if-there-other row places.origins fields)
+    (λ f. bind-other (count_if row places.up fields) _ (if-there-other row places.up fields)
+    (λ g. bind-other (count_if row places.down fields) _ (if-there-other row places.down fields)
+    (λ h. bind-other (count_if row places.back fields) _ (if-there-other row places.back fields)
+    (λ i. ok-other _)))))))))
 
-configuration-other : (layout : Layout) (row : ℕ) (fields : List (List ℕ)) → NotHeader (configuration_of layout row fields)
+configuration-other : (places : Option ConfigurationPlaces) (row : ℕ) (fields : List (List ℕ)) → NotHeader (configuration_of places row fields)
 unfolding configuration_of
-configuration-other Sweep row fields = sizes-other row fields
-configuration-other OverTime row fields = ok-other _
-configuration-other SweepOverTime row fields = sizes-other row fields
+configuration-other None row fields = ok-other _
+configuration-other (Some places) row fields = bind-other (sizes_of places row fields) some_value (sizes-other places row fields) (λ n. ok-other _)
 
-ticks-other : (row column : ℕ) (fields : List (List ℕ)) → NotHeader (ticks_of row column fields)
+ticks-other : (places : IntervalPlaces) (row : ℕ) (fields : List (List ℕ)) → NotHeader (ticks_of places row fields)
 unfolding ticks_of
-ticks-other row column fields =
-    bind-other (count_of_column row column fields) _ (count-other row column fields)
-    (λ a. bind-other (count_of_column row (column + 1) fields) _ (count-other row (column + 1) fields)
-    (λ b. if-other (nat_lt a b) _ _ (ok-other _) (err-other (fault.Number row (column + 1)) (λ q. cc))))
+ticks-other places row fields =
+    bind-other (count_of_column row places.from fields) _ (count-other row places.from fields)
+    (λ a. bind-other (count_of_column row places.to fields) _ (count-other row places.to fields)
+    (λ b. if-other (nat_lt a b) _ _ (ok-other _) (err-other (fault.Number row places.to) (λ q. cc))))
 
-interval-other : (layout : Layout) (row : ℕ) (fields : List (List ℕ)) → NotHeader (interval_of layout row fields)
+interval-other : (places : Option IntervalPlaces) (row : ℕ) (fields : List (List ℕ)) → NotHeader (interval_of places row fields)
 unfolding interval_of
-interval-other Sweep row fields = ok-other _
-interval-other OverTime row fields = ticks-other row 0 fields
-interval-other SweepOverTime row fields = ticks-other row 5 fields
+interval-other None row fields = ok-other _
+interval-other (Some places) row fields = bind-other (ticks_of places row fields) some_value (ticks-other places row fields) (λ n. ok-other _)
 
-figures-other : (row column : ℕ) (fields : List (List ℕ)) → NotHeader (figures_of row column fields)
+figures-other : (places : FigurePlaces) (row : ℕ) (fields : List (List ℕ)) → NotHeader (figures_of places row fields)
 unfolding figures_of
-figures-other row column fields =
-    bind-other (five_counts row (column + 1) fields) _ (five-other row (column + 1) fields)
-    (λ a. bind-other (five_counts row (column + 6) fields) _ (five-other row (column + 6) fields)
-    (λ b. bind-other (five_counts row (column + 11) fields) _ (five-other row (column + 11) fields)
-    (λ c. bind-other (ratio_of_column row (column + 16) fields) _ (ratio-other row (column + 16) fields)
-    (λ d. bind-other (ratio_of_column row (column + 17) fields) _ (ratio-other row (column + 17) fields)
-    (λ e. bind-other (flash_of_column row (column + 18) fields) _ (flash-other row (column + 18) fields)
-    (λ f. bind-other (count_of_column row (column + 19) fields) _ (count-other row (column + 19) fields)
-    (λ g. bind-other (count_of_column row (column + 20) fields) _ (count-other row (column + 20) fields)
-    (λ h. ok-other _))))))))
+figures-other places row fields =
+    bind-other (ratio_of_column row places.hit_ratio fields) _ (ratio-other row places.hit_ratio fields)
+    (λ a. bind-other (ratio_of_column row places.byte_hit_ratio fields) _ (ratio-other row places.byte_hit_ratio fields)
+    (λ b. bind-other (flash_of_column row places.flash_bytes fields) _ (flash-other row places.flash_bytes fields)
+    (λ c. bind-other (count_of_column row places.written_bytes fields) _ (count-other row places.written_bytes fields)
+    (λ d. bind-other (count_of_column row places.backend_requests fields) _ (count-other row places.backend_requests fields)
+    (λ e. ok-other _)))))
 
-backend-other : (layout : Layout) (row : ℕ) (fields : List (List ℕ)) → NotHeader (backend_bytes_of layout row fields)
+backend-other : (place : Option ℕ) (row : ℕ) (fields : List (List ℕ)) → NotHeader (backend_bytes_of place row fields)
 unfolding backend_bytes_of
-backend-other Sweep row fields = ok-other _
-backend-other OverTime row fields = bind-other (count_of_column row 23 fields) some_count (count-other row 23 fields) (λ n. ok-other _)
-backend-other SweepOverTime row fields = bind-other (count_of_column row 28 fields) some_count (count-other row 28 fields) (λ n. ok-other _)
+backend-other None row fields = ok-other _
+backend-other (Some column) row fields = bind-other (count_of_column row column fields) some_value (count-other row column fields) (λ n. ok-other _)
 
 -- ---- a row, and all of them
-sample-other : (layout : Layout) (row : ℕ) (fields : List (List ℕ)) → NotHeader (sample_of layout row fields)
+sample-other : (places : Places) (row : ℕ) (fields : List (List ℕ)) → NotHeader (sample_of places row fields)
 unfolding sample_of
-sample-other layout row fields =
+sample-other places row fields =
     if-other _ _ _
-    (bind-other (configuration_of layout row fields) _ (configuration-other layout row fields)
-    (λ a. bind-other (interval_of layout row fields) _ (interval-other layout row fields)
-    (λ b. bind-other (or_plot_fault (fault.Caches row) (caches_of_column (caches_column layout) fields)) _ (or-other (fault.Caches row) (caches_of_column (caches_column layout) fields) (λ q. cc))
-    (λ c. bind-other (figures_of row (caches_column layout) fields) _ (figures-other row (caches_column layout) fields)
-    (λ d. bind-other (backend_bytes_of layout row fields) _ (backend-other layout row fields)
+    (bind-other (configuration_of places.configuration row fields) _ (configuration-other places.configuration row fields)
+    (λ a. bind-other (interval_of places.interval row fields) _ (interval-other places.interval row fields)
+    (λ b. bind-other (or_plot_fault (fault.Caches row) (caches_of_column places.caches fields)) _ (or-other (fault.Caches row) (caches_of_column places.caches fields) (λ q. cc))
+    (λ c. bind-other (figures_of places.figures row fields) _ (figures-other places.figures row fields)
+    (λ d. bind-other (backend_bytes_of places.backend_bytes row fields) _ (backend-other places.backend_bytes row fields)
     (λ e. ok-other _))))))
     (err-other (fault.RowLength row) (λ q. cc))
 
@@ -120,34 +116,34 @@ before-other false d (Ok ds) h = λ q. cc
 before-other true d (Err e) h = h
 before-other false d (Err e) h = h
 
-rows-left-other : (layout : Layout) (drawn : Option Caches) (most n : ℕ) (rs : List (List (List ℕ))) → NotHeader (drawn_of layout drawn most n rs)
+rows-left-other : (places : Places) (drawn : Option Caches) (most n : ℕ) (rs : List (List (List ℕ))) → NotHeader (drawn_of places drawn most n rs)
 unfolding drawn_of
-rows-left-other layout drawn most n [] = λ q. cc
-rows-left-other layout drawn most n (r ∷ rs) =
+rows-left-other places drawn most n [] = λ q. cc
+rows-left-other places drawn most n (r ∷ rs) =
     if-other (n == most) _ _ (err-other fault.TooManyRows (λ q. cc))
-    (bind-other (sample_of layout n r) _ (sample-other layout n r)
-    (λ s. before-other (is_drawn drawn s.caches) (drawn_row (policy_of_fields layout r) s) (drawn_of layout drawn most (n + 1) rs) (rows-left-other layout drawn most (n + 1) rs)))
+    (bind-other (sample_of places n r) _ (sample-other places n r)
+    (λ s. before-other (is_drawn drawn s.caches) (drawn_row (policy_of_fields places.configuration r) s) (drawn_of places drawn most (n + 1) rs) (rows-left-other places drawn most (n + 1) rs)))
 
 some-other : (ds : List DrawnRow) → NotHeader (some_rows ds)
 some-other [] q = cc
 some-other (d ∷ ds) q = cc
 
-rows-other : (drawing : Drawing) (rs : List (List (List ℕ))) (layout : Layout) → NotHeader (rows_drawn drawing rs layout)
+rows-other : (drawing : Drawing) (rs : List (List (List ℕ))) (places : Places) → NotHeader (rows_drawn drawing rs places)
 unfolding rows_drawn
-rows-other drawing rs layout =
-    let drawn = drawn_caches layout drawing.caches in
-    if-other (lacks_measure layout drawing.measure) _ _ (err-other fault.NoBackendBytes (λ q. cc))
-    (if-other (lacks_flash_axis layout drawing.x) _ _ (err-other fault.NoFlashAxis (λ q. cc))
-    (bind-other (drawn_of layout drawn most_lines 0 rs) some_rows (rows-left-other layout drawn most_lines 0 rs) some-other))
+rows-other drawing rs places =
+    let drawn = drawn_caches places.layout drawing.caches in
+    if-other (lacks_measure places.backend_bytes drawing.measure) _ _ (err-other fault.NoBackendBytes (λ q. cc))
+    (if-other (lacks_flash_axis places.layout drawing.x) _ _ (err-other fault.NoFlashAxis (λ q. cc))
+    (bind-other (drawn_of places drawn most_lines 0 rs) some_rows (rows-left-other places drawn most_lines 0 rs) some-other))
 
 pub header-told : (drawing : Drawing) (recs : List (List (List ℕ))) → (table_of drawing recs ≡ Err fault.Header) ↔ (has_table_header recs ≡ false)
 unfolding table_of
 header-told drawing [] = (λ q. refl, λ q. refl)
-header-told drawing (h ∷ rs) = by (layout_of h)
+header-told drawing (h ∷ rs) = by (table_places h)
   where
-    by : (o : Option Layout) → ((or_plot_fault fault.Header o >>= rows_drawn drawing rs) ≡ Err fault.Header) ↔ (is_layout o ≡ false)
+    by : (o : Option Places) → ((or_plot_fault fault.Header o >>= rows_drawn drawing rs) ≡ Err fault.Header) ↔ (is_layout (layout_at o) ≡ false)
     by None = (λ q. refl, λ q. refl)
-    by (Some layout) = (λ q. absurd (rows-other drawing rs layout q), λ q. cc)
+    by (Some places) = (λ q. absurd (rows-other drawing rs places q), λ q. cc)
 
 -- a fault of the header that is passed on
 pub header-passed : {T : Type 0} (drawing : Drawing) (recs : List (List (List ℕ))) (r : Result T PlotFault) (e : PlotFault) → IsErrAnd r (λ f. f ≡ e) → (e ≢ fault.Memory → table_of drawing recs ≡ Err e)

@@ -1,3 +1,4 @@
 pub mod Escapes
 pub mod Headers
+pub mod Named
 pub mod Rows

@@ -1,22 +1,16 @@
--- Which of the three tables one is: a sweep's, one over time, or a sweep's over time. Its header says it.
-use Rattle.std.specs.Prelude.{◌+◌, ◌==◌, ◌&&◌, if◌then◌else◌, Bool, true, false, List, [], ◌∷◌, length, codes, Option, Some, None}
-use Rattle.rw_numbers.specs.Words.{Count, Position}
-use Rattle.rw_trace.specs.Trace.{is_text_at}
-use Rattle.rw_trace.specs.Words.{Fields}
+-- Which of the three tables one is, a sweep's, one over time, or a sweep's over time, and where its columns stand: its
+-- header says both, by the names of the columns.
+use Rattle.std.specs.Prelude.{nat_eq, Bool, true, false, List, [], ◌∷◌, length, codes, Option, Some, None}
+use Rattle.std.specs.Cmp.Lexicographic.{pointwise}
+use Rattle.std.specs.List.{position}
+use Rattle.rw_numbers.specs.Words.{Position}
+use Rattle.rw_trace.specs.Words.{Text, Fields}
 use Rattle.rw_plot.specs.declared.layout.Layout.{Layout}
 use Rattle.rw_plot.specs.declared.layout.Layout.TheVariants as layouts
-
--- how many columns a table has
-abbrev pub table_width : Layout → Count
-table_width layouts.Sweep = 26
-table_width layouts.OverTime = 24
-table_width layouts.SweepOverTime = 29
-
--- where the column `caches` stands, which is the first of those that all tables have
-abbrev pub caches_column : Layout → Position
-caches_column layouts.Sweep = 5
-caches_column layouts.OverTime = 2
-caches_column layouts.SweepOverTime = 7
+use Rattle.rw_plot.specs.declared.places.ConfigurationPlaces.{ConfigurationPlaces}
+use Rattle.rw_plot.specs.declared.places.FigurePlaces.{FigurePlaces}
+use Rattle.rw_plot.specs.declared.places.IntervalPlaces.{IntervalPlaces}
+use Rattle.rw_plot.specs.declared.places.Places.{Places}
 
 -- whether the rows of a table are those of intervals
 abbrev pub tells_intervals : Layout → Bool
@@ -24,89 +18,101 @@ tells_intervals layouts.Sweep = false
 tells_intervals layouts.OverTime = true
 tells_intervals layouts.SweepOverTime = true
 
--- ---- the names of the columns
--- whether the first columns have the names of those of a configuration
-abbrev pub names_configuration : Fields → Bool
-names_configuration fields =
-    is_text_at 0 (codes "policy") fields
-    && is_text_at 1 (codes "sections") fields
-    && is_text_at 2 (codes "block") fields
-    && is_text_at 3 (codes "edge_blocks") fields
-    && is_text_at 4 (codes "origin_blocks") fields
+-- ---- the places of columns
+infixl 10 ◌>>=◌
+abbrev pub ◌>>=◌ : {A B : Type 0} → Option A → (A → Option B) → Option B
+None >>= f = None
+(Some x) >>= f = f x
 
--- whether the columns from one on have the names of those of an interval
-abbrev pub names_interval : Position → Fields → Bool
-names_interval column fields =
-    is_text_at column (codes "from") fields && is_text_at (column + 1) (codes "to") fields
+-- the place of the first column of this name
+unfoldable pub column_named : Text → Fields → Option Position
+column_named name header = position (λ field. pointwise nat_eq field name) header
 
--- whether the columns from one on have the names of those of requests
-abbrev pub names_requests : Position → Fields → Bool
-names_requests column fields =
-    is_text_at column (codes "requests") fields
-    && is_text_at (column + 1) (codes "hits") fields
-    && is_text_at (column + 2) (codes "misses") fields
-    && is_text_at (column + 3) (codes "coalesced") fields
-    && is_text_at (column + 4) (codes "late") fields
+-- the places of the columns of a configuration; a table of before lacks the last five
+unfoldable pub configuration_places : Fields → Option ConfigurationPlaces
+configuration_places header = do
+  policy ← column_named (codes "policy") header
+  sections ← column_named (codes "sections") header
+  block ← column_named (codes "block") header
+  edge_blocks ← column_named (codes "edge_blocks") header
+  origin_blocks ← column_named (codes "origin_blocks") header
+  Some (record {
+    policy = policy;
+    sections = sections;
+    block = block;
+    edge_blocks = edge_blocks;
+    origin_blocks = origin_blocks;
+    edges = column_named (codes "edges") header;
+    origins = column_named (codes "origins") header;
+    up = column_named (codes "up") header;
+    down = column_named (codes "down") header;
+    back = column_named (codes "back") header;
+  })
 
--- whether the columns from one on have the names of those of what is stored
-abbrev pub names_stores : Position → Fields → Bool
-names_stores column fields =
-    is_text_at column (codes "bypassed") fields
-    && is_text_at (column + 1) (codes "inserted") fields
-    && is_text_at (column + 2) (codes "evicted") fields
-    && is_text_at (column + 3) (codes "reinserted") fields
-    && is_text_at (column + 4) (codes "promoted") fields
+-- the places of the columns of an interval
+unfoldable pub interval_places : Fields → Option IntervalPlaces
+interval_places header = do
+  from ← column_named (codes "from") header
+  to ← column_named (codes "to") header
+  Some (record { from = from; to = to })
 
--- whether the columns from one on have the names of those of writes, sections and bytes
-abbrev pub names_writes : Position → Fields → Bool
-names_writes column fields =
-    is_text_at column (codes "writes") fields
-    && is_text_at (column + 1) (codes "splits") fields
-    && is_text_at (column + 2) (codes "merges") fields
-    && is_text_at (column + 3) (codes "hit_bytes") fields
-    && is_text_at (column + 4) (codes "request_bytes") fields
+-- the places of the columns of the figures
+unfoldable pub figure_places : Fields → Option FigurePlaces
+figure_places header = do
+  hit_ratio ← column_named (codes "hit_ratio") header
+  byte_hit_ratio ← column_named (codes "byte_hit_ratio") header
+  flash_bytes ← column_named (codes "flash_bytes") header
+  written_bytes ← column_named (codes "written_bytes") header
+  backend_requests ← column_named (codes "backend_requests") header
+  Some (record {
+    hit_ratio = hit_ratio;
+    byte_hit_ratio = byte_hit_ratio;
+    flash_bytes = flash_bytes;
+    written_bytes = written_bytes;
+    backend_requests = backend_requests;
+  })
 
--- whether the columns from one on have the names of those of the measures
-abbrev pub names_measures : Position → Fields → Bool
-names_measures column fields =
-    is_text_at column (codes "hit_ratio") fields
-    && is_text_at (column + 1) (codes "byte_hit_ratio") fields
-    && is_text_at (column + 2) (codes "flash_bytes") fields
-    && is_text_at (column + 3) (codes "written_bytes") fields
-    && is_text_at (column + 4) (codes "backend_requests") fields
+-- the table with a column `policy` or none, and with these columns of a configuration and of an interval: one with a
+-- policy has the other columns of a configuration too, and one without is over time
+abbrev pub layout_with : Option Position → Option ConfigurationPlaces → Option IntervalPlaces
+    → Option Layout
+layout_with (Some p) (Some c) None = Some layouts.Sweep
+layout_with (Some p) (Some c) (Some i) = Some layouts.SweepOverTime
+layout_with (Some p) None i = None
+layout_with None c (Some i) = Some layouts.OverTime
+layout_with None c None = None
 
--- whether the columns from one on have the names of `caches` and of the twenty that follow it in all tables
-abbrev pub names_common : Position → Fields → Bool
-names_common column fields =
-    is_text_at column (codes "caches") fields
-    && names_requests (column + 1) fields
-    && names_stores (column + 6) fields
-    && names_writes (column + 11) fields
-    && names_measures (column + 16) fields
-
--- whether a record is the header of a table: each column has its name, and there is no further one
-unfoldable pub is_header_of : Layout → Fields → Bool
-is_header_of layouts.Sweep fields =
-    (length fields == 26) && names_configuration fields && names_common 5 fields
-is_header_of layouts.OverTime fields =
-    (length fields == 24) && names_interval 0 fields && names_common 2 fields
-    && is_text_at 23 (codes "backend_bytes") fields
-is_header_of layouts.SweepOverTime fields =
-    (length fields == 29) && names_configuration fields && names_interval 5 fields
-    && names_common 7 fields && is_text_at 28 (codes "backend_bytes") fields
-
--- the table whose header a record is, if it is one
+-- which table a header is of, if it is one's
 unfoldable pub layout_of : Fields → Option Layout
-layout_of fields =
-    if is_header_of layouts.Sweep fields then Some layouts.Sweep
-    else if is_header_of layouts.OverTime fields then Some layouts.OverTime
-    else if is_header_of layouts.SweepOverTime fields then Some layouts.SweepOverTime
-    else None
+layout_of header =
+    layout_with (column_named (codes "policy") header) (configuration_places header)
+    (interval_places header)
+
+-- the places of all columns that are drawn, and how many columns there are, if the header is one of a table
+unfoldable pub table_places : Fields → Option Places
+table_places header = do
+  layout ← layout_of header
+  caches ← column_named (codes "caches") header
+  figures ← figure_places header
+  Some (record {
+    layout = layout;
+    width = length header;
+    configuration = configuration_places header;
+    interval = interval_places header;
+    caches = caches;
+    figures = figures;
+    backend_bytes = column_named (codes "backend_bytes") header;
+  })
+
+-- the table of these places, if there is one
+abbrev pub layout_at : Option Places → Option Layout
+layout_at None = None
+layout_at (Some places) = Some places.layout
 
 -- the table that some records are, by the first of them
 abbrev pub layout_of_table : List Fields → Option Layout
 layout_of_table [] = None
-layout_of_table (h ∷ rs) = layout_of h
+layout_of_table (h ∷ rs) = layout_at (table_places h)
 
 -- whether there is a table
 abbrev pub is_layout : Option Layout → Bool

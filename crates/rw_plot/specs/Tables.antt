@@ -4,7 +4,7 @@ use Rattle.csv.specs.Records.{field_at}
 use Rattle.rw_numbers.specs.Words.{Count, Position, Size, Time}
 use Rattle.rw_trace.specs.Trace.{is_text_at, number_in, number_of}
 use Rattle.rw_trace.specs.Words.{Text, Fields}
-use Rattle.rw_plot.specs.Layouts.{caches_column, is_layout, layout_of, layout_of_table, table_width, tells_intervals}
+use Rattle.rw_plot.specs.Layouts.{is_layout, layout_of_table, table_places, tells_intervals}
 use Rattle.rw_plot.specs.declared.layout.Layout.{Layout}
 use Rattle.rw_plot.specs.declared.layout.Layout.TheVariants as layouts
 use Rattle.rw_plot.specs.declared.measure.Caches.{Caches}
@@ -13,6 +13,10 @@ use Rattle.rw_plot.specs.declared.measure.Drawing.{Drawing}
 use Rattle.rw_plot.specs.declared.measure.FlashOf.{FlashOf}
 use Rattle.rw_plot.specs.declared.measure.Measure.{Measure}
 use Rattle.rw_plot.specs.declared.measure.Measure.TheVariants as measures
+use Rattle.rw_plot.specs.declared.places.ConfigurationPlaces.{ConfigurationPlaces}
+use Rattle.rw_plot.specs.declared.places.FigurePlaces.{FigurePlaces}
+use Rattle.rw_plot.specs.declared.places.IntervalPlaces.{IntervalPlaces}
+use Rattle.rw_plot.specs.declared.places.Places.{Places}
 use Rattle.rw_plot.specs.declared.sample.Configuration.{Configuration}
 use Rattle.rw_plot.specs.declared.sample.Figures.{Figures}
 use Rattle.rw_plot.specs.declared.sample.Interval.{Interval}
@@ -74,54 +78,64 @@ flash_of_column row column fields =
     count_of_column row column fields
     >>= (λ n. if n == 0 then Err (fault.Number row column) else Ok n)
 
--- the last of five whole numbers from a column on
-unfoldable pub five_counts : Position → Position → Fields → OrPlotFault Count
-five_counts row column fields = do
-  _ ← count_of_column row column fields
-  _ ← count_of_column row (column + 1) fields
-  _ ← count_of_column row (column + 2) fields
-  _ ← count_of_column row (column + 3) fields
-  count_of_column row (column + 4) fields
+-- the whole number at a column, or 0 in a table that lacks it
+abbrev pub count_if : Position → Option Position → Fields → OrPlotFault Count
+count_if row None fields = Ok 0
+count_if row (Some column) fields = count_of_column row column fields
 
--- ---- the parts of a row, from the left
--- the sizes of the configuration, behind the policy, which may be any text
-unfoldable pub sizes_of : Position → Fields → OrPlotFault (Option Configuration)
-sizes_of row fields = do
-  sections ← count_of_column row 1 fields
-  block ← count_of_column row 2 fields
-  edge_blocks ← count_of_column row 3 fields
-  origin_blocks ← count_of_column row 4 fields
-  Ok (Some (record {
+-- ---- the parts of a row, column by column
+-- the numbers of the configuration, besides the policy, which may be any text
+unfoldable pub sizes_of : ConfigurationPlaces → Position → Fields → OrPlotFault Configuration
+sizes_of places row fields = do
+  sections ← count_of_column row places.sections fields
+  block ← count_of_column row places.block fields
+  edge_blocks ← count_of_column row places.edge_blocks fields
+  origin_blocks ← count_of_column row places.origin_blocks fields
+  edges ← count_if row places.edges fields
+  origins ← count_if row places.origins fields
+  up ← count_if row places.up fields
+  down ← count_if row places.down fields
+  back ← count_if row places.back fields
+  Ok (record {
     sections = sections;
     block = block;
     edge_blocks = edge_blocks;
     origin_blocks = origin_blocks;
-  }))
+    edges = edges;
+    origins = origins;
+    up = up;
+    down = down;
+    back = back;
+  })
+
+-- a value that is there
+abbrev pub some_value : {A : Type 0} → A → OrPlotFault (Option A)
+some_value x = Ok (Some x)
 
 -- the configuration, which a table of one does not tell
-unfoldable pub configuration_of : Layout → Position → Fields → OrPlotFault (Option Configuration)
-configuration_of layouts.Sweep row fields = sizes_of row fields
-configuration_of layouts.OverTime row fields = Ok None
-configuration_of layouts.SweepOverTime row fields = sizes_of row fields
+unfoldable pub configuration_of : Option ConfigurationPlaces → Position → Fields
+    → OrPlotFault (Option Configuration)
+configuration_of None row fields = Ok None
+configuration_of (Some places) row fields = sizes_of places row fields >>= some_value
 
 -- the interval from a tick to a later one, before which it ends and which stands at a column; it is not empty
-abbrev pub interval_to : Position → Position → Time → Time → OrPlotFault (Option Interval)
+abbrev pub interval_to : Position → Position → Time → Time → OrPlotFault Interval
 interval_to row column first past =
-    if nat_lt first past then Ok (Some (record { from = first; to = past }))
+    if nat_lt first past then Ok (record { from = first; to = past })
     else Err (fault.Number row column)
 
--- the interval from a column on: its first tick, and behind it the one before which it ends
-unfoldable pub ticks_of : Position → Position → Fields → OrPlotFault (Option Interval)
-ticks_of row column fields = do
-  first ← count_of_column row column fields
-  past ← count_of_column row (column + 1) fields
-  interval_to row (column + 1) first past
+-- the interval at two columns: its first tick, and the one before which it ends
+unfoldable pub ticks_of : IntervalPlaces → Position → Fields → OrPlotFault Interval
+ticks_of places row fields = do
+  first ← count_of_column row places.from fields
+  past ← count_of_column row places.to fields
+  interval_to row places.to first past
 
 -- the interval, which only a table over time tells
-unfoldable pub interval_of : Layout → Position → Fields → OrPlotFault (Option Interval)
-interval_of layouts.Sweep row fields = Ok None
-interval_of layouts.OverTime row fields = ticks_of row 0 fields
-interval_of layouts.SweepOverTime row fields = ticks_of row 5 fields
+unfoldable pub interval_of : Option IntervalPlaces → Position → Fields
+    → OrPlotFault (Option Interval)
+interval_of None row fields = Ok None
+interval_of (Some places) row fields = ticks_of places row fields >>= some_value
 
 -- the caches at a column, if its field is one of the three words
 unfoldable pub caches_of_column : Position → Fields → Option Caches
@@ -131,17 +145,14 @@ caches_of_column column fields =
     else if is_text_at column (codes "all") fields then Some whose.All
     else None
 
--- what is drawn of the twenty columns that follow `caches`
-unfoldable pub figures_of : Position → Position → Fields → OrPlotFault Figures
-figures_of row caches_at fields = do
-  _ ← five_counts row (caches_at + 1) fields
-  _ ← five_counts row (caches_at + 6) fields
-  _ ← five_counts row (caches_at + 11) fields
-  hit_ratio ← ratio_of_column row (caches_at + 16) fields
-  byte_hit_ratio ← ratio_of_column row (caches_at + 17) fields
-  flash_bytes ← flash_of_column row (caches_at + 18) fields
-  written_bytes ← count_of_column row (caches_at + 19) fields
-  backend_requests ← count_of_column row (caches_at + 20) fields
+-- what a row tells of its caches
+unfoldable pub figures_of : FigurePlaces → Position → Fields → OrPlotFault Figures
+figures_of places row fields = do
+  hit_ratio ← ratio_of_column row places.hit_ratio fields
+  byte_hit_ratio ← ratio_of_column row places.byte_hit_ratio fields
+  flash_bytes ← flash_of_column row places.flash_bytes fields
+  written_bytes ← count_of_column row places.written_bytes fields
+  backend_requests ← count_of_column row places.backend_requests fields
   Ok (record {
     hit_ratio = hit_ratio;
     byte_hit_ratio = byte_hit_ratio;
@@ -150,25 +161,22 @@ figures_of row caches_at fields = do
     backend_requests = backend_requests;
   })
 
--- a count that is there
-abbrev pub some_count : Count → OrPlotFault (Option Count)
-some_count n = Ok (Some n)
+-- the bytes that were asked of the backend, which a table may lack
+unfoldable pub backend_bytes_of : Option Position → Position → Fields
+    → OrPlotFault (Option Count)
+backend_bytes_of None row fields = Ok None
+backend_bytes_of (Some column) row fields = count_of_column row column fields >>= some_value
 
--- the bytes that were asked of the backend, which only a table over time tells
-unfoldable pub backend_bytes_of : Layout → Position → Fields → OrPlotFault (Option Count)
-backend_bytes_of layouts.Sweep row fields = Ok None
-backend_bytes_of layouts.OverTime row fields = count_of_column row 23 fields >>= some_count
-backend_bytes_of layouts.SweepOverTime row fields = count_of_column row 28 fields >>= some_count
-
--- what is drawn of a record, or its first fault: its length, then its columns from the left
-unfoldable pub sample_of : Layout → Position → Fields → OrPlotFault Sample
-sample_of layout row fields =
-    if length fields == table_width layout then (do
-      configuration ← configuration_of layout row fields
-      interval ← interval_of layout row fields
-      caches ← or_plot_fault (fault.Caches row) (caches_of_column (caches_column layout) fields)
-      figures ← figures_of row (caches_column layout) fields
-      backend_bytes ← backend_bytes_of layout row fields
+-- what is drawn of a record, or its first fault: its length, then its configuration, its interval, its caches, what it
+-- tells of them, and the bytes that were asked of the backend
+unfoldable pub sample_of : Places → Position → Fields → OrPlotFault Sample
+sample_of places row fields =
+    if length fields == places.width then (do
+      configuration ← configuration_of places.configuration row fields
+      interval ← interval_of places.interval row fields
+      caches ← or_plot_fault (fault.Caches row) (caches_of_column places.caches fields)
+      figures ← figures_of places.figures row fields
+      backend_bytes ← backend_bytes_of places.backend_bytes row fields
       Ok (record {
         configuration = configuration;
         interval = interval;
@@ -200,10 +208,9 @@ is_drawn None caches = true
 is_drawn (Some drawn) caches = are_same_caches caches drawn
 
 -- the policy of a record, which may be any text; none in a table of one configuration
-unfoldable pub policy_of_fields : Layout → Fields → Text
-policy_of_fields layouts.Sweep fields = unwrap_or (field_at fields 0) []
-policy_of_fields layouts.OverTime fields = []
-policy_of_fields layouts.SweepOverTime fields = unwrap_or (field_at fields 0) []
+unfoldable pub policy_of_fields : Option ConfigurationPlaces → Fields → Text
+policy_of_fields None fields = []
+policy_of_fields (Some places) fields = unwrap_or (field_at fields places.policy) []
 
 -- a row that is drawn: its policy, and its numbers
 pub record DrawnRow : Type 0 where
@@ -225,23 +232,24 @@ drawn_before false d (Ok ds) = Ok ds
 drawn_before b d (Err e) = Err e
 
 -- the rows that are drawn of some records, the first being row n, or the first fault; row `most` is one too many
-unfoldable pub drawn_of : Layout → Option Caches → Count → Position → List Fields
+unfoldable pub drawn_of : Places → Option Caches → Count → Position → List Fields
     → OrPlotFault (List DrawnRow)
-drawn_of layout drawn most n [] = Ok []
-drawn_of layout drawn most n (r ∷ rs) =
+drawn_of places drawn most n [] = Ok []
+drawn_of places drawn most n (r ∷ rs) =
     if n == most then Err fault.TooManyRows
-    else sample_of layout n r
-    >>= (λ s. drawn_before (is_drawn drawn s.caches) (drawn_row (policy_of_fields layout r) s)
-    (drawn_of layout drawn most (n + 1) rs))
+    else sample_of places n r
+    >>= (λ s. drawn_before (is_drawn drawn s.caches)
+    (drawn_row (policy_of_fields places.configuration r) s)
+    (drawn_of places drawn most (n + 1) rs))
 
 -- some rows, of which there is one at least
 abbrev pub some_rows : List DrawnRow → OrPlotFault (List DrawnRow)
 some_rows [] = Err fault.Nothing
 some_rows (d ∷ ds) = Ok (d ∷ ds)
 
--- whether a table lacks what is to be drawn of it
-abbrev pub lacks_measure : Layout → Measure → Bool
-lacks_measure layouts.Sweep measures.BackendBytes = true
+-- whether a table lacks what is to be drawn of it: the bytes that were asked of the backend, by their column's place
+abbrev pub lacks_measure : Option Position → Measure → Bool
+lacks_measure None measures.BackendBytes = true
 lacks_measure _ _ = false
 
 -- whether the flash is asked for on the x axis of a table whose x axis is the time
@@ -250,17 +258,18 @@ lacks_flash_axis layout None = false
 lacks_flash_axis layout (Some x) = tells_intervals layout
 
 -- what is drawn of the rows below a header, or the first fault
-unfoldable pub rows_drawn : Drawing → List Fields → Layout → OrPlotFault (List DrawnRow)
-rows_drawn drawing rs layout =
-    if lacks_measure layout drawing.measure then Err fault.NoBackendBytes
-    else if lacks_flash_axis layout drawing.x then Err fault.NoFlashAxis
-    else drawn_of layout (drawn_caches layout drawing.caches) most_lines 0 rs >>= some_rows
+unfoldable pub rows_drawn : Drawing → List Fields → Places → OrPlotFault (List DrawnRow)
+rows_drawn drawing rs places =
+    if lacks_measure places.backend_bytes drawing.measure then Err fault.NoBackendBytes
+    else if lacks_flash_axis places.layout drawing.x then Err fault.NoFlashAxis
+    else drawn_of places (drawn_caches places.layout drawing.caches) most_lines 0 rs
+    >>= some_rows
 
 -- what is drawn of a table, or its first fault
 unfoldable pub table_of : Drawing → List Fields → OrPlotFault (List DrawnRow)
 table_of drawing [] = Err fault.Header
 table_of drawing (h ∷ rs) =
-    or_plot_fault fault.Header (layout_of h) >>= rows_drawn drawing rs
+    or_plot_fault fault.Header (table_places h) >>= rows_drawn drawing rs
 
 -- whether the first of some records is the header of a table
 abbrev pub has_table_header : List Fields → Bool

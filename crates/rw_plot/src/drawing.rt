@@ -152,6 +152,23 @@ fn write_configuration(out: &mut Vec<u8>, configuration: Configuration) -> io::R
         out,
         "; {sections} sections, blocks of {block} bytes, \
          {edge_blocks} edge blocks, {origin_blocks} origin blocks"
+    )?;
+    if configuration.edges > 0 {
+        write_caches(out, configuration)?;
+    }
+    Ok(())
+}
+
+/// Writes how many caches the configuration of a point has, and its delays.
+fn write_caches(out: &mut Vec<u8>, configuration: Configuration) -> io::Result<()> {
+    let edges = configuration.edges;
+    let origins = configuration.origins;
+    let up = configuration.up;
+    let down = configuration.down;
+    let back = configuration.back;
+    write!(
+        out,
+        ", {edges} edges, {origins} origins, up {up} ticks, down {down} ticks, back {back} ticks"
     )
 }
 

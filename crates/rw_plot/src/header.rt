@@ -1,10 +1,11 @@
-// The header of a table says which of the three it is.
-ghost use Rattle.std.specs.Prelude.{◌≡◌, ◌≤◌};
+// The header of a table says which of the three it is, and where its columns stand.
+ghost use Rattle.std.specs.Prelude.{◌≡◌};
 ghost use Rattle.csv.specs.Records.{fields_of};
 ghost use Rattle.rw_trace.specs.Trace.{is_text_at};
-ghost use Rattle.rw_plot.specs.Layouts.{is_header_of, layout_of, names_common, names_configuration, names_interval, names_measures, names_requests, names_stores, names_writes};
+ghost use Rattle.rw_plot.specs.Layouts.{configuration_places, figure_places, interval_places, layout_with, column_named, table_places};
 
 use crate::layout::Layout;
+use crate::places::{ConfigurationPlaces, FigurePlaces, IntervalPlaces, Places};
 use csv::ByteRecord;
 
 /// Whether the field at a column is `text`.
@@ -18,122 +19,105 @@ pub(crate) fn is_field(fields: &ByteRecord, column: usize, text: &[u8]) -> bool
     }
 }
 
-/// Whether the first columns of a record are the names of those of a configuration.
-fn has_configuration_names(fields: &ByteRecord) -> bool
-    ensures { result ≡ names_configuration (fields_of fields.now) }
+/// The place of the first column of this name.
+fn column_named(header: &ByteRecord, name: &[u8]) -> Option<usize>
+    ensures { result ≡ column_named name.now (fields_of header.now) }
 {
-    is_field(fields, 0, b"policy")
-        && is_field(fields, 1, b"sections")
-        && is_field(fields, 2, b"block")
-        && is_field(fields, 3, b"edge_blocks")
-        && is_field(fields, 4, b"origin_blocks")
-}
-
-/// Whether the columns from one on have the names of those of an interval.
-fn has_interval_names(fields: &ByteRecord, column: usize) -> bool
-    requires { column ≤ 100 }
-    ensures { result ≡ names_interval column (fields_of fields.now) }
-{
-    is_field(fields, column, b"from") && is_field(fields, column + 1, b"to")
-}
-
-/// Whether the columns from one on have the names of those of requests.
-fn has_request_names(fields: &ByteRecord, column: usize) -> bool
-    requires { column ≤ 100 }
-    ensures { result ≡ names_requests column (fields_of fields.now) }
-{
-    is_field(fields, column, b"requests")
-        && is_field(fields, column + 1, b"hits")
-        && is_field(fields, column + 2, b"misses")
-        && is_field(fields, column + 3, b"coalesced")
-        && is_field(fields, column + 4, b"late")
-}
-
-/// Whether the columns from one on have the names of those of what is stored.
-fn has_store_names(fields: &ByteRecord, column: usize) -> bool
-    requires { column ≤ 100 }
-    ensures { result ≡ names_stores column (fields_of fields.now) }
-{
-    is_field(fields, column, b"bypassed")
-        && is_field(fields, column + 1, b"inserted")
-        && is_field(fields, column + 2, b"evicted")
-        && is_field(fields, column + 3, b"reinserted")
-        && is_field(fields, column + 4, b"promoted")
-}
-
-/// Whether the columns from one on have the names of those of writes, sections and bytes.
-fn has_write_names(fields: &ByteRecord, column: usize) -> bool
-    requires { column ≤ 100 }
-    ensures { result ≡ names_writes column (fields_of fields.now) }
-{
-    is_field(fields, column, b"writes")
-        && is_field(fields, column + 1, b"splits")
-        && is_field(fields, column + 2, b"merges")
-        && is_field(fields, column + 3, b"hit_bytes")
-        && is_field(fields, column + 4, b"request_bytes")
-}
-
-/// Whether the columns from one on have the names of those of the measures.
-fn has_measure_names(fields: &ByteRecord, column: usize) -> bool
-    requires { column ≤ 100 }
-    ensures { result ≡ names_measures column (fields_of fields.now) }
-{
-    is_field(fields, column, b"hit_ratio")
-        && is_field(fields, column + 1, b"byte_hit_ratio")
-        && is_field(fields, column + 2, b"flash_bytes")
-        && is_field(fields, column + 3, b"written_bytes")
-        && is_field(fields, column + 4, b"backend_requests")
-}
-
-/// Whether the columns from one on have the names of `caches` and of the twenty that follow it in all tables.
-fn has_common_names(fields: &ByteRecord, column: usize) -> bool
-    requires { column ≤ 50 }
-    ensures { result ≡ names_common column (fields_of fields.now) }
-{
-    is_field(fields, column, b"caches")
-        && has_request_names(fields, column + 1)
-        && has_store_names(fields, column + 6)
-        && has_write_names(fields, column + 11)
-        && has_measure_names(fields, column + 16)
-}
-
-/// Whether a record is the header of a table.
-#[tactic(auto, unfolding(crate::specs::Layouts::is_header_of))]
-fn is_header(layout: Layout, fields: &ByteRecord) -> bool
-    ensures { result ≡ is_header_of layout (fields_of fields.now) }
-{
-    match layout {
-        Layout::Sweep => {
-            fields.len() == 26 && has_configuration_names(fields) && has_common_names(fields, 5)
+    for place in 0..header.len() {
+        if is_field(header, place, name) {
+            return Some(place);
         }
-        Layout::OverTime => {
-            fields.len() == 24
-                && has_interval_names(fields, 0)
-                && has_common_names(fields, 2)
-                && is_field(fields, 23, b"backend_bytes")
-        }
-        Layout::SweepOverTime => {
-            fields.len() == 29
-                && has_configuration_names(fields)
-                && has_interval_names(fields, 5)
-                && has_common_names(fields, 7)
-                && is_field(fields, 28, b"backend_bytes")
-        }
+    }
+    None
+}
+
+/// The places of the columns of a configuration. `None` where one is missing that each table of a sweep has.
+#[tactic(auto, unfolding(crate::specs::Layouts::configuration_places))]
+fn configuration_places(header: &ByteRecord) -> Option<ConfigurationPlaces>
+    ensures { result ≡ configuration_places (fields_of header.now) }
+{
+    let policy = column_named(header, b"policy")?;
+    let sections = column_named(header, b"sections")?;
+    let block = column_named(header, b"block")?;
+    let edge_blocks = column_named(header, b"edge_blocks")?;
+    let origin_blocks = column_named(header, b"origin_blocks")?;
+    Some(ConfigurationPlaces {
+        policy,
+        sections,
+        block,
+        edge_blocks,
+        origin_blocks,
+        edges: column_named(header, b"edges"),
+        origins: column_named(header, b"origins"),
+        up: column_named(header, b"up"),
+        down: column_named(header, b"down"),
+        back: column_named(header, b"back"),
+    })
+}
+
+/// The places of the columns of an interval. `None` where one is missing.
+#[tactic(auto, unfolding(crate::specs::Layouts::interval_places))]
+fn interval_places(header: &ByteRecord) -> Option<IntervalPlaces>
+    ensures { result ≡ interval_places (fields_of header.now) }
+{
+    let from = column_named(header, b"from")?;
+    let to = column_named(header, b"to")?;
+    Some(IntervalPlaces { from, to })
+}
+
+/// The places of the columns of the figures. `None` where one is missing.
+#[tactic(auto, unfolding(crate::specs::Layouts::figure_places))]
+fn figure_places(header: &ByteRecord) -> Option<FigurePlaces>
+    ensures { result ≡ figure_places (fields_of header.now) }
+{
+    let hit_ratio = column_named(header, b"hit_ratio")?;
+    let byte_hit_ratio = column_named(header, b"byte_hit_ratio")?;
+    let flash_bytes = column_named(header, b"flash_bytes")?;
+    let written_bytes = column_named(header, b"written_bytes")?;
+    let backend_requests = column_named(header, b"backend_requests")?;
+    Some(FigurePlaces {
+        hit_ratio,
+        byte_hit_ratio,
+        flash_bytes,
+        written_bytes,
+        backend_requests,
+    })
+}
+
+/// The table with a column `policy` or none, and with these columns of a configuration and of an interval. `None` where these
+/// are those of no table.
+fn layout_with(
+    policy: Option<usize>,
+    configuration: Option<ConfigurationPlaces>,
+    interval: Option<IntervalPlaces>,
+) -> Option<Layout>
+    ensures { result ≡ layout_with policy configuration interval }
+{
+    match (policy, configuration, interval) {
+        (Some(_), Some(_), None) => Some(Layout::Sweep),
+        (Some(_), Some(_), Some(_)) => Some(Layout::SweepOverTime),
+        (None, _, Some(_)) => Some(Layout::OverTime),
+        (Some(_), None, _) | (None, _, None) => None,
     }
 }
 
-/// The table whose header a record is; `None` exactly where it is none.
-#[tactic(auto, unfolding(crate::specs::Layouts::layout_of))]
-pub(crate) fn layout_of_record(fields: &ByteRecord) -> Option<Layout>
-    ensures { result ≡ layout_of (fields_of fields.now) }
+/// Where the columns that are drawn stand in the table whose header a record is; `None` exactly where it is none's.
+#[tactic(auto, unfolding(crate::specs::Layouts::table_places, crate::specs::Layouts::layout_of))]
+pub(crate) fn table_places(header: &ByteRecord) -> Option<Places>
+    ensures { result ≡ table_places (fields_of header.now) }
 {
-    if is_header(Layout::Sweep, fields) {
-        Some(Layout::Sweep)
-    } else if is_header(Layout::OverTime, fields) {
-        Some(Layout::OverTime)
-    } else if is_header(Layout::SweepOverTime, fields) {
-        Some(Layout::SweepOverTime)
-    } else {
-        None
-    }
+    let configuration = configuration_places(header);
+    let interval = interval_places(header);
+    let layout = layout_with(column_named(header, b"policy"), configuration, interval)?;
+    let caches = column_named(header, b"caches")?;
+    let figures = figure_places(header)?;
+    Some(Places {
+        layout,
+        width: header.len(),
+        configuration,
+        interval,
+        caches,
+        figures,
+        backend_bytes: column_named(header, b"backend_bytes"),
+    })
 }

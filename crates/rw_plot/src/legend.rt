@@ -6,6 +6,7 @@ use crate::frame::{Frame, MOST_ENTRIES};
 use crate::labels::{Pixels, Size};
 use crate::layout::Layout;
 use crate::looks::Look;
+use crate::sample::Configuration;
 use crate::scale::Hundredths;
 use crate::series::{Name, Varying};
 use crate::subject::caches_name;
@@ -70,26 +71,58 @@ impl Legend {
     /// Writes of the rest of a name what varies.
     fn write_varying(self, text: &mut Vec<u8>, name: &Name) -> io::Result<()> {
         if self.varying.sections {
-            let sections = name.sections;
+            let sections = name.sizes.sections;
             write!(text, ", {sections} sections")?;
         }
         if self.varying.blocks {
-            let block = Size(u128::from(name.block));
+            let block = Size(u128::from(name.sizes.block));
             write!(text, ", {block} blocks")?;
         }
-        self.write_varying_flash(text, name)
+        self.write_varying_flash(text, name.sizes)?;
+        self.write_varying_counts(text, name.sizes)?;
+        self.write_varying_delays(text, name.sizes)
     }
 
     /// Writes of the sizes of flash in a name what varies.
-    fn write_varying_flash(self, text: &mut Vec<u8>, name: &Name) -> io::Result<()> {
-        let edge_blocks = name.edge_blocks;
-        let origin_blocks = name.origin_blocks;
+    fn write_varying_flash(self, text: &mut Vec<u8>, sizes: Configuration) -> io::Result<()> {
+        let edge_blocks = sizes.edge_blocks;
+        let origin_blocks = sizes.origin_blocks;
         match (self.varying.edge_blocks, self.varying.origin_blocks) {
             (false, false) => Ok(()),
             (true, false) => write!(text, ", {edge_blocks} edge blocks"),
             (false, true) => write!(text, ", {origin_blocks} origin blocks"),
             (true, true) => write!(text, ", {edge_blocks} edge, {origin_blocks} origin blocks"),
         }
+    }
+
+    /// Writes of the numbers of caches in a name what varies.
+    fn write_varying_counts(self, text: &mut Vec<u8>, sizes: Configuration) -> io::Result<()> {
+        if self.varying.edges {
+            let edges = sizes.edges;
+            write!(text, ", {edges} edges")?;
+        }
+        if self.varying.origins {
+            let origins = sizes.origins;
+            write!(text, ", {origins} origins")?;
+        }
+        Ok(())
+    }
+
+    /// Writes of the delays in a name what varies.
+    fn write_varying_delays(self, text: &mut Vec<u8>, sizes: Configuration) -> io::Result<()> {
+        if self.varying.up {
+            let up = sizes.up;
+            write!(text, ", up {up} ticks")?;
+        }
+        if self.varying.down {
+            let down = sizes.down;
+            write!(text, ", down {down} ticks")?;
+        }
+        if self.varying.back {
+            let back = sizes.back;
+            write!(text, ", back {back} ticks")?;
+        }
+        Ok(())
     }
 
     /// Writes a line of the legend.

@@ -3,9 +3,10 @@
 //!
 //! There are three kinds of tables, told apart by the header: a sweep, with a row for each configuration
 //! and each of `edges`, `origins` and `all`; a table over time, with a row for each interval and each of
-//! these; and a sweep over time, with both. [`read`] gives the rows as numbers, or the first fault.
-//! `specs/Tables.antt` defines what a table means and which fault a bad one has, `specs/Layouts.antt`
-//! the headers.
+//! these; and a sweep over time, with both. The columns that are drawn are found by their names, wherever
+//! they stand; of columns with one name the first counts, and all others are left alone. [`read`] gives
+//! the rows as numbers, or the first fault. `specs/Tables.antt` defines what a table means and which fault
+//! a bad one has, `specs/Layouts.antt` the headers.
 //!
 //! [`plot`] draws one measure of the rows: over the size of the flash for a sweep, or over time for
 //! intervals. `specs/Escape.antt` defines how text is escaped, and `specs/Names.antt` what the name of a
@@ -29,6 +30,7 @@ mod layout;
 mod legend;
 mod looks;
 mod measure;
+mod places;
 mod plot_fault;
 mod row;
 mod sample;
@@ -52,7 +54,8 @@ use x_axis::XAxis;
 /// An SVG of one measure of a table, which is a sweep's, one over time, or a sweep's over time. `name` is what the picture calls
 /// the table.
 ///
-/// A line joins rows that differ only in what the x axis tells; its name has whatever else varies. Over time, the x axis is linear,
+/// A line joins rows that differ only in what the x axis tells, of the policy and the nine numbers of a configuration; its name has
+/// whatever else varies. Over time, the x axis is linear,
 /// and a point stands at the middle of its interval: there is a line for each configuration and, of a table of one configuration,
 /// for each kind of caches. Of a sweep, the x axis is logarithmic, and is the flash that [`Drawing::x`] names:
 ///

@@ -1,6 +1,7 @@
 //! The colours and dashes of polylines.
 
 use crate::measure::Caches;
+use crate::sample::Configuration;
 use crate::series::{AllSeries, Name, Part, Varying};
 use std::alloc::{AllocError, Global};
 use std::collections::BTreeMap;
@@ -31,40 +32,34 @@ impl Look {
     }
 }
 
-/// The numbers of a name, without the part that the colour tells.
+/// The caches and the numbers of a name, without the part that the colour tells.
 #[derive(Clone, Copy, PartialEq, Eq, PartialOrd, Ord)]
 struct Rest {
     /// Of which caches its points tell.
     caches: Caches,
-    /// How many sections each cache has.
-    sections: u64,
-    /// The size of a block.
-    block: u64,
-    /// The blocks of an edge cache.
-    edge_blocks: u64,
-    /// The blocks of an origin cache.
-    origin_blocks: u64,
+    /// The numbers of the configuration.
+    sizes: Configuration,
 }
 
 impl Rest {
     /// That of a name whose colour tells this part.
     fn of(name: &Name, part: Part) -> Rest {
-        let mut rest = Rest {
-            caches: name.caches,
-            sections: name.sections,
-            block: name.block,
-            edge_blocks: name.edge_blocks,
-            origin_blocks: name.origin_blocks,
-        };
+        let mut caches = name.caches;
+        let mut sizes = name.sizes;
         match part {
             Part::Policy => {}
-            Part::Caches => rest.caches = Caches::All,
-            Part::Sections => rest.sections = 0,
-            Part::Block => rest.block = 0,
-            Part::EdgeBlocks => rest.edge_blocks = 0,
-            Part::OriginBlocks => rest.origin_blocks = 0,
+            Part::Caches => caches = Caches::All,
+            Part::Sections => sizes.sections = 0,
+            Part::Block => sizes.block = 0,
+            Part::EdgeBlocks => sizes.edge_blocks = 0,
+            Part::OriginBlocks => sizes.origin_blocks = 0,
+            Part::Edges => sizes.edges = 0,
+            Part::Origins => sizes.origins = 0,
+            Part::Up => sizes.up = 0,
+            Part::Down => sizes.down = 0,
+            Part::Back => sizes.back = 0,
         }
-        rest
+        Rest { caches, sizes }
     }
 }
 

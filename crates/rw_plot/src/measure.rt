@@ -9,7 +9,7 @@ pub enum Measure {
     FlashWrites,
     /// The requests that reached the backend: the column `backend_requests`; over time per second.
     BackendRequests,
-    /// The bytes that were asked of the backend, per second: the column `backend_bytes`, which only a table over time has.
+    /// The bytes that were asked of the backend: the column `backend_bytes`, which a table may lack; over time per second.
     BackendBytes,
 }
 

@@ -6,7 +6,8 @@ use std::alloc::AllocError;
 /// Why a table is not drawn, each shown as one line. Rows and columns are numbered from 0, the header not counted.
 #[derive(Debug, Drop, thiserror::Error)]
 pub enum PlotFault {
-    /// There is no record, or the first one is the header of no table that is drawn.
+    /// There is no record, or the first one is the header of no table that is drawn: it has neither a column `policy` nor `from` and
+    /// `to`, or it lacks one that each such table has.
     #[error("sweep: header")]
     Header,
     /// The row has not as many fields as the header.
@@ -19,7 +20,7 @@ pub enum PlotFault {
     /// The row's caches are none of `edges`, `origins` and `all`.
     #[error("sweep: row {0}: caches")]
     Caches(u64),
-    /// The bytes asked of the backend are to be drawn, and the table is a sweep's, which has no such column.
+    /// The bytes asked of the backend are to be drawn, and the table has no such column.
     #[error("sweep: no column backend_bytes")]
     NoBackendBytes,
     /// The flash is asked for on the x axis, and the table is one over time, whose x axis is the time.

@@ -1,8 +1,8 @@
 use crate::layout::Layout;
 use crate::measure::Caches;
 
-/// The sizes of a configuration, as a row tells them.
-#[derive(Clone, Copy)]
+/// The numbers of a configuration, as a row tells them. The last five are 0 in a table that lacks their columns.
+#[derive(Clone, Copy, PartialEq, Eq, PartialOrd, Ord)]
 pub struct Configuration {
     /// How many sections each cache has.
     pub sections: u64,
@@ -12,6 +12,16 @@ pub struct Configuration {
     pub edge_blocks: u64,
     /// The blocks of an origin cache.
     pub origin_blocks: u64,
+    /// How many edge caches there are.
+    pub edges: u64,
+    /// How many origin caches there are.
+    pub origins: u64,
+    /// From an edge to an origin, in ticks.
+    pub up: u64,
+    /// From an origin to an edge, in ticks.
+    pub down: u64,
+    /// From an origin to the backend and back, in ticks.
+    pub back: u64,
 }
 
 /// An interval, in ticks.
@@ -23,7 +33,7 @@ pub struct Interval {
     pub to: u64,
 }
 
-/// What is drawn of the columns that follow `caches` in all tables.
+/// What is drawn of what a row tells of its caches.
 #[derive(Clone, Copy)]
 pub struct Figures {
     /// The share of requests that were hits, in millionths: at most 1,000,000.
@@ -49,7 +59,7 @@ pub struct Sample {
     pub caches: Caches,
     /// What it tells of them.
     pub figures: Figures,
-    /// The bytes that were asked of the backend; `None` in a sweep's table.
+    /// The bytes that were asked of the backend; `None` in a table that lacks their column.
     pub backend_bytes: Option<u64>,
 }
 

@@ -1,8 +1,8 @@
-ghost use Rattle.std.specs.Prelude.{◌≡◌, ◌⊎◌};
-ghost use Rattle.rw_plot.specs.Names.{sizes_of_row};
+ghost use Rattle.std.specs.Prelude.{◌≡◌};
+ghost use Rattle.rw_plot.specs.Names.{AreSizesOnLine, sizes_of_row};
 
 use crate::measure::Caches;
-use crate::sample::{Line, Sample};
+use crate::sample::{Configuration, Line, Sample};
 use crate::subject::Subject;
 use crate::x_axis::{Along, XAxis, sizes_of};
 use std::alloc::{AllocError, Global};
@@ -15,14 +15,8 @@ pub(crate) struct Name {
     pub(crate) policy: Vec<u8>,
     /// Of which caches its points tell.
     pub(crate) caches: Caches,
-    /// How many sections each cache has.
-    pub(crate) sections: u64,
-    /// The size of a block, in bytes.
-    pub(crate) block: u64,
-    /// The blocks of an edge cache; 0 where these change along the line.
-    pub(crate) edge_blocks: u64,
-    /// The blocks of an origin cache; 0 where these change along the line.
-    pub(crate) origin_blocks: u64,
+    /// The numbers of the configuration; the block count that changes along the line is 0.
+    pub(crate) sizes: Configuration,
 }
 
 /// The points of each polyline, from the left.
@@ -33,24 +27,18 @@ pub(crate) type AllSeries = BTreeMap<Name, Vec<Sample>>;
 fn name_of(x: XAxis, policy: Vec<u8>, sample: &Sample) -> Name
     ensures policy { result.policy ≡ policy }
     ensures caches { result.caches ≡ sample.now.caches }
-    ensures sections { result.sections ≡ (sizes_of_row sample.now).sections }
-    ensures block { result.block ≡ (sizes_of_row sample.now).block }
-    ensures counts { (result.edge_blocks ≡ (sizes_of_row sample.now).edge_blocks)
-        ⊎ (result.origin_blocks ≡ (sizes_of_row sample.now).origin_blocks) }
+    ensures sizes { AreSizesOnLine (sizes_of_row sample.now) result.sizes }
 {
-    let sizes = sizes_of(sample);
-    let (edge_blocks, origin_blocks) = match x.along() {
-        None => (sizes.edge_blocks, sizes.origin_blocks),
-        Some(Along::Edges) => (0, sizes.origin_blocks),
-        Some(Along::Origins) => (sizes.edge_blocks, 0),
-    };
+    let mut sizes = sizes_of(sample);
+    match x.along() {
+        None => {}
+        Some(Along::Edges) => sizes.edge_blocks = 0,
+        Some(Along::Origins) => sizes.origin_blocks = 0,
+    }
     Name {
         policy,
         caches: sample.caches,
-        sections: sizes.sections,
-        block: sizes.block,
-        edge_blocks,
-        origin_blocks,
+        sizes,
     }
 }
 
@@ -111,6 +99,16 @@ pub(crate) enum Part {
     EdgeBlocks,
     /// How many blocks an origin cache has.
     OriginBlocks,
+    /// How many edge caches there are.
+    Edges,
+    /// How many origin caches there are.
+    Origins,
+    /// The delay from an edge to an origin.
+    Up,
+    /// The delay from an origin to an edge.
+    Down,
+    /// The delay from an origin to the backend and back.
+    Back,
 }
 
 impl Part {
@@ -119,10 +117,15 @@ impl Part {
         match self {
             Part::Policy => a.policy == b.policy,
             Part::Caches => a.caches == b.caches,
-            Part::Sections => a.sections == b.sections,
-            Part::Block => a.block == b.block,
-            Part::EdgeBlocks => a.edge_blocks == b.edge_blocks,
-            Part::OriginBlocks => a.origin_blocks == b.origin_blocks,
+            Part::Sections => a.sizes.sections == b.sizes.sections,
+            Part::Block => a.sizes.block == b.sizes.block,
+            Part::EdgeBlocks => a.sizes.edge_blocks == b.sizes.edge_blocks,
+            Part::OriginBlocks => a.sizes.origin_blocks == b.sizes.origin_blocks,
+            Part::Edges => a.sizes.edges == b.sizes.edges,
+            Part::Origins => a.sizes.origins == b.sizes.origins,
+            Part::Up => a.sizes.up == b.sizes.up,
+            Part::Down => a.sizes.down == b.sizes.down,
+            Part::Back => a.sizes.back == b.sizes.back,
         }
     }
 }
@@ -142,6 +145,16 @@ pub(crate) struct Varying {
     pub(crate) edge_blocks: bool,
     /// How many blocks an origin cache has does.
     pub(crate) origin_blocks: bool,
+    /// How many edge caches there are does.
+    pub(crate) edges: bool,
+    /// How many origin caches there are does.
+    pub(crate) origins: bool,
+    /// The delay from an edge to an origin does.
+    pub(crate) up: bool,
+    /// The delay from an origin to an edge does.
+    pub(crate) down: bool,
+    /// The delay from an origin to the backend and back does.
+    pub(crate) back: bool,
 }
 
 impl Varying {
@@ -154,6 +167,11 @@ impl Varying {
             blocks: false,
             edge_blocks: false,
             origin_blocks: false,
+            edges: false,
+            origins: false,
+            up: false,
+            down: false,
+            back: false,
         };
         let Some((first, _)) = all.first_key_value() else {
             return varying;
@@ -161,37 +179,55 @@ impl Varying {
         for name in all.keys() {
             varying.policies = varying.policies || name.policy != first.policy;
             varying.caches = varying.caches || name.caches != first.caches;
-            varying.sections = varying.sections || name.sections != first.sections;
-            varying.blocks = varying.blocks || name.block != first.block;
-            varying.edge_blocks = varying.edge_blocks || name.edge_blocks != first.edge_blocks;
-            varying.origin_blocks = varying.origin_blocks
-                || name.origin_blocks != first.origin_blocks;
+            varying = varying.with(name.sizes, first.sizes);
         }
         varying
     }
 
+    /// The same, with the numbers that differ between two configurations.
+    fn with(self, a: Configuration, b: Configuration) -> Varying {
+        Varying {
+            policies: self.policies,
+            caches: self.caches,
+            sections: self.sections || a.sections != b.sections,
+            blocks: self.blocks || a.block != b.block,
+            edge_blocks: self.edge_blocks || a.edge_blocks != b.edge_blocks,
+            origin_blocks: self.origin_blocks || a.origin_blocks != b.origin_blocks,
+            edges: self.edges || a.edges != b.edges,
+            origins: self.origins || a.origins != b.origins,
+            up: self.up || a.up != b.up,
+            down: self.down || a.down != b.down,
+            back: self.back || a.back != b.back,
+        }
+    }
+
     /// Whether a number that stands behind the policy does.
     pub(crate) fn is_any_number(self) -> bool {
-        self.sections || self.blocks || self.edge_blocks || self.origin_blocks
+        let is_any_size = self.sections || self.blocks || self.edge_blocks || self.origin_blocks;
+        is_any_size || self.edges || self.origins || self.up || self.down || self.back
     }
 
     /// The first part that does; the policy where none does.
     pub(crate) fn first(self) -> Part {
-        match self {
-            Varying { policies: true, .. } => Part::Policy,
-            Varying { caches: true, .. } => Part::Caches,
-            Varying { sections: true, .. } => Part::Sections,
-            Varying { blocks: true, .. } => Part::Block,
-            Varying {
-                edge_blocks: true,
-                ..
-            } => Part::EdgeBlocks,
-            Varying {
-                origin_blocks: true,
-                ..
-            } => Part::OriginBlocks,
-            _ => Part::Policy,
+        let parts = [
+            (self.policies, Part::Policy),
+            (self.caches, Part::Caches),
+            (self.sections, Part::Sections),
+            (self.blocks, Part::Block),
+            (self.edge_blocks, Part::EdgeBlocks),
+            (self.origin_blocks, Part::OriginBlocks),
+            (self.edges, Part::Edges),
+            (self.origins, Part::Origins),
+            (self.up, Part::Up),
+            (self.down, Part::Down),
+            (self.back, Part::Back),
+        ];
+        for (varies, part) in parts {
+            if varies {
+                return part;
+            }
         }
+        Part::Policy
     }
 }
 

@@ -6,9 +6,10 @@ ghost use Rattle.rw_plot.specs.Layouts.{layout_of_table};
 ghost use Rattle.rw_plot.specs.Tables.{are_same_caches, drawn_caches, drawn_of, drawn_row, has_table_header, is_drawn, most_lines, policy_of_fields, row_of_line, rows_drawn, table_of};
 ghost use Rattle.rw_plot.specs.declared.plot_fault.PlotFault.TheVariants.{Header, Memory};
 
-use crate::header::layout_of_record;
+use crate::header::table_places;
 use crate::layout::Layout;
 use crate::measure::{Caches, Drawing};
+use crate::places::{ConfigurationPlaces, Places};
 use crate::plot_fault::PlotFault;
 use crate::row::sample_at;
 use crate::sample::{Line, Sample, Table};
@@ -59,12 +60,12 @@ fn is_among(drawn: Option<Caches>, caches: Caches) -> bool
 
 /// The text of the policy of a record; none in a table of one configuration.
 #[tactic(auto, unfolding(crate::specs::Tables::policy_of_fields))]
-fn policy_of<'a>(layout: Layout, fields: &'a ByteRecord) -> &'a [u8]
-    ensures { result.now ≡ policy_of_fields layout (fields_of fields.now) }
+fn policy_of<'a>(places: &Option<ConfigurationPlaces>, fields: &'a ByteRecord) -> &'a [u8]
+    ensures { result.now ≡ policy_of_fields places.now (fields_of fields.now) }
 {
-    match layout {
-        Layout::Sweep | Layout::SweepOverTime => fields.get(0).unwrap_or(b""),
-        Layout::OverTime => b"",
+    match places {
+        Some(places) => fields.get(places.policy).unwrap_or(b""),
+        None => b"",
     }
 }
 
@@ -109,23 +110,23 @@ fn lines_left(
     alloc: Global,
     reader: &mut Reader<&[u8]>,
     fields: &mut ByteRecord,
-    layout: Layout,
+    places: &Places,
     drawn: Option<Caches>,
     lines: &mut Vec<Line>,
 ) -> Result<(), PlotFault>
     requires steady { Steady reader.old }
     requires empty { lines.old.items ≡ [] }
-    ensures rows { OnOk result (drawn_of layout drawn most_lines 0 (unread reader.old)
+    ensures rows { OnOk result (drawn_of places.now drawn most_lines 0 (unread reader.old)
         ≡ Ok (map row_of_line lines.new.items)) }
     ensures fault { IfErr result (λ e.
-        e ≢ Memory → drawn_of layout drawn most_lines 0 (unread reader.old) ≡ Err e) }
+        e ≢ Memory → drawn_of places.now drawn most_lines 0 (unread reader.old) ≡ Err e) }
 {
     for at in 0..MAX_LINES {
         if !next_record(reader, fields)? {
             return Ok(());
         }
-        let sample = sample_at(layout, fields, at)?;
-        let policy = policy_of(layout, fields);
+        let sample = sample_at(places, fields, at)?;
+        let policy = policy_of(&places.configuration, fields);
         add_line(alloc, lines, policy, sample, drawn)?;
     }
     if next_record(reader, fields)? {
@@ -140,25 +141,25 @@ fn lines_below(
     alloc: Global,
     reader: &mut Reader<&[u8]>,
     fields: &mut ByteRecord,
-    layout: Layout,
+    places: &Places,
     drawing: Drawing,
     lines: &mut Vec<Line>,
 ) -> Result<(), PlotFault>
     requires steady { Steady reader.old }
     requires empty { lines.old.items ≡ [] }
-    ensures rows { OnOk result (rows_drawn drawing (unread reader.old) layout
+    ensures rows { OnOk result (rows_drawn drawing (unread reader.old) places.now
         ≡ Ok (map row_of_line lines.new.items)) }
     ensures fault { IfErr result (λ e.
-        e ≢ Memory → rows_drawn drawing (unread reader.old) layout ≡ Err e) }
+        e ≢ Memory → rows_drawn drawing (unread reader.old) places.now ≡ Err e) }
 {
-    if layout.lacks(drawing.measure) {
+    if places.lacks(drawing.measure) {
         return Err(PlotFault::NoBackendBytes);
     }
-    if layout.lacks_flash_axis(drawing.x) {
+    if places.layout.lacks_flash_axis(drawing.x) {
         return Err(PlotFault::NoFlashAxis);
     }
-    let drawn = caches_drawn(layout, drawing.caches);
-    lines_left(alloc, reader, fields, layout, drawn, lines)?;
+    let drawn = caches_drawn(places.layout, drawing.caches);
+    lines_left(alloc, reader, fields, places, drawn, lines)?;
     if lines.is_empty() {
         return Err(PlotFault::Nothing);
     }
@@ -185,20 +186,22 @@ fn lines_of_table(
     if !next_record(reader, fields)? {
         return Err(PlotFault::Header);
     }
-    let Some(layout) = layout_of_record(fields) else {
+    let Some(places) = table_places(fields) else {
         return Err(PlotFault::Header);
     };
-    lines_below(alloc, reader, fields, layout, drawing, lines)?;
-    Ok(layout)
+    lines_below(alloc, reader, fields, &places, drawing, lines)?;
+    Ok(places.layout)
 }
 
 /// The rows of the bytes of a table that are drawn.
 ///
 /// # Errors
 ///
-/// `Header` where the first record is the header of no table; else `NoBackendBytes` where these are asked for of a sweep's table;
-/// else `NoFlashAxis` where the x axis of a table over time is to be the flash; else the first fault of the rows: that of the first faulty row, within it first its length and then its columns from the
-/// left. `TooManyRows` for more than [`MAX_LINES`] rows. `Nothing` where no row is of the caches that are drawn. `Memory` where a
+/// `Header` where the first record is the header of no table; else `NoBackendBytes` where these are asked for and there is no such
+/// column; else `NoFlashAxis` where the x axis of a table over time is to be the flash; else the first fault of the rows: that of
+/// the first faulty row, within it first its length, and then in this order, wherever its columns stand: its configuration, its
+/// interval, its caches, what it tells of them, and the bytes that were asked of the backend. Other columns may hold any text.
+/// `TooManyRows` for more than [`MAX_LINES`] rows. `Nothing` where no row is of the caches that are drawn. `Memory` where a
 /// request for memory was refused; nothing is said of the table then.
 pub fn read(alloc: Global, bytes: &[u8], drawing: Drawing) -> Result<Table, PlotFault>
     ensures layout { IfOk result (λ t. layout_of_table (records_of bytes.now) ≡ Some t.layout) }

@@ -11,8 +11,8 @@ use std::fmt;
 /// What stands on the x axis.
 ///
 /// A line joins rows that differ only in what the axis tells: the time, the blocks of an edge cache, or those of an origin cache.
-/// All else is in its name. So rows of different policies, sections, blocks or caches are never joined, and at most one of the two
-/// block counts changes along a line.
+/// All else is in its name. So rows of different policies, sections, blocks, numbers of caches or delays are never joined, and at
+/// most one of the two block counts changes along a line.
 #[derive(Clone, Copy)]
 pub(crate) enum XAxis {
     /// The time.
@@ -112,7 +112,7 @@ impl fmt::Display for Flash {
     }
 }
 
-/// The sizes of the configuration of a row; all are 0 in a table of one configuration.
+/// The numbers of the configuration of a row; all are 0 in a table of one configuration.
 pub(crate) fn sizes_of(sample: &Sample) -> Configuration
     ensures { result ≡ sizes_of_row sample.now }
 {
@@ -121,6 +121,11 @@ pub(crate) fn sizes_of(sample: &Sample) -> Configuration
         block: 0,
         edge_blocks: 0,
         origin_blocks: 0,
+        edges: 0,
+        origins: 0,
+        up: 0,
+        down: 0,
+        back: 0,
     })
 }
 
