@@ -26,6 +26,9 @@ use Rattle.rw_report.specs.Streams.{IsExhaustingFirst}
 use Rattle.rw_sweep.specs.declared.point.Point.{Point}
 use Rattle.rw_sweep.specs.declared.ongoing.OngoingRun.{OngoingRun}
 use Rattle.rw_sweep.specs.Ongoing.{AreFed, HasNotEnded, HasTakenIn, HasTakenPiece, HaveTakenAll, IsExhaustedBy, IsFaultOfRuns, IsFed, IsGoingOn, IsStanding, MarksAt, MayTake, TakesPiece}
+use Rattle.rw_sweep.specs.declared.facts.Facts.{Facts}
+use Rattle.rw_sweep.specs.Facts.{facts_of}
+use Rattle.rw_sweep.proofs.Fewest.{wider}
 use Rattle.rw_sweep.proofs.Ahead.{come-all, come-more, come-none, come-of-all, come-part, last-more, rise-behind, rise-first, rise-more}
 
 -- what is written back of a list that is as long as it was
@@ -34,8 +37,9 @@ written-back n new old same is =
     ap (λ l. take n (new ++ l)) (drop_all (length new) old (omega (arith, same))) ∙ ap (take n) (append-nil new) ∙ take_all n new (omega (arith, same, is))
 
 -- where all runs stand between two pieces
-pub record AreBetween (at : MarksAt) (points : List Point) (edges : ℕ) (ahead : Ahead) (most latest left : ℕ) (now : Ahead) (runs : List OngoingRun) : Type 0 where
+pub record AreBetween (at : MarksAt) (points : List Point) (edges : ℕ) (ahead : Ahead) (most latest left : ℕ) (now : Ahead) (facts : Facts) (runs : List OngoingRun) : Type 0 where
   pub rows : List Row
+  pub facts_are : facts ≡ facts_of rows
   pub first : ComeFirst ahead rows now
   pub rising : RiseFrom 0 rows
   pub last : latest ≡ last_time 0 rows
@@ -196,11 +200,12 @@ same-or-less a b l = elim (cases_lt a b) [
   | inr more ↦ inl (omega arith)
 ]
 
-module _ (at : MarksAt) (points : List Point) (edges : ℕ) (ahead : Ahead) (most : ℕ) (of : All (λ p. p.config.edges ≡ edges) points) (few : most ≤ 2 ^ 63) where
+module _ (at : MarksAt) (points : List Point) (edges : ℕ) (ahead : Ahead) (most : ℕ) (of : All (λ p. edges ≤ p.config.edges) points) (few : most ≤ 2 ^ 63) where
   -- nothing is read yet
-  pub between-none : (latest : ℕ) (runs : List OngoingRun) → latest ≡ 0 → map (λ g. g.point) runs ≡ points → All (IsGoingOn at []) runs → All HasNotEnded runs → AreBetween at points edges ahead most latest most ahead runs
-  between-none latest runs none are going not_ended = record {
+  pub between-none : (latest : ℕ) (facts : Facts) (runs : List OngoingRun) → latest ≡ 0 → facts ≡ facts_of [] → map (λ g. g.point) runs ≡ points → All (IsGoingOn at []) runs → All HasNotEnded runs → AreBetween at points edges ahead most latest most ahead facts runs
+  between-none latest facts runs none known are going not_ended = record {
     rows = [];
+    facts_are = known;
     first = come-none ahead;
     rising = tt;
     last = none;
@@ -211,10 +216,10 @@ module _ (at : MarksAt) (points : List Point) (edges : ℕ) (ahead : Ahead) (mos
     not_ended = not_ended;
   }
 
-  module _ (latest left : ℕ) (now : Ahead) (runs : List OngoingRun) (on : AreBetween at points edges ahead most latest left now runs) where
-    -- all of the same edges
-    edges-of : All (λ g. g.point.config.edges ≡ edges) runs
-    edges-of = all-unmap (λ p. p.config.edges ≡ edges) (λ g. g.point) runs (subst (All (λ p. p.config.edges ≡ edges)) (sym on.points_are) of)
+  module _ (latest left : ℕ) (now : Ahead) (facts : Facts) (runs : List OngoingRun) (on : AreBetween at points edges ahead most latest left now facts runs) where
+    -- none of fewer edges
+    edges-of : All (λ g. edges ≤ g.point.config.edges) runs
+    edges-of = all-unmap (λ p. edges ≤ p.config.edges) (λ g. g.point) runs (subst (All (λ p. edges ≤ p.config.edges)) (sym on.points_are) of)
 
     -- what was read is refused
     pub refused-now : {T : Type 0} (r : Result T SimFault) (e : RowsFault) → IsErrAnd r (λ f. f ≡ sim_rows_fault_of e) → IsRefusal now e → IfErr r (IsFaultOfRuns points ahead)
@@ -235,8 +240,15 @@ module _ (at : MarksAt) (points : List Point) (edges : ℕ) (ahead : Ahead) (mos
         told refused.Read k = tt
 
     module _ (piece : List Row) (left' : ℕ) (ranges : All (IsRow edges) piece) (rising : RiseFrom latest piece) (counted : left' + length piece ≡ left) where
-      takes : (g : OngoingRun) → IsGoingOn at on.rows g → HasNotEnded g → g.point.config.edges ≡ edges → MayTake piece g
-      takes g going not_ended same = by g.recording going not_ended
+      -- what is said of the rows with the piece is said in its range
+      pub may-count : facts.rows + length piece ≤ 2 ^ 64 - 1
+      may-count =
+          let many = ap (λ f. f.rows) on.facts_are in
+          let all = on.all in
+          omega (arith, many, all, counted, few)
+
+      takes : (g : OngoingRun) → IsGoingOn at on.rows g → HasNotEnded g → edges ≤ g.point.config.edges → MayTake piece g
+      takes g going not_ended enough = by g.recording going not_ended
         where
           by : (r : Result RecordingState Refusal) → MatchResult r (HasTakenIn at on.rows g.point) (λ e. e ≡ Exhausted → IsExhaustedBy on.rows g.point) → MatchResult r (λ r. ⊤) (λ e. ⊥)
               → MatchResult r (TakesPiece piece) (λ e. ⊥)
@@ -244,7 +256,7 @@ module _ (at : MarksAt) (points : List Point) (edges : ℕ) (ahead : Ahead) (mos
           by (Ok r) h k =
               let all = on.all in
               record {
-                ranges = subst (λ n. All (IsRow n) piece) (sym (ap (λ c. c.edges) h.config ∙ same)) ranges;
+                ranges = wider edges r.run.config.edges piece (subst (λ n. edges ≤ n) (sym (ap (λ c. c.edges) h.config)) enough) ranges;
                 rising = subst (λ t. RiseFrom t piece) (on.last ∙ sym h.time) rising;
                 before = on.rows;
                 recording = h.recording;
@@ -253,7 +265,7 @@ module _ (at : MarksAt) (points : List Point) (edges : ℕ) (ahead : Ahead) (mos
 
       -- each run may take the next piece in
       pub may-take : All (MayTake piece) runs
-      may-take = all-of-three (IsGoingOn at on.rows) HasNotEnded (λ g. g.point.config.edges ≡ edges) (MayTake piece) takes runs on.going on.not_ended edges-of
+      may-take = all-of-three (IsGoingOn at on.rows) HasNotEnded (λ g. edges ≤ g.point.config.edges) (MayTake piece) takes runs on.going on.not_ended edges-of
 
       module _ (runs' : List OngoingRun) (fed : AreFed piece runs runs') where
         each-fed : (gs hs : List OngoingRun) → length hs ≡ length gs → ((i : ℕ) (d : OngoingRun) → i < length gs → IsFed piece (get_or gs i d) (get_or hs i d)) → AllZip (IsFed piece) gs hs
@@ -322,12 +334,13 @@ module _ (at : MarksAt) (points : List Point) (edges : ℕ) (ahead : Ahead) (mos
             ))
 
         -- one piece more
-        pub between-more : (now' : Ahead) (latest' : ℕ) → latest' ≡ last_time latest piece → ComeFirst now piece now' → All HasNotEnded runs' → AreBetween at points edges ahead most latest' left' now' runs'
-        between-more now' latest' last first not_ended =
+        pub between-more : (now' : Ahead) (facts' : Facts) (latest' : ℕ) → ((before : List Row) → facts ≡ facts_of before → facts' ≡ facts_of (before ++ piece)) → latest' ≡ last_time latest piece → ComeFirst now piece now' → All HasNotEnded runs' → AreBetween at points edges ahead most latest' left' now' facts' runs'
+        between-more now' facts' latest' known last first not_ended =
             let long = length-append on.rows piece in
             let all = on.all in
             record {
               rows = on.rows ++ piece;
+              facts_are = known on.rows on.facts_are;
               first = come-more ahead now now' on.rows piece on.first first;
               rising = rising-fed;
               last = last ∙ ap (λ t. last_time t piece) on.last ∙ sym (last-more 0 on.rows piece);
@@ -339,9 +352,10 @@ module _ (at : MarksAt) (points : List Point) (edges : ℕ) (ahead : Ahead) (mos
             }
 
         -- the last piece
-        pub taken-all : AreAll now piece → All HasNotEnded runs' → HaveTakenAll at edges ahead runs'
-        taken-all given not_ended = record {
+        pub taken-all : (facts' : Facts) → ((before : List Row) → facts ≡ facts_of before → facts' ≡ facts_of (before ++ piece)) → AreAll now piece → All HasNotEnded runs' → HaveTakenAll at edges ahead facts' runs'
+        taken-all facts' known given not_ended = record {
           rows = on.rows ++ piece;
+          facts_are = known on.rows on.facts_are;
           given = come-all ahead now on.rows piece on.first given;
           rising = rising-fed;
           ranges = ranges-fed;

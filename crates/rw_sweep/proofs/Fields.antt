@@ -1,5 +1,5 @@
 -- The fields of a line of a part.
-use Rattle.std.proofs.Common.{◌≡◌, ◌⊎◌, inl, inr, ℕ, zero, suc, ◌+◌, ◌<◌, ◌≤◌, ◌-◌, ◌*◌, ◌/◌, ◌%◌, ◌^◌, ◌||◌, Bool, true, false, List, [], ◌∷◌, ◌++◌, length, map, drop, get_or, Option, None, Some, Bor, codes, refl, sym, ap, subst, ◌∙◌, arith, All, append_assoc}
+use Rattle.std.proofs.Common.{◌≡◌, ◌⊎◌, inl, inr, ℕ, zero, suc, ◌+◌, ◌<◌, ◌≤◌, ◌-◌, ◌*◌, ◌/◌, ◌%◌, ◌^◌, ◌||◌, Bool, true, false, List, [], ◌∷◌, ◌++◌, length, length-append, map, take, drop, get_or, Option, None, Some, Bor, codes, refl, sym, ap, subst, ◌∙◌, arith, All, append_assoc}
 use Rattle.std.specs.Prelude.{◌≢◌, Contains, decimal}
 use Rattle.std.specs.Bool.{Decides}
 use Rattle.std.specs.Char.{is_ascii_digit}
@@ -11,7 +11,8 @@ use Rattle.std.proofs.lemmas.Fmt.{decimal_by_steps, length-decimal-le}
 use Rattle.std.proofs.lemmas.Grind.{common_steps}
 use Rattle.std.proofs.lemmas.Iterator.{YieldsList}
 use Rattle.std.proofs.lemmas.Iterator.Consumers.{YieldsList-end, YieldsList-turn}
-use Rattle.std.proofs.lemmas.List.{append_cancel_right, get_or_default}
+use Rattle.std.proofs.Math.Seq.{drop-append_seam, take-append_seam}
+use Rattle.std.proofs.lemmas.List.{append_cancel_right, get_or_default, length-drop, take-append-drop}
 use Rattle.std.proofs.lemmas.List.Elements.{All-cons, All-tail}
 use Rattle.std.proofs.lemmas.List.Splits.{join_with_byte-slice_split}
 use Rattle.std.proofs.lemmas.List.Sums.{AllPass-from_list_all, list_all-from_AllPass}
@@ -22,7 +23,7 @@ use Rattle.rw_sweep.specs.Joining.{IsLine, newline}
 use Rattle.rw_sweep.specs.Limits.{most_configurations}
 use Rattle.rw_sweep.specs.Parts.{placed_line}
 use Rattle.rw_sweep.specs.JoinFaults.{BeginsWithLine}
-use Rattle.rw_sweep.specs.PartLines.{IsFirstMisfit, IsOfColumn, IsPartLine, IsPlaceField, IsRatioField, IsRowOfPart, part_field, fields_of, part_columns}
+use Rattle.rw_sweep.specs.PartLines.{IsDecimalField, IsFirstMisfit, IsNumberField, IsOfColumn, IsPartLine, IsPlaceField, IsRateField, IsRatioField, IsRowOfPart, part_field, fields_of, part_columns}
 use Rattle.rw_sweep.proofs.PartsRead.{line-behind}
 
 -- a line behind its place, by the line without its end
@@ -112,6 +113,67 @@ ratio-by r (a ∷ b ∷ ds) long ones point (true_so, so_true) = (
   },
   λ h. so_true (subst (AllPass is_ascii_digit) (sym (ap (drop 2) h.told)) (All-tail (λ b. is_ascii_digit b ≡ true) h.ones h.decimals h.digits)),
 )
+
+-- ---- a number with six decimals
+record AreParts (f whole rest : List ℕ) (h : IsDecimalField f) : Type 0 where
+  front : whole ≡ h.whole
+  back : rest ≡ 46 ∷ h.decimals
+
+parts-of : (f whole rest : List ℕ) → whole ≡ take (length f - 7) f → rest ≡ drop (length f - 7) f → (h : IsDecimalField f) → AreParts f whole rest h
+parts-of f whole rest front back h =
+    let tail : List ℕ = 46 ∷ h.decimals in
+    let all = ap length h.told ∙ length-append h.whole tail in
+    let seven : length tail ≡ 7 = let six = h.six in omega (arith, six) in
+    let cut : length f - 7 ≡ length h.whole = omega (arith, all, seven) in
+    record {
+      front = front ∙ (ap (λ k. take k f) cut ∙ (ap (take (length h.whole)) h.told ∙ take-append_seam h.whole tail));
+      back = back ∙ (ap (λ k. drop k f) cut ∙ (ap (drop (length h.whole)) h.told ∙ drop-append_seam h.whole tail));
+    }
+
+pub short-decides : (f : List ℕ) → length f < 7 → Decides false (IsDecimalField f)
+short-decides f short = none-decides (IsDecimalField f) (λ h.
+    let tail : List ℕ = 46 ∷ h.decimals in
+    let all = ap length h.told ∙ length-append h.whole tail in
+    let seven : length tail ≡ 7 = let six = h.six in omega (arith, six) in
+    omega (arith, all, seven, short))
+
+module _ (f whole rest : List ℕ) (front : whole ≡ take (length f - 7) f) (back : rest ≡ drop (length f - 7) f) where
+  pub whole-decides : (IsNumberField whole → ⊥) → Decides false (IsDecimalField f)
+  whole-decides none = none-decides (IsDecimalField f) (λ h. none (subst IsNumberField (sym (parts-of f whole rest front back h).front) h.number))
+
+  pub point-decides : (get_or rest 0 0 ≡ 46 → ⊥) → Decides false (IsDecimalField f)
+  point-decides none = none-decides (IsDecimalField f) (λ h. none (ap (λ r. get_or r 0 0) (parts-of f whole rest front back h).back))
+
+  pub decimals-decide : (r : Bool) → 7 ≤ length f → IsNumberField whole → get_or rest 0 0 ≡ 46 → Decides r (AllPass is_ascii_digit (drop 1 rest)) → Decides r (IsDecimalField f)
+  decimals-decide r long number point (true_so, so_true) =
+      let seven : length rest ≡ 7 = omega (arith, ap length back, length-drop (length f - 7) f, long) in
+      let all : f ≡ whole ++ rest = sym (take-append-drop (length f - 7) f) ∙ (λ i. sym front i ++ sym back i) in (
+        λ t. made rest seven point all (true_so t),
+        λ h. so_true (subst (λ r. AllPass is_ascii_digit (drop 1 r)) (sym (parts-of f whole rest front back h).back) h.digits),
+      )
+    where
+      made : (rest : List ℕ) → length rest ≡ 7 → get_or rest 0 0 ≡ 46 → f ≡ whole ++ rest → AllPass is_ascii_digit (drop 1 rest) → IsDecimalField f
+      made [] seven point all digits = absurd (omega (arith, seven))
+      made (b ∷ ds) seven point all digits = record {
+        whole = whole;
+        decimals = ds;
+        told = all ∙ ap (λ c. whole ++ c ∷ ds) point;
+        number = number;
+        six = omega (arith, seven);
+        digits = digits;
+      }
+
+-- nothing, or such a number
+pub empty-rate : (f : List ℕ) → length f ≡ 0 → Decides true (IsRateField f)
+empty-rate [] none = (λ t. inl refl, λ h. refl)
+empty-rate (b ∷ bs) none = absurd (omega (arith, none))
+
+pub rate-so : (r : Bool) (f : List ℕ) → (length f ≡ 0 → ⊥) → Decides r (IsDecimalField f) → Decides r (IsRateField f)
+rate-so r f some (true_so, so_true) = (λ t. inr (true_so t), λ h. by h)
+  where
+    by : IsRateField f → r ≡ true
+    by (inl none) = absurd (some (ap length none))
+    by (inr decimal) = so_true decimal
 
 pub digits-decides : (r : Bool) (bs : List ℕ) → r ≡ list_all is_ascii_digit bs → Decides r (AllPass is_ascii_digit bs)
 digits-decides r bs is = (λ t. AllPass-from_list_all is_ascii_digit bs (sym is ∙ t), λ h. is ∙ list_all-from_AllPass is_ascii_digit bs h)

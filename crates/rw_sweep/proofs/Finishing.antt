@@ -17,6 +17,7 @@ use Rattle.rw_photo.specs.declared.config.Config.{Config}
 use Rattle.rw_photo.specs.contracts.photo.PhotoVtModel.TheImpl as model
 use Rattle.rw_photo.specs.Events.{event_of}
 use Rattle.rw_photo.specs.Simulation.{simulation, starts_of}
+use Rattle.std.specs.Option.{is_some}
 use Rattle.rw_report.specs.declared.intervals.Outlook.{Outlook}
 use Rattle.rw_report.specs.declared.moments.Moment.{Moment}
 use Rattle.rw_report.specs.History.{IsHistory, IsRecordingOf, RecordingState}
@@ -24,7 +25,10 @@ use Rattle.rw_report.proofs.Recorded.{last_early}
 use Rattle.rw_sweep.specs.declared.point.Point.{Point}
 use Rattle.rw_sweep.specs.declared.ongoing.OngoingRun.{OngoingRun}
 use Rattle.rw_sweep.specs.Ongoing.{HasNotEnded, HasTakenIn, HasTexts, IsExhaustedBy, IsGoingOn, IsToTell, MarksAt, MayFinish}
-use Rattle.rw_sweep.specs.OverTime.{TellsOfChoice, told_of_choice}
+use Rattle.rw_sweep.specs.OverTime.{TellsOfChoice, header_under, in_format, told_of_choice}
+use Rattle.rw_sweep.specs.declared.facts.Facts.{Facts}
+use Rattle.rw_sweep.specs.Facts.{facts_of}
+use Rattle.rw_sweep.specs.Table.{conditions}
 use Rattle.rw_sweep.specs.Working.{IsTextOfPoint}
 use Rattle.rw_sweep.proofs.Told.{history-of, tells-of-choice}
 
@@ -33,15 +37,16 @@ abbrev pub marks_of : Outlook → MarksAt
 marks_of o = record { start = unwrap_or o.warm_up 0; every = unwrap_or o.every end_of_time }
 
 -- what is told of the moments of a finished run
-pub finished : (o : Outlook) (rows : List Row) (p : Point) (s : Result RecordingState Refusal) (r : RecordingState) (ms : List Moment) (text : List ℕ) → s ≡ Ok r
+pub finished : (o : Outlook) (rows : List Row) (p : Point) (facts : Facts) (s : Result RecordingState Refusal) (r : RecordingState) (ms : List Moment) (text : List ℕ) → facts ≡ facts_of rows → s ≡ Ok r
     → MatchResult s (HasTakenIn (marks_of o) rows p) (λ e. e ≡ Exhausted → IsExhaustedBy rows p) → (IsRecordingOf rows r → IsHistory (simulation r.run.config rows) r.start r.every ms)
-    → text ≡ told_of_choice p.config p.choice p.place o ms → TellsOfChoice p.config p.choice p.place o rows text
-finished o rows p s r ms text is going history told =
+    → text ≡ in_format o.format (header_under (is_some p.place) o.every) (told_of_choice p.config p.choice (conditions p.ticks_a_second o.warm_up facts) p.place o.every ms) → TellsOfChoice p.config p.choice p.ticks_a_second p.place o rows text
+finished o rows p facts s r ms text known is going history told =
     let taken : HasTakenIn (marks_of o) rows p r = subst (λ x. MatchResult x (HasTakenIn (marks_of o) rows p) (λ e. e ≡ Exhausted → IsExhaustedBy rows p)) is going in
     let ready : IsReady model.ghosts (record { config = p.config }) (starts_of p.config) (map_from 0 event_of rows) =
     subst (λ (c : Config). IsReady model.ghosts (record { config = c }) (starts_of c) (map_from 0 event_of rows)) taken.config taken.recording.run.ready in
     let moments : IsHistory (simulation p.config rows) r.start r.every ms = subst (λ (c : Config). IsHistory (simulation c rows) r.start r.every ms) taken.config (history taken.recording) in
-    tells-of-choice p.config rows ready p.choice p.place o ms text (history-of p.config rows r.start r.every o ms taken.start taken.every moments) told
+    tells-of-choice p.config rows ready p.choice p.ticks_a_second p.place o ms text (history-of p.config rows r.start r.every o ms taken.start taken.every moments)
+    (told ∙ ap (λ (f : Facts). in_format o.format (header_under (is_some p.place) o.every) (told_of_choice p.config p.choice (conditions p.ticks_a_second o.warm_up f) p.place o.every ms)) known)
 
 -- runs that have taken in all rows have not gone past the latest time
 pub may-finish : (at : MarksAt) (edges : ℕ) (rows : List Row) (gs : List OngoingRun) → All (IsRow edges) rows → All (IsGoingOn at rows) gs → All HasNotEnded gs → All MayFinish gs
@@ -57,20 +62,20 @@ may-finish at edges rows (g ∷ gs) ranges going not_ended =
     one p (Err e) refused ended = absurd ended
 
 -- so far is told of some runs that these are left
-pub record IsTelling (o : Outlook) (header : List ℕ) (all left : List OngoingRun) (text : List ℕ) : Type 0 where
+pub record IsTelling (o : Outlook) (facts : Facts) (header : List ℕ) (all left : List OngoingRun) (text : List ℕ) : Type 0 where
   pub done : List OngoingRun
   pub parted : all ≡ done ++ left
   pub may_finish : All MayFinish left
   pub to_tell : All (λ g. IsToTell o g.point) left
-  pub texts : (rows : List Row) → All (IsGoingOn (marks_of o) rows) all → HasTexts rows (map (λ g. g.point) done) header text
+  pub texts : (rows : List Row) → facts ≡ facts_of rows → All (IsGoingOn (marks_of o) rows) all → HasTexts rows (map (λ g. g.point) done) header text
 
-pub telling-none : (o : Outlook) (header : List ℕ) (all : List OngoingRun) (text : List ℕ) → text ≡ header → All MayFinish all → All (λ g. IsToTell o g.point) all → IsTelling o header all all text
-telling-none o header all text is may_finish to_tell = record {
+pub telling-none : (o : Outlook) (facts : Facts) (header : List ℕ) (all : List OngoingRun) (text : List ℕ) → text ≡ header → All MayFinish all → All (λ g. IsToTell o g.point) all → IsTelling o facts header all all text
+telling-none o facts header all text is may_finish to_tell = record {
   done = [];
   parted = refl;
   may_finish = may_finish;
   to_tell = to_tell;
-  texts = λ rows going. record { texts = []; each = tt; told = is ∙ sym (append-nil header) };
+  texts = λ rows known going. record { texts = []; each = tt; told = is ∙ sym (append-nil header) };
 }
 
 -- what holds of each holds of the one behind some
@@ -84,7 +89,7 @@ one-more rows [] (u ∷ us) p t z is = absurd z
 one-more rows (q ∷ qs) [] p t z is = absurd z
 one-more rows (q ∷ qs) (u ∷ us) p t z is = (z.0, one-more rows qs us p t z.1 is)
 
-module _ (o : Outlook) (header : List ℕ) (all left rest : List OngoingRun) (g : OngoingRun) (text : List ℕ) (on : IsTelling o header all left text) (next : left ≡ g ∷ rest) where
+module _ (o : Outlook) (facts : Facts) (header : List ℕ) (all left rest : List OngoingRun) (g : OngoingRun) (text : List ℕ) (on : IsTelling o facts header all left text) (next : left ≡ g ∷ rest) where
   pub next-may-finish : MayFinish g
   next-may-finish = All-head MayFinish g rest (subst (All MayFinish) next on.may_finish)
 
@@ -110,13 +115,13 @@ module _ (o : Outlook) (header : List ℕ) (all left rest : List OngoingRun) (g 
       within [] = omega arith
       within (x ∷ xs) = let l = within xs in omega (arith, l)
 
-  pub telling-more : (lines text' : List ℕ) → text' ≡ text ++ lines → ((rows : List Row) → IsGoingOn (marks_of o) rows g → IsTextOfPoint rows g.point lines) → IsTelling o header all rest text'
+  pub telling-more : (lines text' : List ℕ) → text' ≡ text ++ lines → ((rows : List Row) → facts ≡ facts_of rows → IsGoingOn (marks_of o) rows g → IsTextOfPoint rows g.point lines) → IsTelling o facts header all rest text'
   telling-more lines text' grown told = record {
     done = on.done ++ g ∷ [];
     parted = on.parted ∙ ap (λ l. on.done ++ l) next ∙ sym (append_assoc on.done (g ∷ []) rest);
     may_finish = All-tail MayFinish g rest (subst (All MayFinish) next on.may_finish);
     to_tell = All-tail (λ h. IsToTell o h.point) g rest (subst (All (λ h. IsToTell o h.point)) next on.to_tell);
-    texts = λ rows going. more rows (on.texts rows going) (told rows (next-going rows going));
+    texts = λ rows known going. more rows (on.texts rows known going) (told rows known (next-going rows going));
   }
     where
       more : (rows : List Row) → HasTexts rows (map (λ h. h.point) on.done) header text → IsTextOfPoint rows g.point lines → HasTexts rows (map (λ h. h.point) (on.done ++ g ∷ [])) header text'
@@ -128,7 +133,7 @@ module _ (o : Outlook) (header : List ℕ) (all left rest : List OngoingRun) (g 
       }
 
 -- all is told
-pub telling-all : (o : Outlook) (header : List ℕ) (all left : List OngoingRun) (text : List ℕ) → IsTelling o header all left text → left ≡ [] → (rows : List Row) → All (IsGoingOn (marks_of o) rows) all
+pub telling-all : (o : Outlook) (facts : Facts) (header : List ℕ) (all left : List OngoingRun) (text : List ℕ) → IsTelling o facts header all left text → left ≡ [] → (rows : List Row) → facts ≡ facts_of rows → All (IsGoingOn (marks_of o) rows) all
     → HasTexts rows (map (λ g. g.point) all) header text
-telling-all o header all left text on none rows going =
-    subst (λ gs. HasTexts rows (map (λ g. g.point) gs) header text) (sym (on.parted ∙ ap (λ l. on.done ++ l) none ∙ append-nil on.done)) (on.texts rows going)
+telling-all o facts header all left text on none rows known going =
+    subst (λ gs. HasTexts rows (map (λ g. g.point) gs) header text) (sym (on.parted ∙ ap (λ l. on.done ++ l) none ∙ append-nil on.done)) (on.texts rows known going)

@@ -13,7 +13,7 @@ use Rattle.rw_trace.specs.Unread.{records_of}
 use Rattle.rw_ripq.specs.declared.Policy.TheVariants.{Off}
 use Rattle.rw_sweep.specs.declared.axes.Axes.{Axes}
 use Rattle.rw_sweep.specs.declared.choice.Choice.{Choice}
-use Rattle.rw_sweep.specs.Grids.{combinations}
+use Rattle.rw_sweep.specs.Grids.{combinations, least_edges}
 use Rattle.rw_sweep.proofs.WholeLines.{whole-lines}
 use Rattle.rw_sweep.specs.Joining.{IsLine, PartsMakeTheSweep, PlacedLine, lines_of_all, lines_of_place, part_with}
 use Rattle.rw_sweep.specs.Parts.{AreLinesOfPlaced, IsPartSweepOf, LinesAt, dealt, is_in_part, part_header, placed_line}
@@ -215,7 +215,7 @@ module _ (a : Axes) (rows : List Row) where
     placed-whole (x ∷ xs) (y ∷ ys) each =
         let tell = each.0.tell in
         All-append (λ l. IsLine l.line) (each_placed y.place y.lines) (all_placed ys)
-        (All-map (λ l. IsLine l.line) (λ line. record { place = y.place; line = line }) y.lines (whole-lines tell.config x.1 rows y.lines tell.tells)) (placed-whole xs ys each.1)
+        (All-map (λ l. IsLine l.line) (λ line. record { place = y.place; line = line }) y.lines (whole-lines tell.config x.1 a.ticks_a_second rows y.lines tell.tells)) (placed-whole xs ys each.1)
 
     all-whole : (indices : List ℕ) (parts : List (List LinesAt)) → EachPart indices parts → All (λ l. IsLine l.line) (all_of parts)
     all-whole [] [] each = All-nil (λ l. IsLine l.line)
@@ -229,10 +229,10 @@ module _ (a : Axes) (rows : List Row) where
       each : EachPart indices parts
       have : AllZip (λ text ls. text ≡ part_with ls) texts (map all_placed parts)
 
-    same-rows : (bytes : List ℕ) (more : List Row) → trace_of a.edges most_rows (records_of bytes) ≡ Ok rows → trace_of a.edges most_rows (records_of bytes) ≡ Ok more → more ≡ rows
+    same-rows : (bytes : List ℕ) (more : List Row) → trace_of (least_edges a) most_rows (records_of bytes) ≡ Ok rows → trace_of (least_edges a) most_rows (records_of bytes) ≡ Ok more → more ≡ rows
     same-rows bytes more one other = let same : Ok more ≡ Ok rows = sym other ∙ one in cc
 
-    read-all : (bytes : List ℕ) (indices : List ℕ) (texts : List (List ℕ)) → trace_of a.edges most_rows (records_of bytes) ≡ Ok rows
+    read-all : (bytes : List ℕ) (indices : List ℕ) (texts : List (List ℕ)) → trace_of (least_edges a) most_rows (records_of bytes) ≡ Ok rows
         → AllZip (λ index text. IsPartSweepOf a index count bytes text) indices texts → Read bytes indices texts
     read-all bytes [] [] accepted each = record { parts = []; each = tt; have = tt }
     read-all bytes [] (y ∷ ys) accepted each = absurd each
@@ -282,7 +282,7 @@ parts-make-the-sweep a bytes count (x ∷ xs) (y ∷ ys) some once each =
       have = read.have;
       whole = all-whole a rows count (x ∷ xs) read.parts read.each;
       within = all-below a rows count (x ∷ xs) read.parts read.each;
-      three = λ k l. ap length (tell k (record { policy = Off; sections = 0; block = 0; edge_blocks = 0; origin_blocks = 0 }) l).tells.told;
+      three = λ k l. ap length (tell k (record { policy = Off; sections = 0; block = 0; edge_blocks = 0; origin_blocks = 0; edges = 0; origins = 0; up = 0; down = 0; back = 0 }) l).tells.told;
       are = record {
         rows = rows;
         lines = map at (range_with_len 0 n);

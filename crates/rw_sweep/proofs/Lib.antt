@@ -3,6 +3,10 @@ pub mod Slots
 -- the points of a grid
 pub mod Widened
 pub mod InRange
+pub mod Fewest
+-- what is said of a trace
+pub mod Gathered
+pub mod Traced
 -- the lines of a configuration
 pub mod Serial
 pub mod ThreeLines
@@ -26,3 +30,5 @@ pub mod PartsRead
 pub mod Fields
 pub mod Refusing
 pub mod Unique
+-- a search for the flash that reaches a hit ratio
+pub mod Halving

@@ -20,7 +20,6 @@ use Rattle.rw_trace.proofs.Ordered.{ordered_accepted}
 use Rattle.rw_report.specs.Faults.{sim_refusal_of}
 use Rattle.rw_report.specs.declared.sim_fault.SimFault.{SimFault}
 use Rattle.rw_report.specs.declared.sim_fault.SimFault.TheVariants as sim
-use Rattle.rw_photo.specs.declared.config.Config.{Config}
 use Rattle.rw_photo.specs.Cache.{is_exhausted}
 use Rattle.rw_photo.specs.Simulation.{simulation}
 use Rattle.rw_report.specs.declared.intervals.Outlook.{Outlook}
@@ -30,17 +29,21 @@ use Rattle.rw_sweep.specs.declared.part.Part.{Part}
 use Rattle.rw_sweep.specs.declared.point.Point.{Point}
 use Rattle.rw_sweep.specs.declared.ongoing.OngoingRun.{OngoingRun}
 use Rattle.rw_sweep.specs.Ongoing.{HasTexts, HaveTakenAll, IsFaultOfRuns, IsGoingOn, IsToTell, MarksAt}
-use Rattle.rw_sweep.specs.OverTime.{TellsOfChoices, TellsOfSweep, header_under}
+use Rattle.rw_sweep.specs.OverTime.{TellsOfChoices, header_told}
 use Rattle.rw_sweep.specs.Points.{IsOfGrid}
 use Rattle.rw_sweep.specs.Streams.{AreRowsOfStream, HasBegunStream, HasBegunToSweepRows, HasSweptRows, HasSweptStream, IsExhaustingStream, IsRowsSweepFault, IsStreamSweepFault, TellsOfSweptRows, rows_ahead}
 use Rattle.rw_sweep.proofs.Feeding.{all-unmap}
+use Rattle.rw_sweep.specs.declared.facts.Facts.{Facts}
+use Rattle.rw_sweep.specs.Facts.{facts_of}
+use Rattle.rw_sweep.proofs.Fewest.{edges-within}
 use Rattle.rw_sweep.proofs.Finishing.{marks_of}
 use Rattle.rw_sweep.proofs.Under.{AreUnder, told-among, told-choices, with_place}
+use Rattle.rw_sweep.specs.Grids.{least_edges}
 
 module _ (a : Axes) (part : Option Part) (o : Outlook) (own : List Point) (are : AreUnder a part o own) where
-  -- all are of the grid's edges
-  pub edges-under : (n : ℕ) → n ≡ a.edges → All (λ p. p.config.edges ≡ n) own
-  edges-under n is = All-weaker (IsOfGrid a) (λ p. p.config.edges ≡ n) (λ p of. of.is.config_is.edges ∙ sym is) own are.of
+  -- none has fewer edges than the grid
+  pub edges-under : (n : ℕ) → n ≡ least_edges a → All (λ p. n ≤ p.config.edges) own
+  edges-under n is = All-weaker (IsOfGrid a) (λ p. n ≤ p.config.edges) (λ p of. subst (λ m. m ≤ p.config.edges) (sym is) (edges-within a p of)) own are.of
 
   to-tell-one : (p : Point) → IsOfGrid a p → p.outlook ≡ Some o → IsToTell o p
   to-tell-one p of is = record { outlook = is; edge_shape = of.is.in_range.edge_shape; origin_shape = of.is.in_range.origin_shape }
@@ -71,7 +74,7 @@ module _ (a : Axes) (part : Option Part) (o : Outlook) (own : List Point) (are :
   runs-fault ahead sim.NoThread h = absurd h
   runs-fault ahead sim.Plan h = absurd h
 
-  module _ (ahead : Ahead) (n : ℕ) (at : MarksAt) (marks : at ≡ marks_of o) (runs : List OngoingRun) (points : map (λ g. g.point) runs ≡ own) (all : HaveTakenAll at n ahead runs) where
+  module _ (ahead : Ahead) (n : ℕ) (facts : Facts) (at : MarksAt) (marks : at ≡ marks_of o) (runs : List OngoingRun) (points : map (λ g. g.point) runs ≡ own) (all : HaveTakenAll at n ahead facts runs) where
     pub going-all : All (IsGoingOn (marks_of o) all.rows) runs
     going-all = subst (λ m. All (IsGoingOn m all.rows) runs) marks all.going
 
@@ -100,26 +103,26 @@ module _ (a : Axes) (part : Option Part) (o : Outlook) (own : List Point) (are :
         ))
 
     -- what is told of the runs is the table
-    pub table-of-runs : (header text : List ℕ) → header ≡ header_under part o.every → ((rows : List Row) → All (IsGoingOn (marks_of o) rows) runs → HasTexts rows (map (λ g. g.point) runs) header text)
+    pub table-of-runs : (header text : List ℕ) → header ≡ header_told part o → ((rows : List Row) → facts ≡ facts_of rows → All (IsGoingOn (marks_of o) rows) runs → HasTexts rows (map (λ g. g.point) runs) header text)
         → TellsOfSweptRows a part o ahead text
     table-of-runs header text is told =
-        let texts : HasTexts all.rows own header text = subst (λ ps. HasTexts all.rows ps header text) points (told all.rows going-all) in
+        let texts : HasTexts all.rows own header text = subst (λ ps. HasTexts all.rows ps header text) points (told all.rows all.facts_are going-all) in
         let choices : TellsOfChoices a o all.rows (map with_place own) header (header ++ concat texts.texts) = told-choices a o all.rows own header texts.texts are.of are.outlook texts.each in
         let whole : TellsOfChoices a o all.rows (map with_place own) header text = subst (TellsOfChoices a o all.rows (map with_place own) header) (sym texts.told) choices in
         record {
           rows = all.rows;
           given = all.given;
           rising = all.rising;
-          tells = subst (λ xs. TellsOfChoices a o all.rows xs (header_under part o.every) text) are.choices (subst (λ h. TellsOfChoices a o all.rows (map with_place own) h text) is whole);
+          tells = subst (λ xs. TellsOfChoices a o all.rows xs (header_told part o) text) are.choices (subst (λ h. TellsOfChoices a o all.rows (map with_place own) h text) is whole);
         }
 
 -- rows that a trace gives, where its bytes may be known
-module _ (a : Axes) (part : Option Part) (o : Outlook) (known : Option Text) (ahead : Ahead) (open_ahead : IfSome known (λ xs. ahead ≡ Some (ordered_trace_of a.edges most_streamed_rows (records_of xs)))) where
+module _ (a : Axes) (part : Option Part) (o : Outlook) (known : Option Text) (ahead : Ahead) (open_ahead : IfSome known (λ xs. ahead ≡ Some (ordered_trace_of (least_edges a) most_streamed_rows (records_of xs)))) where
   -- what is to come is what the bytes say, or nothing is known of them
   known_or_not : (known ≡ None) ⊎ (ahead ≡ rows_ahead a known)
   known_or_not = by known open_ahead
     where
-      by : (k : Option Text) → IfSome k (λ xs. ahead ≡ Some (ordered_trace_of a.edges most_streamed_rows (records_of xs))) → (k ≡ None) ⊎ (ahead ≡ rows_ahead a k)
+      by : (k : Option Text) → IfSome k (λ xs. ahead ≡ Some (ordered_trace_of (least_edges a) most_streamed_rows (records_of xs))) → (k ≡ None) ⊎ (ahead ≡ rows_ahead a k)
       by None h = inl refl
       by (Some xs) h = inr h
 
@@ -166,9 +169,9 @@ module _ (a : Axes) (part : Option Part) (o : Outlook) (known : Option Text) (ah
   streamed-known : (rows : List Row) → AreAll ahead rows → RiseFrom 0 rows → AreRowsOfStream a known rows
   streamed-known rows given rising = record { accepted = by known open_ahead; rising = rising }
     where
-      by : (k : Option Text) → IfSome k (λ xs. ahead ≡ Some (ordered_trace_of a.edges most_streamed_rows (records_of xs))) → IfSome k (λ xs. trace_of a.edges most_streamed_rows (records_of xs) ≡ Ok rows)
+      by : (k : Option Text) → IfSome k (λ xs. ahead ≡ Some (ordered_trace_of (least_edges a) most_streamed_rows (records_of xs))) → IfSome k (λ xs. trace_of (least_edges a) most_streamed_rows (records_of xs) ≡ Ok rows)
       by None h = tt
-      by (Some xs) h = (ordered_accepted a.edges most_streamed_rows (records_of xs) rows (subst (λ x. AreAll x rows) h given)).0
+      by (Some xs) h = (ordered_accepted (least_edges a) most_streamed_rows (records_of xs) rows (subst (λ x. AreAll x rows) h given)).0
 
   pub swept-known : (before after : Option Text) → HasSweptRows a part o ahead before after → HasSweptStream a part o known before after
   swept-known before after h = record {

@@ -23,7 +23,7 @@ use Rattle.rw_sweep.specs.Grids.{combinations}
 use Rattle.rw_sweep.specs.Parts.{AreLinesOfPlaced, HasSweptPart, IsExhaustingPart, IsPartSweepFault, IsPartSweepOfFirst, LinesAt, dealt, is_in_part, part_header, placed_line, text_of_lines}
 use Rattle.rw_sweep.specs.OverTime.{HasLines}
 use Rattle.rw_sweep.specs.Points.{ArePoints, IsOfGrid, IsPlain, IsPoint, points_of_part, told_at}
-use Rattle.rw_sweep.specs.Sweep.{AreLinesOfChoice, HasSwept, IsSweepOfFirst}
+use Rattle.rw_sweep.specs.Sweep.{AreLinesOf, AreLinesOfChoice, HasSwept, IsSweepOfFirst}
 use Rattle.rw_sweep.specs.Table.{header_line}
 use Rattle.rw_sweep.specs.Working.{HasTaken, HasTakenFirst, IsAcceptedWith, IsExhaustedAt, IsFaultOfPoints, IsTextOfPoint, IsTextUnder, Takes}
 use Rattle.rw_sweep.proofs.Dealt.{all-dealt, filtered-map}
@@ -43,7 +43,7 @@ of-grid a points are k d l =
     }
 
 told-of-grid : (a : Axes) (at : Position × Point) → IsOfGrid a at.1 → IsOfGrid a (told_at at)
-told-of-grid a at of = record { is = record { in_range = of.is.in_range; config_is = of.is.config_is }; among = of.among }
+told-of-grid a at of = record { is = record { in_range = of.is.in_range; config_is = of.is.config_is; ticks = of.is.ticks }; among = of.among }
 
 -- so are those of a part
 pub part-of-grid : (a : Axes) (index count : ℕ) (points own : List Point) → ArePoints a points → own ≡ points_of_part index count points → All (IsOfGrid a) own
@@ -84,11 +84,11 @@ whole-lines a rows (p ∷ ps) (t ∷ ts) are none each =
     let is = All-head (IsPoint a) p ps are in
     let rest = whole-lines a rows ps ts (All-tail (IsPoint a) p ps are) (All-tail IsPlain p ps none) each.1 in
     let plain = All-head IsPlain p ps none in
-    let here : HasLines p.config p.choice p.place rows t = subst (λ o. IsTextUnder o rows p t) plain.lines each.0 in
+    let here : HasLines p.config p.choice p.ticks_a_second p.place rows t = subst (λ o. IsTextUnder o rows p t) plain.lines each.0 in
     let text : t ≡ concat here.lines = here.told ∙ (ap (λ o. text_of_lines o here.lines) plain.unplaced ∙ untold here.lines) in
     record {
       lines = here.lines ∷ rest.lines;
-      each = (record { config = p.config; config_is = is.config_is; tells = here.tell }, rest.each);
+      each = (record { config = p.config; config_is = is.config_is; tells = subst (λ n. AreLinesOf p.config p.choice n rows here.lines) is.ticks here.tell }, rest.each);
       told = λ i. text i ++ rest.told i;
     }
 
@@ -169,10 +169,10 @@ placed-lines a rows (at ∷ ats) (t ∷ ts) are plain each =
     let is = All-head (λ q. IsPoint a q.1) at ats are in
     let rest = placed-lines a rows ats ts (All-tail (λ q. IsPoint a q.1) at ats are) (All-tail (λ q. IsPlain q.1) at ats plain) each.1 in
     let lines = All-head (λ q. IsPlain q.1) at ats plain in
-    let here : HasLines at.1.config at.1.choice (Some at.0) rows t = subst (λ o. IsTextUnder o rows (told_at at) t) lines.lines each.0 in
+    let here : HasLines at.1.config at.1.choice at.1.ticks_a_second (Some at.0) rows t = subst (λ o. IsTextUnder o rows (told_at at) t) lines.lines each.0 in
     record {
       lines = record { place = at.0; lines = here.lines } ∷ rest.lines;
-      each = (record { place_is = refl; tell = record { config = at.1.config; config_is = is.config_is; tells = here.tell } }, rest.each);
+      each = (record { place_is = refl; tell = record { config = at.1.config; config_is = is.config_is; tells = subst (λ n. AreLinesOf at.1.config at.1.choice n rows here.lines) is.ticks here.tell } }, rest.each);
       told = λ i. here.told i ++ rest.told i;
     }
 
@@ -218,7 +218,7 @@ part-of a bytes index count points own header before after are dealt_out is h =
     )
 
 -- what is made of the first ones of a list
-first-made : {A B : Type 0} (f : A → B) (xs : List A) (ys zs : List B) → map f xs ≡ ys ++ zs → map f (take (length ys) xs) ≡ ys
+pub first-made : {A B : Type 0} (f : A → B) (xs : List A) (ys zs : List B) → map f xs ≡ ys ++ zs → map f (take (length ys) xs) ≡ ys
 first-made f xs ys zs is = sym (take-map f (length ys) xs) ∙ ap (take (length ys)) is ∙ take-append_seam ys zs
 
 -- the lines of a part's first configurations are a beginning of the part

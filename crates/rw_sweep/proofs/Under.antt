@@ -15,7 +15,7 @@ use Rattle.rw_sweep.specs.declared.axes.Axes.{Axes}
 use Rattle.rw_sweep.specs.declared.choice.Choice.{Choice}
 use Rattle.rw_sweep.specs.declared.part.Part.{Part}
 use Rattle.rw_sweep.specs.declared.point.Point.{Point}
-use Rattle.rw_sweep.specs.OverTime.{HasBegunOverTime, HasSweptFirstOverTime, HasSweptOverTime, IsExhaustingOverTime, IsOverTimeFault, TellsOfChoices, TellsOfFirst, TellsOfPlaced, TellsOfSweep, header_under, told_choices}
+use Rattle.rw_sweep.specs.OverTime.{HasBegunOverTime, HasSweptFirstOverTime, HasSweptOverTime, IsExhaustingOverTime, IsOverTimeFault, TellsOfChoice, TellsOfChoices, TellsOfFirst, TellsOfPlaced, TellsOfSweep, header_told, told_choices}
 use Rattle.rw_sweep.specs.Parts.{dealt}
 use Rattle.rw_sweep.specs.Points.{ArePoints, IsOfGrid, IsPlain, chosen_points, points_under, told_at, with_outlook}
 use Rattle.rw_sweep.specs.Working.{HasTaken, HasTakenFirst, IsAcceptedWith, IsExhaustedAt, IsFaultOfPoints, IsTextOfPoint, IsTextUnder, Takes}
@@ -32,7 +32,7 @@ chosen-of-grid a None points are = of-grid a points are
 chosen-of-grid a (Some part) points are = part-of-grid a part.index part.count points (chosen_points (Some part) points) are refl
 
 under-of-grid : (a : Axes) (o : Outlook) (p : Point) → IsOfGrid a p → IsOfGrid a (with_outlook o p)
-under-of-grid a o p of = record { is = record { in_range = of.is.in_range; config_is = of.is.config_is }; among = of.among }
+under-of-grid a o p of = record { is = record { in_range = of.is.in_range; config_is = of.is.config_is; ticks = of.is.ticks }; among = of.among }
 
 -- they are of the grid, and this is told of each
 pub record AreUnder (a : Axes) (part : Option Part) (o : Outlook) (own : List Point) : Type 0 where
@@ -87,7 +87,8 @@ module _ (a : Axes) (o : Outlook) (rows : List Row) where
     record {
       config = p.config;
       config_is = (All-head (IsOfGrid a) p ps of).is.config_is;
-      tells = subst (λ v. IsTextUnder v rows p t) (All-head (λ q. q.outlook ≡ Some o) p ps are) each.0;
+      tells = subst (λ n. TellsOfChoice p.config p.choice n p.place o rows t) (All-head (IsOfGrid a) p ps of).is.ticks
+          (subst (λ v. IsTextUnder v rows p t) (All-head (λ q. q.outlook ≡ Some o) p ps are) each.0);
     },
     told-texts ps ts (All-tail (IsOfGrid a) p ps of) (All-tail (λ q. q.outlook ≡ Some o) p ps are) each.1,
   )
@@ -103,13 +104,13 @@ record TableUnder (a : Axes) (part : Option Part) (o : Outlook) (rows : List Row
   tells : TellsOfSweep a part o rows text
   taken : Takes whole before after text
 
-table-under : (a : Axes) (part : Option Part) (o : Outlook) (rows : List Row) (own : List Point) (header : List ℕ) (whole : Bool) (before after : Option (List ℕ)) → AreUnder a part o own → header ≡ header_under part o.every
+table-under : (a : Axes) (part : Option Part) (o : Outlook) (rows : List Row) (own : List Point) (header : List ℕ) (whole : Bool) (before after : Option (List ℕ)) → AreUnder a part o own → header ≡ header_told part o
     → HasTaken whole rows own header before after → TableUnder a part o rows whole before after
 table-under a part o rows own header whole before after are is h =
     let told : TellsOfChoices a o rows (map with_place own) header (header ++ concat h.texts) = told-choices a o rows own header h.texts are.of are.outlook h.each in
     record {
       text = header ++ concat h.texts;
-      tells = subst (λ xs. TellsOfChoices a o rows xs (header_under part o.every) (header ++ concat h.texts)) are.choices
+      tells = subst (λ xs. TellsOfChoices a o rows xs (header_told part o) (header ++ concat h.texts)) are.choices
           (subst (λ t. TellsOfChoices a o rows (map with_place own) t (header ++ concat h.texts)) is told);
       taken = h.taken;
     }
@@ -119,7 +120,7 @@ record FirstUnder (a : Axes) (part : Option Part) (o : Outlook) (rows : List Row
   tells : TellsOfFirst a part o rows text
   taken : Takes whole before after text
 
-first-under : (a : Axes) (part : Option Part) (o : Outlook) (rows : List Row) (own : List Point) (header : List ℕ) (whole : Bool) (before after : Option (List ℕ)) → AreUnder a part o own → header ≡ header_under part o.every
+first-under : (a : Axes) (part : Option Part) (o : Outlook) (rows : List Row) (own : List Point) (header : List ℕ) (whole : Bool) (before after : Option (List ℕ)) → AreUnder a part o own → header ≡ header_told part o
     → HasTakenFirst whole rows own header before after → FirstUnder a part o rows whole before after
 first-under a part o rows own header whole before after are is h =
     let text = header ++ concat h.taken.texts in
@@ -137,19 +138,19 @@ first-under a part o rows own header whole before after are is h =
       taken = h.taken.taken;
     }
 
-pub swept-under : (a : Axes) (part : Option Part) (o : Outlook) (bytes : List ℕ) (own : List Point) (header : List ℕ) (before after : Option (List ℕ)) → AreUnder a part o own → header ≡ header_under part o.every
+pub swept-under : (a : Axes) (part : Option Part) (o : Outlook) (bytes : List ℕ) (own : List Point) (header : List ℕ) (before after : Option (List ℕ)) → AreUnder a part o own → header ≡ header_told part o
     → IsAcceptedWith a bytes (λ rows. HasTaken true rows own header before after) → HasSweptOverTime a part o bytes before after
 swept-under a part o bytes own header before after are is h =
     let all = table-under a part o h.rows own header true before after are is h.holds in
     record { text = all.text; rows = h.rows; accepted = h.accepted; tells = all.tells; gained = all.taken }
 
-pub swept-first-under : (a : Axes) (part : Option Part) (o : Outlook) (bytes : List ℕ) (own : List Point) (header : List ℕ) (before after : Option (List ℕ)) → AreUnder a part o own → header ≡ header_under part o.every
+pub swept-first-under : (a : Axes) (part : Option Part) (o : Outlook) (bytes : List ℕ) (own : List Point) (header : List ℕ) (before after : Option (List ℕ)) → AreUnder a part o own → header ≡ header_told part o
     → IsAcceptedWith a bytes (λ rows. HasTakenFirst true rows own header before after) → HasSweptFirstOverTime a part o bytes before after
 swept-first-under a part o bytes own header before after are is h =
     let all = first-under a part o h.rows own header true before after are is h.holds in
     record { text = all.text; rows = h.rows; accepted = h.accepted; tells = all.tells; gained = all.taken }
 
-pub begun-under : (a : Axes) (part : Option Part) (o : Outlook) (bytes : List ℕ) (own : List Point) (header : List ℕ) (before after : Option (List ℕ)) → AreUnder a part o own → header ≡ header_under part o.every
+pub begun-under : (a : Axes) (part : Option Part) (o : Outlook) (bytes : List ℕ) (own : List Point) (header : List ℕ) (before after : Option (List ℕ)) → AreUnder a part o own → header ≡ header_told part o
     → IsAcceptedWith a bytes (λ rows. HasTakenFirst false rows own header before after) → HasBegunOverTime a part o bytes before after
 begun-under a part o bytes own header before after are is h =
     let all = first-under a part o h.rows own header false before after are is h.holds in

@@ -1,6 +1,6 @@
 -- Each line of a sweep is one line: no byte of it but the last ends it.
-use Rattle.std.proofs.Common.{◌≡◌, ℕ, zero, suc, ◌+◌, ◌*◌, ◌/◌, ◌%◌, ◌<◌, ◌==◌, Bool, true, false, cond, List, [], ◌∷◌, ◌++◌, map, refl, sym, subst, arith, All, codes}
-use Rattle.std.specs.Prelude.{decimal, nat_lt, if◌then◌else◌}
+use Rattle.std.proofs.Common.{◌≡◌, ℕ, zero, suc, ◌+◌, ◌*◌, ◌/◌, ◌%◌, ◌<◌, ◌==◌, Bool, true, false, cond, List, [], ◌∷◌, ◌++◌, Option, None, Some, map, refl, sym, subst, arith, All, codes}
+use Rattle.std.specs.Prelude.{decimal, nat_lt, if◌then◌else◌, unwrap_or}
 use Rattle.std.specs.Fmt.{digit_glyph, digits, digits_onto}
 use Rattle.std.specs.List.{list_all}
 use Rattle.std.proofs.lemmas.Bool.{and_parts, ltb-true}
@@ -12,12 +12,14 @@ use Rattle.rw_ripq.specs.declared.Policy.TheVariants.{Off, Lru, Slru}
 use Rattle.rw_trace.specs.declared.Row.{Row}
 use Rattle.rw_report.specs.declared.columns.Caches.{Caches}
 use Rattle.rw_report.specs.declared.columns.Caches.TheVariants as whose
-use Rattle.rw_report.specs.Columns.{caches_name, columns_of, counts_columns, counts_of, ratio_text, six_digits, those_of}
+use Rattle.rw_report.specs.Columns.{caches_name, columns_of, counts_of, measured_columns, ratio_text, six_digits, those_of, with_decimals}
+use Rattle.rw_report.specs.declared.columns.Measured.{Measured}
 use Rattle.rw_sweep.specs.declared.choice.Choice.{Choice}
 use Rattle.rw_sweep.specs.Joining.{IsLine, newline}
 use Rattle.rw_sweep.specs.Sweep.{AreLinesOf}
 use Rattle.rw_report.specs.Report.{totals}
-use Rattle.rw_sweep.specs.Table.{backend_requests, choice_columns, flash_bytes, line_with, policy_name, sweep_line}
+use Rattle.rw_sweep.specs.Facts.{facts_of, span_of}
+use Rattle.rw_sweep.specs.Table.{Conditions, choice_columns, conditions, conditions_columns, daily_writes, if_some, line_with, measured, policy_name, sweep_line}
 
 -- the bytes of digits, letters, commas and points
 abbrev Plain : List ℕ → Type 0
@@ -78,56 +80,70 @@ name-of-caches whose.Edges = tested (codes "edges") refl
 name-of-caches whose.Origins = tested (codes "origins") refl
 name-of-caches whose.All = tested (codes "all") refl
 
-ratio : (part whole : ℕ) → Plain (ratio_text part whole)
-ratio part whole = decimals (if whole == 0 then 0 else part * 1000000 / whole)
+decimals : (n : ℕ) → Plain (with_decimals n)
+decimals n =
+    joined (decimal (n / 1000000) ++ codes ".") (six_digits n) (joined (decimal (n / 1000000)) (codes ".") (plain-decimal (n / 1000000)) (tested (codes ".") refl)) (six n)
   where
     six : (n : ℕ) → Plain (six_digits n)
     six n = All-map (λ b. 43 < b) (λ unit. 48 + n / unit % 10) (100000 ∷ 10000 ∷ 1000 ∷ 100 ∷ 10 ∷ 1 ∷ []) (λ k d l. omega arith)
 
-    decimals : (n : ℕ) → Plain (decimal (n / 1000000) ++ codes "." ++ six_digits n)
-    decimals n =
-        joined (decimal (n / 1000000) ++ codes ".") (six_digits n) (joined (decimal (n / 1000000)) (codes ".") (plain-decimal (n / 1000000)) (tested (codes ".") refl)) (six n)
+ratio : (part whole : ℕ) → Plain (ratio_text part whole)
+ratio part whole = decimals (if whole == 0 then 0 else part * 1000000 / whole)
 
-counts : (k : Counters) (flash written backend : ℕ) → Plain (counts_columns k flash written backend)
-counts k flash written backend =
+counts : (k : Counters) (m : Measured) → Plain (measured_columns k m)
+counts k m =
     let first = columns_of (counts_of k) in
     let hits = ratio_text k.hits k.requests in
     let bytes = ratio_text k.hit_bytes k.request_bytes in
-    let last = columns_of (flash ∷ written ∷ backend ∷ []) in
-    joined (first ++ codes "," ++ hits ++ codes "," ++ bytes) last
+    let numbers = m.flash_bytes ∷ m.written_bytes ∷ m.backend_requests ∷ m.backend_bytes ∷ k.inserted_bytes ∷ [] in
+    joined (first ++ codes "," ++ hits ++ codes "," ++ bytes) (columns_of numbers)
     (joined (first ++ codes "," ++ hits ++ codes ",") bytes
     (joined (first ++ codes "," ++ hits) (codes ",")
     (joined (first ++ codes ",") hits (joined first (codes ",") (columns (counts_of k)) comma) (ratio k.hits k.requests)) comma)
     (ratio k.hit_bytes k.request_bytes))
-    (columns (flash ∷ written ∷ backend ∷ []))
+    (columns numbers)
 
-body_of : Config → Choice → Caches → Counters → ℕ → List ℕ
-body_of c x w k backend = choice_columns x ++ codes "," ++ caches_name w ++ counts_columns k (flash_bytes c x w) (k.writes * x.block) backend
+some-decimals : (o : Option ℕ) → Plain (if_some o)
+some-decimals None = All-nil (λ b. 43 < b)
+some-decimals (Some n) = decimals n
 
-whole : (c : Config) (x : Choice) (w : Caches) (k : Counters) (backend : ℕ) → IsLine (line_with c x w k backend)
+ending : (c : Config) (n : Conditions) (m : Measured) → Plain (conditions_columns c n m)
+ending c n m =
+    let daily = daily_writes n.ticks_a_second (span_of n.facts) m.flash_bytes m.written_bytes in
+    let numbers = cond c.reclaim 1 0 ∷ unwrap_or n.warm_up 0 ∷ unwrap_or n.ticks_a_second 0 ∷ n.facts.rows ∷ span_of n.facts ∷ n.facts.digest ∷ [] in
+    joined (codes "," ++ if_some daily) (columns_of numbers) (joined (codes ",") (if_some daily) comma (some-decimals daily)) (columns numbers)
+
+body_of : Config → Choice → Conditions → Caches → Counters → Counters → List ℕ
+body_of c x n w k o = choice_columns x ++ codes "," ++ caches_name w ++ measured_columns k (measured c x w k o) ++ conditions_columns c n (measured c x w k o)
+
+whole : (c : Config) (x : Choice) (n : Conditions) (w : Caches) (k o : Counters) → IsLine (line_with c x n w k o)
 unfolding body_of
-whole c x w k backend =
+whole c x n w k o =
     let front = choice_columns x in
     let name = caches_name w in
-    let tail = counts_columns k (flash_bytes c x w) (k.writes * x.block) backend in
-    let numbers = columns_of (x.sections ∷ x.block ∷ x.edge_blocks ∷ x.origin_blocks ∷ []) in
-    let plain : Plain (body_of c x w k backend) =
-    joined (front ++ codes "," ++ name) tail
+    let m = measured c x w k o in
+    let tail = measured_columns k m in
+    let sizes = x.sections ∷ x.block ∷ x.edge_blocks ∷ x.origin_blocks ∷ x.edges ∷ x.origins ∷ x.up ∷ x.down ∷ x.back ∷ [] in
+    let plain : Plain (body_of c x n w k o) =
+    joined (front ++ codes "," ++ name ++ tail) (conditions_columns c n m)
+    (joined (front ++ codes "," ++ name) tail
     (joined (front ++ codes ",") name
-    (joined front (codes ",") (joined (policy_name x.policy) numbers (name-of-policy x.policy) (columns (x.sections ∷ x.block ∷ x.edge_blocks ∷ x.origin_blocks ∷ []))) comma)
+    (joined front (codes ",") (joined (policy_name x.policy) (columns_of sizes) (name-of-policy x.policy) (columns sizes)) comma)
     (name-of-caches w))
-    (counts k (flash_bytes c x w) (k.writes * x.block) backend) in
-    record { body = body_of c x w k backend; ends = refl; one = All-weaker (λ b. 43 < b) (λ b. b ≡ newline → ⊥) (λ b l e. omega arith) (body_of c x w k backend) plain }
+    (counts k m))
+    (ending c n m) in
+    record { body = body_of c x n w k o; ends = refl; one = All-weaker (λ b. 43 < b) (λ b. b ≡ newline → ⊥) (λ b l e. omega arith) (body_of c x n w k o) plain }
 
-line-is : (c : Config) (x : Choice) (ks : List Counters) (w : Caches) → IsLine (sweep_line c x ks w)
-line-is c x ks w = whole c x w (totals (those_of c w ks)) (backend_requests c w ks)
+line-is : (c : Config) (x : Choice) (n : Conditions) (ks : List Counters) (w : Caches) → IsLine (sweep_line c x n ks w)
+line-is c x n ks w = whole c x n w (totals (those_of c w ks)) (totals (those_of c whose.Origins ks))
 
 -- the lines of a configuration
-pub whole-lines : (c : Config) (x : Choice) (rows : List Row) (lines : List (List ℕ)) → AreLinesOf c x rows lines → All IsLine lines
-whole-lines c x rows lines are =
+pub whole-lines : (c : Config) (x : Choice) (ticks : Option ℕ) (rows : List Row) (lines : List (List ℕ)) → AreLinesOf c x ticks rows lines → All IsLine lines
+whole-lines c x ticks rows lines are =
     let ks : List Counters = map (λ s. s.counters) are.states in
-    let e = sweep_line c x ks whose.Edges in
-    let o = sweep_line c x ks whose.Origins in
-    let a = sweep_line c x ks whose.All in
+    let n : Conditions = conditions ticks None (facts_of rows) in
+    let e = sweep_line c x n ks whose.Edges in
+    let o = sweep_line c x n ks whose.Origins in
+    let a = sweep_line c x n ks whose.All in
     subst (All IsLine) (sym are.told)
-    (All-cons IsLine e (o ∷ a ∷ []) (line-is c x ks whose.Edges) (All-cons IsLine o (a ∷ []) (line-is c x ks whose.Origins) (All-cons IsLine a [] (line-is c x ks whose.All) (All-nil IsLine))))
+    (All-cons IsLine e (o ∷ a ∷ []) (line-is c x n ks whose.Edges) (All-cons IsLine o (a ∷ []) (line-is c x n ks whose.Origins) (All-cons IsLine a [] (line-is c x n ks whose.All) (All-nil IsLine))))

@@ -3,15 +3,12 @@ use Rattle.std.specs.Prelude.{◌≡◌, ◌≢◌, ℕ, ◌<◌, ◌==◌, List
 use Rattle.std.specs.List.{AllZip, concat, filter, flat_map, range_with_len}
 use Rattle.rw_vt.specs.Words.{Count, Position}
 use Rattle.rw_trace.specs.Words.{Text}
+pub use Rattle.rw_report.specs.Formats.{newline}
 use Rattle.rw_sweep.specs.declared.axes.Axes.{Axes}
 use Rattle.rw_sweep.specs.Grids.{combinations}
 use Rattle.rw_sweep.specs.Parts.{IsPartSweepOf, part_header, placed_line}
 use Rattle.rw_sweep.specs.Sweep.{IsSweepOf}
 use Rattle.rw_sweep.specs.Table.{header_line}
-
--- the byte that ends a line
-abbrev pub newline : ℕ
-newline = 10
 
 -- the text is one line: it has an end, and nothing behind it
 pub record IsLine (text : Text) : Type 0 where

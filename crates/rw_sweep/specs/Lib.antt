@@ -1,5 +1,6 @@
 pub mod Limits
 pub mod Grids
+pub mod Facts
 pub mod Table
 pub mod Sweep
 pub mod Parts
@@ -15,3 +16,4 @@ pub mod PartLines
 pub mod Join
 pub mod JoinFaults
 pub mod JoinSlots
+pub mod Sizing

@@ -11,7 +11,8 @@ use Rattle.rw_sweep.specs.Table.{choice_columns}
 
 -- the names of the list's columns
 abbrev pub list_header : Text
-list_header = codes "place,policy,sections,block,edge_blocks,origin_blocks\n"
+list_header =
+    codes "place,policy,sections,block,edge_blocks,origin_blocks,edges,origins,up,down,back\n"
 
 -- the line of the configuration at a place
 abbrev pub listed_line : Position × Choice → Text

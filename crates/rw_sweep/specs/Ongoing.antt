@@ -22,6 +22,8 @@ use Rattle.rw_trace.specs.declared.pieces.RowsFault.TheVariants as rows
 use Rattle.rw_trace.specs.Pieces.{IsRefusal}
 use Rattle.rw_sweep.specs.declared.point.Point.{Point}
 use Rattle.rw_sweep.specs.declared.ongoing.OngoingRun.{OngoingRun}
+use Rattle.rw_sweep.specs.declared.facts.Facts.{Facts}
+use Rattle.rw_sweep.specs.Facts.{facts_of}
 use Rattle.rw_sweep.specs.Working.{IsTextOfPoint}
 
 -- the marks at which all runs are looked at
@@ -91,10 +93,12 @@ pub record AreFed (piece : List Row) (gs hs : List OngoingRun) : Type 0 where
   pub each : (i : ℕ) (d : OngoingRun) → i < length gs
       → IsFed piece (slice_index_or gs i d) (slice_index_or hs i d)
 
--- all these runs have taken in these rows, which are all that was to come, and stand in order of time
-pub record HaveTakenAll (at : MarksAt) (edges : ℕ) (ahead : Ahead)
+-- all these runs have taken in these rows, which are all that was to come, and stand in order of time; and so much is
+-- said of them
+pub record HaveTakenAll (at : MarksAt) (edges : ℕ) (ahead : Ahead) (facts : Facts)
     (gs : List OngoingRun) : Type 0 where
   pub rows : List Row
+  pub facts_are : facts ≡ facts_of rows
   pub given : AreAll ahead rows
   pub rising : RiseFrom 0 rows
   pub ranges : All (IsRow edges) rows

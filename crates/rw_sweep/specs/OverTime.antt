@@ -1,8 +1,8 @@
 -- Sweeps that tell of their runs over time, or from a time on.
-use Rattle.std.specs.Prelude.{◌≡◌, List, [], ◌∷◌, ◌++◌, codes, map, Ok, Err, Option, None, Some, unwrap_or}
+use Rattle.std.specs.Prelude.{◌≡◌, ◌≢◌, Bool, true, false, List, [], ◌∷◌, ◌++◌, codes, map, Ok, Err, Option, None, Some, unwrap_or}
 use Rattle.std.specs.List.{AllZip, Contains, concat}
 use Rattle.std.specs.Io.KnownBytes.{Appends}
-use Rattle.rw_vt.specs.Words.{Position, Time}
+use Rattle.rw_vt.specs.Words.{Count, Position, Time}
 use Rattle.rw_vt.specs.System.{Meets}
 use Rattle.rw_vt.specs.Limits.{end_of_time}
 use Rattle.rw_trace.specs.declared.Row.{Row}
@@ -14,72 +14,88 @@ use Rattle.rw_report.specs.Sink.{AppendsBeginning}
 use Rattle.rw_report.specs.declared.sim_fault.SimFault.{SimFault}
 use Rattle.rw_report.specs.declared.sim_fault.SimFault.TheVariants as sim
 use Rattle.rw_photo.specs.declared.config.Config.{Config}
-use Rattle.rw_photo.specs.declared.counters.Counters.{Counters}
 use Rattle.rw_photo.specs.Cache.{is_exhausted}
 use Rattle.rw_photo.specs.Simulation.{simulation}
+use Rattle.std.specs.Option.{is_some}
+use Rattle.rw_report.specs.declared.format.Format.{Format}
+use Rattle.rw_report.specs.declared.format.Format.TheVariants as format
+use Rattle.rw_report.specs.Formats.{json_lines}
 use Rattle.rw_report.specs.declared.intervals.Outlook.{Outlook}
 use Rattle.rw_report.specs.declared.moments.Moment.{Moment}
 use Rattle.rw_report.specs.History.{IsHistory}
-use Rattle.rw_report.specs.Intervals.{AddUp, AreMarks, counted_by_each, intervals_header, last_counters, lines_of}
+use Rattle.rw_report.specs.Intervals.{AddUp, AreMarks, counted_from, intervals_header, lines_of}
 use Rattle.rw_sweep.specs.declared.axes.Axes.{Axes}
 use Rattle.rw_sweep.specs.declared.choice.Choice.{Choice}
 use Rattle.rw_sweep.specs.declared.part.Part.{Part}
-use Rattle.rw_sweep.specs.Grids.{IsConfigOf, combinations}
+use Rattle.rw_sweep.specs.Grids.{IsConfigOf, combinations, least_edges}
 use Rattle.rw_sweep.specs.Parts.{before_line, dealt, text_of_lines}
 use Rattle.rw_sweep.specs.Sweep.{AreLinesOf}
-use Rattle.rw_sweep.specs.Table.{choice_columns, header_line, sweep_lines}
+use Rattle.rw_sweep.specs.Facts.{facts_of}
+use Rattle.rw_sweep.specs.Table.{Conditions, choice_columns, conditions, header_line, sweep_lines}
 
 -- the names of the columns that say which configuration, each before a comma
 abbrev pub choice_names : Text
-choice_names = codes "policy,sections,block,edge_blocks,origin_blocks,"
+choice_names = codes "policy,sections,block,edge_blocks,origin_blocks,edges,origins,up,down,back,"
 
 -- the name of the column of places, where they are told
-abbrev pub before_header : Option Part → Text
-before_header None = []
-before_header (Some part) = codes "place,"
+abbrev pub before_header : Bool → Text
+before_header false = []
+before_header true = codes "place,"
 
 -- the names of the columns: of a table over time where intervals are asked for
-abbrev pub header_under : Option Part → Option Time → Text
-header_under part None = before_header part ++ header_line
-header_under part (Some every) = before_header part ++ choice_names ++ intervals_header
+abbrev pub header_under : Bool → Option Time → Text
+header_under is_placed None = before_header is_placed ++ header_line
+header_under is_placed (Some every) = before_header is_placed ++ choice_names ++ intervals_header
+
+-- what stands before all lines: the names of the columns, but nothing of JSON, of which each line names them
+abbrev pub header_in : Format → Text → Text
+header_in format.Text header = header
+header_in format.Csv header = header
+header_in format.Json header = []
+
+abbrev pub header_told : Option Part → Outlook → Text
+header_told part o = header_in o.format (header_under (is_some part) o.every)
+
+-- lines with these names of their columns, as they are, or as JSON objects
+abbrev pub in_format : Format → Text → Text → Text
+in_format format.Text header lines = lines
+in_format format.Csv header lines = lines
+in_format format.Json header lines = json_lines header lines
 
 -- what stands before each line of the intervals of a configuration
 abbrev pub before_interval : Option Position → Choice → Text
 before_interval place x = before_line place ++ choice_columns x ++ codes ","
 
--- what each cache has counted by the last moment, from the first one on where the caches warm up till then
-abbrev pub counted_from : Option Time → Moment → List Moment → List Counters
-counted_from None m ms = last_counters (m ∷ ms)
-counted_from (Some start) m ms =
-    counted_by_each m.counters.items (last_counters (m ∷ ms))
+-- what is told of a configuration, from the moments of its run, under these conditions
+abbrev pub told_under : Config → Choice → Conditions → Option Position → Option Time → Moment
+    → List Moment → Text
+told_under c x n place (Some every) m ms = lines_of c (before_interval place x) (m ∷ ms)
+told_under c x n place None m ms =
+    text_of_lines place (sweep_lines c x n (counted_from n.warm_up (m ∷ ms)))
 
--- what is told of a configuration, from the moments of its run
-abbrev pub told_under : Config → Choice → Option Position → Option Time → Option Time
-    → Moment → List Moment → Text
-told_under c x place warm_up (Some every) m ms = lines_of c (before_interval place x) (m ∷ ms)
-told_under c x place warm_up None m ms =
-    text_of_lines place (sweep_lines c x (counted_from warm_up m ms))
-
-abbrev pub told_of_choice : Config → Choice → Option Position → Outlook → List Moment → Text
-told_of_choice c x place o [] = []
-told_of_choice c x place o (m ∷ ms) = told_under c x place o.warm_up o.every m ms
+abbrev pub told_of_choice : Config → Choice → Conditions → Option Position → Option Time
+    → List Moment → Text
+told_of_choice c x n place every [] = []
+told_of_choice c x n place every (m ∷ ms) = told_under c x n place every m ms
 
 -- the text is the three lines of a configuration at work on these rows, each behind its place, where that is told
-pub record HasLines (c : Config) (x : Choice) (place : Option Position) (rows : List Row)
-    (text : Text) : Type 0 where
+pub record HasLines (c : Config) (x : Choice) (ticks : Option Count) (place : Option Position)
+    (rows : List Row) (text : Text) : Type 0 where
   pub lines : List Text
-  pub tell : AreLinesOf c x rows lines
+  pub tell : AreLinesOf c x ticks rows lines
   pub told : text ≡ text_of_lines place lines
 
--- the text tells of a configuration at work on these rows what an outlook asks for; where it asks for nothing else, its
--- three lines; and the intervals add up
-pub record TellsOfChoice (c : Config) (x : Choice) (place : Option Position) (o : Outlook)
-    (rows : List Row) (text : Text) : Type 0 where
+-- the text tells of a configuration at work on these rows what an outlook asks for, in its format; where it asks for
+-- nothing else, and not for JSON, its three lines; and the intervals add up
+pub record TellsOfChoice (c : Config) (x : Choice) (ticks : Option Count)
+    (place : Option Position) (o : Outlook) (rows : List Row) (text : Text) : Type 0 where
   pub history : List Moment
   pub is : IsHistory (simulation c rows) (unwrap_or o.warm_up 0) (unwrap_or o.every end_of_time)
       history
-  pub told : text ≡ told_of_choice c x place o history
-  pub lines : o.warm_up ≡ None → o.every ≡ None → HasLines c x place rows text
+  pub told : text ≡ in_format o.format (header_under (is_some place) o.every)
+      (told_of_choice c x (conditions ticks o.warm_up (facts_of rows)) place o.every history)
+  pub lines : o.warm_up ≡ None → o.every ≡ None → o.format ≢ format.Json
+      → HasLines c x ticks place rows text
   pub add_up : AddUp c history
 
 -- the combinations of a sweep, or of a part of it, in order, the latter beside their places
@@ -93,7 +109,7 @@ pub record TellsOfPlaced (a : Axes) (o : Outlook) (rows : List Row) (at : Option
     (text : Text) : Type 0 where
   pub config : Config
   pub config_is : IsConfigOf a at.1 config
-  pub tells : TellsOfChoice config at.1 at.0 o rows text
+  pub tells : TellsOfChoice config at.1 a.ticks_a_second at.0 o rows text
 
 -- behind the header stands what is told of each of these choices, in their order
 pub record TellsOfChoices (a : Axes) (o : Outlook) (rows : List Row)
@@ -105,7 +121,7 @@ pub record TellsOfChoices (a : Axes) (o : Outlook) (rows : List Row)
 -- the text is a table over a grid, or over a part of it, that tells what an outlook asks for
 abbrev pub TellsOfSweep : Axes → Option Part → Outlook → List Row → Text → Type 0
 TellsOfSweep a part o rows text =
-    TellsOfChoices a o rows (told_choices a part) (header_under part o.every) text
+    TellsOfChoices a o rows (told_choices a part) (header_told part o) text
 
 -- the text is a beginning of that table, which ends where what is told of a configuration ends
 pub record TellsOfFirst (a : Axes) (part : Option Part) (o : Outlook) (rows : List Row)
@@ -113,7 +129,7 @@ pub record TellsOfFirst (a : Axes) (part : Option Part) (o : Outlook) (rows : Li
   pub first : List (Option Position × Choice)
   pub rest : List (Option Position × Choice)
   pub parted : told_choices a part ≡ first ++ rest
-  pub tells : TellsOfChoices a o rows first (header_under part o.every) text
+  pub tells : TellsOfChoices a o rows first (header_told part o) text
 
 -- a sweep has written that table, between what the writer held before and what it holds after: the trace in these bytes
 -- is accepted with these rows
@@ -121,7 +137,7 @@ pub record HasSweptOverTime (a : Axes) (part : Option Part) (o : Outlook) (bytes
     (before after : Option Text) : Type 0 where
   pub text : Text
   pub rows : List Row
-  pub accepted : trace_of a.edges most_rows (records_of bytes) ≡ Ok rows
+  pub accepted : trace_of (least_edges a) most_rows (records_of bytes) ≡ Ok rows
   pub tells : TellsOfSweep a part o rows text
   pub gained : Appends before after text
 
@@ -130,7 +146,7 @@ pub record HasSweptFirstOverTime (a : Axes) (part : Option Part) (o : Outlook) (
     (before after : Option Text) : Type 0 where
   pub text : Text
   pub rows : List Row
-  pub accepted : trace_of a.edges most_rows (records_of bytes) ≡ Ok rows
+  pub accepted : trace_of (least_edges a) most_rows (records_of bytes) ≡ Ok rows
   pub tells : TellsOfFirst a part o rows text
   pub gained : Appends before after text
 
@@ -139,7 +155,7 @@ pub record HasBegunOverTime (a : Axes) (part : Option Part) (o : Outlook) (bytes
     (before after : Option Text) : Type 0 where
   pub text : Text
   pub rows : List Row
-  pub accepted : trace_of a.edges most_rows (records_of bytes) ≡ Ok rows
+  pub accepted : trace_of (least_edges a) most_rows (records_of bytes) ≡ Ok rows
   pub tells : TellsOfFirst a part o rows text
   pub gained : AppendsBeginning before after text
 
@@ -149,14 +165,15 @@ pub record IsExhaustingOverTime (a : Axes) (part : Option Part) (bytes : Text) :
   pub rows : List Row
   pub at : Option Position × Choice
   pub config : Config
-  pub accepted : trace_of a.edges most_rows (records_of bytes) ≡ Ok rows
+  pub accepted : trace_of (least_edges a) most_rows (records_of bytes) ≡ Ok rows
   pub among : Contains (told_choices a part) at
   pub config_is : IsConfigOf a at.1 config
   pub met : Meets (simulation config rows) end_of_time is_exhausted
 
 -- why the table is not written; want of memory may come anywhere
 abbrev pub IsOverTimeFault : Axes → Option Part → Outlook → Text → SimFault → Type 0
-IsOverTimeFault a part o bytes (sim.Trace f) = trace_of a.edges most_rows (records_of bytes) ≡ Err f
+IsOverTimeFault a part o bytes (sim.Trace f) =
+    trace_of (least_edges a) most_rows (records_of bytes) ≡ Err f
 IsOverTimeFault a part o bytes sim.Exhausted = IsExhaustingOverTime a part bytes
 IsOverTimeFault a part o bytes sim.Plan = AreMarks o → ⊥
 IsOverTimeFault a part o bytes sim.Output = Unit {0}

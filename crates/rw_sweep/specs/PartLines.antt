@@ -1,20 +1,13 @@
 -- What the lines of a part are.
-use Rattle.std.specs.Prelude.{◌≡◌, ◌≢◌, ◌⊎◌, ℕ, ◌<◌, ◌≤◌, ◌==◌, List, [], ◌∷◌, All, codes, decimal, length, slice_index_or}
+use Rattle.std.specs.Prelude.{◌≡◌, ◌≢◌, ◌⊎◌, ℕ, ◌<◌, ◌≤◌, List, [], ◌∷◌, ◌++◌, All, codes, decimal, length, slice_index_or}
 use Rattle.std.specs.Char.{is_ascii_digit}
-use Rattle.std.specs.List.{AllPass, Contains, slice_split}
+use Rattle.std.specs.List.{AllPass, Contains}
 use Rattle.rw_vt.specs.Words.{Count, Position}
 use Rattle.rw_trace.specs.Words.{Text}
+pub use Rattle.rw_report.specs.Formats.{comma, fields_of}
 use Rattle.rw_sweep.specs.Joining.{IsLine, PlacedLine, lines_of_place, part_with}
 use Rattle.rw_sweep.specs.Limits.{most_configurations}
 use Rattle.rw_sweep.specs.Parts.{placed_line}
-
--- the byte between two fields
-abbrev pub comma : ℕ
-comma = 44
-
--- the fields of a line without its end: what stands between its commas
-abbrev pub fields_of : Text → List Text
-fields_of body = slice_split (λ b. b == comma) body
 
 -- the field at a column
 abbrev pub part_field : Text → Position → Text
@@ -22,7 +15,7 @@ part_field body column = slice_index_or (fields_of body) column []
 
 -- how many columns a part has
 abbrev pub part_columns : Count
-part_columns = 27
+part_columns = 41
 
 -- the words for the policies
 abbrev pub policy_words : List Text
@@ -54,13 +47,28 @@ pub record IsRatioField (f : Text) : Type 0 where
   pub six : length decimals ≡ 6
   pub digits : AllPass is_ascii_digit (ones ∷ decimals)
 
--- the field is one of its column: at 0 a place, at 1 a policy, at 6 caches, at 22 and 23 a ratio, and else a number
+-- the field is 1 to 40 digits, a point and six digits
+pub record IsDecimalField (f : Text) : Type 0 where
+  pub whole : Text
+  pub decimals : Text
+  pub told : f ≡ whole ++ 46 ∷ decimals
+  pub number : IsNumberField whole
+  pub six : length decimals ≡ 6
+  pub digits : AllPass is_ascii_digit decimals
+
+-- the field is empty, or a number with six decimals
+abbrev pub IsRateField : Text → Type 0
+IsRateField f = (f ≡ []) ⊎ IsDecimalField f
+
+-- the field is one of its column: at 0 a place, at 1 a policy, at 11 caches, at 27 and 28 a ratio, at 34 a rate, and
+-- else a number
 pub record IsOfColumn (column : Position) (f : Text) : Type 0 where
   pub place : column ≡ 0 → IsPlaceField f
   pub policy : column ≡ 1 → Contains policy_words f
-  pub caches : column ≡ 6 → Contains caches_words f
-  pub ratio : (column ≡ 22) ⊎ (column ≡ 23) → IsRatioField f
-  pub number : column ≢ 0 → column ≢ 1 → column ≢ 6 → column ≢ 22 → column ≢ 23
+  pub caches : column ≡ 11 → Contains caches_words f
+  pub ratio : (column ≡ 27) ⊎ (column ≡ 28) → IsRatioField f
+  pub rate : column ≡ 34 → IsRateField f
+  pub number : column ≢ 0 → column ≢ 1 → column ≢ 11 → column ≢ 27 → column ≢ 28 → column ≢ 34
       → IsNumberField f
 
 -- a line of a part, without its end: it has a field for each column, and each is one of its column

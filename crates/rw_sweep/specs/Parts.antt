@@ -18,7 +18,7 @@ use Rattle.rw_photo.specs.Cache.{is_exhausted}
 use Rattle.rw_photo.specs.Simulation.{simulation}
 use Rattle.rw_sweep.specs.declared.axes.Axes.{Axes}
 use Rattle.rw_sweep.specs.declared.choice.Choice.{Choice}
-use Rattle.rw_sweep.specs.Grids.{IsConfigOf, combinations}
+use Rattle.rw_sweep.specs.Grids.{IsConfigOf, combinations, least_edges}
 use Rattle.rw_sweep.specs.Sweep.{AreLinesOfChoice}
 use Rattle.rw_sweep.specs.Table.{header_line}
 
@@ -65,7 +65,7 @@ pub record IsPartSweepOf (a : Axes) (index : Position) (count : Count)
     (bytes text : Text) : Type 0 where
   pub rows : List Row
   pub lines : List LinesAt
-  pub accepted : trace_of a.edges most_rows (records_of bytes) ≡ Ok rows
+  pub accepted : trace_of (least_edges a) most_rows (records_of bytes) ≡ Ok rows
   pub each : AllZip (AreLinesOfPlaced a rows) (dealt index count (combinations a)) lines
   pub told : text ≡ part_header ++ flat_map (λ ls. flat_map (placed_line ls.place) ls.lines) lines
 
@@ -83,7 +83,7 @@ pub record IsPartSweepOfFirst (a : Axes) (index : Position) (count : Count)
   pub first : List (Position × Choice)
   pub rest : List (Position × Choice)
   pub lines : List LinesAt
-  pub accepted : trace_of a.edges most_rows (records_of bytes) ≡ Ok rows
+  pub accepted : trace_of (least_edges a) most_rows (records_of bytes) ≡ Ok rows
   pub parted : dealt index count (combinations a) ≡ first ++ rest
   pub each : AllZip (AreLinesOfPlaced a rows) first lines
   pub told : text ≡ part_header ++ flat_map (λ ls. flat_map (placed_line ls.place) ls.lines) lines
@@ -106,7 +106,7 @@ pub record IsExhaustingPart (a : Axes) (index : Position) (count : Count)
   pub rows : List Row
   pub at : Position × Choice
   pub config : Config
-  pub accepted : trace_of a.edges most_rows (records_of bytes) ≡ Ok rows
+  pub accepted : trace_of (least_edges a) most_rows (records_of bytes) ≡ Ok rows
   pub among : Contains (dealt index count (combinations a)) at
   pub config_is : IsConfigOf a at.1 config
   pub met : Meets (simulation config rows) end_of_time is_exhausted
@@ -114,7 +114,7 @@ pub record IsExhaustingPart (a : Axes) (index : Position) (count : Count)
 -- why a part has no table, or could not write it; want of memory may come anywhere
 abbrev pub IsPartSweepFault : Axes → Position → Count → Text → SimFault → Type 0
 IsPartSweepFault a index count bytes (sim.Trace f) =
-    trace_of a.edges most_rows (records_of bytes) ≡ Err f
+    trace_of (least_edges a) most_rows (records_of bytes) ≡ Err f
 IsPartSweepFault a index count bytes sim.Exhausted = IsExhaustingPart a index count bytes
 IsPartSweepFault a index count bytes sim.Output = Unit {0}
 IsPartSweepFault a index count bytes sim.Memory = Unit {0}

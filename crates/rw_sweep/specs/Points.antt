@@ -4,15 +4,17 @@ use Rattle.std.specs.List.{Contains}
 use Rattle.rw_sweep.specs.declared.axes.Axes.{Axes}
 use Rattle.rw_sweep.specs.declared.part.Part.{Part}
 use Rattle.rw_sweep.specs.declared.point.Point.{Point}
+use Rattle.rw_sweep.specs.declared.facts.Facts.{Facts}
 use Rattle.rw_report.specs.declared.intervals.Outlook.{Outlook}
 use Rattle.rw_vt.specs.Words.{Count, Position}
 use Rattle.rw_sweep.specs.Parts.{dealt}
 use Rattle.rw_sweep.specs.Grids.{IsConfigOf, IsInGridRanges, combinations}
 
--- its choice is in its ranges, and this is its configuration
+-- its choice is in its ranges, this is its configuration, and its seconds have as many ticks as those of all
 pub record IsPoint (a : Axes) (p : Point) : Type 0 where
-  pub in_range : IsInGridRanges a p.choice
+  pub in_range : IsInGridRanges p.choice
   pub config_is : IsConfigOf a p.choice p.config
+  pub ticks : p.ticks_a_second ≡ a.ticks_a_second
 
 -- its lines are told, and without its place
 pub record IsPlain (p : Point) : Type 0 where
@@ -46,6 +48,10 @@ chosen_points (Some part) points = points_of_part part.index part.count points
 -- a configuration of which an outlook is told
 abbrev pub with_outlook : Outlook → Point → Point
 with_outlook o p = record p { outlook = Some o }
+
+-- a configuration that runs a trace of which so much is said
+abbrev pub with_facts : Facts → Point → Point
+with_facts facts p = record p { facts = facts }
 
 -- the same configurations, of each of which an outlook is told
 abbrev pub points_under : Option Part → Outlook → List Point → List Point

@@ -20,20 +20,21 @@ use Rattle.rw_report.specs.Streams.{IsExhaustingFirst}
 use Rattle.rw_sweep.specs.declared.axes.Axes.{Axes}
 use Rattle.rw_sweep.specs.declared.choice.Choice.{Choice}
 use Rattle.rw_sweep.specs.declared.part.Part.{Part}
-use Rattle.rw_sweep.specs.Grids.{IsConfigOf}
+use Rattle.rw_sweep.specs.Grids.{IsConfigOf, least_edges}
 use Rattle.rw_sweep.specs.OverTime.{TellsOfSweep, told_choices}
 
 -- the rows of a trace that is read as it is run: they stand in order of time, and where the bytes are known the trace
 -- in them is accepted with these rows
 pub record AreRowsOfStream (a : Axes) (known : Option Text) (rows : List Row) : Type 0 where
   pub accepted : IfSome known (λ bytes.
-      trace_of a.edges most_streamed_rows (records_of bytes) ≡ Ok rows)
+      trace_of (least_edges a) most_streamed_rows (records_of bytes) ≡ Ok rows)
   pub rising : RiseFrom 0 rows
 
 -- what such a trace has to give, where the bytes are known: its rows, or its first fault
 abbrev pub rows_ahead : Axes → Option Text → Ahead
 rows_ahead a known =
-    option_map (λ bytes. ordered_trace_of a.edges most_streamed_rows (records_of bytes)) known
+    option_map (λ bytes. ordered_trace_of (least_edges a) most_streamed_rows (records_of bytes))
+    known
 
 -- a sweep has written the table of such a trace over a grid, or over a part of it, between what the writer held before
 -- and what it holds after

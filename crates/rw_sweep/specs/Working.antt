@@ -24,12 +24,16 @@ use Rattle.rw_sweep.specs.declared.point.Point.{Point}
 use Rattle.rw_sweep.specs.declared.entry.Entry.{Entry}
 use Rattle.rw_report.specs.declared.intervals.Outlook.{Outlook}
 use Rattle.rw_report.specs.Intervals.{AreMarks}
+use Rattle.rw_sweep.specs.Facts.{facts_of}
 use Rattle.rw_sweep.specs.OverTime.{HasLines, TellsOfChoice}
+use Rattle.rw_sweep.specs.Grids.{least_edges}
 
--- a configuration can run these rows, its line can be written, and what is asked of it can be told
+-- a configuration can run these rows, its line can be written, what is asked of it can be told, and what is said of the
+-- trace is said of these rows
 pub record CanRun (rows : List Row) (p : Point) : Type 0 where
   pub rows_in_range : All (IsRow p.config.edges) rows
   pub few : length rows ≤ 2 ^ 63
+  pub facts : p.facts ≡ facts_of rows
   pub marks : IfSome p.outlook AreMarks
   pub edge_shape : IsShape p.choice.sections p.choice.block p.choice.edge_blocks
   pub origin_shape : IsShape p.choice.sections p.choice.block p.choice.origin_blocks
@@ -40,8 +44,9 @@ IsExhaustedAt rows p = Meets (simulation p.config rows) end_of_time is_exhausted
 
 -- the text is what is told of a configuration at work on these rows: its lines, or what an outlook asks for
 abbrev pub IsTextUnder : Option Outlook → List Row → Point → Text → Type 0
-IsTextUnder None rows p text = HasLines p.config p.choice p.place rows text
-IsTextUnder (Some o) rows p text = TellsOfChoice p.config p.choice p.place o rows text
+IsTextUnder None rows p text = HasLines p.config p.choice p.ticks_a_second p.place rows text
+IsTextUnder (Some o) rows p text =
+    TellsOfChoice p.config p.choice p.ticks_a_second p.place o rows text
 
 abbrev pub IsTextOfPoint : List Row → Point → Text → Type 0
 IsTextOfPoint rows p text = IsTextUnder p.outlook rows p text
@@ -95,12 +100,13 @@ pub record HasTakenFirst (whole : Bool) (rows : List Row) (points : List Point) 
 -- the trace in these bytes is accepted, and so much holds of its rows
 pub record IsAcceptedWith (a : Axes) (bytes : Text) (Holds : List Row → Type 0) : Type 0 where
   pub rows : List Row
-  pub accepted : trace_of a.edges most_rows (records_of bytes) ≡ Ok rows
+  pub accepted : trace_of (least_edges a) most_rows (records_of bytes) ≡ Ok rows
   pub holds : Holds rows
 
 -- why the lines of these configurations are not all out
 abbrev pub IsFaultOfPoints : Axes → Text → List Point → SimFault → Type 0
-IsFaultOfPoints a bytes points (sim.Trace f) = trace_of a.edges most_rows (records_of bytes) ≡ Err f
+IsFaultOfPoints a bytes points (sim.Trace f) =
+    trace_of (least_edges a) most_rows (records_of bytes) ≡ Err f
 IsFaultOfPoints a bytes points sim.Exhausted =
     IsAcceptedWith a bytes (λ rows. Any (IsExhaustedAt rows) points)
 IsFaultOfPoints a bytes points sim.Output = Unit {0}

@@ -3,18 +3,6 @@ use rw_photo::Policy;
 /// What is varied, and what all configurations have in common.
 #[derive(Drop)]
 pub struct Axes {
-    /// Edge caches, 1 to 256.
-    pub edges: u32,
-    /// Origin caches, 1 to 64.
-    pub origins: u32,
-    /// From an edge to an origin, in ticks, 1 to 1048576.
-    pub up: u64,
-    /// From an origin to an edge, in ticks, 1 to 1048576.
-    pub down: u64,
-    /// From an origin to the backend and back, in ticks, 1 to 1048576.
-    pub back: u64,
-    /// Whether a purge also takes out the sealed block that it leaves without objects.
-    pub reclaim: bool,
     /// What is stored, and where it goes.
     pub policies: Vec<Policy>,
     /// The sections of each queue, each 1 to 16.
@@ -25,6 +13,20 @@ pub struct Axes {
     pub edge_blocks: Vec<u64>,
     /// The sealed device blocks of each origin, each 1 to 65536.
     pub origin_blocks: Vec<u64>,
+    /// The numbers of edge caches, each 1 to 256. A trace may name the edges below the least of these.
+    pub edges: Vec<u64>,
+    /// The numbers of origin caches, each 1 to 64.
+    pub origins: Vec<u64>,
+    /// From an edge to an origin, in ticks, each 1 to 1048576.
+    pub up: Vec<u64>,
+    /// From an origin to an edge, in ticks, each 1 to 1048576.
+    pub down: Vec<u64>,
+    /// From an origin to the backend and back, in ticks, each 1 to 1048576.
+    pub back: Vec<u64>,
+    /// Whether a purge also takes out the sealed block that it leaves without objects.
+    pub reclaim: bool,
+    /// How many ticks a second has, where that is known.
+    pub ticks_a_second: Option<u64>,
 }
 
 /// Which of the numbers of a choice.
@@ -34,4 +36,9 @@ pub(crate) enum Axis {
     Block,
     EdgeBlocks,
     OriginBlocks,
+    Edges,
+    Origins,
+    Up,
+    Down,
+    Back,
 }

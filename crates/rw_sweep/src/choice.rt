@@ -13,4 +13,14 @@ pub struct Choice {
     pub edge_blocks: u64,
     /// The sealed device blocks of each origin.
     pub origin_blocks: u64,
+    /// Edge caches.
+    pub edges: u64,
+    /// Origin caches.
+    pub origins: u64,
+    /// From an edge to an origin, in ticks.
+    pub up: u64,
+    /// From an origin to an edge, in ticks.
+    pub down: u64,
+    /// From an origin to the backend and back, in ticks.
+    pub back: u64,
 }

@@ -1,7 +1,8 @@
 // The configurations that a sweep runs.
-ghost use Rattle.std.specs.Prelude.{◌≡◌, IfOk};
-ghost use Rattle.rw_sweep.specs.Points.{chosen_points, points_of_part, points_under};
+ghost use Rattle.std.specs.Prelude.{◌≡◌, IfOk, map};
+ghost use Rattle.rw_sweep.specs.Points.{chosen_points, points_of_part, points_under, with_facts};
 
+use crate::facts::Facts;
 use crate::part::Part;
 use crate::point::Point;
 use rw_photo::NoMemory;
@@ -46,6 +47,21 @@ pub(crate) fn points_under(
             outlook: Some(outlook),
             ..*point
         })?;
+    }
+    Ok(own)
+}
+
+/// The same configurations, each of a trace of which so much is said.
+pub(crate) fn points_of_trace(
+    alloc: Global,
+    points: &[Point],
+    facts: Facts,
+) -> Result<Vec<Point>, NoMemory>
+    ensures { IfOk result (λ own. own.items ≡ map (with_facts facts) points.now) }
+{
+    let mut own = Vec::with_capacity(alloc, points.len())?;
+    for point in points {
+        own.push(Point { facts, ..*point })?;
     }
     Ok(own)
 }

@@ -1,12 +1,14 @@
 ghost use Rattle.std.specs.Prelude.{◌≡◌, ◌*◌, ◌^◌, ◌-◌, ◌++◌, ◌<◌, ◌≤◌, ◌↔◌, min, map, length, All, [], Err, IsTrue, IsSome, IfOk, IfSome, OnOk};
 ghost use Rattle.std.specs.List.{Any};
-ghost use Rattle.rw_sweep.specs.Grids.{IsConfigOf, IsInGridRanges, combinations};
+ghost use Rattle.rw_sweep.specs.Grids.{IsConfigOf, IsInGridRanges, combinations, least_edges, least_of};
 ghost use Rattle.rw_sweep.specs.Points.{ArePoints, IsPlain, IsPoint};
+ghost use Rattle.rw_photo.specs.Limits.{most_edges};
 ghost use Rattle.rw_sweep.specs.Limits.{most_configurations};
 ghost use Rattle.rw_sweep.specs.Widening.{first_choice, widened, with_number};
 
 use crate::axes::{Axes, Axis};
 use crate::choice::Choice;
+use crate::facts::Facts;
 use crate::point::Point;
 use rw_photo::{Config, NoMemory, Policy, Shape};
 use std::alloc::Global;
@@ -61,6 +63,23 @@ impl Choice {
                 origin_blocks: number,
                 ..self
             },
+            Axis::Edges => Choice {
+                edges: number,
+                ..self
+            },
+            Axis::Origins => Choice {
+                origins: number,
+                ..self
+            },
+            Axis::Up => Choice { up: number, ..self },
+            Axis::Down => Choice {
+                down: number,
+                ..self
+            },
+            Axis::Back => Choice {
+                back: number,
+                ..self
+            },
         }
     }
 }
@@ -73,7 +92,12 @@ fn has_too_many(axes: &Axes) -> bool
         .saturating_mul(axes.sections.len() as u64)
         .saturating_mul(axes.blocks.len() as u64)
         .saturating_mul(axes.edge_blocks.len() as u64)
-        .saturating_mul(axes.origin_blocks.len() as u64);
+        .saturating_mul(axes.origin_blocks.len() as u64)
+        .saturating_mul(axes.edges.len() as u64)
+        .saturating_mul(axes.origins.len() as u64)
+        .saturating_mul(axes.up.len() as u64)
+        .saturating_mul(axes.down.len() as u64)
+        .saturating_mul(axes.back.len() as u64);
     count > MAX_CONFIGURATIONS
 }
 
@@ -89,6 +113,11 @@ fn first_choices(alloc: Global, policies: &[Policy]) -> Result<Vec<Choice>, NoMe
             block: 0,
             edge_blocks: 0,
             origin_blocks: 0,
+            edges: 0,
+            origins: 0,
+            up: 0,
+            down: 0,
+            back: 0,
         })?;
     }
     Ok(choices)
@@ -134,32 +163,48 @@ fn combinations(alloc: Global, axes: &Axes) -> Result<Vec<Choice>, NoMemory>
     let all = widened(alloc, all, Axis::Sections, axes.sections.as_slice())?;
     let all = widened(alloc, all, Axis::Block, axes.blocks.as_slice())?;
     let all = widened(alloc, all, Axis::EdgeBlocks, axes.edge_blocks.as_slice())?;
-    widened(
+    let all = widened(
         alloc,
         all,
         Axis::OriginBlocks,
         axes.origin_blocks.as_slice(),
-    )
+    )?;
+    let all = widened(alloc, all, Axis::Edges, axes.edges.as_slice())?;
+    let all = widened(alloc, all, Axis::Origins, axes.origins.as_slice())?;
+    let all = widened(alloc, all, Axis::Up, axes.up.as_slice())?;
+    let all = widened(alloc, all, Axis::Down, axes.down.as_slice())?;
+    widened(alloc, all, Axis::Back, axes.back.as_slice())
 }
 
 /// The configuration of a choice, if its numbers are in their ranges.
 fn config_of(axes: &Axes, choice: Choice) -> Option<Config>
-    ensures found { IsSome result ↔ IsInGridRanges axes.now choice }
+    ensures found { IsSome result ↔ IsInGridRanges choice }
     ensures config { IfSome result (λ c. IsConfigOf axes.now choice c) }
 {
     let edge_shape = Shape::new(choice.sections, choice.block, choice.edge_blocks)?;
     let origin_shape = Shape::new(choice.sections, choice.block, choice.origin_blocks)?;
     let config = Config::new(
-        axes.edges,
-        axes.origins,
+        u32::try_from(choice.edges).ok()?,
+        u32::try_from(choice.origins).ok()?,
         choice.policy,
         edge_shape,
         origin_shape,
-        axes.up,
-        axes.down,
-        axes.back,
+        choice.up,
+        choice.down,
+        choice.back,
     )?;
     Some(config.with_reclaim(axes.reclaim))
+}
+
+/// The least of some numbers of edges; of none, the most that a configuration can have.
+fn least_edges(numbers: &[u64]) -> u32
+    ensures { result ≡ least_of most_edges numbers.now }
+{
+    let mut least = u64::from(Config::MAX_EDGES);
+    for number in numbers {
+        least = least.min(*number);
+    }
+    least as u32
 }
 
 /// Each choice with its configuration.
@@ -167,9 +212,9 @@ fn points(alloc: Global, axes: &Axes, choices: &[Choice]) -> Result<Vec<Point>, 
     ensures choices { IfOk result (λ points. map (λ p. p.choice) points.items ≡ choices.now) }
     ensures each { IfOk result (λ points. All (IsPoint axes.now) points.items) }
     ensures plain { IfOk result (λ points. All IsPlain points.items) }
-    ensures in_range { OnOk result (All (IsInGridRanges axes.now) choices.now) }
+    ensures in_range { OnOk result (All IsInGridRanges choices.now) }
     ensures out_of_range { result ≡ Err GridFault.OutOfRange
-        → Any (λ x. IsInGridRanges axes.now x → ⊥) choices.now }
+        → Any (λ x. IsInGridRanges x → ⊥) choices.now }
     ensures others { result ≡ Err GridFault.TooMany → ⊥ }
 {
     let Ok(mut points) = Vec::with_capacity(alloc, choices.len()) else {
@@ -184,6 +229,8 @@ fn points(alloc: Global, axes: &Axes, choices: &[Choice]) -> Result<Vec<Point>, 
             choice: *choice,
             config,
             outlook: None,
+            ticks_a_second: axes.ticks_a_second,
+            facts: Facts::none(),
         };
         if points.push(point).is_err() {
             return Err(GridFault::Memory);
@@ -214,7 +261,7 @@ impl Model for Grid {
 
 impl Grid {
     /// The grid of these axes: one configuration for each combination, the policies outermost, then the sections, the block, the
-    /// blocks of an edge, and the blocks of an origin innermost.
+    /// blocks of an edge, the blocks of an origin, the edges, the origins, and the delays up, down and back, the last innermost.
     ///
     /// # Errors
     ///
@@ -224,11 +271,11 @@ impl Grid {
     pub fn new(alloc: Global, axes: Axes) -> Result<Grid, GridFault>
         ensures axes { IfOk result (λ grid. grid ≡ axes) }
         ensures few { OnOk result (length (combinations axes) ≤ most_configurations) }
-        ensures in_range { OnOk result (All (IsInGridRanges axes) (combinations axes)) }
+        ensures in_range { OnOk result (All IsInGridRanges (combinations axes)) }
         ensures too_many { (result ≡ Err GridFault.TooMany)
             ↔ (most_configurations < length (combinations axes)) }
         ensures out_of_range { result ≡ Err GridFault.OutOfRange
-            → Any (λ x. IsInGridRanges axes x → ⊥) (combinations axes) }
+            → Any (λ x. IsInGridRanges x → ⊥) (combinations axes) }
     {
         if has_too_many(&axes) {
             return Err(GridFault::TooMany);
@@ -252,11 +299,12 @@ impl Grid {
         self.points.is_empty()
     }
 
-    /// How many edges each configuration has.
+    /// The fewest edges of a configuration: a trace that names edges below that alone can be run by each. Of no configuration it is
+    /// [`MAX_EDGES`](Config::MAX_EDGES).
     pub fn edges(&self) -> u32
-        ensures { result ≡ self.now.edges }
+        ensures { result ≡ least_edges self.now }
     {
-        self.axes.edges
+        least_edges(self.axes.edges.as_slice())
     }
 
     /// Each choice with its configuration, in order.

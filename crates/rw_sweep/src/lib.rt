@@ -6,9 +6,16 @@
 //! (`specs/Sweep.antt`, `specs/Table.antt`). [`sweep_part`] runs a [`Part`] of them, so that several
 //! machines can share a sweep (`specs/Parts.antt`). [`list`] says which configurations a part has.
 //!
-//! [`sweep_over_time`] writes what an [`Outlook`] asks for: a table over time, or the counts after a
-//! warm-up (`specs/OverTime.antt`). [`sweep_stream`] reads the trace once, while it runs, in little
-//! memory (`specs/Streams.antt`).
+//! Each line ends in what was run. `drive_writes_a_day` is how often a day the caches wrote as many
+//! bytes as their flash has, over the span of the whole trace, also where they warm up first; it is
+//! empty where [`Axes`] do not say how many ticks a second has. `reclaim` is 0 or 1, `warm_up` the
+//! tick from which was counted and `ticks_a_second` what was given, both 0 for none. `rows`, `span`
+//! (from the earliest row to the latest, in ticks) and `digest` are those of the trace. The digest
+//! tells traces apart and is no cryptographic one (`specs/Facts.antt`).
+//!
+//! [`sweep_over_time`] writes what an [`Outlook`] asks for: a table over time, the counts after a
+//! warm-up, or either as JSON Lines (`specs/OverTime.antt`). [`sweep_stream`] reads the trace once,
+//! while it runs, in little memory (`specs/Streams.antt`).
 //!
 //! [`join`] reads what [`sweep_part`] wrote, part by part, and writes all lines in the order of their
 //! places, without the places. `specs/Joining.antt` and `specs/Join.antt` define what a part means and
@@ -17,9 +24,12 @@
 //! Worked examples: `rw_program_tests/src/sweeps.rt` and `joins.rt`.
 
 mod axes;
+mod batch;
 mod choice;
 mod chosen;
+mod decimals;
 mod entry;
+mod facts;
 mod grid;
 mod joiner;
 mod listing;
@@ -28,6 +38,7 @@ mod over_time;
 mod part;
 mod point;
 mod running;
+mod sizing;
 mod streaming;
 mod sweeping;
 mod table;
@@ -42,6 +53,7 @@ pub use joiner::{JoinFault, join, join_of_parts};
 pub use listing::list;
 pub use over_time::{Sweeping, sweep_over_time, sweep_rows, sweep_stream};
 pub use part::{Part, parts_make_the_sweep};
-pub use rw_report::Outlook;
+pub use rw_report::{Caches, Outlook};
+pub use sizing::{Answer, Search, Tier, Try, size};
 pub use sweeping::{MAX_WORKERS, every_limit, sweep, sweep_part};
 pub use table::header_text;

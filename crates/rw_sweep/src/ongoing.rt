@@ -6,9 +6,11 @@ ghost use Rattle.rw_vt.specs.System.{Meets};
 ghost use Rattle.rw_trace.specs.declared.Row.{Row};
 ghost use Rattle.rw_photo.specs.Cache.{is_exhausted};
 ghost use Rattle.rw_photo.specs.Simulation.{simulation};
+ghost use Rattle.rw_sweep.specs.Facts.{facts_of};
 ghost use Rattle.rw_sweep.specs.Ongoing.{AreFed, HasNotEnded, HasTakenPiece, HasTexts, IsFed, IsGoingOn, IsToTell, MayFinish, MayTake, TakesPiece};
 ghost use Rattle.rw_sweep.specs.Working.{IsTextOfPoint};
 
+use crate::facts::Facts;
 use crate::point::Point;
 use crate::telling::told_of_point;
 use rw_photo::NoMemory;
@@ -111,16 +113,17 @@ pub(crate) fn first_refusal(runs: &[OngoingRun]) -> Result<(), Refusal>
     Ok(())
 }
 
-/// A header, and behind it what an outlook asks for of each run, in order, once it has gone on to its end.
+/// A header, and behind it what an outlook asks for of each run, in order, once it has gone on to its end; of the trace so much is said.
 pub(crate) fn text_of_runs(
     alloc: Global,
     runs: Vec<OngoingRun>,
     outlook: Outlook,
+    facts: Facts,
     header: &[u8],
 ) -> Result<Vec<u8>, Refusal>
     requires may_finish { All MayFinish runs.items }
     requires to_tell { All (λ g. IsToTell outlook g.point) runs.items }
-    ensures told { IfOk result (λ text. (rows : List Row)
+    ensures told { IfOk result (λ text. (rows : List Row) → facts ≡ facts_of rows
         → All (IsGoingOn (record {
           start = unwrap_or outlook.warm_up 0;
           every = unwrap_or outlook.every end_of_time;
@@ -136,17 +139,22 @@ pub(crate) fn text_of_runs(
 {
     let mut text = Vec::from_slice(alloc, header)?;
     for run in runs {
-        let lines = finish(alloc, run, outlook)?;
+        let lines = finish(alloc, run, outlook, facts)?;
         text.extend_from_slice(lines.as_slice())?;
     }
     Ok(text)
 }
 
-/// What an outlook asks for of a run, which goes on to its end.
-fn finish(alloc: Global, run: OngoingRun, outlook: Outlook) -> Result<Vec<u8>, Refusal>
+/// What an outlook asks for of a run, which goes on to its end, of a trace of which so much is said.
+fn finish(
+    alloc: Global,
+    run: OngoingRun,
+    outlook: Outlook,
+    facts: Facts,
+) -> Result<Vec<u8>, Refusal>
     requires may_finish { MayFinish run }
     requires to_tell { IsToTell outlook run.point }
-    ensures told { IfOk result (λ text. (rows : List Row)
+    ensures told { IfOk result (λ text. (rows : List Row) → facts ≡ facts_of rows
         → IsGoingOn (record {
           start = unwrap_or outlook.warm_up 0;
           every = unwrap_or outlook.every end_of_time;
@@ -164,6 +172,7 @@ fn finish(alloc: Global, run: OngoingRun, outlook: Outlook) -> Result<Vec<u8>, R
         unreachable!()
     };
     let moments = recording.finish(alloc)?;
+    let point = Point { facts, ..point };
     let text = told_of_point(alloc, &point, outlook, moments.as_slice())?;
     Ok(text)
 }

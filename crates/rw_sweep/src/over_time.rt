@@ -1,6 +1,7 @@
 // Sweeps that tell what an outlook asks for.
 ghost use Rattle.std.specs.Prelude.{◌≡◌, ◌≢◌, ◌≤◌, ◌^◌, ◌↔◌, ◌⊎◌, Err, IfErr, IfOk, OnOk};
 ghost use Rattle.rw_trace.specs.declared.TraceFault.{TraceFault};
+ghost use Rattle.rw_sweep.specs.Grids.{least_edges};
 ghost use Rattle.rw_sweep.specs.OverTime.{HasBegunOverTime, HasSweptFirstOverTime, HasSweptOverTime, IsOverTimeFault};
 ghost use Rattle.rw_sweep.specs.Streams.{HasBegunStream, HasBegunToSweepRows, HasSweptRows, HasSweptStream, IsRowsSweepFault, IsStreamSweepFault, TellsOfSweptRows};
 
@@ -9,8 +10,8 @@ use crate::grid::Grid;
 use crate::ongoing::text_of_runs;
 use crate::part::Part;
 use crate::streaming::run_all_streamed;
-use crate::sweeping::{MAX_WORKERS, sweep_points};
-use crate::table::header_under;
+use crate::sweeping::{MAX_WORKERS, Table, sweep_points};
+use crate::table::header_told;
 use rw_progress::Progress;
 use rw_report::{Out, Outlook, SimFault, Telling};
 use rw_trace::{MAX_STREAMED_ROWS, OrderedRows, RowSource};
@@ -33,7 +34,8 @@ pub struct Sweeping<'a> {
 
 /// Runs one trace under each configuration of a grid, or of a part of it, as [`sweep`](crate::sweep) and
 /// [`sweep_part`](crate::sweep_part) do, and writes what an outlook asks for: of each configuration, in order, the lines of its
-/// intervals, each behind the columns of its choice; or its three lines, of what was counted from a time on.
+/// intervals, each behind the columns of its choice; or its three lines, of what was counted from a time on. As JSON each line is an
+/// object on a line of its own, which names its columns, and there is no header; as text and as CSV it is the same table.
 ///
 /// # Errors
 ///
@@ -70,19 +72,15 @@ pub fn sweep_over_time<W: Write, P: Progress, R: Threads + Sync>(
     let Some(_) = outlook.marks() else {
         return Err(SimFault::Plan);
     };
-    let header = header_under(alloc, part, outlook.every)?;
+    let header = header_told(alloc, part, outlook)?;
     let points = points_under(alloc, grid.points(), part, outlook)?;
-    sweep_points(
-        rt,
-        alloc,
-        bytes,
+    let table = Table {
         grid,
-        points.as_slice(),
-        header.as_slice(),
+        points: points.as_slice(),
+        header: header.as_slice(),
         workers,
-        progress,
-        out,
-    )
+    };
+    sweep_points(rt, alloc, bytes, table, progress, out)
 }
 
 /// Runs a trace in order of time, as it is read, under each configuration of a grid, or of a part of it, and writes what an outlook
@@ -134,7 +132,7 @@ pub fn sweep_rows<S: RowSource, W: Write, P: Progress, R: Threads + Sync>(
     sweeping: &Sweeping<'_>,
     out: &mut Out<W>,
 ) -> Result<(), SimFault>
-    requires edges { (S.rest rows.old.source).edges ≡ sweeping.now.grid.now.edges }
+    requires edges { (S.rest rows.old.source).edges ≡ least_edges sweeping.now.grid.now }
     requires begins { (S.rest rows.old.source).latest ≡ 0 }
     requires few { (S.rest rows.old.source).most ≤ 2 ^ 63 }
     ensures table { OnOk result (HasSweptRows sweeping.now.grid.now sweeping.now.part
@@ -165,7 +163,7 @@ fn table_of_rows<S: RowSource, R: Threads + Sync>(
     rows: &mut S,
     sweeping: &Sweeping<'_>,
 ) -> Result<Vec<u8>, SimFault>
-    requires edges { (S.rest rows.old).edges ≡ sweeping.now.grid.now.edges }
+    requires edges { (S.rest rows.old).edges ≡ least_edges sweeping.now.grid.now }
     requires begins { (S.rest rows.old).latest ≡ 0 }
     requires few { (S.rest rows.old).most ≤ 2 ^ 63 }
     ensures table { IfOk result (λ text. TellsOfSweptRows sweeping.now.grid.now sweeping.now.part
@@ -183,9 +181,10 @@ fn table_of_rows<S: RowSource, R: Threads + Sync>(
     let Some(marks) = outlook.marks() else {
         return Err(SimFault::Plan);
     };
-    let header = header_under(alloc, part, outlook.every)?;
+    let header = header_told(alloc, part, outlook)?;
     let points = points_under(alloc, grid.points(), part, outlook)?;
     let workers = workers.clamp(1, MAX_WORKERS) as usize;
-    let runs = run_all_streamed(rt, alloc, rows, points.as_slice(), marks, workers)?;
-    Ok(text_of_runs(alloc, runs, outlook, header.as_slice())?)
+    let streamed = run_all_streamed(rt, alloc, rows, points.as_slice(), marks, workers)?;
+    let (runs, facts) = streamed;
+    Ok(text_of_runs(alloc, runs, outlook, facts, header.as_slice())?)
 }

@@ -1,4 +1,5 @@
 use crate::choice::Choice;
+use crate::facts::Facts;
 use rw_photo::Config;
 use rw_report::Outlook;
 
@@ -11,4 +12,8 @@ pub(crate) struct Point {
     pub(crate) config: Config,
     /// What is told of it, where that is not its three lines of the whole run.
     pub(crate) outlook: Option<Outlook>,
+    /// How many ticks a second has, where that is known.
+    pub(crate) ticks_a_second: Option<u64>,
+    /// What is said of the trace that it runs, once all rows of that are known.
+    pub(crate) facts: Facts,
 }

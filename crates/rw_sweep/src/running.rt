@@ -33,13 +33,13 @@ pub(crate) fn run_one(alloc: Global, rows: &[Row], point: &Point) -> Result<Vec<
 fn lines_of(alloc: Global, rows: &[Row], point: &Point) -> Result<Vec<u8>, Refusal>
     requires { CanRun rows.now point.now }
     ensures text { IfOk result (λ text. HasLines point.now.config point.now.choice
-        point.now.place rows.now text.items) }
+        point.now.ticks_a_second point.now.place rows.now text.items) }
     ensures exhausted { IfErr result (λ refusal. refusal ≡ Refusal.Exhausted
         → IsExhaustedAt rows.now point.now) }
 {
     let states = last_states_of_rows(alloc, rows, &point.config)?;
     let counters = counters_of(alloc, states.as_slice())?;
-    let text = lines(alloc, point, counters.as_slice())?;
+    let text = lines(alloc, point, None, counters.as_slice())?;
     Ok(text)
 }
 
@@ -53,7 +53,7 @@ fn told_under(
     requires can_run { CanRun rows.now point.now }
     requires marks { AreMarks outlook }
     ensures text { IfOk result (λ text. TellsOfChoice point.now.config point.now.choice
-        point.now.place outlook rows.now text.items) }
+        point.now.ticks_a_second point.now.place outlook rows.now text.items) }
     ensures exhausted { IfErr result (λ refusal. refusal ≡ Refusal.Exhausted
         → IsExhaustedAt rows.now point.now) }
 {

@@ -2,6 +2,7 @@
 ghost use Rattle.std.specs.Prelude.{◌≡◌, ◌≤◌, ◌<◌, ◌^◌, All, IfErr, IfOk, map};
 ghost use Rattle.rw_sweep.specs.Ongoing.{HaveTakenAll, IsFaultOfRuns};
 
+use crate::facts::Facts;
 use crate::ongoing::{OngoingRun, begin_all, feed_all, first_refusal};
 use crate::point::Point;
 use rw_report::{Marks, SimFault};
@@ -13,7 +14,7 @@ use std::thread::Threads;
 const PIECE: usize = 1 << 18;
 
 /// Runs the rows of a source under each of these configurations as they are read, by so many workers side by side, up to the time of
-/// the last row. It needs the memory of a piece of rows, and of each run its caches and what is on its way, however many rows there
+/// the last row, and gives the runs and what is said of the rows. It needs the memory of a piece of rows, and of each run its caches and what is on its way, however many rows there
 /// are.
 ///
 /// # Errors
@@ -28,25 +29,27 @@ pub(crate) fn run_all_streamed<R: Threads + Sync, S: RowSource>(
     points: &[Point],
     marks: Marks,
     workers: usize,
-) -> Result<Vec<OngoingRun>, SimFault>
+) -> Result<(Vec<OngoingRun>, Facts), SimFault>
     requires workers { 0 < workers }
-    requires edges { All (λ p. p.config.edges ≡ (S.rest rows.old).edges) points.now }
+    requires edges { All (λ p. (S.rest rows.old).edges ≤ p.config.edges) points.now }
     requires begins { (S.rest rows.old).latest ≡ 0 }
     requires few { (S.rest rows.old).most ≤ 2 ^ 63 }
-    ensures points { IfOk result (λ runs. map (λ g. g.point) runs.items ≡ points.now) }
-    ensures taken { IfOk result (λ runs. HaveTakenAll
+    ensures points { IfOk result (λ all. map (λ g. g.point) all.0.items ≡ points.now) }
+    ensures taken { IfOk result (λ all. HaveTakenAll
         (record { start = marks.start; every = marks.every }) (S.rest rows.old).edges
-        (S.rest rows.old).ahead runs.items) }
+        (S.rest rows.old).ahead all.1 all.0.items) }
     ensures fault { IfErr result (IsFaultOfRuns points.now (S.rest rows.old).ahead) }
 {
     let mut runs = begin_all(alloc, points, marks)?;
     let mut piece = Vec::new(alloc);
+    let mut facts = Facts::none();
     'pieces: loop {
         next_piece(rows, PIECE, &mut piece)?;
+        facts = facts.with_rows(piece.as_slice());
         feed_all(rt, alloc, runs.as_mut_slice(), piece.as_slice(), workers);
         first_refusal(runs.as_slice())?;
         if piece.len() < PIECE {
-            return Ok(runs);
+            return Ok((runs, facts));
         }
     }
 }

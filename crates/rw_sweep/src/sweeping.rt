@@ -7,7 +7,9 @@ ghost use Rattle.rw_sweep.specs.Points.{IsOfGrid};
 ghost use Rattle.rw_sweep.specs.Sweep.{HasSwept, HasSweptBeginning, HasSweptFirst, IsSweepFault};
 ghost use Rattle.rw_sweep.specs.Working.{CanRun, HasTaken, HasTakenFirst, IsAcceptedWith, IsFaultOfPoints};
 
-use crate::chosen::points_of_part;
+use crate::batch::Batch;
+use crate::chosen::{points_of_part, points_of_trace};
+use crate::facts::facts_of;
 use crate::grid::{Grid, MAX_CONFIGURATIONS};
 use crate::part::Part;
 use crate::point::Point;
@@ -63,17 +65,13 @@ pub fn sweep<W: Write, P: Progress, R: Threads + Sync>(
         → (out.new ≡ out.old) ⊎ HasSweptFirst grid.now bytes.now
         (W.contents out.old.writer) (W.contents out.new.writer)) }
 {
-    sweep_points(
-        rt,
-        alloc,
-        bytes,
+    let table = Table {
         grid,
-        grid.points(),
-        header_text(),
+        points: grid.points(),
+        header: header_text(),
         workers,
-        progress,
-        out,
-    )
+    };
+    sweep_points(rt, alloc, bytes, table, progress, out)
 }
 
 /// Runs one trace under the configurations of a part of a grid, as [`sweep`] runs it under all, and writes their lines: before
@@ -107,52 +105,66 @@ pub fn sweep_part<W: Write, P: Progress, R: Threads + Sync>(
 {
     let header = part_header(alloc)?;
     let own = points_of_part(alloc, grid.points(), part)?;
-    sweep_points(
-        rt,
-        alloc,
-        bytes,
+    let table = Table {
         grid,
-        own.as_slice(),
-        header.as_slice(),
+        points: own.as_slice(),
+        header: header.as_slice(),
         workers,
-        progress,
-        out,
-    )
+    };
+    sweep_points(rt, alloc, bytes, table, progress, out)
 }
 
-/// Reads a trace, and writes a header and what these configurations of a grid make of it.
+/// What a sweep writes: a header, and behind it the lines of some configurations of a grid.
+#[derive(Clone, Copy)]
+pub(crate) struct Table<'a> {
+    /// The grid.
+    pub(crate) grid: &'a Grid,
+    /// Those of its configurations that are run, in order.
+    pub(crate) points: &'a [Point],
+    /// What stands before all lines.
+    pub(crate) header: &'a [u8],
+    /// How many configurations run side by side.
+    pub(crate) workers: u32,
+}
+
+/// Reads a trace, and writes a table of what some configurations make of it.
 pub(crate) fn sweep_points<W: Write, P: Progress, R: Threads + Sync>(
     rt: &R,
     alloc: Global,
     bytes: &[u8],
-    grid: &Grid,
-    points: &[Point],
-    header: &[u8],
-    workers: u32,
+    table: Table<'_>,
     progress: &mut P,
     out: &mut Out<W>,
 ) -> Result<(), SimFault>
-    requires of_grid { All (IsOfGrid grid.now) points.now }
-    requires marks { All (λ p. IfSome p.outlook AreMarks) points.now }
-    ensures table { OnOk result (IsAcceptedWith grid.now bytes.now
-        (λ rows. HasTaken true rows points.now header.now
+    requires of_grid { All (IsOfGrid table.grid.now) table.points.now }
+    requires marks { All (λ p. IfSome p.outlook AreMarks) table.points.now }
+    ensures table { OnOk result (IsAcceptedWith table.entry.grid.now bytes.now
+        (λ rows. HasTaken true rows table.entry.points.now table.entry.header.now
         (W.contents out.old.writer) (W.contents out.new.writer))) }
-    ensures fault { IfErr result (IsFaultOfPoints grid.now bytes.now points.now) }
+    ensures fault { IfErr result
+        (IsFaultOfPoints table.entry.grid.now bytes.now table.entry.points.now) }
     ensures output { (result ≡ Err SimFault.Output) ↔ (out.new.failures ≢ out.old.failures) }
-    ensures cut_off { result ≡ Err SimFault.Output → IsAcceptedWith grid.now bytes.now
-        (λ rows. HasTakenFirst false rows points.now header.now
+    ensures cut_off { result ≡ Err SimFault.Output → IsAcceptedWith table.entry.grid.now bytes.now
+        (λ rows. HasTakenFirst false rows table.entry.points.now table.entry.header.now
         (W.contents out.old.writer) (W.contents out.new.writer)) }
     ensures nothing { (fault : TraceFault) → result ≡ Err (SimFault.Trace fault)
         → out.new ≡ out.old }
     ensures whole_lines { IfErr result (λ e. e ≢ SimFault.Output
-        → (out.new ≡ out.old) ⊎ IsAcceptedWith grid.now bytes.now
-        (λ rows. HasTakenFirst true rows points.now header.now
+        → (out.new ≡ out.old) ⊎ IsAcceptedWith table.entry.grid.now bytes.now
+        (λ rows. HasTakenFirst true rows table.entry.points.now table.entry.header.now
         (W.contents out.old.writer) (W.contents out.new.writer))) }
 {
-    let all = read(alloc, bytes, grid.edges())?;
+    let all = read(alloc, bytes, table.grid.edges())?;
     let rows = all.as_slice();
-    let workers = workers.clamp(1, MAX_WORKERS) as usize;
-    if write_all(rt, alloc, rows, points, header, workers, progress, out)? {
+    let points = points_of_trace(alloc, table.points, facts_of(rows))?;
+    let points = points.as_slice();
+    let batch = Batch {
+        rows,
+        points,
+        before: 0,
+        workers: table.workers.clamp(1, MAX_WORKERS) as usize,
+    };
+    if write_all(rt, alloc, batch, table.header, progress, out)? {
         Ok(())
     } else {
         Err(SimFault::Output)

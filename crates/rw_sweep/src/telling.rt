@@ -1,15 +1,18 @@
 // What is told of a configuration, from the moments of its run.
-ghost use Rattle.std.specs.Prelude.{◌≡◌, ◌<◌, ◌^◌, IfOk};
-ghost use Rattle.rw_report.specs.Intervals.{lines_of};
-ghost use Rattle.rw_sweep.specs.OverTime.{before_interval, counted_from, told_of_choice};
+ghost use Rattle.std.specs.Prelude.{◌≡◌, ◌<◌, ◌^◌, ◌∷◌, IfOk};
+ghost use Rattle.rw_report.specs.Intervals.{counted_from, lines_of};
+ghost use Rattle.std.specs.Option.{is_some};
+ghost use Rattle.rw_sweep.specs.OverTime.{before_interval, header_under, in_format, told_of_choice};
+ghost use Rattle.rw_sweep.specs.Table.{conditions};
 
 use crate::point::Point;
-use crate::table::{lines, write_before_interval};
+use crate::table::{header_under, lines, write_before_interval};
 use rw_photo::{Counters, NoMemory};
-use rw_report::{Moment, Outlook, count_each, write_intervals};
+use rw_report::{Format, Moment, Outlook, count_each, json_lines, write_intervals};
 use std::alloc::Global;
 
-/// What an outlook asks to be told of a configuration, from the moments of its run: the lines of its intervals, or its three lines.
+/// What an outlook asks to be told of a configuration, from the moments of its run, in its format: the lines of its intervals, or its
+/// three lines.
 ///
 /// # Errors
 ///
@@ -22,8 +25,34 @@ pub(crate) fn told_of_point(
 ) -> Result<Vec<u8>, NoMemory>
     requires edge_blocks { point.now.choice.edge_blocks < 2 ^ 17 }
     requires origin_blocks { point.now.choice.origin_blocks < 2 ^ 17 }
+    ensures { IfOk result (λ text. text.items
+        ≡ in_format outlook.format (header_under (is_some point.now.place) outlook.every)
+        (told_of_choice point.now.config point.now.choice
+        (conditions point.now.ticks_a_second outlook.warm_up point.now.facts)
+        point.now.place outlook.every moments.now)) }
+{
+    let lines = lines_under(alloc, point, outlook, moments)?;
+    match outlook.format {
+        Format::Text | Format::Csv => Ok(lines),
+        Format::Json => {
+            let header = header_under(alloc, point.place.is_some(), outlook.every)?;
+            json_lines(alloc, header.as_slice(), lines.as_slice())
+        }
+    }
+}
+
+/// The lines of the intervals of a configuration, or its three lines, as an outlook asks for them, from the moments of its run.
+fn lines_under(
+    alloc: Global,
+    point: &Point,
+    outlook: Outlook,
+    moments: &[Moment],
+) -> Result<Vec<u8>, NoMemory>
+    requires edge_blocks { point.now.choice.edge_blocks < 2 ^ 17 }
+    requires origin_blocks { point.now.choice.origin_blocks < 2 ^ 17 }
     ensures { IfOk result (λ text. text.items ≡ told_of_choice point.now.config point.now.choice
-        point.now.place outlook moments.now) }
+        (conditions point.now.ticks_a_second outlook.warm_up point.now.facts)
+        point.now.place outlook.every moments.now) }
 {
     let Some((first, later)) = moments.split_first() else {
         return Ok(Vec::new(alloc));
@@ -32,7 +61,7 @@ pub(crate) fn told_of_point(
         Some(_) => interval_lines(alloc, point, moments),
         None => {
             let counted = counted_from(alloc, outlook.warm_up, first, later)?;
-            lines(alloc, point, counted.as_slice())
+            lines(alloc, point, outlook.warm_up, counted.as_slice())
         }
     }
 }
@@ -56,7 +85,8 @@ fn counted_from(
     first: &Moment,
     later: &[Moment],
 ) -> Result<Vec<Counters>, NoMemory>
-    ensures { IfOk result (λ counted. counted.items ≡ counted_from warm_up first.now later.now) }
+    ensures { IfOk result (λ counted.
+        counted.items ≡ counted_from warm_up (first.now ∷ later.now)) }
 {
     let last = later.last().unwrap_or(first);
     match warm_up {

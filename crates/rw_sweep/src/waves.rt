@@ -3,6 +3,7 @@ ghost use Rattle.std.specs.List.{Any};
 ghost use Rattle.rw_report.specs.Sink.{one_more};
 ghost use Rattle.rw_sweep.specs.Working.{AreSlots, CanRun, HasTaken, HasTakenFirst, HasTakenPoint, IsExhaustedAt, IsResultOf};
 
+use crate::batch::Batch;
 use crate::entry::Lines;
 use crate::point::Point;
 use crate::running::run_one;
@@ -22,23 +23,22 @@ use std::thread::Threads;
 pub(crate) fn write_all<W: Write, P: Progress, R: Threads + Sync>(
     rt: &R,
     alloc: Global,
-    rows: &[Row],
-    points: &[Point],
+    batch: Batch<'_>,
     header: &[u8],
-    workers: usize,
     progress: &mut P,
     out: &mut Out<W>,
 ) -> Result<bool, Refusal>
-    requires { All (CanRun rows.now) points.now }
+    requires { All (CanRun batch.rows.now) batch.points.now }
     ensures taken { IfOk result (λ whole. MatchBool whole
-        (HasTaken true rows.now points.now header.now
+        (HasTaken true batch.entry.rows.now batch.entry.points.now header.now
         (W.contents out.old.writer) (W.contents out.new.writer))
-        (HasTakenFirst false rows.now points.now header.now
+        (HasTakenFirst false batch.entry.rows.now batch.entry.points.now header.now
         (W.contents out.old.writer) (W.contents out.new.writer))) }
-    ensures refused { IfErr result (λ _. HasTakenFirst true rows.now points.now header.now
+    ensures refused { IfErr result (λ _.
+        HasTakenFirst true batch.entry.rows.now batch.entry.points.now header.now
         (W.contents out.old.writer) (W.contents out.new.writer)) }
     ensures exhausted { IfErr result (λ refusal. refusal ≡ Refusal.Exhausted
-        → Any (IsExhaustedAt rows.now) points.now) }
+        → Any (IsExhaustedAt batch.entry.rows.now) batch.entry.points.now) }
     ensures failures { MatchResult result
         (λ whole. MatchBool whole (out.new.failures ≡ out.old.failures)
         (out.new.failures ≡ one_more out.old.failures))
@@ -47,12 +47,17 @@ pub(crate) fn write_all<W: Write, P: Progress, R: Threads + Sync>(
     if !out.write_text(header) {
         return Ok(false);
     }
-    progress.begin(0, points.len() as u64);
-    let mut rest = points;
+    progress.begin(0, batch.points.len() as u64);
+    let mut rest = batch.points;
     while !rest.is_empty() {
-        let (wave, later) = rest.split_at(workers.max(1).min(rest.len()));
-        let before = points.len().saturating_sub(rest.len()) as u64;
-        if !write_wave(rt, alloc, rows, wave, before, workers, progress, out)? {
+        let (wave, later) = rest.split_at(batch.workers.max(1).min(rest.len()));
+        let before = batch.points.len().saturating_sub(rest.len()) as u64;
+        let wave = Batch {
+            points: wave,
+            before,
+            ..batch
+        };
+        if !write_wave(rt, alloc, wave, progress, out)? {
             return Ok(false);
         }
         rest = later;
@@ -60,38 +65,39 @@ pub(crate) fn write_all<W: Write, P: Progress, R: Threads + Sync>(
     Ok(true)
 }
 
-/// Runs some configurations side by side, `before` having been run before, and writes the lines of each, in order; whether the
-/// writer took all of them.
+/// Runs some configurations side by side, and writes the lines of each, in order; whether the writer took all of them.
 fn write_wave<W: Write, P: Progress, R: Threads + Sync>(
     rt: &R,
     alloc: Global,
-    rows: &[Row],
-    wave: &[Point],
-    before: u64,
-    workers: usize,
+    wave: Batch<'_>,
     progress: &mut P,
     out: &mut Out<W>,
 ) -> Result<bool, Refusal>
-    requires { All (CanRun rows.now) wave.now }
+    requires { All (CanRun wave.rows.now) wave.points.now }
     ensures taken { IfOk result (λ whole. MatchBool whole
-        (HasTaken true rows.now wave.now []
+        (HasTaken true wave.entry.rows.now wave.entry.points.now []
         (W.contents out.old.writer) (W.contents out.new.writer))
-        (HasTakenFirst false rows.now wave.now []
+        (HasTakenFirst false wave.entry.rows.now wave.entry.points.now []
         (W.contents out.old.writer) (W.contents out.new.writer))) }
-    ensures refused { IfErr result (λ _. HasTakenFirst true rows.now wave.now []
+    ensures refused { IfErr result (λ _.
+        HasTakenFirst true wave.entry.rows.now wave.entry.points.now []
         (W.contents out.old.writer) (W.contents out.new.writer)) }
     ensures exhausted { IfErr result (λ refusal. refusal ≡ Refusal.Exhausted
-        → Any (IsExhaustedAt rows.now) wave.now) }
+        → Any (IsExhaustedAt wave.entry.rows.now) wave.entry.points.now) }
     ensures failures { MatchResult result
         (λ whole. MatchBool whole (out.new.failures ≡ out.old.failures)
         (out.new.failures ≡ one_more out.old.failures))
         (λ _. out.new.failures ≡ out.old.failures) }
 {
-    let workers = workers.min(wave.len());
-    let slots = run_all(rt, alloc, rows, wave, before, workers, progress)?;
+    let Batch { rows, points, .. } = wave;
+    let wave = Batch {
+        workers: wave.workers.min(points.len()),
+        ..wave
+    };
+    let slots = run_all(rt, alloc, wave, progress)?;
     progress.about_to_write();
-    let whole = write_slots(alloc, rows, wave, slots.as_slice(), out)?;
-    progress.reach(before.saturating_add(wave.len() as u64));
+    let whole = write_slots(alloc, rows, points, slots.as_slice(), out)?;
+    progress.reach(wave.before.saturating_add(points.len() as u64));
     Ok(whole)
 }
 

@@ -2,6 +2,7 @@ ghost use Rattle.std.specs.Prelude.{◌≡◌, All, None, replicate, length, IfO
 ghost use Rattle.std.specs.Thread.{IsSync};
 ghost use Rattle.rw_sweep.specs.Working.{AreSlots, CanRun, IsEntryOf};
 
+use crate::batch::Batch;
 use crate::entry::{Entry, Lines};
 use crate::point::Point;
 use crate::running::run_one;
@@ -21,19 +22,23 @@ struct Pace {
 }
 
 /// Runs the configurations side by side by so many workers, the calling thread being one of them, and gives what became of each
-/// that was taken up. Where no thread can be made there are fewer workers. The sweep has run `before` configurations before.
+/// that was taken up. Where no thread can be made there are fewer workers.
 pub(crate) fn run_all<P: Progress, R: Threads + Sync>(
     rt: &R,
     alloc: Global,
-    rows: &[Row],
-    points: &[Point],
-    before: u64,
-    workers: usize,
+    batch: Batch<'_>,
     progress: &mut P,
 ) -> Result<Vec<Option<Lines>>, NoMemory>
-    requires { All (CanRun rows.now) points.now }
-    ensures { IfOk result (λ slots. AreSlots rows.now points.now slots.items) }
+    requires { All (CanRun batch.rows.now) batch.points.now }
+    ensures { IfOk result (λ slots.
+        AreSlots batch.entry.rows.now batch.entry.points.now slots.items) }
 {
+    let Batch {
+        rows,
+        points,
+        before,
+        workers,
+    } = batch;
     let pace = Pace {
         next: AtomicUsize::new(0),
         done: AtomicU64::new(before),

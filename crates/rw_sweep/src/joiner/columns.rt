@@ -2,12 +2,12 @@ ghost use Rattle.std.specs.Prelude.{◌≡◌, Contains, MatchOption, length, ma
 ghost use Rattle.std.specs.Bool.{Decides};
 ghost use Rattle.std.specs.Char.{is_ascii_digit};
 ghost use Rattle.std.specs.List.{AllPass};
-ghost use Rattle.rw_sweep.specs.PartLines.{IsFirstMisfit, IsNumberField, IsOfColumn, IsRatioField, IsRowOfPart, caches_words, fields_of, part_columns, policy_words};
+ghost use Rattle.rw_sweep.specs.PartLines.{IsDecimalField, IsFirstMisfit, IsNumberField, IsOfColumn, IsRateField, IsRatioField, IsRowOfPart, caches_words, fields_of, part_columns, policy_words};
 
 use crate::joiner::places::place_in;
 
 /// How many columns a part has.
-pub(crate) const COLUMNS: usize = 27;
+pub(crate) const COLUMNS: usize = 41;
 
 /// The names of the policies, as a table writes them.
 const POLICIES: [&[u8]; 9] = [
@@ -46,8 +46,9 @@ fn is_of_column(column: u64, field: &[u8]) -> bool
     match column {
         0 => place_in(field).is_some(),
         1 => is_policy(field),
-        6 => is_caches(field),
-        22 | 23 => is_ratio(field),
+        11 => is_caches(field),
+        27 | 28 => is_ratio(field),
+        34 => is_rate(field),
         _ => is_number(field),
     }
 }
@@ -94,6 +95,33 @@ fn is_ratio(field: &[u8]) -> bool
         return false;
     }
     are_digits(&field[2..])
+}
+
+/// Whether a field is empty, or a number with six decimals.
+fn is_rate(field: &[u8]) -> bool
+    ensures { Decides result (IsRateField field.now) }
+{
+    if field.is_empty() {
+        return true;
+    }
+    is_decimal(field)
+}
+
+/// Whether a field has 1 to 40 digits, a point and six digits.
+fn is_decimal(field: &[u8]) -> bool
+    ensures { Decides result (IsDecimalField field.now) }
+{
+    if field.len() < 7 {
+        return false;
+    }
+    let (whole, rest) = field.split_at(field.len() - 7);
+    if !is_number(whole) {
+        return false;
+    }
+    if rest[0] != b'.' {
+        return false;
+    }
+    are_digits(&rest[1..])
 }
 
 /// Whether all bytes are digits.

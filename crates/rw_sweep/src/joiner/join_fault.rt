@@ -15,7 +15,8 @@ pub enum JoinFault {
     #[error("join: file {0} row {1}: length")]
     Length(u64, u64),
     /// The field at this column of the row of the file is the first that is none of its column: a place below 2^16, as a table
-    /// writes it, a number of 1 to 40 digits, a ratio, or one of the words for policies and caches.
+    /// writes it, a number of 1 to 40 digits, a ratio, a number with six decimals or nothing, or one of the words for policies and
+    /// caches.
     #[error("join: file {0} row {1} column {2}: number")]
     Number(u64, u64, u64),
     /// The place has more than three lines.

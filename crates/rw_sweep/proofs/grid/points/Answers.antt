@@ -17,10 +17,10 @@ loop-choice-preserved c =
     let choices : List Choice = c.args.choices.now in
     let points : List Point = c.loop-choice.points.items in
     let choice : Choice = c.choice-item.result in
-    let point : Point = record { place = None; choice = choice; config = c.in-Some.config; outlook = None } in
+    let point : Point = record { place = None; choice = choice; config = c.in-Some.config; outlook = None; ticks_a_second = a.ticks_a_second; facts = c.none.result } in
     let good : is_ok c.push.result ≡ true = search rules in
     let pushed : c.push.new.self.items ≡ points ++ point ∷ [] = rw good at c.push.ensures.items in
-    let is : IsPoint a point = record { in_range = c.in-Some.ensures.found.0 refl; config_is = c.in-Some.ensures.config } in
+    let is : IsPoint a point = record { in_range = c.in-Some.ensures.found.0 refl; config_is = c.in-Some.ensures.config; ticks = refl } in
     record {
       choices = ap (map (λ p. p.choice)) pushed ∙ (map-append (λ p. p.choice) points (point ∷ [])
           ∙ (ap (λ xs. xs ++ choice ∷ []) c.loop-choice.invariant.choices
@@ -34,4 +34,4 @@ returns-clause-in_range c =
     let a : Axes = c.args.axes.now in
     let choices : List Choice = c.args.choices.now in
     let all : take c.loop-choice.choice-index choices ≡ choices = take_all c.loop-choice.choice-index choices c.loop-choice-test.false in
-    All-same (IsInGridRanges a) choices _ (sym (c.loop-choice.invariant.choices ∙ all)) (choices-in-range a c.loop-choice.points.items c.loop-choice.invariant.each)
+    All-same IsInGridRanges choices _ (sym (c.loop-choice.invariant.choices ∙ all)) (choices-in-range a c.loop-choice.points.items c.loop-choice.invariant.each)

@@ -15,8 +15,8 @@ pub loop-run-init : goal.loop-run-init
 loop-run-init c =
     let all : List OngoingRun = c.args.runs.items in
     let same : c.into_iter-run-iterator.result.rest.items ≡ all = c.into_iter-run-iterator.ensures.into_iter_gives.0 in
-    subst (λ l. IsTelling c.args.outlook c.args.header.now all l c.in_ok-text.text.items) (sym same)
-    (telling-none c.args.outlook c.args.header.now all c.in_ok-text.text.items c.in_ok-text.ensures.items c.requires.may_finish c.requires.to_tell)
+    subst (λ l. IsTelling c.args.outlook c.args.facts c.args.header.now all l c.in_ok-text.text.items) (sym same)
+    (telling-none c.args.outlook c.args.facts c.args.header.now all c.in_ok-text.text.items c.in_ok-text.ensures.items c.requires.may_finish c.requires.to_tell)
 
 pub returns-in_err-lines-clause-exhausted : goal.returns-in_err-lines-clause-exhausted
 returns-in_err-lines-clause-exhausted c =
@@ -29,12 +29,12 @@ returns-in_err-lines-clause-exhausted c =
     (λ exhausted rows going. (
       length on.done,
       g,
-      next-within o c.args.header.now all _ _ g c.loop-run.text.items on c.in-Some.ensures.steps.0,
-      next-at o c.args.header.now all _ _ g c.loop-run.text.items on c.in-Some.ensures.steps.0,
-      c.in_err-lines.ensures.exhausted exhausted rows (next-going o c.args.header.now all _ _ g c.loop-run.text.items on c.in-Some.ensures.steps.0 rows going),
+      next-within o c.args.facts c.args.header.now all _ _ g c.loop-run.text.items on c.in-Some.ensures.steps.0,
+      next-at o c.args.facts c.args.header.now all _ _ g c.loop-run.text.items on c.in-Some.ensures.steps.0,
+      c.in_err-lines.ensures.exhausted exhausted rows (next-going o c.args.facts c.args.header.now all _ _ g c.loop-run.text.items on c.in-Some.ensures.steps.0 rows going),
     ))
 
 pub loop-run-preserved : goal.loop-run-preserved
 loop-run-preserved c =
-    telling-more c.args.outlook c.args.header.now c.args.runs.items _ _ c.in-Some.run' c.loop-run.text.items c.loop-run.invariant c.in-Some.ensures.steps.0
+    telling-more c.args.outlook c.args.facts c.args.header.now c.args.runs.items _ _ c.in-Some.run' c.loop-run.text.items c.loop-run.invariant c.in-Some.ensures.steps.0
     c.in_ok-lines.lines.items c.extend_from_slice.new.self.items (c.in_ok-extend_from_slice.ensures.items ∙ ap (λ t. c.loop-run.text.items ++ t) c.as_slice.ensures.value) c.in_ok-lines.ensures.told
