@@ -5,7 +5,8 @@ use Rattle.clap.specs.declared.parser.matches.ArgMatches.{ArgMatches}
 use Rattle.rw_trace.specs.Words.{Text}
 use Rattle.rw_photo.specs.declared.config.Config.{Config}
 use Rattle.rw_report.specs.declared.intervals.Outlook.{Outlook}
-use Rattle.rw_report.specs.Replay.{HasReported, HasStreamed, HasTold}
+use Rattle.rw_trace.specs.Pieces.{Ahead}
+use Rattle.rw_report.specs.Replay.{HasReported, HasStreamed, HasTold, HasToldOfRows}
 
 -- the report of some trace, under some configuration
 abbrev pub HasWrittenReport : Option Text → Option Text → Type 0
@@ -21,10 +22,19 @@ abbrev pub HasWrittenStream : Option Text → Option Text → Type 0
 HasWrittenStream before after =
     (c : Config) × (o : Outlook) × (known : Option Text) × HasStreamed c o known before after
 
--- one of these three
-abbrev pub HasWrittenSome : Option Text → Option Text → Type 0
-HasWrittenSome before after =
+-- the same, of all rows that a log had to give
+abbrev pub HasWrittenOfLog : Option Text → Option Text → Type 0
+HasWrittenOfLog before after =
+    (c : Config) × (o : Outlook) × (ahead : Ahead) × HasToldOfRows c o ahead before after
+
+-- one of the three, of a trace
+abbrev pub HasWrittenOfTrace : Option Text → Option Text → Type 0
+HasWrittenOfTrace before after =
     HasWrittenReport before after ⊎ HasWrittenOverTime before after ⊎ HasWrittenStream before after
+
+-- one of these four
+abbrev pub HasWrittenSome : Option Text → Option Text → Type 0
+HasWrittenSome before after = HasWrittenOfTrace before after ⊎ HasWrittenOfLog before after
 
 -- an option has no value
 abbrev pub HasNoValue : ArgMatches → Text → Type 0
@@ -36,6 +46,8 @@ IsUnset options name =
     (one_text (found_of options) name ≡ None)
     ⊎ (one_text (found_of options) name ≡ Some (codes "false"))
 
--- the report of the whole run is asked for, and nothing over time
+-- the report of the whole run is asked for as text, and nothing over time
 abbrev pub AsksForReport : ArgMatches → Type 0
-AsksForReport options = HasNoValue options (codes "warm-up") × HasNoValue options (codes "every")
+AsksForReport options =
+    HasNoValue options (codes "warm-up") × HasNoValue options (codes "every")
+    × HasNoValue options (codes "format")

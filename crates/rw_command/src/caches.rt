@@ -5,7 +5,7 @@ ghost use Rattle.rw_command.specs.Status.{status_of};
 use crate::arguments::{Argument, Given, Value};
 use crate::fault::Fault;
 use crate::options_file::OPTIONS;
-use crate::values::{Quantity, invalid, number, numbers};
+use crate::values::{Quantity, ends, invalid, number, numbers};
 use clap::ArgMatches;
 use clap::parser::ValueSource;
 use rw_import::DEFAULT_TICKS;
@@ -22,24 +22,9 @@ const POLICIES: [&str; 9] = [
 pub(crate) const CACHES: [Argument; 15] = [
     EDGES,
     ORIGINS,
-    Argument {
-        name: "policy",
-        value: Value::Word("POLICY", &POLICIES),
-        given: Given::Or("slru3"),
-        help: "What caches store: off nothing, lru by one list, slru2 to slru8 by segmented LRU of that many segments",
-    },
-    Argument {
-        name: "sections",
-        value: Value::Number(Shape::MAX_SECTIONS as i64),
-        given: Given::Or("8"),
-        help: "Insertion points of each cache, 1 to 16",
-    },
-    Argument {
-        name: "block",
-        value: Value::Text("SIZE"),
-        given: Given::Or("1M"),
-        help: "Bytes of a block, 1 to 256M; K, M and G are powers of 1024",
-    },
+    POLICY,
+    SECTIONS,
+    BLOCK,
     Argument {
         name: "edge-blocks",
         value: Value::Number(Shape::MAX_BLOCKS as i64),
@@ -71,6 +56,30 @@ pub(crate) const CACHES: [Argument; 15] = [
     RECLAIM,
     OPTIONS,
 ];
+
+/// What caches store.
+pub(crate) const POLICY: Argument = Argument {
+    name: "policy",
+    value: Value::Word("POLICY", &POLICIES),
+    given: Given::Or("slru3"),
+    help: "What caches store: off nothing, lru by one list, slru2 to slru8 by segmented LRU of that many segments",
+};
+
+/// How many insertion points a cache has.
+pub(crate) const SECTIONS: Argument = Argument {
+    name: "sections",
+    value: Value::Number(Shape::MAX_SECTIONS as i64),
+    given: Given::Or("8"),
+    help: "Insertion points of each cache, 1 to 16",
+};
+
+/// How large a block is.
+pub(crate) const BLOCK: Argument = Argument {
+    name: "block",
+    value: Value::Text("SIZE"),
+    given: Given::Or("1M"),
+    help: "Bytes of a block, 1 to 256M; K, M and G are powers of 1024",
+};
 
 /// How many edge caches there are.
 pub(crate) const EDGES: Argument = Argument {
@@ -132,11 +141,11 @@ pub(crate) const RECLAIM: Argument = Argument {
 #[derive(Clone, Copy)]
 pub(crate) struct Tier {
     /// In blocks.
-    blocks: &'static str,
+    pub(crate) blocks: &'static str,
     /// In blocks, as it is written on the command line.
     blocks_option: &'static str,
     /// In bytes.
-    flash: &'static str,
+    pub(crate) flash: &'static str,
 }
 
 /// The edge caches.
@@ -162,10 +171,39 @@ pub(crate) const ORIGIN_TIER: Tier = Tier {
 pub(crate) fn config(alloc: Global, options: &ArgMatches<'_>) -> Result<Config, Fault>
     ensures unwritten { IfErr result (λ e. status_of e ≢ 8) }
 {
-    let sections = options.get_one("sections").ok_or(Fault::Plan)?;
-    let block = number(alloc, options, "block", Quantity::bytes(Shape::MAX_BLOCK))?;
+    let block = block(alloc, options)?;
     let edge_blocks = blocks(alloc, options, EDGE_TIER, block)?;
     let origin_blocks = blocks(alloc, options, ORIGIN_TIER, block)?;
+    config_with(alloc, options, block, edge_blocks, origin_blocks)
+}
+
+/// The bytes of a block.
+///
+/// # Errors
+///
+/// Those of [`number`].
+pub(crate) fn block(alloc: Global, options: &ArgMatches<'_>) -> Result<u64, Fault>
+    ensures unwritten { IfErr result (λ e. status_of e ≢ 8) }
+{
+    number(alloc, options, "block", Quantity::bytes(Shape::MAX_BLOCK))
+}
+
+/// The caches that the options of a run say, but for the size of their flash: `block` bytes in a block, and so many blocks on each
+/// edge's and each origin's flash.
+///
+/// # Errors
+///
+/// Those of [`config`].
+pub(crate) fn config_with(
+    alloc: Global,
+    options: &ArgMatches<'_>,
+    block: u64,
+    edge_blocks: u64,
+    origin_blocks: u64,
+) -> Result<Config, Fault>
+    ensures unwritten { IfErr result (λ e. status_of e ≢ 8) }
+{
+    let sections = options.get_one("sections").ok_or(Fault::Plan)?;
     let delays = delays_of(alloc, options)?;
     let policy = options.get_str("policy").and_then(policy);
     let config = Config::new(
@@ -265,6 +303,30 @@ pub(crate) fn lists_of_blocks(
         counts.push(count).map_err(|_| Fault::Memory)?;
     }
     Ok(counts)
+}
+
+/// The numbers of blocks on the flash of a tier from which and up to which a size is searched, where a block has `block` bytes: one number
+/// twice, unless the options give a range as `A..B`.
+///
+/// # Errors
+///
+/// Those of [`config`].
+pub(crate) fn blocks_searched(
+    alloc: Global,
+    options: &ArgMatches<'_>,
+    tier: Tier,
+    block: u64,
+) -> Result<(u64, u64), Fault>
+    ensures unwritten { IfErr result (λ e. status_of e ≢ 8) }
+{
+    if !is_in_bytes(options, tier)? {
+        let blocks = Quantity::things(Shape::MAX_BLOCKS);
+        return ends(alloc, options, tier.blocks, blocks);
+    }
+    let (least, most) = ends(alloc, options, tier.flash, Quantity::bytes(MOST_FLASH))?;
+    let least = blocks_of(alloc, least, tier, block)?;
+    let most = blocks_of(alloc, most, tier, block)?;
+    Ok((least, most))
 }
 
 /// The most bytes of a flash.

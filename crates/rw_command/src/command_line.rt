@@ -15,6 +15,7 @@ use crate::outlook::OUTLOOK;
 use crate::plot::plot;
 use crate::program::answer;
 use crate::serial::run_serial;
+use crate::size::size;
 use crate::source::Source;
 use crate::stderr::Stderr;
 use crate::sweep::sweep;
@@ -57,9 +58,9 @@ pub fn command<S: Source, W: Write, E: Write, R: Threads + Wait + Clock + Random
 /// of it. Where `err` fails it is ignored, and nothing is tried again.
 ///
 /// Behind the line of a fault, a line `hint: ..` may name the file and the line, what was expected there and what was found: of
-/// `import`, `sweep`, `join` and `plot` always, of the others on a terminal alone. A terminal also has one line that shows how
+/// `import`, `sweep`, `size`, `join` and `plot` always, of the others on a terminal alone. A terminal also has one line that shows how
 /// far a command has come, unless the words ask for quiet; it is taken away before anything else goes to `out` or `err`, which may be the same
-/// terminal. Where `import`, `sweep`, `join` or `plot` write to a pipe that was closed, nothing is said of that.
+/// terminal. Where `import`, `sweep`, `size`, `join` or `plot` write to a pipe that was closed, nothing is said of that.
 ///
 /// The status is 8 exactly where `out` failed. With any other status but 0 nothing went out there, with two exceptions: a sweep may
 /// have written whole lines, and `import --stream` a text that is no trace.
@@ -124,7 +125,10 @@ fn tell<S: Source, E: Write>(
 /// Whether the words ask for a command of which standard error has more than one line where it fails.
 fn is_beyond(words: &[String]) -> bool {
     match words.get(1) {
-        Some(command) => matches!(command.as_str(), "import" | "sweep" | "join" | "plot"),
+        Some(command) => matches!(
+            command.as_str(),
+            "import" | "sweep" | "size" | "join" | "plot"
+        ),
         None => false,
     }
 }
@@ -196,6 +200,7 @@ fn carry_out<S: Source, W: Write, E: Write, R: Threads + Wait + Clock + RandomSo
         "journal" => journal(rt, alloc, options, source, out),
         "import" => import(rt, alloc, options, source, out, err),
         "sweep" => sweep(rt, alloc, options, source, out, err),
+        "size" => size(rt, alloc, options, source, out, err),
         "join" => join(alloc, options, source, out),
         "plot" => plot(alloc, options, source, out),
         "generate" => generate(alloc, options, out),

@@ -1,5 +1,5 @@
 use crate::arguments::Argument;
-use crate::{generate, import, join, journal, plot, serial, sweep, warp};
+use crate::{generate, import, join, journal, plot, serial, size, sweep, warp};
 use clap::{Arg, Command};
 use std::alloc::{AllocError, Global};
 
@@ -24,12 +24,13 @@ pub(crate) const ABOUT: &str = "Simulates edge and origin photo caches from a tr
 pub(crate) const VERSION: &str = "1.0.0";
 
 /// The commands, in the order of the help.
-pub(crate) const ENTRIES: [Entry; 8] = [
+pub(crate) const ENTRIES: [Entry; 9] = [
     serial::ENTRY,
     warp::ENTRY,
     journal::ENTRY,
     import::ENTRY,
     sweep::ENTRY,
+    size::ENTRY,
     join::ENTRY,
     plot::ENTRY,
     generate::ENTRY,

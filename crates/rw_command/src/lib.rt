@@ -35,6 +35,7 @@ mod plot;
 mod program;
 mod reader;
 mod serial;
+mod size;
 mod source;
 mod stderr;
 mod sweep;

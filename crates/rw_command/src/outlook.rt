@@ -1,5 +1,5 @@
 // The options that say how a trace is read and what is reported of its run.
-ghost use Rattle.std.specs.Prelude.{◌≡◌, ◌≢◌, IfErr, IfOk, None, codes};
+ghost use Rattle.std.specs.Prelude.{◌≡◌, ◌≢◌, IfErr, IfOk, None, Ok, codes};
 ghost use Rattle.rw_command.specs.Status.{status_of};
 ghost use Rattle.rw_command.specs.Written.{HasNoValue};
 
@@ -8,7 +8,7 @@ use crate::caches::ticks_a_second;
 use crate::fault::Fault;
 use crate::values::{Quantity, number_if_given};
 use clap::ArgMatches;
-use rw_report::Outlook;
+use rw_report::{Format, Outlook};
 use rw_vt::END;
 use std::alloc::Global;
 
@@ -48,6 +48,14 @@ pub(crate) const EVERY: Argument = Argument {
     help: "Print a CSV table over time instead: what was counted in each interval of this many ticks",
 };
 
+/// How what is reported is written.
+pub(crate) const FORMAT: Argument = Argument {
+    name: "format",
+    value: Value::Word("FORMAT", &["text", "csv", "json"]),
+    given: Given::Maybe,
+    help: "How it is written: text, the default, where a table is CSV; csv, with a header; json, an object a line",
+};
+
 /// When counting starts.
 pub(crate) const WARM_UP: Argument = Argument {
     name: "warm-up",
@@ -57,7 +65,7 @@ pub(crate) const WARM_UP: Argument = Argument {
 };
 
 /// The names of these options, which `warp` and `journal` do not take.
-pub(crate) const OUTLOOK: [&str; 3] = ["stream", "every", "warm-up"];
+pub(crate) const OUTLOOK: [&str; 4] = ["stream", "every", "warm-up", "format"];
 
 /// What the options ask to be reported of a run.
 ///
@@ -68,10 +76,34 @@ pub(crate) fn outlook(alloc: Global, options: &ArgMatches<'_>) -> Result<Outlook
     ensures warm_up { HasNoValue options.now (codes "warm-up")
         → IfOk result (λ o. o.warm_up ≡ None) }
     ensures every { HasNoValue options.now (codes "every") → IfOk result (λ o. o.every ≡ None) }
+    ensures format { HasNoValue options.now (codes "format")
+        → IfOk result (λ o. o.format ≡ Format.Text) }
     ensures unwritten { IfErr result (λ e. status_of e ≢ 8) }
 {
     let time = Quantity::ticks(END, ticks_a_second(options));
     let warm_up = number_if_given(alloc, options, "warm-up", time)?;
     let every = number_if_given(alloc, options, "every", time)?;
-    Ok(Outlook { warm_up, every })
+    let format = format(options)?;
+    Ok(Outlook {
+        warm_up,
+        every,
+        format,
+    })
+}
+
+/// How the options ask that it is written.
+///
+/// # Errors
+///
+/// [`Fault::Plan`] where it is none of the words that the command line takes.
+pub(crate) fn format(options: &ArgMatches<'_>) -> Result<Format, Fault>
+    ensures text { HasNoValue options.now (codes "format") → result ≡ Ok Format.Text }
+    ensures unwritten { IfErr result (λ e. status_of e ≢ 8) }
+{
+    match options.get_str("format") {
+        None | Some("text") => Ok(Format::Text),
+        Some("csv") => Ok(Format::Csv),
+        Some("json") => Ok(Format::Json),
+        Some(_) => Err(Fault::Plan),
+    }
 }

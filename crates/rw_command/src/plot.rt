@@ -47,7 +47,7 @@ const DRAWING: [Argument; 7] = [
             ],
         ),
         given: Given::Or("hit_ratio"),
-        help: "What is drawn, over the size of the flash or over time; backend_bytes only over time",
+        help: "What is drawn, over the size of the flash or over time",
     },
     Argument {
         name: "caches",

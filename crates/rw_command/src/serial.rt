@@ -1,7 +1,7 @@
 // A trace on one thread.
 ghost use Rattle.std.specs.Prelude.{◌≡◌, ◌≢◌, ◌↔◌, ◌⊎◌, IfErr, IsErrAnd, OnOk, codes};
 ghost use Rattle.rw_command.specs.Status.{status_of};
-ghost use Rattle.rw_command.specs.Written.{AsksForReport, HasWrittenReport, HasWrittenOverTime, HasWrittenSome, HasWrittenStream, IsUnset};
+ghost use Rattle.rw_command.specs.Written.{AsksForReport, HasWrittenOfLog, HasWrittenOfTrace, HasWrittenOverTime, HasWrittenReport, HasWrittenSome, HasWrittenStream, IsUnset};
 
 use crate::caches::{CACHES, config};
 use crate::entries::Entry;
@@ -9,7 +9,7 @@ use crate::fault::Fault;
 use crate::files::{open, read};
 use crate::import::tell;
 use crate::logs::{EDGE_BY, EPOCH, FROM, TICKS, counts_of, names_log, open_log};
-use crate::outlook::{EVERY, QUIET, STREAM, TRACE, WARM_UP, outlook};
+use crate::outlook::{EVERY, FORMAT, QUIET, STREAM, TRACE, WARM_UP, outlook};
 use crate::source::Source;
 use crate::stderr::Stderr;
 use clap::ArgMatches;
@@ -27,9 +27,10 @@ pub(crate) const ENTRY: Entry = Entry {
   ripqwarp serial trace.csv
   ripqwarp serial --edges 4 --policy lru --edge-flash 2G --origin-flash 8G trace.csv
   ripqwarp serial --ticks-a-second 1000 --every 1h --warm-up 1d trace.csv > hours.csv
+  ripqwarp serial --format json trace.csv | jq 'select(.cache == \"all\").hit_ratio'
   zstd -dc log.zst | ripqwarp serial --stream --from oracle-general -",
     own: &[
-        TRACE, QUIET, STREAM, EVERY, WARM_UP, FROM, TICKS, EDGE_BY, EPOCH,
+        TRACE, QUIET, STREAM, EVERY, WARM_UP, FORMAT, FROM, TICKS, EDGE_BY, EPOCH,
     ],
     shared: &CACHES,
 };
@@ -51,6 +52,8 @@ pub fn run_serial<S: Source, W: Write, E: Write, C: Clock>(
     out: &mut Out<W>,
     err: &mut Stderr<E>,
 ) -> Result<(), Fault>
+    ensures report { OnOk result
+        (HasWrittenSome (W.contents out.old.writer) (W.contents out.new.writer)) }
     ensures plain { IsUnset options.now (codes "stream") → AsksForReport options.now
         → OnOk result (HasWrittenReport (W.contents out.old.writer) (W.contents out.new.writer)) }
     ensures output { IsErrAnd result (λ e. status_of e ≡ 8)
@@ -79,6 +82,8 @@ fn of_log<S: Source, W: Write, E: Write, C: Clock>(
     out: &mut Out<W>,
     err: &mut Stderr<E>,
 ) -> Result<(), Fault>
+    ensures report { OnOk result
+        (HasWrittenOfLog (W.contents out.old.writer) (W.contents out.new.writer)) }
     ensures output { IsErrAnd result (λ e. status_of e ≡ 8)
         ↔ (out.new.failures ≢ out.old.failures) }
     ensures nothing { IfErr result (λ e. status_of e ≢ 8 → out.new ≡ out.old) }
@@ -107,7 +112,7 @@ fn of_trace<S: Source, P: Progress, W: Write>(
     out: &mut Out<W>,
 ) -> Result<(), Fault>
     ensures report { OnOk result
-        (HasWrittenSome (W.contents out.old.writer) (W.contents out.new.writer)) }
+        (HasWrittenOfTrace (W.contents out.old.writer) (W.contents out.new.writer)) }
     ensures plain { IsUnset options.now (codes "stream") → AsksForReport options.now
         → OnOk result (HasWrittenReport (W.contents out.old.writer) (W.contents out.new.writer)) }
     ensures output { IsErrAnd result (λ e. status_of e ≡ 8)

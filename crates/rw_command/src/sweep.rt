@@ -5,8 +5,7 @@ ghost use Rattle.rw_command.specs.Status.{status_of};
 
 use crate::arguments::{Argument, Given, Value};
 use crate::caches::{
-    BACK, DOWN, EDGE_TIER, EDGES, ORIGIN_TIER, ORIGINS, RECLAIM, TICKS_A_SECOND, UP, delays_of,
-    lists_of_blocks, policies,
+    EDGE_TIER, ORIGIN_TIER, RECLAIM, TICKS_A_SECOND, lists_of_blocks, policies, ticks_a_second,
 };
 use crate::entries::Entry;
 use crate::fault::Fault;
@@ -14,14 +13,14 @@ use crate::files::{open, read, write};
 use crate::import::tell;
 use crate::logs::{EDGE_BY, EPOCH, FROM, TICKS, counts_of, names_log, open_log};
 use crate::options_file::OPTIONS;
-use crate::outlook::{EVERY, QUIET, STREAM, TRACE_HELP, WARM_UP, outlook};
+use crate::outlook::{EVERY, FORMAT, QUIET, STREAM, TRACE_HELP, WARM_UP, outlook};
 use crate::source::Source;
 use crate::stderr::Stderr;
 use crate::values::{Quantity, invalid, numbers};
 use clap::ArgMatches;
-use rw_photo::Shape;
+use rw_photo::{Config, Shape};
 use rw_progress::{Measure, Progress};
-use rw_report::{Out, Telling};
+use rw_report::{Format, Out, Telling};
 use rw_sweep::{
     Axes, Grid, GridFault, MAX_CONFIGURATIONS, MAX_WORKERS, Part, Sweeping, list, sweep_over_time,
     sweep_part, sweep_rows, sweep_stream,
@@ -39,13 +38,14 @@ pub(crate) const ENTRY: Entry = Entry {
   ripqwarp sweep --policy lru,slru3 --edge-blocks 64..1024x2 --edges 4 trace.csv > table.csv
   ripqwarp sweep --edge-flash 1G,2G,4G --origin-flash 16G trace.csv
   ripqwarp sweep --list --policy lru,slru3 --sections 2..16x2
+  ripqwarp sweep --origins 1..8x2 --format json trace.csv | jq 'select(.caches == \"all\")'
   ripqwarp sweep --every 1h --ticks-a-second 1000 --policy lru,slru3 trace.csv > hours.csv",
     own: &GRID,
     shared: &[],
 };
 
 /// What a sweep varies, as lists, and what all its runs have in common.
-const GRID: [Argument; 27] = [
+const GRID: [Argument; 28] = [
     Argument {
         name: "trace",
         value: Value::File("TRACE"),
@@ -116,15 +116,41 @@ const GRID: [Argument; 27] = [
     STREAM,
     EVERY,
     WARM_UP,
+    FORMAT,
     FROM,
     TICKS,
     EDGE_BY,
     EPOCH,
-    EDGES,
-    ORIGINS,
-    UP,
-    DOWN,
-    BACK,
+    Argument {
+        name: "edges",
+        value: Value::Text("LIST"),
+        given: Given::Or("1"),
+        help: "Edge caches, 1 to 256; the trace may name as many as the least of them",
+    },
+    Argument {
+        name: "origins",
+        value: Value::Text("LIST"),
+        given: Given::Or("1"),
+        help: "Origin caches, 1 to 64",
+    },
+    Argument {
+        name: "up",
+        value: Value::Text("LIST"),
+        given: Given::Or("3"),
+        help: "Ticks from an edge to an origin, 1 to 1048576",
+    },
+    Argument {
+        name: "down",
+        value: Value::Text("LIST"),
+        given: Given::Or("3"),
+        help: "Ticks from an origin to an edge, 1 to 1048576",
+    },
+    Argument {
+        name: "back",
+        value: Value::Text("LIST"),
+        given: Given::Or("10"),
+        help: "Ticks from an origin to the backend and back, 1 to 1048576",
+    },
     TICKS_A_SECOND,
     RECLAIM,
     OPTIONS,
@@ -153,6 +179,13 @@ pub(crate) fn sweep<S: Source, W: Write, E: Write, R: Threads + Clock + Sync>(
         (W.contents out.old.writer) (W.contents out.new.writer)) }
 {
     let part = part(alloc, options)?;
+    let outlook = outlook(alloc, options)?;
+    if part.is_some() && matches!(outlook.format, Format::Json) {
+        return Err(Fault::NotWith {
+            option: "part",
+            other: "--format json",
+        });
+    }
     let grid = Grid::new(alloc, axes(alloc, options)?).map_err(fault_of_grid)?;
     if options.get_flag("list") {
         return write_list(alloc, &grid, part.unwrap_or(Part::whole()), out);
@@ -161,7 +194,7 @@ pub(crate) fn sweep<S: Source, W: Write, E: Write, R: Threads + Clock + Sync>(
         grid: &grid,
         part,
         workers: workers(rt, options),
-        outlook: outlook(alloc, options)?,
+        outlook,
     };
     let measure = if options.get_flag("stream") {
         Measure::RowsSoFar
@@ -272,21 +305,25 @@ fn part_of(text: &str) -> Option<Part> {
 fn axes(alloc: Global, options: &ArgMatches<'_>) -> Result<Axes, Fault>
     ensures unwritten { IfErr result (λ e. status_of e ≢ 8) }
 {
-    let delays = delays_of(alloc, options)?;
+    let ticks_a_second = ticks_a_second(options);
+    let delay = Quantity::ticks(Config::MAX_DELAY, ticks_a_second);
     let sections = Quantity::things(Shape::MAX_SECTIONS);
+    let edges = Quantity::things(u64::from(Config::MAX_EDGES));
+    let origins = Quantity::things(u64::from(Config::MAX_ORIGINS));
     let blocks = numbers(alloc, options, "block", Quantity::bytes(Shape::MAX_BLOCK))?;
     Ok(Axes {
-        edges: options.get_one("edges").ok_or(Fault::Plan)?,
-        origins: options.get_one("origins").ok_or(Fault::Plan)?,
-        up: delays.up,
-        down: delays.down,
-        back: delays.back,
-        reclaim: options.get_flag("reclaim"),
         policies: policies(alloc, options, "policy")?,
         sections: numbers(alloc, options, "sections", sections)?,
         edge_blocks: lists_of_blocks(alloc, options, EDGE_TIER, &blocks)?,
         origin_blocks: lists_of_blocks(alloc, options, ORIGIN_TIER, &blocks)?,
         blocks,
+        edges: numbers(alloc, options, "edges", edges)?,
+        origins: numbers(alloc, options, "origins", origins)?,
+        up: numbers(alloc, options, "up", delay)?,
+        down: numbers(alloc, options, "down", delay)?,
+        back: numbers(alloc, options, "back", delay)?,
+        reclaim: options.get_flag("reclaim"),
+        ticks_a_second,
     })
 }
 

@@ -186,6 +186,56 @@ pub(crate) fn numbers(
     Ok(numbers)
 }
 
+/// The two ends of the range that an option gives as `A..B`, where A is not above B; a number alone is both.
+///
+/// # Errors
+///
+/// [`Fault::CommandLine`] where its value is neither, [`Fault::Plan`] where it has none, and `Memory`.
+pub(crate) fn ends(
+    alloc: Global,
+    options: &ArgMatches<'_>,
+    name: &str,
+    quantity: Quantity,
+) -> Result<(u64, u64), Fault>
+    ensures unwritten { IfErr result (λ e. status_of e ≢ 8) }
+{
+    let text = options.get_str(name).ok_or(Fault::Plan)?;
+    if let Some(ends) = ends_of(text, quantity) {
+        return Ok(ends);
+    }
+    let expected = format!(in alloc; "{quantity}, or a range of them such as 16..1024")?;
+    Err(invalid(alloc, text, name, expected.as_str()))
+}
+
+/// The two ends of a range `A..B`, or a number twice.
+fn ends_of(text: &str, quantity: Quantity) -> Option<(u64, u64)> {
+    let (first, last) = text.split_once("..").unwrap_or((text, text));
+    let (first, last) = (quantity.read(first)?, quantity.read(last)?);
+    (first <= last).then_some((first, last))
+}
+
+/// The part of one that a text writes with at most six decimals, in millionths, as `0.8` or `1`.
+pub(crate) fn millionths(text: &str) -> Option<u64> {
+    let (ones, decimals) = text.split_once('.').unwrap_or((text, "0"));
+    if decimals.is_empty() || decimals.len() > 6 {
+        return None;
+    }
+    let mut unit = 1_000_000u64;
+    let mut millionths = 0u64;
+    for digit in decimals.bytes() {
+        if !digit.is_ascii_digit() {
+            return None;
+        }
+        unit /= 10;
+        millionths = millionths.checked_add(u64::from(digit - b'0').checked_mul(unit)?)?;
+    }
+    match ones {
+        "0" => Some(millionths),
+        "1" if millionths == 0 => Some(1_000_000),
+        _ => None,
+    }
+}
+
 /// Appends the numbers of an item, and answers whether it is one; `None` where memory was refused.
 fn add_item(numbers: &mut Vec<u64>, item: &str, quantity: Quantity) -> Option<bool> {
     match item.split_once("..") {

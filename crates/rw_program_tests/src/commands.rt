@@ -278,11 +278,11 @@ pub(crate) const APART: &[u8] = b"time,edge,object,size\n5,0,7,4\n100,0,8,4\n";
 
 /// What is counted of them in each 50 ticks, up to the first mark at which nothing is left to do.
 const OVER_TIME: &[u8] =
-    b"from,to,caches,requests,hits,misses,coalesced,late,bypassed,inserted,evicted,reinserted,promoted,writes,splits,merges,hit_bytes,request_bytes,hit_ratio,byte_hit_ratio,flash_bytes,written_bytes,backend_requests,backend_bytes\n0,50,edges,1,0,1,0,1,0,0,0,0,0,0,0,0,0,4,0.000000,0.000000,10,0,0,0\n0,50,origins,1,0,1,0,0,0,0,0,0,0,0,0,0,0,4,0.000000,0.000000,20,0,1,4\n0,50,all,2,0,2,0,1,0,0,0,0,0,0,0,0,0,8,0.000000,0.000000,30,0,1,4\n50,100,edges,0,0,0,0,0,0,0,0,0,0,0,0,0,0,0,0.000000,0.000000,10,0,0,0\n50,100,origins,0,0,0,0,0,0,0,0,0,0,0,0,0,0,0,0.000000,0.000000,20,0,0,0\n50,100,all,0,0,0,0,0,0,0,0,0,0,0,0,0,0,0,0.000000,0.000000,30,0,0,0\n100,150,edges,1,0,1,0,1,0,0,0,0,0,0,0,0,0,4,0.000000,0.000000,10,0,0,0\n100,150,origins,1,0,1,0,0,0,0,0,0,0,0,0,0,0,4,0.000000,0.000000,20,0,1,4\n100,150,all,2,0,2,0,1,0,0,0,0,0,0,0,0,0,8,0.000000,0.000000,30,0,1,4\n";
+    b"from,to,caches,requests,hits,misses,coalesced,late,bypassed,inserted,evicted,reinserted,promoted,writes,splits,merges,hit_bytes,request_bytes,hit_ratio,byte_hit_ratio,flash_bytes,written_bytes,backend_requests,backend_bytes,inserted_bytes\n0,50,edges,1,0,1,0,1,0,0,0,0,0,0,0,0,0,4,0.000000,0.000000,10,0,0,0,0\n0,50,origins,1,0,1,0,0,0,0,0,0,0,0,0,0,0,4,0.000000,0.000000,20,0,1,4,0\n0,50,all,2,0,2,0,1,0,0,0,0,0,0,0,0,0,8,0.000000,0.000000,30,0,1,4,0\n50,100,edges,0,0,0,0,0,0,0,0,0,0,0,0,0,0,0,0.000000,0.000000,10,0,0,0,0\n50,100,origins,0,0,0,0,0,0,0,0,0,0,0,0,0,0,0,0.000000,0.000000,20,0,0,0,0\n50,100,all,0,0,0,0,0,0,0,0,0,0,0,0,0,0,0,0.000000,0.000000,30,0,0,0,0\n100,150,edges,1,0,1,0,1,0,0,0,0,0,0,0,0,0,4,0.000000,0.000000,10,0,0,0,0\n100,150,origins,1,0,1,0,0,0,0,0,0,0,0,0,0,0,4,0.000000,0.000000,20,0,1,4,0\n100,150,all,2,0,2,0,1,0,0,0,0,0,0,0,0,0,8,0.000000,0.000000,30,0,1,4,0\n";
 
 /// The same from tick 100 on.
 const LAST_ONE: &[u8] =
-    b"from,to,caches,requests,hits,misses,coalesced,late,bypassed,inserted,evicted,reinserted,promoted,writes,splits,merges,hit_bytes,request_bytes,hit_ratio,byte_hit_ratio,flash_bytes,written_bytes,backend_requests,backend_bytes\n100,150,edges,1,0,1,0,1,0,0,0,0,0,0,0,0,0,4,0.000000,0.000000,10,0,0,0\n100,150,origins,1,0,1,0,0,0,0,0,0,0,0,0,0,0,4,0.000000,0.000000,20,0,1,4\n100,150,all,2,0,2,0,1,0,0,0,0,0,0,0,0,0,8,0.000000,0.000000,30,0,1,4\n";
+    b"from,to,caches,requests,hits,misses,coalesced,late,bypassed,inserted,evicted,reinserted,promoted,writes,splits,merges,hit_bytes,request_bytes,hit_ratio,byte_hit_ratio,flash_bytes,written_bytes,backend_requests,backend_bytes,inserted_bytes\n100,150,edges,1,0,1,0,1,0,0,0,0,0,0,0,0,0,4,0.000000,0.000000,10,0,0,0,0\n100,150,origins,1,0,1,0,0,0,0,0,0,0,0,0,0,0,4,0.000000,0.000000,20,0,1,4,0\n100,150,all,2,0,2,0,1,0,0,0,0,0,0,0,0,0,8,0.000000,0.000000,30,0,1,4,0\n";
 
 /// What `text`, a command line, writes of a trace, if its exit status is 0.
 pub(crate) fn written<R: Threads + Wait + Clock + RandomSource + Sync>(
@@ -621,23 +621,14 @@ fn a_failing_standard_error_is_ignored(rt: HostRuntime) {
 
 /// A part of a sweep over one combination.
 const PART: &[u8] =
-    b"place,policy,sections,block,edge_blocks,origin_blocks,caches,requests,hits,misses,coalesced,late,bypassed,inserted,evicted,reinserted,promoted,writes,splits,merges,hit_bytes,request_bytes,hit_ratio,byte_hit_ratio,flash_bytes,written_bytes,backend_requests\n\
-    0,lru,1,10,2,2,edges,1,0,1,0,1,0,0,0,0,0,0,0,0,0,4,0.000000,0.000000,20,0,0\n\
-    0,lru,1,10,2,2,origins,1,0,1,0,0,0,0,0,0,0,0,0,0,0,4,0.000000,0.000000,20,0,1\n\
-    0,lru,1,10,2,2,all,2,0,2,0,1,0,0,0,0,0,0,0,0,0,8,0.000000,0.000000,40,0,1\n";
+    b"place,policy,sections,block,edge_blocks,origin_blocks,edges,origins,up,down,back,caches,requests,hits,misses,coalesced,late,bypassed,inserted,evicted,reinserted,promoted,writes,splits,merges,hit_bytes,request_bytes,hit_ratio,byte_hit_ratio,flash_bytes,written_bytes,backend_requests,backend_bytes,inserted_bytes,drive_writes_a_day,reclaim,warm_up,ticks_a_second,rows,span,digest\n0,lru,1,10,2,2,1,1,3,3,10,edges,1,0,1,0,1,0,0,0,0,0,0,0,0,0,4,0.000000,0.000000,20,0,0,0,0,,0,0,0,2,95,2635451442\n0,lru,1,10,2,2,1,1,3,3,10,origins,1,0,1,0,0,0,0,0,0,0,0,0,0,0,4,0.000000,0.000000,20,0,1,4,0,,0,0,0,2,95,2635451442\n0,lru,1,10,2,2,1,1,3,3,10,all,2,0,2,0,1,0,0,0,0,0,0,0,0,0,8,0.000000,0.000000,40,0,1,4,0,,0,0,0,2,95,2635451442\n";
 
 /// The table of a sweep over two combinations.
 const TABLE: &[u8] =
-    b"policy,sections,block,edge_blocks,origin_blocks,caches,requests,hits,misses,coalesced,late,bypassed,inserted,evicted,reinserted,promoted,writes,splits,merges,hit_bytes,request_bytes,hit_ratio,byte_hit_ratio,flash_bytes,written_bytes,backend_requests\n\
-    lru,1,10,2,2,edges,1,0,1,0,1,0,0,0,0,0,0,0,0,0,4,0.000000,0.000000,20,0,0\n\
-    lru,1,10,2,2,origins,1,0,1,0,0,0,0,0,0,0,0,0,0,0,4,0.000000,0.000000,20,0,1\n\
-    lru,1,10,2,2,all,2,0,2,0,1,0,0,0,0,0,0,0,0,0,8,0.000000,0.000000,40,0,1\n\
-    lru,1,10,4,2,edges,1,0,1,0,1,0,0,0,0,0,0,0,0,0,4,0.000000,0.000000,40,0,0\n\
-    lru,1,10,4,2,origins,1,0,1,0,0,0,0,0,0,0,0,0,0,0,4,0.000000,0.000000,20,0,1\n\
-    lru,1,10,4,2,all,2,0,2,0,1,0,0,0,0,0,0,0,0,0,8,0.000000,0.000000,60,0,1\n";
+    b"policy,sections,block,edge_blocks,origin_blocks,edges,origins,up,down,back,caches,requests,hits,misses,coalesced,late,bypassed,inserted,evicted,reinserted,promoted,writes,splits,merges,hit_bytes,request_bytes,hit_ratio,byte_hit_ratio,flash_bytes,written_bytes,backend_requests,backend_bytes,inserted_bytes,drive_writes_a_day,reclaim,warm_up,ticks_a_second,rows,span,digest\nlru,1,10,2,2,1,1,3,3,10,edges,1,0,1,0,1,0,0,0,0,0,0,0,0,0,4,0.000000,0.000000,20,0,0,0,0,,0,0,0,2,95,2635451442\nlru,1,10,2,2,1,1,3,3,10,origins,1,0,1,0,0,0,0,0,0,0,0,0,0,0,4,0.000000,0.000000,20,0,1,4,0,,0,0,0,2,95,2635451442\nlru,1,10,2,2,1,1,3,3,10,all,2,0,2,0,1,0,0,0,0,0,0,0,0,0,8,0.000000,0.000000,40,0,1,4,0,,0,0,0,2,95,2635451442\nlru,1,10,4,2,1,1,3,3,10,edges,1,0,1,0,1,0,0,0,0,0,0,0,0,0,4,0.000000,0.000000,40,0,0,0,0,,0,0,0,2,95,2635451442\nlru,1,10,4,2,1,1,3,3,10,origins,1,0,1,0,0,0,0,0,0,0,0,0,0,0,4,0.000000,0.000000,20,0,1,4,0,,0,0,0,2,95,2635451442\nlru,1,10,4,2,1,1,3,3,10,all,2,0,2,0,1,0,0,0,0,0,0,0,0,0,8,0.000000,0.000000,60,0,1,4,0,,0,0,0,2,95,2635451442\n";
 
 /// A command line of each command in each of its ways to write, and what it reads.
-const WRITING: [(&str, &[u8]); 19] = [
+const WRITING: [(&str, &[u8]); 22] = [
     ("ripqwarp --help", b""),
     ("ripqwarp warp --help", b""),
     ("ripqwarp serial -", TRACE),
@@ -660,7 +651,10 @@ const WRITING: [(&str, &[u8]); 19] = [
     ("ripqwarp sweep - --policy off", TRACE),
     ("ripqwarp sweep - --policy off --part 0/2 --every 5", TRACE),
     ("ripqwarp sweep - --policy off --stream", TRACE),
+    ("ripqwarp sweep - --policy off --format json", TRACE),
     ("ripqwarp sweep --list", b""),
+    ("ripqwarp serial - --format json", TRACE),
+    ("ripqwarp size - --target 0.5 --edge-blocks 1..2", TRACE),
     ("ripqwarp join -", PART),
     ("ripqwarp plot -", TABLE),
 ];

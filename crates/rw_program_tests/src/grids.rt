@@ -21,18 +21,21 @@ pub fn axes(
     let policies = Vec::from_slice(alloc, policies)?;
     let (sections, blocks) = lists(alloc, &[1], &[block])?;
     let (edge_blocks, origin_blocks) = lists(alloc, edge_blocks, origin_blocks)?;
+    let (edges, origins) = lists(alloc, &[1], &[1])?;
+    let (up, down) = lists(alloc, &[3], &[3])?;
     Ok(Axes {
-        edges: 1,
-        origins: 1,
-        up: 3,
-        down: 3,
-        back: 10,
-        reclaim: false,
         policies,
         sections,
         blocks,
         edge_blocks,
         origin_blocks,
+        edges,
+        origins,
+        up,
+        down,
+        back: Vec::from_slice(alloc, &[10])?,
+        reclaim: false,
+        ticks_a_second: None,
     })
 }
 

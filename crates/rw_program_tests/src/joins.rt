@@ -15,7 +15,7 @@ const TRACE: &[u8] = b"time,edge,object,size\n5,0,7,4\n100,0,8,4\n";
 
 /// The header of a part.
 const HEADER: &[u8] =
-    b"place,policy,sections,block,edge_blocks,origin_blocks,caches,requests,hits,misses,coalesced,late,bypassed,inserted,evicted,reinserted,promoted,writes,splits,merges,hit_bytes,request_bytes,hit_ratio,byte_hit_ratio,flash_bytes,written_bytes,backend_requests\n";
+    b"place,policy,sections,block,edge_blocks,origin_blocks,edges,origins,up,down,back,caches,requests,hits,misses,coalesced,late,bypassed,inserted,evicted,reinserted,promoted,writes,splits,merges,hit_bytes,request_bytes,hit_ratio,byte_hit_ratio,flash_bytes,written_bytes,backend_requests,backend_bytes,inserted_bytes,drive_writes_a_day,reclaim,warm_up,ticks_a_second,rows,span,digest\n";
 
 /// The grid of one policy, and 1 to 5 blocks on the edge.
 fn five(alloc: Global) -> Option<Grid> {
@@ -89,7 +89,7 @@ fn is_listed(alloc: Global, part: Part, text: &[u8]) -> bool {
 #[test]
 fn a_part_is_listed(rt: HostRuntime) {
     let text =
-        b"place,policy,sections,block,edge_blocks,origin_blocks\n1,lru,1,10,2,2\n4,lru,1,10,5,2\n";
+        b"place,policy,sections,block,edge_blocks,origin_blocks,edges,origins,up,down,back\n1,lru,1,10,2,2,1,1,3,3,10\n4,lru,1,10,5,2,1,1,3,3,10\n";
     assert!(rt; matches!(Part::new(1, 3), Some(part) if is_listed(rt.alloc(), part, text)));
     assert!(rt; Part::new(3, 3).is_none() && Part::new(0, 0).is_none());
     assert!(rt; Part::whole().count == 1);
@@ -108,7 +108,7 @@ fn lines(text: &mut Vec<u8>, place: &str, count: usize) -> io::Result<()> {
     for caches in ["edges", "origins", "all"].iter().take(count) {
         write!(
             text,
-            "{place},lru,8,1,4,4,{caches},1,2,3,4,5,6,7,8,9,10,11,12,13,14,15,0.500000,1.000000,65536,77,99\n"
+            "{place},lru,8,1,4,4,1,1,3,3,10,{caches},1,2,3,4,5,6,7,8,9,10,11,12,13,14,15,0.500000,1.000000,65536,77,99,6,7,0.001000,0,0,1000,4,95,5\n"
         )?;
     }
     Ok(())
@@ -125,7 +125,7 @@ fn part_of(alloc: Global, places: &[(&str, usize)]) -> io::Result<Vec<u8>> {
 
 /// Places, each with the number of its lines, how many places are asked for, and what joining a part of these comes to.
 static PLACES: [(&[(&str, usize)], Option<u64>, &str); 8] = [
-    (&[("1", 3), ("0", 3)], Some(2), "754 bytes"),
+    (&[("1", 3), ("0", 3)], Some(2), "1117 bytes"),
     (&[("0", 3), ("2", 3)], None, "join: place 1: missing"),
     (&[("0", 3)], Some(2), "join: place 1: missing"),
     (
@@ -163,19 +163,23 @@ fn each_fault_of_a_place_has_its_line(rt: HostRuntime) {
 }
 
 /// Texts, each with the line of its fault.
-const FAULTS: [(&[u8], &str); 4] = [
+const FAULTS: [(&[u8], &str); 5] = [
     (b"0,lru,8,1,4,4\n", "join: file 0 row 0: length"),
     (
-        b"0,lru,8,1,4,4,edges,1,2,3,4,5,6,7,8,9,10,11,12,13,14,15,0.500000,1.000000,65536,77,99",
+        b"0,lru,8,1,4,4,1,1,3,3,10,edges,1,2,3,4,5,6,7,8,9,10,11,12,13,14,15,0.500000,1.000000,65536,77,99,6,7,,0,0,0,4,95,5",
         "join: file 0: cut off",
     ),
     (
-        b"0,lru,8,1,4,4,some,1,2,3,4,5,6,7,8,9,10,11,12,13,14,15,0.500000,1.000000,65536,77,99\n",
-        "join: file 0 row 0 column 6: number",
+        b"0,lru,8,1,4,4,1,1,3,3,10,some,1,2,3,4,5,6,7,8,9,10,11,12,13,14,15,0.500000,1.000000,65536,77,99,6,7,,0,0,0,4,95,5\n",
+        "join: file 0 row 0 column 11: number",
     ),
     (
-        b"0,lru,8,1,4,4,edges,1,2,3,4,5,6,7,8,9,10,11,12,13,14,15,0.50000,1.000000,65536,77,99\n",
-        "join: file 0 row 0 column 22: number",
+        b"0,lru,8,1,4,4,1,1,3,3,10,edges,1,2,3,4,5,6,7,8,9,10,11,12,13,14,15,0.50000,1.000000,65536,77,99,6,7,,0,0,0,4,95,5\n",
+        "join: file 0 row 0 column 27: number",
+    ),
+    (
+        b"0,lru,8,1,4,4,1,1,3,3,10,edges,1,2,3,4,5,6,7,8,9,10,11,12,13,14,15,0.500000,1.000000,65536,77,99,6,7,1.5,0,0,0,4,95,5\n",
+        "join: file 0 row 0 column 34: number",
     ),
 ];
 

@@ -7,6 +7,8 @@
 #[cfg(test)]
 mod commands;
 #[cfg(test)]
+mod formats;
+#[cfg(test)]
 mod grids;
 #[cfg(test)]
 mod imports;
@@ -26,6 +28,8 @@ mod progress;
 mod reports;
 #[cfg(test)]
 mod shown;
+#[cfg(test)]
+mod sizes;
 #[cfg(test)]
 mod sweeps;
 #[cfg(test)]

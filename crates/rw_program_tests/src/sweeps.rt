@@ -3,6 +3,7 @@ use crate::grids::{axes, grid};
 use crate::pipe::{Pipe, holds};
 use rw_photo::{Levels, Policy};
 use rw_progress::{Progress, Silent};
+use rw_report::Format;
 use rw_ripqwarp::{Out, SimFault};
 use rw_sweep::{Grid, GridFault, Outlook, Part, Sweeping, sweep, sweep_over_time, sweep_stream};
 use rw_trace::TraceFault;
@@ -15,7 +16,7 @@ const TRACE: &[u8] = b"time,edge,object,size\n5,0,7,4\n100,0,8,4\n";
 
 /// What is counted then: nothing is stored, or each object at both caches, in a block that is not full.
 const TABLE: &[u8] =
-    b"policy,sections,block,edge_blocks,origin_blocks,caches,requests,hits,misses,coalesced,late,bypassed,inserted,evicted,reinserted,promoted,writes,splits,merges,hit_bytes,request_bytes,hit_ratio,byte_hit_ratio,flash_bytes,written_bytes,backend_requests\noff,1,10,1,2,edges,2,0,2,0,2,0,0,0,0,0,0,0,0,0,8,0.000000,0.000000,10,0,0\noff,1,10,1,2,origins,2,0,2,0,0,0,0,0,0,0,0,0,0,0,8,0.000000,0.000000,20,0,2\noff,1,10,1,2,all,4,0,4,0,2,0,0,0,0,0,0,0,0,0,16,0.000000,0.000000,30,0,2\nlru,1,10,1,2,edges,2,0,2,0,2,0,2,0,0,0,0,0,0,0,8,0.000000,0.000000,10,0,0\nlru,1,10,1,2,origins,2,0,2,0,0,0,2,0,0,0,0,0,0,0,8,0.000000,0.000000,20,0,2\nlru,1,10,1,2,all,4,0,4,0,2,0,4,0,0,0,0,0,0,0,16,0.000000,0.000000,30,0,2\nslru2,1,10,1,2,edges,2,0,2,0,2,0,2,0,0,0,0,0,0,0,8,0.000000,0.000000,10,0,0\nslru2,1,10,1,2,origins,2,0,2,0,0,0,2,0,0,0,0,0,0,0,8,0.000000,0.000000,20,0,2\nslru2,1,10,1,2,all,4,0,4,0,2,0,4,0,0,0,0,0,0,0,16,0.000000,0.000000,30,0,2\n";
+    b"policy,sections,block,edge_blocks,origin_blocks,edges,origins,up,down,back,caches,requests,hits,misses,coalesced,late,bypassed,inserted,evicted,reinserted,promoted,writes,splits,merges,hit_bytes,request_bytes,hit_ratio,byte_hit_ratio,flash_bytes,written_bytes,backend_requests,backend_bytes,inserted_bytes,drive_writes_a_day,reclaim,warm_up,ticks_a_second,rows,span,digest\noff,1,10,1,2,1,1,3,3,10,edges,2,0,2,0,2,0,0,0,0,0,0,0,0,0,8,0.000000,0.000000,10,0,0,0,0,,0,0,0,2,95,2635451442\noff,1,10,1,2,1,1,3,3,10,origins,2,0,2,0,0,0,0,0,0,0,0,0,0,0,8,0.000000,0.000000,20,0,2,8,0,,0,0,0,2,95,2635451442\noff,1,10,1,2,1,1,3,3,10,all,4,0,4,0,2,0,0,0,0,0,0,0,0,0,16,0.000000,0.000000,30,0,2,8,0,,0,0,0,2,95,2635451442\nlru,1,10,1,2,1,1,3,3,10,edges,2,0,2,0,2,0,2,0,0,0,0,0,0,0,8,0.000000,0.000000,10,0,0,0,8,,0,0,0,2,95,2635451442\nlru,1,10,1,2,1,1,3,3,10,origins,2,0,2,0,0,0,2,0,0,0,0,0,0,0,8,0.000000,0.000000,20,0,2,8,8,,0,0,0,2,95,2635451442\nlru,1,10,1,2,1,1,3,3,10,all,4,0,4,0,2,0,4,0,0,0,0,0,0,0,16,0.000000,0.000000,30,0,2,8,16,,0,0,0,2,95,2635451442\nslru2,1,10,1,2,1,1,3,3,10,edges,2,0,2,0,2,0,2,0,0,0,0,0,0,0,8,0.000000,0.000000,10,0,0,0,8,,0,0,0,2,95,2635451442\nslru2,1,10,1,2,1,1,3,3,10,origins,2,0,2,0,0,0,2,0,0,0,0,0,0,0,8,0.000000,0.000000,20,0,2,8,8,,0,0,0,2,95,2635451442\nslru2,1,10,1,2,1,1,3,3,10,all,4,0,4,0,2,0,4,0,0,0,0,0,0,0,16,0.000000,0.000000,30,0,2,8,16,,0,0,0,2,95,2635451442\n";
 
 /// The grid of an edge and an origin under so many of three policies.
 fn grid_under(alloc: Global, policies: usize) -> Option<Grid> {
@@ -115,7 +116,7 @@ fn is_header_left<R: Threads + Sync>(rt: &R, alloc: Global) -> bool {
     let mut out = Out::new(Vec::new(alloc));
     let is_swept = sweep(rt, alloc, TRACE, &grid, 4, &mut Silent, &mut out).is_ok();
     let table = out.into_inner();
-    is_swept && grid.is_empty() && table.as_slice().ends_with(b"backend_requests\n")
+    is_swept && grid.is_empty() && table.as_slice().ends_with(b",span,digest\n")
 }
 
 #[test]
@@ -212,20 +213,20 @@ fn a_writer_that_fails_holds_whole_lines(rt: HostRuntime) {
 
 /// What is counted in each 50 ticks where nothing is stored: a request in the first and in the third.
 const OVER_TIME: &[u8] =
-    b"policy,sections,block,edge_blocks,origin_blocks,from,to,caches,requests,hits,misses,coalesced,late,bypassed,inserted,evicted,reinserted,promoted,writes,splits,merges,hit_bytes,request_bytes,hit_ratio,byte_hit_ratio,flash_bytes,written_bytes,backend_requests,backend_bytes\noff,1,10,1,2,0,50,edges,1,0,1,0,1,0,0,0,0,0,0,0,0,0,4,0.000000,0.000000,10,0,0,0\noff,1,10,1,2,0,50,origins,1,0,1,0,0,0,0,0,0,0,0,0,0,0,4,0.000000,0.000000,20,0,1,4\noff,1,10,1,2,0,50,all,2,0,2,0,1,0,0,0,0,0,0,0,0,0,8,0.000000,0.000000,30,0,1,4\noff,1,10,1,2,50,100,edges,0,0,0,0,0,0,0,0,0,0,0,0,0,0,0,0.000000,0.000000,10,0,0,0\noff,1,10,1,2,50,100,origins,0,0,0,0,0,0,0,0,0,0,0,0,0,0,0,0.000000,0.000000,20,0,0,0\noff,1,10,1,2,50,100,all,0,0,0,0,0,0,0,0,0,0,0,0,0,0,0,0.000000,0.000000,30,0,0,0\noff,1,10,1,2,100,150,edges,1,0,1,0,1,0,0,0,0,0,0,0,0,0,4,0.000000,0.000000,10,0,0,0\noff,1,10,1,2,100,150,origins,1,0,1,0,0,0,0,0,0,0,0,0,0,0,4,0.000000,0.000000,20,0,1,4\noff,1,10,1,2,100,150,all,2,0,2,0,1,0,0,0,0,0,0,0,0,0,8,0.000000,0.000000,30,0,1,4\n";
+    b"policy,sections,block,edge_blocks,origin_blocks,edges,origins,up,down,back,from,to,caches,requests,hits,misses,coalesced,late,bypassed,inserted,evicted,reinserted,promoted,writes,splits,merges,hit_bytes,request_bytes,hit_ratio,byte_hit_ratio,flash_bytes,written_bytes,backend_requests,backend_bytes,inserted_bytes\noff,1,10,1,2,1,1,3,3,10,0,50,edges,1,0,1,0,1,0,0,0,0,0,0,0,0,0,4,0.000000,0.000000,10,0,0,0,0\noff,1,10,1,2,1,1,3,3,10,0,50,origins,1,0,1,0,0,0,0,0,0,0,0,0,0,0,4,0.000000,0.000000,20,0,1,4,0\noff,1,10,1,2,1,1,3,3,10,0,50,all,2,0,2,0,1,0,0,0,0,0,0,0,0,0,8,0.000000,0.000000,30,0,1,4,0\noff,1,10,1,2,1,1,3,3,10,50,100,edges,0,0,0,0,0,0,0,0,0,0,0,0,0,0,0,0.000000,0.000000,10,0,0,0,0\noff,1,10,1,2,1,1,3,3,10,50,100,origins,0,0,0,0,0,0,0,0,0,0,0,0,0,0,0,0.000000,0.000000,20,0,0,0,0\noff,1,10,1,2,1,1,3,3,10,50,100,all,0,0,0,0,0,0,0,0,0,0,0,0,0,0,0,0.000000,0.000000,30,0,0,0,0\noff,1,10,1,2,1,1,3,3,10,100,150,edges,1,0,1,0,1,0,0,0,0,0,0,0,0,0,4,0.000000,0.000000,10,0,0,0,0\noff,1,10,1,2,1,1,3,3,10,100,150,origins,1,0,1,0,0,0,0,0,0,0,0,0,0,0,4,0.000000,0.000000,20,0,1,4,0\noff,1,10,1,2,1,1,3,3,10,100,150,all,2,0,2,0,1,0,0,0,0,0,0,0,0,0,8,0.000000,0.000000,30,0,1,4,0\n";
 
 /// What is counted in all ticks, in one interval: the counts of the table.
 const IN_ONE: &[u8] =
-    b"policy,sections,block,edge_blocks,origin_blocks,from,to,caches,requests,hits,misses,coalesced,late,bypassed,inserted,evicted,reinserted,promoted,writes,splits,merges,hit_bytes,request_bytes,hit_ratio,byte_hit_ratio,flash_bytes,written_bytes,backend_requests,backend_bytes\noff,1,10,1,2,0,1000,edges,2,0,2,0,2,0,0,0,0,0,0,0,0,0,8,0.000000,0.000000,10,0,0,0\noff,1,10,1,2,0,1000,origins,2,0,2,0,0,0,0,0,0,0,0,0,0,0,8,0.000000,0.000000,20,0,2,8\noff,1,10,1,2,0,1000,all,4,0,4,0,2,0,0,0,0,0,0,0,0,0,16,0.000000,0.000000,30,0,2,8\n";
+    b"policy,sections,block,edge_blocks,origin_blocks,edges,origins,up,down,back,from,to,caches,requests,hits,misses,coalesced,late,bypassed,inserted,evicted,reinserted,promoted,writes,splits,merges,hit_bytes,request_bytes,hit_ratio,byte_hit_ratio,flash_bytes,written_bytes,backend_requests,backend_bytes,inserted_bytes\noff,1,10,1,2,1,1,3,3,10,0,1000,edges,2,0,2,0,2,0,0,0,0,0,0,0,0,0,8,0.000000,0.000000,10,0,0,0,0\noff,1,10,1,2,1,1,3,3,10,0,1000,origins,2,0,2,0,0,0,0,0,0,0,0,0,0,0,8,0.000000,0.000000,20,0,2,8,0\noff,1,10,1,2,1,1,3,3,10,0,1000,all,4,0,4,0,2,0,0,0,0,0,0,0,0,0,16,0.000000,0.000000,30,0,2,8,0\n";
 
 /// What is counted from tick 50 on: the second request.
 const WARM: &[u8] =
-    b"policy,sections,block,edge_blocks,origin_blocks,caches,requests,hits,misses,coalesced,late,bypassed,inserted,evicted,reinserted,promoted,writes,splits,merges,hit_bytes,request_bytes,hit_ratio,byte_hit_ratio,flash_bytes,written_bytes,backend_requests\noff,1,10,1,2,edges,1,0,1,0,1,0,0,0,0,0,0,0,0,0,4,0.000000,0.000000,10,0,0\noff,1,10,1,2,origins,1,0,1,0,0,0,0,0,0,0,0,0,0,0,4,0.000000,0.000000,20,0,1\noff,1,10,1,2,all,2,0,2,0,1,0,0,0,0,0,0,0,0,0,8,0.000000,0.000000,30,0,1\n";
+    b"policy,sections,block,edge_blocks,origin_blocks,edges,origins,up,down,back,caches,requests,hits,misses,coalesced,late,bypassed,inserted,evicted,reinserted,promoted,writes,splits,merges,hit_bytes,request_bytes,hit_ratio,byte_hit_ratio,flash_bytes,written_bytes,backend_requests,backend_bytes,inserted_bytes,drive_writes_a_day,reclaim,warm_up,ticks_a_second,rows,span,digest\noff,1,10,1,2,1,1,3,3,10,edges,1,0,1,0,1,0,0,0,0,0,0,0,0,0,4,0.000000,0.000000,10,0,0,0,0,,0,50,0,2,95,2635451442\noff,1,10,1,2,1,1,3,3,10,origins,1,0,1,0,0,0,0,0,0,0,0,0,0,0,4,0.000000,0.000000,20,0,1,4,0,,0,50,0,2,95,2635451442\noff,1,10,1,2,1,1,3,3,10,all,2,0,2,0,1,0,0,0,0,0,0,0,0,0,8,0.000000,0.000000,30,0,1,4,0,,0,50,0,2,95,2635451442\n";
 
 /// What is counted under `lru`, at place 1, from tick 50 on, in intervals of 60 ticks: the second request, which the origin stores when
 /// it asks the backend, and then its fill, which the edge stores.
 const PART_OVER_TIME: &[u8] =
-    b"place,policy,sections,block,edge_blocks,origin_blocks,from,to,caches,requests,hits,misses,coalesced,late,bypassed,inserted,evicted,reinserted,promoted,writes,splits,merges,hit_bytes,request_bytes,hit_ratio,byte_hit_ratio,flash_bytes,written_bytes,backend_requests,backend_bytes\n1,lru,1,10,1,2,50,110,edges,1,0,1,0,0,0,0,0,0,0,0,0,0,0,4,0.000000,0.000000,10,0,0,0\n1,lru,1,10,1,2,50,110,origins,1,0,1,0,0,0,1,0,0,0,0,0,0,0,4,0.000000,0.000000,20,0,1,4\n1,lru,1,10,1,2,50,110,all,2,0,2,0,0,0,1,0,0,0,0,0,0,0,8,0.000000,0.000000,30,0,1,4\n1,lru,1,10,1,2,110,170,edges,0,0,0,0,1,0,1,0,0,0,0,0,0,0,0,0.000000,0.000000,10,0,0,0\n1,lru,1,10,1,2,110,170,origins,0,0,0,0,0,0,0,0,0,0,0,0,0,0,0,0.000000,0.000000,20,0,0,0\n1,lru,1,10,1,2,110,170,all,0,0,0,0,1,0,1,0,0,0,0,0,0,0,0,0.000000,0.000000,30,0,0,0\n";
+    b"place,policy,sections,block,edge_blocks,origin_blocks,edges,origins,up,down,back,from,to,caches,requests,hits,misses,coalesced,late,bypassed,inserted,evicted,reinserted,promoted,writes,splits,merges,hit_bytes,request_bytes,hit_ratio,byte_hit_ratio,flash_bytes,written_bytes,backend_requests,backend_bytes,inserted_bytes\n1,lru,1,10,1,2,1,1,3,3,10,50,110,edges,1,0,1,0,0,0,0,0,0,0,0,0,0,0,4,0.000000,0.000000,10,0,0,0,0\n1,lru,1,10,1,2,1,1,3,3,10,50,110,origins,1,0,1,0,0,0,1,0,0,0,0,0,0,0,4,0.000000,0.000000,20,0,1,4,4\n1,lru,1,10,1,2,1,1,3,3,10,50,110,all,2,0,2,0,0,0,1,0,0,0,0,0,0,0,8,0.000000,0.000000,30,0,1,4,4\n1,lru,1,10,1,2,1,1,3,3,10,110,170,edges,0,0,0,0,1,0,1,0,0,0,0,0,0,0,0,0.000000,0.000000,10,0,0,0,4\n1,lru,1,10,1,2,1,1,3,3,10,110,170,origins,0,0,0,0,0,0,0,0,0,0,0,0,0,0,0,0.000000,0.000000,20,0,0,0,0\n1,lru,1,10,1,2,1,1,3,3,10,110,170,all,0,0,0,0,1,0,1,0,0,0,0,0,0,0,0,0.000000,0.000000,30,0,0,0,4\n";
 
 /// What a sweep of a trace writes, or why it does not; read as it is run, or not.
 fn text_of<R: Threads + Sync>(
@@ -273,9 +274,14 @@ fn is_written<R: Threads + Sync>(
     is_written
 }
 
-/// What is told in intervals of so many ticks, from a tick on.
+/// What is told as text in intervals of so many ticks, from a tick on.
 fn outlook(warm_up: Option<u64>, every: Option<u64>) -> Outlook {
-    Outlook { warm_up, every }
+    let format = Format::Text;
+    Outlook {
+        warm_up,
+        every,
+        format,
+    }
 }
 
 #[test]
