@@ -401,7 +401,8 @@ const RECORDS: &[u8] = b"\x05\0\0\0\x07\0\0\0\0\0\0\0\x04\0\0\0\xff\xff\xff\xff\
     \x32\0\0\0\x09\0\0\0\0\0\0\0\0\0\0\0\xff\xff\xff\xff\xff\xff\xff\xff\
     \x64\0\0\0\x08\0\0\0\0\0\0\0\x04\0\0\0\xff\xff\xff\xff\xff\xff\xff\xff";
 
-/// Runs of a binary log, each with a run of the trace that it writes the same as.
+/// Runs of a binary log, each with a run of the trace that it writes the same as. A log says how many ticks a second has, and so does a
+/// sweep's table.
 const OF_RECORDS: [(&str, &str); 4] = [
     (
         "ripqwarp serial - --policy off --stream --from oracle-general --ticks 1 --epoch 0",
@@ -413,11 +414,11 @@ const OF_RECORDS: [(&str, &str); 4] = [
     ),
     (
         "ripqwarp sweep - --policy off,lru --stream --from oracle-general --ticks 1 --epoch 0",
-        "ripqwarp sweep - --policy off,lru",
+        "ripqwarp sweep - --policy off,lru --ticks-a-second 1",
     ),
     (
         "ripqwarp sweep - --warm-up 50 --stream --from oracle-general --ticks 1 --epoch 0 --edge-by object",
-        "ripqwarp sweep - --warm-up 50",
+        "ripqwarp sweep - --warm-up 50 --ticks-a-second 1",
     ),
 ];
 
