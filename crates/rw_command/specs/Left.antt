@@ -5,16 +5,13 @@ use Rattle.rw_import.specs.Streamed.{GainsNoTrace}
 use Rattle.rw_report.specs.declared.intervals.Outlook.{Outlook}
 use Rattle.rw_sweep.specs.declared.axes.Axes.{Axes}
 use Rattle.rw_sweep.specs.declared.part.Part.{Part}
-use Rattle.rw_sweep.specs.OverTime.{HasSweptFirstOverTime}
-use Rattle.rw_sweep.specs.Parts.{HasSweptPartFirst}
-use Rattle.rw_sweep.specs.Sweep.{HasSweptFirst}
+use Rattle.rw_sweep.specs.InMemory.{HasSweptFirstUnder}
 
 -- the header of some sweep, or of a part of it, and what is told of its first combinations, whole, and nothing more
 abbrev pub HasSweptSome : Option Text → Option Text → Type 0
 HasSweptSome before after =
-    (a : Axes) × (bytes : Text) × (HasSweptFirst a bytes before after
-    ⊎ ((part : Part) × HasSweptPartFirst a part.index part.count bytes before after)
-    ⊎ ((part : Option Part) × (o : Outlook) × HasSweptFirstOverTime a part o bytes before after))
+    (a : Axes) × (part : Option Part) × (o : Outlook) × (bytes : Text)
+    × HasSweptFirstUnder a part o bytes before after
 
 -- where memory was refused, or a cache is exhausted, these lines
 abbrev pub LeavesLines : ℕ → Option Text → Option Text → Type 0

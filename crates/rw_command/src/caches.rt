@@ -18,7 +18,7 @@ const POLICIES: [&str; 9] = [
     "off", "lru", "slru2", "slru3", "slru4", "slru5", "slru6", "slru7", "slru8",
 ];
 
-/// How many caches there are, what they store, how large they are, and how long messages are on their way.
+/// How many caches there are, what they keep, how large they are, and how long messages take.
 pub(crate) const CACHES: [Argument; 15] = [
     EDGES,
     ORIGINS,
@@ -57,12 +57,12 @@ pub(crate) const CACHES: [Argument; 15] = [
     OPTIONS,
 ];
 
-/// What caches store.
+/// What caches keep.
 pub(crate) const POLICY: Argument = Argument {
     name: "policy",
     value: Value::Word("POLICY", &POLICIES),
     given: Given::Or("slru3"),
-    help: "What caches store: off nothing, lru by one list, slru2 to slru8 by segmented LRU of that many segments",
+    help: "What caches keep: off, nothing; lru, by least recent use; slru2 to slru8, by segmented LRU with that many segments",
 };
 
 /// How many insertion points a cache has.
@@ -97,7 +97,7 @@ pub(crate) const ORIGINS: Argument = Argument {
     help: "Origin caches, 1 to 64",
 };
 
-/// How long a message is on its way from an edge to an origin.
+/// How long a message takes from an edge to an origin.
 pub(crate) const UP: Argument = Argument {
     name: "up",
     value: Value::Text("TIME"),
@@ -105,7 +105,7 @@ pub(crate) const UP: Argument = Argument {
     help: "Ticks from an edge to an origin, 1 to 1048576",
 };
 
-/// How long a message is on its way from an origin to an edge.
+/// How long a message takes from an origin to an edge.
 pub(crate) const DOWN: Argument = Argument {
     name: "down",
     value: Value::Text("TIME"),
@@ -129,7 +129,7 @@ pub(crate) const TICKS_A_SECOND: Argument = Argument {
     help: "Ticks in a second: then options that take ticks also take times, as 20ms, 90s, 5m, 2h or 1d",
 };
 
-/// Whether a purge also takes out the sealed block that it leaves without objects.
+/// Whether a purge also removes a sealed block that it leaves without objects.
 pub(crate) const RECLAIM: Argument = Argument {
     name: "reclaim",
     value: Value::Flag,
@@ -220,7 +220,7 @@ pub(crate) fn config_with(
     Ok(config.with_reclaim(options.get_flag("reclaim")))
 }
 
-/// How long messages are on their way, in ticks.
+/// How long messages take, in ticks.
 #[derive(Clone, Copy)]
 pub(crate) struct Delays {
     /// From an edge to an origin.

@@ -3,7 +3,7 @@ ghost use Rattle.std.specs.Prelude.{◌≡◌, ◌≢◌, ◌↔◌, ◌⊎◌, 
 ghost use Rattle.rw_command.specs.Left.{LeavesSome};
 ghost use Rattle.rw_command.specs.Status.{IsStatus, status_of};
 
-use crate::entries::program;
+use crate::entries::{always_hints, program};
 use crate::fault::Fault;
 use crate::generate::generate;
 use crate::hint::hint;
@@ -53,16 +53,18 @@ pub fn command<S: Source, W: Write, E: Write, R: Threads + Wait + Clock + Random
 
 /// Does what the program's words ask, its name first, and answers the exit status.
 ///
-/// The report, the journal, the trace, the table, the picture or help goes to `out`. A fault goes to `err` as one line; and so
-/// does, once the report of a run in rounds is written, what its rounds did, and once a log is imported, what was left out
-/// of it. Where `err` fails it is ignored, and nothing is tried again.
+/// The report, the journal, the trace, the table, the picture or help goes to `out`. A fault goes to `err` as one line. So does what
+/// the rounds of `warp` did, after its report, and what `import` left out of a log. Write errors of `err` are ignored, and nothing is
+/// tried again.
 ///
-/// Behind the line of a fault, a line `hint: ..` may name the file and the line, what was expected there and what was found: of
-/// `import`, `sweep`, `size`, `join` and `plot` always, of the others on a terminal alone. A terminal also has one line that shows how
-/// far a command has come, unless the words ask for quiet; it is taken away before anything else goes to `out` or `err`, which may be the same
-/// terminal. Where `import`, `sweep`, `size`, `join` or `plot` write to a pipe that was closed, nothing is said of that.
+/// After a fault, a line `hint: ..` may name the file and the line, what was expected there and what was found: for `import`,
+/// `sweep`, `size`, `join` and `plot` always, for the others on a terminal only. Where one of these five writes to a pipe that was
+/// closed, nothing is said of it.
 ///
-/// The status is 8 exactly where `out` failed. With any other status but 0 nothing went out there, with two exceptions: a sweep may
+/// On a terminal one line shows how far a command has come, unless the words ask for quiet. It is removed before anything else goes to
+/// `out` or `err`, which may be the same terminal.
+///
+/// The status is 8 exactly where `out` failed. With any other status but 0 nothing was written there, with two exceptions: a sweep may
 /// have written whole lines, and `import --stream` a text that is no trace.
 ///
 /// | Status | Meaning |
@@ -98,7 +100,7 @@ pub fn command_at<S: Source, W: Write, E: Write, R: Threads + Wait + Clock + Ran
     match attempt(rt, alloc, &words, source, out, err) {
         Ok(()) => 0,
         Err(fault) => {
-            if !(out.is_closed() && is_beyond(&words)) {
+            if !(out.is_closed() && has_hints(&words)) {
                 tell(alloc, &fault, &words, source, err);
             }
             fault.status()
@@ -115,20 +117,17 @@ fn tell<S: Source, E: Write>(
     err: &mut Stderr<E>,
 ) {
     err.tell(fault);
-    if err.is_terminal || is_beyond(words) {
+    if err.is_terminal || has_hints(words) {
         if let Some(hint) = hint(alloc, fault, words, source) {
             err.tell(format_args!("hint: {hint}"));
         }
     }
 }
 
-/// Whether the words ask for a command of which standard error has more than one line where it fails.
-fn is_beyond(words: &[String]) -> bool {
+/// Whether a hint follows each fault of the command that the words ask for.
+fn has_hints(words: &[String]) -> bool {
     match words.get(1) {
-        Some(command) => matches!(
-            command.as_str(),
-            "import" | "sweep" | "size" | "join" | "plot"
-        ),
+        Some(command) => always_hints(command.as_str()),
         None => false,
     }
 }

@@ -11,10 +11,21 @@ pub(crate) struct Entry {
     pub(crate) about: &'static str,
     /// Examples, which its help ends with.
     pub(crate) examples: &'static str,
+    /// When a hint follows its faults.
+    pub(crate) hints: Hints,
     /// The arguments of its own, which the help names first.
     pub(crate) own: &'static [Argument],
     /// The arguments that other commands take too, which the help names last.
     pub(crate) shared: &'static [Argument],
+}
+
+/// When a hint follows a fault.
+#[derive(Clone, Copy)]
+pub(crate) enum Hints {
+    /// Always. Where the output is a pipe that was closed, nothing is said at all.
+    Always,
+    /// Where standard error is a terminal: elsewhere a fault is one line.
+    OnTerminal,
 }
 
 /// What the program is for.
@@ -47,6 +58,16 @@ pub(crate) fn program<'a>(alloc: Global) -> Result<Command<'a>, AllocError> {
         .subcommand_required(true)
         .arg_required_else_help(true)
         .subcommands(commands)
+}
+
+/// Whether a hint follows each fault of the command of this name.
+pub(crate) fn always_hints(name: &str) -> bool {
+    for entry in &ENTRIES {
+        if entry.name == name {
+            return matches!(entry.hints, Hints::Always);
+        }
+    }
+    false
 }
 
 /// The commands as `clap` knows them.

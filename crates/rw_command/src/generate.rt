@@ -4,7 +4,7 @@ ghost use Rattle.rw_command.specs.Status.{status_of};
 
 use crate::arguments::{Argument, Given, Value};
 use crate::completions::{write_bash, write_fish, write_zsh};
-use crate::entries::Entry;
+use crate::entries::{Entry, Hints};
 use crate::fault::Fault;
 use crate::files::write;
 use crate::manual::write_manual;
@@ -21,6 +21,7 @@ pub(crate) const ENTRY: Entry = Entry {
     examples: "Examples:
   ripqwarp generate man > ripqwarp.1
   ripqwarp generate bash > ~/.local/share/bash-completion/completions/ripqwarp",
+    hints: Hints::OnTerminal,
     own: &[Argument {
         name: "what",
         value: Value::Choice("WHAT", &["man", "bash", "zsh", "fish"]),

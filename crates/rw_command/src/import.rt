@@ -4,7 +4,7 @@ ghost use Rattle.rw_command.specs.Left.{LeavesNoTrace};
 ghost use Rattle.rw_command.specs.Status.{status_of};
 
 use crate::arguments::{Argument, Given, Value};
-use crate::entries::Entry;
+use crate::entries::{Entry, Hints};
 use crate::fault::Fault;
 use crate::files::{open, read, write};
 use crate::logs::epoch;
@@ -36,11 +36,12 @@ pub(crate) const ENTRY: Entry = Entry {
   ripqwarp import --time ts --object url --size bytes access.csv > trace.csv
   ripqwarp import --delimiter tab --time 0 --object 2 --size 3 --edges 8 --edge-by object access.tsv
   zstd -dc log.zst | ripqwarp import --from oracle-general - > trace.csv",
+    hints: Hints::Always,
     own: &LOG,
     shared: &[],
 };
 
-/// A log, how it is read, and how its rows become a trace's.
+/// The log, how to read it, and how its rows become those of a trace.
 const LOG: [Argument; 21] = [
     Argument {
         name: "log",
@@ -52,7 +53,7 @@ const LOG: [Argument; 21] = [
         name: "from",
         value: Value::Word("FORMAT", &["csv", "oracle-general"]),
         given: Given::Or("csv"),
-        help: "Its format: csv, or libCacheSim's binary oracle-general, which has no use for the columns",
+        help: "The log's format: csv, or libCacheSim's binary oracle-general, which has no columns to name",
     },
     Argument {
         name: "delimiter",
@@ -70,7 +71,7 @@ const LOG: [Argument; 21] = [
         name: "multiline",
         value: Value::Flag,
         given: Given::Maybe,
-        help: "Take line ends inside a quoted field; else they refuse the log, as a quote that is not closed",
+        help: "Accept line ends inside quoted fields; without it they are refused, as a quote that is not closed",
     },
     Argument {
         name: "time",
@@ -94,7 +95,7 @@ const LOG: [Argument; 21] = [
         name: "missing-size",
         value: Value::Number(MAX_SIZE as i64),
         given: Given::Maybe,
-        help: "The size of a row whose size is empty, - or 0, and which else is left out, 1 to 4294967295",
+        help: "The size of a row whose size is empty, - or 0, 1 to 4294967295; without it such a row is left out",
     },
     Argument {
         name: "edge",
@@ -118,7 +119,7 @@ const LOG: [Argument; 21] = [
         name: "edge-by",
         value: Value::Word("WHAT", &["row", "object"]),
         given: Given::Or("row"),
-        help: "By what they are dealt out: row after row in turn, or each object to one edge",
+        help: "How requests are dealt out: row after row in turn, or each object to one edge",
     },
     Argument {
         name: "ticks",
@@ -136,7 +137,7 @@ const LOG: [Argument; 21] = [
         name: "strict",
         value: Value::Flag,
         given: Given::Maybe,
-        help: "Refuse the log at the first row that cannot be used, which else is left out and counted",
+        help: "Refuse the log at the first row that cannot be used; without it such a row is left out and counted",
     },
     Argument {
         name: "max-left-out",
@@ -154,14 +155,14 @@ const LOG: [Argument; 21] = [
         name: "epoch",
         value: Value::Text("TIME"),
         given: Given::Maybe,
-        help: "With --stream: the log's time that is tick 0, else that of the first row that has one",
+        help: "With --stream: the log's time that is tick 0; by default that of the first row that has one",
     },
     QUIET,
     OPTIONS,
 ];
 
-/// Reads the log that the options name, writes its trace, and then says on `err` what was left out of it. Where the options ask for
-/// it, the trace is written as the log is read.
+/// Reads the log that the options name, writes its trace, and then reports on `err` what was left out. With `--stream` the trace is
+/// written as the log is read.
 ///
 /// # Errors
 ///

@@ -3,7 +3,7 @@ ghost use Rattle.std.specs.Prelude.{◌≡◌, ◌≢◌, ◌↔◌, IfErr, IsEr
 ghost use Rattle.rw_command.specs.Status.{status_of};
 
 use crate::arguments::{Argument, Given, Value};
-use crate::entries::Entry;
+use crate::entries::{Entry, Hints};
 use crate::fault::Fault;
 use crate::files::write;
 use crate::source::Source;
@@ -21,6 +21,7 @@ pub(crate) const ENTRY: Entry = Entry {
   ripqwarp sweep --part 0/2 --edge-blocks 64..1024x2 trace.csv > 0.csv
   ripqwarp sweep --part 1/2 --edge-blocks 64..1024x2 trace.csv > 1.csv
   ripqwarp join 0.csv 1.csv > table.csv",
+    hints: Hints::Always,
     own: &PARTS,
     shared: &[],
 };

@@ -4,7 +4,7 @@ ghost use Rattle.rw_command.specs.Status.{status_of};
 
 use crate::arguments::{Argument, Given, Value};
 use crate::caches::{CACHES, config};
-use crate::entries::Entry;
+use crate::entries::{Entry, Hints};
 use crate::fault::Fault;
 use crate::files::read;
 use crate::outlook::TRACE;
@@ -31,6 +31,7 @@ pub(crate) const ENTRY: Entry = Entry {
 
 Examples:
   ripqwarp journal --schedule 'E0 D0 E1 U1 E1' trace.csv",
+    hints: Hints::OnTerminal,
     own: &[SCHEDULE, TRACE],
     shared: &CACHES,
 };

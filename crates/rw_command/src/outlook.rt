@@ -48,12 +48,12 @@ pub(crate) const EVERY: Argument = Argument {
     help: "Print a CSV table over time instead: what was counted in each interval of this many ticks",
 };
 
-/// How what is reported is written.
+/// The format of the output.
 pub(crate) const FORMAT: Argument = Argument {
     name: "format",
     value: Value::Word("FORMAT", &["text", "csv", "json"]),
     given: Given::Maybe,
-    help: "How it is written: text, the default, where a table is CSV; csv, with a header; json, an object a line",
+    help: "Output format: text, the default, in which tables are CSV; csv, with a header; json, an object a line",
 };
 
 /// When counting starts.
@@ -91,7 +91,7 @@ pub(crate) fn outlook(alloc: Global, options: &ArgMatches<'_>) -> Result<Outlook
     })
 }
 
-/// How the options ask that it is written.
+/// The format that the options ask for.
 ///
 /// # Errors
 ///

@@ -3,7 +3,7 @@ ghost use Rattle.std.specs.Prelude.{◌≡◌, ◌≢◌, ◌↔◌, IfErr, IsEr
 ghost use Rattle.rw_command.specs.Status.{status_of};
 
 use crate::arguments::{Argument, Given, Value};
-use crate::entries::Entry;
+use crate::entries::{Entry, Hints};
 use crate::fault::Fault;
 use crate::files::{read, write};
 use crate::options_file::OPTIONS;
@@ -22,6 +22,7 @@ pub(crate) const ENTRY: Entry = Entry {
     examples: "Examples:
   ripqwarp sweep --policy lru,slru3 --edge-blocks 64..1024x2 trace.csv | ripqwarp plot - > hit_ratio.svg
   ripqwarp plot --of backend_requests --caches origins table.csv > backend.svg",
+    hints: Hints::Always,
     own: &DRAWING,
     shared: &[],
 };
@@ -53,7 +54,7 @@ const DRAWING: [Argument; 7] = [
         name: "caches",
         value: Value::Word("CACHES", &["edges", "origins", "all"]),
         given: Given::Maybe,
-        help: "Of which caches; by default all, and of serial over time a line for each of the three",
+        help: "The caches to draw; by default all, and of serial over time a line for each of the three",
     },
     Argument {
         name: "x",
@@ -101,7 +102,7 @@ pub(crate) fn plot<S: Source, W: Write>(
     Ok(write(picture.as_slice(), out)?)
 }
 
-/// What is asked for; None where an option has none of the values that the command line takes.
+/// What to draw; None where an option has none of the values that the command line takes.
 fn drawing(options: &ArgMatches<'_>) -> Option<Drawing> {
     Some(Drawing {
         measure: measure(options)?,
@@ -111,7 +112,7 @@ fn drawing(options: &ArgMatches<'_>) -> Option<Drawing> {
     })
 }
 
-/// What is drawn; None where it is none of the words that the command line takes.
+/// The measure to draw; None where the option has none of the words that the command line takes.
 fn measure(options: &ArgMatches<'_>) -> Option<Measure> {
     match options.get_str("of")? {
         "hit_ratio" => Some(Measure::HitRatio),
@@ -123,7 +124,7 @@ fn measure(options: &ArgMatches<'_>) -> Option<Measure> {
     }
 }
 
-/// Of which caches, if the option is there; None where it is none of the words that the command line takes.
+/// The caches to draw, if the option is there; None where its value is none of the words that the command line takes.
 fn caches(options: &ArgMatches<'_>) -> Option<Option<Caches>> {
     match options.get_str("caches") {
         None => Some(None),
@@ -134,7 +135,7 @@ fn caches(options: &ArgMatches<'_>) -> Option<Option<Caches>> {
     }
 }
 
-/// Whose flash is on the x axis, if the option is there; None where it is none of the words that the command line takes.
+/// Whose flash is on the x axis, if the option is there; None where its value is none of the words that the command line takes.
 fn flash(options: &ArgMatches<'_>) -> Option<Option<FlashOf>> {
     match options.get_str("x") {
         None => Some(None),

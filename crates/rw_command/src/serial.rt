@@ -4,7 +4,7 @@ ghost use Rattle.rw_command.specs.Status.{status_of};
 ghost use Rattle.rw_command.specs.Written.{AsksForReport, HasWrittenOfLog, HasWrittenOfTrace, HasWrittenOverTime, HasWrittenReport, HasWrittenSome, HasWrittenStream, IsUnset};
 
 use crate::caches::{CACHES, config};
-use crate::entries::Entry;
+use crate::entries::{Entry, Hints};
 use crate::fault::Fault;
 use crate::files::{open, read};
 use crate::import::tell;
@@ -14,7 +14,7 @@ use crate::source::Source;
 use crate::stderr::Stderr;
 use clap::ArgMatches;
 use rw_progress::{Measure, Progress};
-use rw_report::{Out, Telling, replay, replay_over_time, replay_rows, replay_stream};
+use rw_report::{Out, WithProgress, replay, replay_over_time, replay_rows, replay_stream};
 use std::alloc::Global;
 use std::io::Write;
 use std::time::Clock;
@@ -29,6 +29,7 @@ pub(crate) const ENTRY: Entry = Entry {
   ripqwarp serial --ticks-a-second 1000 --every 1h --warm-up 1d trace.csv > hours.csv
   ripqwarp serial --format json trace.csv | jq 'select(.cache == \"all\").hit_ratio'
   zstd -dc log.zst | ripqwarp serial --stream --from oracle-general -",
+    hints: Hints::OnTerminal,
     own: &[
         TRACE, QUIET, STREAM, EVERY, WARM_UP, FORMAT, FROM, TICKS, EDGE_BY, EPOCH,
     ],
@@ -93,7 +94,7 @@ fn of_log<S: Source, W: Write, E: Write, C: Clock>(
     let log = open_log(alloc, options, config.edges(), source)?;
     let is_quiet = options.get_flag("quiet");
     let mut line = err.progress(clock, "serial", Measure::RowsSoFar, is_quiet);
-    let mut rows = Telling::new(log, &mut line);
+    let mut rows = WithProgress::new(log, &mut line);
     let ran = replay_rows(alloc, &mut rows, &config, outlook, out);
     let counts = counts_of(&rows.source);
     drop(rows);

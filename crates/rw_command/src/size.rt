@@ -8,7 +8,7 @@ use crate::caches::{
     BACK, BLOCK, DOWN, EDGE_TIER, EDGES, ORIGIN_TIER, ORIGINS, POLICY, RECLAIM, SECTIONS,
     TICKS_A_SECOND, UP, block, blocks_searched, config_with,
 };
-use crate::entries::Entry;
+use crate::entries::{Entry, Hints};
 use crate::fault::Fault;
 use crate::files::{read, write};
 use crate::options_file::OPTIONS;
@@ -20,7 +20,7 @@ use clap::ArgMatches;
 use rw_photo::NoMemory;
 use rw_progress::{Measure, Progress};
 use rw_report::{
-    Caches, Format, Out, SimFault, json_lines, totals, write_columns, write_count, write_number,
+    Caches, Format, Out, SimFault, json_lines, write_columns, write_count, write_number,
     write_ratio,
 };
 use rw_sweep::{Answer, Search, Tier, Try};
@@ -36,6 +36,7 @@ pub(crate) const ENTRY: Entry = Entry {
   ripqwarp size --target 0.8 --edge-flash 1G..64G --edges 4 trace.csv
   ripqwarp size --target 0.3 --caches origins --origin-blocks 64..8192 --policy lru trace.csv
   ripqwarp size --target 0.8 --edge-blocks 16..4096 --format json trace.csv | jq 'select(.least == 1)'",
+    hints: Hints::Always,
     own: &SIZING,
     shared: &[],
 };
@@ -53,7 +54,7 @@ const SIZING: [Argument; 20] = [
         name: "caches",
         value: Value::Word("CACHES", &["edges", "origins", "all"]),
         given: Given::Or("edges"),
-        help: "Of which caches",
+        help: "The caches whose hit ratio counts",
     },
     Argument {
         name: "edge-blocks",
@@ -94,8 +95,8 @@ const SIZING: [Argument; 20] = [
     OPTIONS,
 ];
 
-/// Runs the trace that the options name under sizes of a range, and writes what each came to and which of them is the least that reaches
-/// the target: see [`rw_sweep::size`].
+/// Runs the trace that the options name under sizes of a range, and writes the hit ratio of each, and which of them is the least that
+/// reaches the target: see [`rw_sweep::size`].
 ///
 /// # Errors
 ///
@@ -123,7 +124,7 @@ pub(crate) fn size<S: Source, W: Write, E: Write, C: Clock>(
     write(text.as_slice(), out)
 }
 
-/// What a search in a trace comes to.
+/// The answer of a search in a trace.
 fn answer<P: Progress>(
     alloc: Global,
     bytes: &[u8],
@@ -137,7 +138,7 @@ fn answer<P: Progress>(
     Ok(rw_sweep::size(alloc, rows.as_slice(), search, progress)?)
 }
 
-/// What the options ask to be searched.
+/// The search that the options ask for.
 fn search(alloc: Global, options: &ArgMatches<'_>) -> Result<Search, Fault>
     ensures in_range { IfOk result IsSearch }
     ensures unwritten { IfErr result (λ e. status_of e ≢ 8) }
@@ -195,7 +196,7 @@ fn target(alloc: Global, options: &ArgMatches<'_>) -> Result<u64, Fault>
     }
 }
 
-/// Of which caches the hit ratio is.
+/// The caches whose hit ratio counts.
 fn caches(options: &ArgMatches<'_>) -> Result<Caches, Fault>
     ensures unwritten { IfErr result (λ e. status_of e ≢ 8) }
 {
@@ -210,7 +211,7 @@ fn caches(options: &ArgMatches<'_>) -> Result<Caches, Fault>
 /// The names of the columns of a table of sizes.
 const HEADER: &[u8] = b"blocks,flash,requests,hits,hit_ratio,reaches,least\n";
 
-/// A size that was tried, and what it came to.
+/// A size that was tried, and its outcome.
 #[derive(Clone, Copy)]
 struct Tried {
     /// Full blocks on the flash of each cache that is sized.
@@ -228,16 +229,10 @@ struct Tried {
 }
 
 impl Tried {
-    /// What a try of a search came to, where the answer is known.
+    /// The outcome of a try of a search whose answer is known.
     fn of(search: &Search, tried: &Try, least: Option<u64>) -> Tried {
         let counters = tried.counters.as_slice();
-        let edges = (search.config.edges() as usize).min(counters.len());
-        let (edges, origins) = counters.split_at(edges);
-        let total = match search.caches {
-            Caches::Edges => totals(edges),
-            Caches::Origins => totals(origins),
-            Caches::All => totals(counters),
-        };
+        let total = search.total(counters);
         let (_, block, _) = search.config.edge_shape().limits();
         Tried {
             blocks: tried.blocks,
@@ -279,8 +274,8 @@ impl Tried {
     }
 }
 
-/// An answer in a format: the sizes in the order in which they were tried. As text the answer stands behind them, in a table it is the
-/// line whose column `least` is 1.
+/// An answer in a format: the sizes in the order in which they were tried. As text the answer follows them; in a table it is the line
+/// whose column `least` is 1.
 fn text_of(
     alloc: Global,
     search: &Search,

@@ -7,7 +7,7 @@ use crate::arguments::{Argument, Given, Value};
 use crate::caches::{
     EDGE_TIER, ORIGIN_TIER, RECLAIM, TICKS_A_SECOND, lists_of_blocks, policies, ticks_a_second,
 };
-use crate::entries::Entry;
+use crate::entries::{Entry, Hints};
 use crate::fault::Fault;
 use crate::files::{open, read, write};
 use crate::import::tell;
@@ -20,10 +20,10 @@ use crate::values::{Quantity, invalid, numbers};
 use clap::ArgMatches;
 use rw_photo::{Config, Shape};
 use rw_progress::{Measure, Progress};
-use rw_report::{Format, Out, Telling};
+use rw_report::{Format, Out, WithProgress};
 use rw_sweep::{
-    Axes, Grid, GridFault, MAX_CONFIGURATIONS, MAX_WORKERS, Part, Sweeping, list, sweep_over_time,
-    sweep_part, sweep_rows, sweep_stream,
+    Axes, Grid, GridFault, MAX_CONFIGURATIONS, MAX_WORKERS, Part, Sweeping, list, sweep_rows,
+    sweep_stream,
 };
 use std::alloc::Global;
 use std::io::Write;
@@ -40,11 +40,12 @@ pub(crate) const ENTRY: Entry = Entry {
   ripqwarp sweep --list --policy lru,slru3 --sections 2..16x2
   ripqwarp sweep --origins 1..8x2 --format json trace.csv | jq 'select(.caches == \"all\")'
   ripqwarp sweep --every 1h --ticks-a-second 1000 --policy lru,slru3 trace.csv > hours.csv",
+    hints: Hints::Always,
     own: &GRID,
     shared: &[],
 };
 
-/// What a sweep varies, as lists, and what all its runs have in common.
+/// What a sweep varies, as lists, and what all its runs share.
 const GRID: [Argument; 28] = [
     Argument {
         name: "trace",
@@ -156,14 +157,14 @@ const GRID: [Argument; 28] = [
     OPTIONS,
 ];
 
-/// Runs the trace that the options name through every combination of what they list, or through those of a part, and writes
-/// the table, the lines of each as they are done; or only lists them. Where `err` may be a terminal, one line shows how far it has come,
-/// unless the options ask for quiet. Where they ask for it, the trace, or a log in the oracle-general format, is read as it is run, and
-/// then the table comes at the end; and what is told of each combination is over time, or from a time on.
+/// Runs the trace that the options name through every combination of what they list, or through those of a part, and writes the
+/// table, the lines of each combination as soon as they are done. With `--list` it writes the combinations and runs nothing. With
+/// `--stream`, and of a log in the oracle-general format, the rows are read as they are run, and the table comes at the end.
 ///
 /// # Errors
 ///
-/// A list or a part that is none, too many combinations, what the source answers, and a fault of a run ([`SimFault`](rw_report::SimFault)).
+/// A list or a part that is none, too many combinations, those of the source, and a fault of a run
+/// ([`SimFault`](rw_report::SimFault)). What went out then is nothing, or whole lines. `Output` exactly where the writer failed.
 pub(crate) fn sweep<S: Source, W: Write, E: Write, R: Threads + Clock + Sync>(
     rt: &R,
     alloc: Global,
@@ -213,7 +214,7 @@ pub(crate) fn sweep<S: Source, W: Write, E: Write, R: Threads + Clock + Sync>(
         return in_memory(rt, alloc, trace.as_slice(), &sweeping, &mut line, out);
     }
     let log = open_log(alloc, options, grid.edges(), source)?;
-    let mut rows = Telling::new(log, &mut line);
+    let mut rows = WithProgress::new(log, &mut line);
     let swept = sweep_rows(rt, alloc, &mut rows, &sweeping, out);
     let counts = counts_of(&rows.source);
     drop(rows);
@@ -223,7 +224,7 @@ pub(crate) fn sweep<S: Source, W: Write, E: Write, R: Threads + Clock + Sync>(
     Ok(())
 }
 
-/// Runs a trace through the grid, or through a part of it.
+/// Runs a trace in memory through the grid, or through a part of it.
 fn in_memory<P: Progress, W: Write, R: Threads + Sync>(
     rt: &R,
     alloc: Global,
@@ -238,33 +239,7 @@ fn in_memory<P: Progress, W: Write, R: Threads + Sync>(
         ⊎ LeavesLines (status_of e)
         (W.contents out.old.writer) (W.contents out.new.writer)) }
 {
-    if sweeping.outlook.is_plain() {
-        sweep_plainly(rt, alloc, trace, sweeping, progress, out)
-    } else {
-        Ok(sweep_over_time(rt, alloc, trace, sweeping, progress, out)?)
-    }
-}
-
-/// Runs a trace through the grid, or through a part of it, and writes the lines of each combination as they are done.
-fn sweep_plainly<P: Progress, W: Write, R: Threads + Sync>(
-    rt: &R,
-    alloc: Global,
-    bytes: &[u8],
-    sweeping: &Sweeping<'_>,
-    progress: &mut P,
-    out: &mut Out<W>,
-) -> Result<(), Fault>
-    ensures output { IsErrAnd result (λ e. status_of e ≡ 8)
-        ↔ (out.new.failures ≢ out.old.failures) }
-    ensures nothing { IfErr result (λ e. status_of e ≢ 8 → (out.new ≡ out.old)
-        ⊎ LeavesLines (status_of e)
-        (W.contents out.old.writer) (W.contents out.new.writer)) }
-{
-    let (grid, workers) = (sweeping.grid, sweeping.workers);
-    match sweeping.part {
-        Some(part) => Ok(sweep_part(rt, alloc, bytes, grid, part, workers, progress, out)?),
-        None => Ok(rw_sweep::sweep(rt, alloc, bytes, grid, workers, progress, out)?),
-    }
+    Ok(rw_sweep::sweep(rt, alloc, trace, sweeping, progress, out)?)
 }
 
 /// Writes the configurations of a part as a list.
@@ -301,7 +276,7 @@ fn part_of(text: &str) -> Option<Part> {
     Part::new(index.parse().ok()?, count.parse().ok()?)
 }
 
-/// What the options list, and what all runs have in common.
+/// What the options list, and what all runs share.
 fn axes(alloc: Global, options: &ArgMatches<'_>) -> Result<Axes, Fault>
     ensures unwritten { IfErr result (λ e. status_of e ≢ 8) }
 {
@@ -338,7 +313,7 @@ fn fault_of_grid(fault: GridFault) -> Fault
     }
 }
 
-/// How many runs go side by side: as the options say, or else as many as there are processors.
+/// How many runs go side by side: as the options say, or as many as there are processors.
 fn workers<R: Threads>(rt: &R, options: &ArgMatches<'_>) -> u32 {
     if let Some(workers) = options.get_one("workers") {
         return workers;

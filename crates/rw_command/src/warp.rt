@@ -1,10 +1,10 @@
-// A trace on several threads, ahead of time.
+// A trace on several threads, optimistically.
 ghost use Rattle.std.specs.Prelude.{◌≡◌, ◌≢◌, ◌↔◌, IfErr, IsErrAnd};
 ghost use Rattle.rw_command.specs.Status.{status_of};
 
 use crate::arguments::{Argument, Given, Value};
 use crate::caches::{CACHES, config, ticks_a_second};
-use crate::entries::Entry;
+use crate::entries::{Entry, Hints};
 use crate::fault::Fault;
 use crate::files::read;
 use crate::outlook::{QUIET, TRACE};
@@ -25,18 +25,19 @@ use std::time::Clock;
 /// The command.
 pub(crate) const ENTRY: Entry = Entry {
     name: "warp",
-    about: "Runs a trace on several threads, ahead of time, and prints the report that serial prints",
+    about: "Runs a trace on several threads, optimistically, and prints the report that serial prints",
     examples: "Examples:
   ripqwarp warp --edges 4 trace.csv
   ripqwarp warp --edges 16 --workers 8 --policy lru --quiet trace.csv
 
 The report goes to standard output. Then a line on standard error says what the rounds did:
 executed and undone events, and messages through rings.",
+    hints: Hints::OnTerminal,
     own: &ROUNDS,
     shared: &CACHES,
 };
 
-/// The trace, then how the work of a round is shared out, and how far rounds go.
+/// The trace, how rounds share out their work, and how far they go.
 const ROUNDS: [Argument; 9] = [
     TRACE,
     QUIET,
@@ -68,13 +69,13 @@ const ROUNDS: [Argument; 9] = [
         name: "ring",
         value: Value::Count(4096),
         given: Given::Or("64"),
-        help: "Messages on their way from a worker to another, 1 to 4096",
+        help: "Messages in transit from one worker to another, 1 to 4096",
     },
     Argument {
         name: "rounds",
         value: Value::Count(1_048_576),
         given: Given::Or("65536"),
-        help: "Rounds that are made at most, then one worker goes on alone, 1 to 1048576",
+        help: "The most rounds, after which one worker goes on alone, 1 to 1048576",
     },
     Argument {
         name: "lazy",
@@ -84,7 +85,7 @@ const ROUNDS: [Argument; 9] = [
     },
 ];
 
-/// Runs the trace that the options name in rounds of several workers, writes the report, and then says on `err` what the rounds did.
+/// Runs the trace that the options name on several workers, writes the report, and then reports on `err` what the rounds did.
 ///
 /// # Errors
 ///
@@ -133,7 +134,7 @@ fn plan(alloc: Global, options: &ArgMatches<'_>) -> Result<Plan, Fault>
     })
 }
 
-/// Says what the rounds of a run did, in one line.
+/// Writes a line that says what the rounds of a run did.
 fn tell_traffic<E: Write>(traffic: &Traffic, err: &mut Stderr<E>) {
     let Traffic {
         rounds,

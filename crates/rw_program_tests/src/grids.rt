@@ -1,6 +1,7 @@
 // Grids to sweep over: an edge and an origin, of sections of one block size.
 use rw_photo::Policy;
-use rw_sweep::{Axes, Grid};
+use rw_report::Format;
+use rw_sweep::{Axes, Grid, Outlook, Part, Sweeping};
 use std::alloc::{AllocError, Global};
 
 /// Two lists of numbers.
@@ -37,6 +38,20 @@ pub fn axes(
         reclaim: false,
         ticks_a_second: None,
     })
+}
+
+/// A sweep of a grid, or of a part of it, that writes what the whole run counts, as text.
+pub fn sweeping(grid: &Grid, part: Option<Part>, workers: u32) -> Sweeping<'_> {
+    Sweeping {
+        grid,
+        part,
+        workers,
+        outlook: Outlook {
+            warm_up: None,
+            every: None,
+            format: Format::Text,
+        },
+    }
 }
 
 /// The grid of these policies and numbers of blocks on the edge, with two blocks of 10 bytes at the origin.

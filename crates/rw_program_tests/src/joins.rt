@@ -1,10 +1,10 @@
 // Parts of a sweep: cut and joined again they are the sweep, and each fault of a part has its line.
-use crate::grids::grid;
+use crate::grids::{grid, sweeping};
 use crate::shown::is_shown;
 use rw_photo::Policy;
 use rw_progress::Silent;
 use rw_ripqwarp::Out;
-use rw_sweep::{Grid, Part, join, join_of_parts, list, parts_make_the_sweep, sweep, sweep_part};
+use rw_sweep::{Grid, Part, join, join_of_parts, list, parts_make_the_sweep, sweep};
 use std::alloc::Global;
 use std::io::Write;
 use std::thread::Threads;
@@ -22,17 +22,16 @@ fn five(alloc: Global) -> Option<Grid> {
     grid(alloc, &[Policy::Lru], &[1, 2, 3, 4, 5])
 }
 
-/// The table of a grid.
-fn table<R: Threads + Sync>(rt: &R, alloc: Global, grid: &Grid) -> Option<Vec<u8>> {
+/// The table of a grid, or of a part of it.
+fn table<R: Threads + Sync>(
+    rt: &R,
+    alloc: Global,
+    grid: &Grid,
+    part: Option<Part>,
+) -> Option<Vec<u8>> {
+    let sweeping = sweeping(grid, part, 1);
     let mut out = Out::new(Vec::new(alloc));
-    sweep(rt, alloc, TRACE, grid, 1, &mut Silent, &mut out).ok()?;
-    Some(out.into_inner())
-}
-
-/// The table of a part of a grid.
-fn table_of<R: Threads + Sync>(rt: &R, alloc: Global, grid: &Grid, part: Part) -> Option<Vec<u8>> {
-    let mut out = Out::new(Vec::new(alloc));
-    sweep_part(rt, alloc, TRACE, grid, part, 1, &mut Silent, &mut out).ok()?;
+    sweep(rt, alloc, TRACE, &sweeping, &mut Silent, &mut out).ok()?;
     Some(out.into_inner())
 }
 
@@ -45,7 +44,8 @@ fn push_parts<R: Threads + Sync>(
     parts: &mut Vec<Vec<u8>>,
 ) -> Option<()> {
     for index in (0..count).rev() {
-        let table = table_of(rt, alloc, grid, Part::new(index, count)?)?;
+        let part = Part::new(index, count)?;
+        let table = table(rt, alloc, grid, Some(part))?;
         parts.push(table).ok()?;
     }
     Some(())
@@ -63,7 +63,10 @@ fn make_the_table<R: Threads + Sync>(rt: &R, alloc: Global, count: u32) -> bool 
     let Some(grid) = five(alloc) else {
         return false;
     };
-    match (joined(rt, alloc, &grid, count), table(rt, alloc, &grid)) {
+    match (
+        joined(rt, alloc, &grid, count),
+        table(rt, alloc, &grid, None),
+    ) {
         (Some(joined), Some(whole)) => joined.as_slice() == whole.as_slice(),
         _ => false,
     }

@@ -1,11 +1,11 @@
 // Tables of a trace over a grid, by one worker and by more, and faults.
-use crate::grids::{axes, grid};
+use crate::grids::{axes, grid, sweeping};
 use crate::pipe::{Pipe, holds};
 use rw_photo::{Levels, Policy};
 use rw_progress::{Progress, Silent};
 use rw_report::Format;
 use rw_ripqwarp::{Out, SimFault};
-use rw_sweep::{Grid, GridFault, Outlook, Part, Sweeping, sweep, sweep_over_time, sweep_stream};
+use rw_sweep::{Grid, GridFault, Outlook, Part, Sweeping, sweep, sweep_stream};
 use rw_trace::TraceFault;
 use std::alloc::Global;
 use std::thread::Threads;
@@ -36,7 +36,8 @@ fn swept<R: Threads + Sync>(
     let Some(grid) = grid_under(alloc, policies) else {
         return Err(SimFault::Memory);
     };
-    sweep(rt, alloc, trace, &grid, workers, &mut Silent, out)
+    let sweeping = sweeping(&grid, None, workers);
+    sweep(rt, alloc, trace, &sweeping, &mut Silent, out)
 }
 
 /// Whether so many workers write the table of two requests under three policies.
@@ -87,7 +88,8 @@ fn told_of<R: Threads + Sync>(rt: &R, alloc: Global, grid: &Grid) -> Option<Told
         of: 0,
         writes: 0,
     };
-    let is_swept = sweep(rt, alloc, TRACE, grid, 1, &mut told, &mut out).is_ok();
+    let sweeping = sweeping(grid, None, 1);
+    let is_swept = sweep(rt, alloc, TRACE, &sweeping, &mut told, &mut out).is_ok();
     is_swept.then_some(told)
 }
 
@@ -114,7 +116,8 @@ fn is_header_left<R: Threads + Sync>(rt: &R, alloc: Global) -> bool {
         return false;
     };
     let mut out = Out::new(Vec::new(alloc));
-    let is_swept = sweep(rt, alloc, TRACE, &grid, 4, &mut Silent, &mut out).is_ok();
+    let sweeping = sweeping(&grid, None, 4);
+    let is_swept = sweep(rt, alloc, TRACE, &sweeping, &mut Silent, &mut out).is_ok();
     let table = out.into_inner();
     is_swept && grid.is_empty() && table.as_slice().ends_with(b",span,digest\n")
 }
@@ -240,7 +243,7 @@ fn text_of<R: Threads + Sync>(
     if streamed {
         sweep_stream(rt, alloc, trace, sweeping, &mut Silent, &mut out)?;
     } else {
-        sweep_over_time(rt, alloc, trace, sweeping, &mut Silent, &mut out)?;
+        sweep(rt, alloc, trace, sweeping, &mut Silent, &mut out)?;
     }
     Ok(out.into_inner())
 }

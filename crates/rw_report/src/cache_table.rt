@@ -3,19 +3,19 @@ ghost use Rattle.std.specs.Prelude.{◌≡◌, ◌++◌, OnOk};
 ghost use Rattle.rw_report.specs.Formats.{cache_line, caches_header, caches_lines, each_line, sums_lines};
 
 use crate::columns::{Caches, write_counts};
+use crate::header_around_counts;
 use crate::report_text::write_name;
 use crate::sums::{Sums, measured_at, sums_of, write_sums};
 use rw_photo::{Config, Counters, NoMemory};
 
 /// The names of the columns.
-const HEADER: &[u8] =
-    b"cache,requests,hits,misses,coalesced,late,bypassed,inserted,evicted,reinserted,promoted,writes,splits,merges,hit_bytes,request_bytes,hit_ratio,byte_hit_ratio,flash_bytes,written_bytes,backend_requests,backend_bytes,inserted_bytes\n";
+const HEADER: &str = header_around_counts!("cache,", "\n");
 
 /// The line with the names of the columns of a table of caches. Takes no memory.
 pub(crate) fn caches_header() -> &'static [u8]
     ensures { result.now ≡ caches_header }
 {
-    HEADER
+    HEADER.as_bytes()
 }
 
 /// Writes a line for each cache, the edges before the origins, and for the edges, the origins and all caches together.

@@ -1,12 +1,12 @@
 // The columns that tables have in common.
 ghost use Rattle.std.specs.Prelude.{◌≡◌, ◌+◌, ◌*◌, ◌/◌, ◌%◌, ◌<◌, ◌++◌, codes, decimal, OnOk};
-ghost use Rattle.rw_report.specs.Columns.{caches_name, columns_of, counts_of, measured_columns, millionths, ratio_text, six_digits};
+ghost use Rattle.rw_report.specs.Columns.{caches_name, columns_of, counts_of, measured_columns, millionths, ratio_text, six_digits, with_decimals};
 ghost use Rattle.rw_report.specs.Report.{totals};
 
 use itoa::Buffer;
 use rw_photo::{Counters, NoMemory};
 
-/// Of which caches a line of a table tells.
+/// The caches of a line of a table.
 #[derive(Clone, Copy)]
 pub enum Caches {
     /// The edges.
@@ -17,7 +17,7 @@ pub enum Caches {
     All,
 }
 
-/// What a line of a table tells of some caches beside what they have counted together.
+/// What a line of a table has of some caches beside what they have counted together.
 #[derive(Clone, Copy)]
 pub struct Measured {
     /// The bytes of all their device blocks.
@@ -26,8 +26,20 @@ pub struct Measured {
     pub written_bytes: u128,
     /// How often they have asked the backend.
     pub backend_requests: u64,
-    /// The bytes that they have asked it for, modulo 2^64.
+    /// The bytes that they have asked the backend for, modulo 2^64.
     pub backend_bytes: u64,
+}
+
+/// The header of a table: the names of the columns that [`write_counts`] writes, with commas between them, and around them two texts.
+#[macro_export]
+macro_rules! header_around_counts {
+    ($before:literal, $after:literal) => {
+        concat!(
+            $before,
+            "requests,hits,misses,coalesced,late,bypassed,inserted,evicted,reinserted,promoted,writes,splits,merges,hit_bytes,request_bytes,hit_ratio,byte_hit_ratio,flash_bytes,written_bytes,backend_requests,backend_bytes,inserted_bytes",
+            $after
+        )
+    };
 }
 
 /// The word for these caches.
@@ -52,8 +64,8 @@ pub fn totals(all: &[Counters]) -> Counters
     total
 }
 
-/// The columns of counts, of the two ratios, and of bytes and requests, each behind a comma: what was counted, what is measured beside
-/// it, and the bytes of the objects stored.
+/// Writes the columns of counts, of the two ratios, and of bytes and requests, each behind a comma: what was counted, what is measured
+/// beside it, and the bytes of the objects stored.
 pub fn write_counts(
     text: &mut Vec<u8>,
     total: &Counters,
@@ -100,7 +112,7 @@ fn counts_of(total: &Counters) -> [u128; 15]
     ]
 }
 
-/// Each number behind a comma.
+/// Writes each number behind a comma.
 pub fn write_columns(text: &mut Vec<u8>, numbers: &[u128]) -> Result<(), NoMemory>
     ensures { OnOk result (text.new.items ≡ text.old.items ++ columns_of numbers.now) }
 {
@@ -110,7 +122,7 @@ pub fn write_columns(text: &mut Vec<u8>, numbers: &[u128]) -> Result<(), NoMemor
     Ok(())
 }
 
-/// A number behind a comma.
+/// Writes a number behind a comma.
 fn write_column(text: &mut Vec<u8>, number: u128) -> Result<(), NoMemory>
     ensures { OnOk result (text.new.items ≡ text.old.items ++ (codes "," ++ decimal number)) }
 {
@@ -118,7 +130,7 @@ fn write_column(text: &mut Vec<u8>, number: u128) -> Result<(), NoMemory>
     write_number(text, number)
 }
 
-/// A number in decimal.
+/// Writes a number in decimal.
 pub fn write_number(text: &mut Vec<u8>, number: u128) -> Result<(), NoMemory>
     ensures { OnOk result (text.new.items ≡ text.old.items ++ decimal number) }
 {
@@ -127,7 +139,7 @@ pub fn write_number(text: &mut Vec<u8>, number: u128) -> Result<(), NoMemory>
     Ok(())
 }
 
-/// How many millionths a part is of the whole, rounded down; none of nothing.
+/// How many millionths of the whole a part is, rounded down; 0 where the whole is 0.
 fn millionths(part: u64, whole: u64) -> u128
     ensures { result ≡ millionths part whole }
 {
@@ -138,17 +150,23 @@ fn millionths(part: u64, whole: u64) -> u128
     }
 }
 
-/// Which part of the whole, with six decimals, rounded down; 0.000000 where there is nothing.
+/// Writes which part of the whole this is, with six decimals, rounded down; 0.000000 where the whole is 0.
 pub fn write_ratio(text: &mut Vec<u8>, part: u64, whole: u64) -> Result<(), NoMemory>
     ensures { OnOk result (text.new.items ≡ text.old.items ++ ratio_text part whole) }
 {
-    let millionths = millionths(part, whole);
+    write_decimals(text, millionths(part, whole))
+}
+
+/// Writes so many millionths as a number with six decimals.
+pub fn write_decimals(text: &mut Vec<u8>, millionths: u128) -> Result<(), NoMemory>
+    ensures { OnOk result (text.new.items ≡ text.old.items ++ with_decimals millionths) }
+{
     write_number(text, millionths / 1_000_000)?;
     text.push(b'.')?;
     write_six_digits(text, millionths)
 }
 
-/// The last six digits of a number.
+/// Writes the last six digits of a number.
 fn write_six_digits(text: &mut Vec<u8>, number: u128) -> Result<(), NoMemory>
     ensures { OnOk result (text.new.items ≡ text.old.items ++ six_digits number) }
 {

@@ -1,14 +1,14 @@
-// How what is told of a run is written, and tables as JSON.
+// The formats of reports and tables, and tables as JSON.
 ghost use Rattle.std.specs.Prelude.{◌≡◌, ◌++◌, IfOk, OnOk};
 ghost use Rattle.rw_report.specs.Formats.{first_line, json_lines, json_member, json_object, json_value, quoted};
 
 use rw_photo::NoMemory;
 use std::alloc::Global;
 
-/// How what is told of a run is written.
+/// The format of a report or a table.
 #[derive(Clone, Copy, Debug, PartialEq, Eq)]
 pub enum Format {
-    /// The report, or a table of intervals where they are asked for.
+    /// The report, or a table where intervals are asked for.
     Text,
     /// A table of comma-separated values: the names of the columns, and below them the lines.
     Csv,
@@ -18,9 +18,9 @@ pub enum Format {
 
 /// The lines of a table as JSON objects, each on a line of its own (JSON Lines): `{"cache":"edge 0","requests":1}`.
 ///
-/// The names of an object are those that `header` has between its commas, up to a newline or its end, and its values are the fields
-/// of the line, in order, as many as both have. An empty field is `null`, one that begins with a digit is a number and stands as it
-/// is, and any other is text in quotes. Names and texts consist of letters, digits, spaces and underscores, so nothing is escaped.
+/// The names of an object are those between the commas of the first line of `header`, and its values are the fields of the line, in
+/// order, as many as both have. An empty field becomes `null`. One that begins with a digit is a number, and is
+/// copied. Any other is text, and is quoted. Names and texts consist of letters, digits, spaces and underscores, so nothing is escaped.
 /// Each of the `lines` ends with a newline, and an empty one gives no object.
 ///
 /// # Errors
@@ -40,7 +40,7 @@ pub fn json_lines(alloc: Global, header: &[u8], lines: &[u8]) -> Result<Vec<u8>,
     Ok(text)
 }
 
-/// What stands before the first newline, or all where there is none.
+/// The text up to the first newline, or all of it where there is none.
 fn first_line(text: &[u8]) -> &[u8]
     ensures { result.now ≡ first_line text.now }
 {

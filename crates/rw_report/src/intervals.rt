@@ -1,4 +1,4 @@
-// What is told of a run, over time or in all.
+// The texts of a run, over time or in all.
 ghost use Rattle.std.specs.Prelude.{◌≡◌, ◌++◌, ◌↔◌, None, IfOk, IfSome, IsSome, IsTrue, OnOk, unwrap_or};
 ghost use Rattle.rw_vt.specs.Limits.{end_of_time};
 ghost use Rattle.rw_report.specs.Intervals.{AreMarks, counted_between, counted_by_each, counted_from, first_counters, interval_lines, interval_start, intervals_header, last_counters, lines_of, sums_between, table_header, table_lines, told, told_of};
@@ -6,6 +6,7 @@ ghost use Rattle.rw_report.specs.Intervals.{AreMarks, counted_between, counted_b
 use crate::cache_table::{caches_header, write_caches};
 use crate::columns::{Caches, totals, write_number};
 use crate::format::{Format, json_lines};
+use crate::header_around_counts;
 use crate::moments::{Marks, Moment};
 use crate::report_text::report_of_counters;
 use crate::sums::{Sums, those, write_sums};
@@ -13,12 +14,12 @@ use rw_photo::{Config, Counters, NoMemory};
 use rw_vt::END;
 use std::alloc::Global;
 
-/// What is told of a run: its report, or a table.
+/// What is reported of a run: its report, or a table.
 #[derive(Clone, Copy)]
 pub struct Outlook {
-    /// From when on what is counted is told, in ticks, where the caches warm up till then: at most [`END`].
+    /// The tick from which counts are reported, where the caches warm up till then: at most [`END`].
     pub warm_up: Option<u64>,
-    /// How long an interval is, in ticks, where a table of intervals is asked for: 1 to [`END`].
+    /// The ticks of an interval, where a table of intervals is asked for: 1 to [`END`].
     pub every: Option<u64>,
     /// How it is written.
     pub format: Format,
@@ -33,7 +34,7 @@ impl Outlook {
         self.warm_up.is_none() && self.every.is_none() && self.format == Format::Text
     }
 
-    /// The marks at which a run is looked at for it. `None` exactly where one of the two is out of its range. Takes no memory.
+    /// The marks at which a run is recorded for it. `None` exactly where `warm_up` or `every` is out of its range. Takes no memory.
     pub fn marks(&self) -> Option<Marks>
         ensures in_range { IsSome result ↔ AreMarks self.now }
         ensures marks { IfSome result (λ marks. (marks.start ≡ unwrap_or self.now.warm_up 0)
@@ -44,19 +45,18 @@ impl Outlook {
 }
 
 /// The names of the columns of a table of intervals.
-const HEADER: &[u8] =
-    b"from,to,caches,requests,hits,misses,coalesced,late,bypassed,inserted,evicted,reinserted,promoted,writes,splits,merges,hit_bytes,request_bytes,hit_ratio,byte_hit_ratio,flash_bytes,written_bytes,backend_requests,backend_bytes,inserted_bytes\n";
+const HEADER: &str = header_around_counts!("from,to,caches,", "\n");
 
 /// The line with the names of the columns of a table of intervals. Takes no memory.
 pub fn intervals_header() -> &'static [u8]
     ensures { result.now ≡ intervals_header }
 {
-    HEADER
+    HEADER.as_bytes()
 }
 
-/// Tells of the moments of a run, in the format that is asked for: as text a table where intervals are asked for, and else the report;
-/// as CSV that table, and else a table of caches; as JSON the lines of the table of CSV. Where the caches warm up, what they have
-/// counted from the first moment on is told.
+/// The text of a run, from its moments. As text it is a table where intervals are asked for, and the report otherwise; as CSV it is
+/// that table, or a table of caches; as JSON it is the lines of the CSV table. Where there is a warm-up, counts start at the first
+/// moment.
 ///
 /// # Errors
 ///
@@ -80,7 +80,7 @@ pub fn tell(
     }
 }
 
-/// What is told as text: the table where intervals are asked for, and else the report.
+/// The text format: the table where intervals are asked for, and the report otherwise.
 fn report_or_table(
     alloc: Global,
     config: &Config,
@@ -99,7 +99,7 @@ fn report_or_table(
     }
 }
 
-/// The table: of intervals where they are asked for, and else of caches.
+/// The table: of intervals where they are asked for, and of caches otherwise.
 fn table(
     alloc: Global,
     config: &Config,
@@ -144,8 +144,12 @@ fn write_lines(
     }
 }
 
-/// What each cache has counted by the last moment; from the first one on, where the caches warm up till then.
-fn counted_from(
+/// What each cache has counted by the last moment; from the first moment on, where there is a warm-up.
+///
+/// # Errors
+///
+/// `NoMemory` only where memory was refused.
+pub fn counted_from(
     alloc: Global,
     warm_up: Option<u64>,
     moments: &[Moment],
@@ -257,11 +261,7 @@ fn counted_between(config: &Config, caches: Caches, from: &Moment, to: &Moment) 
 }
 
 /// What each cache has counted from one time to another.
-///
-/// # Errors
-///
-/// `NoMemory` only where memory was refused.
-pub fn count_each(
+fn count_each(
     alloc: Global,
     earlier: &[Counters],
     later: &[Counters],

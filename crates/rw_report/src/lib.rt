@@ -36,20 +36,19 @@ mod schedule_text;
 mod sim_fault;
 mod streaming;
 mod sums;
-mod telling;
+mod with_progress;
 
 pub use columns::{
-    Caches, Measured, caches_name, totals, write_columns, write_counts, write_number, write_ratio,
+    Caches, Measured, caches_name, totals, write_columns, write_counts, write_decimals,
+    write_number, write_ratio,
 };
 pub use format::{Format, json_lines};
-pub use intervals::{Outlook, count_each, intervals_header, tell, write_intervals};
+pub use intervals::{Outlook, counted_from, intervals_header, tell, write_intervals};
 pub use journal_text::journal;
 pub use moments::{Marks, Moment, counters_of};
 pub use output::Out;
 pub use recording::Recording;
-pub use replaying::{
-    beginning, beginning_of_rows, last_states_and_tell, last_states_of_rows, starts,
-};
+pub use replaying::{beginning, beginning_of_rows, last_states_of_rows, starts};
 pub use report_text::{report, report_of_counters, report_of_states, write_count};
 pub use run::Run;
 pub use running::{replay, replay_over_time, replay_rows, replay_stream, report_of_trace};
@@ -59,4 +58,4 @@ pub use rw_vt::{Event, NoMemory, Outcome, Refusal};
 pub use schedule_text::{ScheduleFault, schedule};
 pub use sim_fault::SimFault;
 pub use streaming::{record_rows, record_stream};
-pub use telling::{Telling, begin_events, begin_rows};
+pub use with_progress::{WithProgress, begin_events, begin_rows};

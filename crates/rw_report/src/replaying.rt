@@ -10,9 +10,9 @@ ghost use Rattle.rw_vt.specs.declared.event.Event.{Event};
 ghost use Rattle.rw_report.specs.Beginning.{IsBeginningOf, IsBeginningFault};
 
 use crate::sim_fault::SimFault;
-use crate::telling::{Telling, begin_rows};
+use crate::with_progress::{WithProgress, begin_rows};
 use rw_photo::{Body, CacheState, Config, OrderedRequests, Photo, requests};
-use rw_progress::{Progress, Silent};
+use rw_progress::Progress;
 use rw_serial::{last_states, last_states_from};
 use rw_trace::{Row, read};
 use rw_vt::{Event, Model as VtModel, NoMemory, Refusal};
@@ -50,29 +50,15 @@ pub fn beginning_of_rows(
 }
 
 /// The state of each cache once the requests of these rows, and all that follows from them, are executed in order of time. The
-/// rows are in the ranges of a trace of the configuration's edges. Where they stand in order of time, each request is made when
-/// its turn comes, so that they are not there all at once.
+/// rows are in the ranges of a trace of the configuration's edges.
+///
+/// Where the rows stand in order of time, each request is made when its turn comes, so that they are not all in memory at once, and
+/// the run reports to `progress` how far it has come, in ticks of virtual time.
 ///
 /// # Errors
 ///
 /// `Exhausted` only where that comes to a cache that can take no further event, and `Memory` only where memory was refused.
-pub fn last_states_of_rows(
-    alloc: Global,
-    rows: &[Row],
-    config: &Config,
-) -> Result<Vec<CacheState>, Refusal>
-    requires { All (IsRow config.now.edges) rows.now }
-    ensures outcome { IfOk result (λ states. (journals : List (List (Event Body)))
-        × IsOutcome (simulation config.now rows.now) end_of_time journals states.items) }
-    ensures exhausted { IfErr result (λ r. r ≡ Refusal.Exhausted
-        → Meets (simulation config.now rows.now) end_of_time is_exhausted) }
-{
-    last_states_and_tell(alloc, rows, config, &mut Silent)
-}
-
-/// [`last_states_of_rows`], which tells `progress` how far it has come, in ticks of the rows' virtual
-/// time, where the rows stand in order of time; else it tells nothing.
-pub fn last_states_and_tell<P: Progress>(
+pub fn last_states_of_rows<P: Progress>(
     alloc: Global,
     rows: &[Row],
     config: &Config,
@@ -91,7 +77,7 @@ pub fn last_states_and_tell<P: Progress>(
     };
     let starts = starts(alloc, &photo)?;
     begin_rows(rows, &[], progress);
-    let source = Telling {
+    let source = WithProgress {
         source,
         progress,
         given: 0,

@@ -6,18 +6,18 @@ ghost use Rattle.rw_report.specs.Replay.{HasBegunToReport, HasBegunToStream, Has
 use crate::format::Format;
 use crate::intervals::{Outlook, tell};
 use crate::output::Out;
-use crate::replaying::last_states_and_tell;
+use crate::replaying::last_states_of_rows;
 use crate::report_text::report_of_states;
 use crate::sim_fault::SimFault;
 use crate::streaming::{record_rows, record_stream};
-use crate::telling::Telling;
+use crate::with_progress::WithProgress;
 use rw_photo::Config;
 use rw_progress::{Progress, Silent};
 use rw_trace::{MAX_ROWS, MAX_STREAMED_ROWS, OrderedRows, PlainRows, RowSource, read};
 use std::alloc::Global;
 use std::io::{Read, Write};
 
-/// Runs a trace on one thread and writes its report. Tells `progress` how far it has come, as [`report_of_trace`] does.
+/// Runs a trace on one thread and writes its report. Reports to `progress` as [`report_of_trace`] does.
 ///
 /// The text is made whole, then written by a loop over `write`, then flushed.
 ///
@@ -49,7 +49,7 @@ pub fn replay<W: Write, P: Progress>(
     }
 }
 
-/// The report of a run on one thread. Tells `progress` how far it has come, in ticks of the trace's virtual time.
+/// The report of a run on one thread. Reports to `progress` how far the run has come, in ticks of virtual time.
 ///
 /// A trace whose lines are plain and stand in order of time is read as it is run: beside the text that takes the memory of a few
 /// thousand rows, of the caches and of what is on its way. Another one is read whole, once the first way has come to what it cannot
@@ -72,7 +72,7 @@ pub fn report_of_trace<P: Progress>(
         return Ok(text);
     }
     let trace = read(alloc, bytes, config.edges())?;
-    let states = last_states_and_tell(alloc, trace.as_slice(), config, progress)?;
+    let states = last_states_of_rows(alloc, trace.as_slice(), config, progress)?;
     Ok(report_of_states(alloc, config, states.as_slice())?)
 }
 
@@ -145,7 +145,7 @@ fn text_over_time<P: Progress>(
     Ok(tell(alloc, config, outlook, moments.as_slice())?)
 }
 
-/// Runs a trace in order of time as it is read, and writes what `outlook` asks for. Tells `progress` how many rows are read.
+/// Runs a trace in order of time as it is read, and writes what `outlook` asks for. Reports to `progress` how many rows are read.
 ///
 /// # Errors
 ///
@@ -169,12 +169,12 @@ pub fn replay_stream<R: Read + Drop, W: Write, P: Progress>(
     ensures nothing { IfErr result (λ e. e ≢ SimFault.Output → out.new ≡ out.old) }
 {
     let rows = OrderedRows::open(alloc, bytes, config.edges(), MAX_STREAMED_ROWS)?;
-    let mut telling = Telling::new(rows, progress);
-    replay_rows(alloc, &mut telling, config, outlook, out)
+    let mut source = WithProgress::new(rows, progress);
+    replay_rows(alloc, &mut source, config, outlook, out)
 }
 
-/// Runs rows in order of time as their source gives them, and writes what `outlook` asks for. Tells how many rows it has taken, of a
-/// number that is not known.
+/// Runs rows in order of time as their source gives them, and writes what `outlook` asks for. Reports how many rows it has taken; how
+/// many there are is not known.
 ///
 /// # Errors
 ///
@@ -182,7 +182,7 @@ pub fn replay_stream<R: Read + Drop, W: Write, P: Progress>(
 /// nothing was written then. `Output` exactly where the writer failed, and what went out is then a beginning of the text.
 pub fn replay_rows<S: RowSource, W: Write, P: Progress>(
     alloc: Global,
-    rows: &mut Telling<'_, S, P>,
+    rows: &mut WithProgress<'_, S, P>,
     config: &Config,
     outlook: Outlook,
     out: &mut Out<W>,
@@ -206,7 +206,7 @@ pub fn replay_rows<S: RowSource, W: Write, P: Progress>(
     write_whole(text.as_slice(), out)
 }
 
-/// What `outlook` asks for of a run of rows that a source gives. Tells `progress` how far the run has come, in ticks.
+/// What `outlook` asks for of a run of rows that a source gives. Reports to `progress` how far the run has come, in ticks.
 fn text_of_rows<S: RowSource, P: Progress>(
     alloc: Global,
     rows: &mut S,

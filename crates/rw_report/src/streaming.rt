@@ -13,18 +13,18 @@ ghost use Rattle.rw_report.specs.Streams.{IsStreamFault, IsStreamed};
 use crate::moments::{Marks, Moment};
 use crate::recording::Recording;
 use crate::sim_fault::SimFault;
-use crate::telling::begin_rows;
+use crate::with_progress::begin_rows;
 use rw_photo::Config;
 use rw_progress::Progress;
 use rw_trace::{Row, RowSource, next_piece};
 use rw_vt::{NoMemory, Refusal};
 use std::alloc::Global;
 
-/// How many rows are read and taken in at a time.
+/// How many rows are read at a time.
 const PIECE: usize = 1 << 12;
 
-/// What the caches have counted by each mark of a run of rows that are read as the run goes on, so that it needs the memory of a few
-/// thousand rows, of the caches and of what is on its way, however many rows there are. Tells `progress` the time of the first row of
+/// What the caches have counted by each mark of a run of rows that are read as the run goes on. However many rows there are, it needs
+/// the memory of a few thousand of them, of the caches and of what is on its way. Reports to `progress` the time of the first row of
 /// each piece, in ticks.
 ///
 /// # Errors
@@ -65,7 +65,7 @@ fn room_for_piece(alloc: Global) -> Result<Vec<Row>, NoMemory> {
 }
 
 /// What the caches have counted by each mark of a run of these rows, which are in the ranges of a trace of the configuration's edges.
-/// Where the rows stand in order of time, `progress` is told how far the run has come, in ticks of the trace's virtual time.
+/// Where the rows stand in order of time, reports to `progress` how far the run has come, in ticks of virtual time.
 ///
 /// # Errors
 ///
@@ -125,7 +125,7 @@ fn record_in_order<P: Progress>(
     recorded.finish(alloc)
 }
 
-/// Tells that a run has come to the first of these rows, if there is one.
+/// Reports that a run has come to the first of these rows, if there is one.
 fn reach<P: Progress>(rest: &[Row], progress: &mut P) {
     if let Some(row) = rest.first() {
         progress.reach(row.time);

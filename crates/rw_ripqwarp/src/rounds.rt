@@ -16,7 +16,7 @@ use rw_engine::{
 use rw_photo::{CacheState, Config, OrderedRequests, Photo, Policy};
 use rw_progress::Progress;
 use rw_report::{
-    SimFault, Telling, begin_events, begin_rows, beginning_of_rows, report_of_states, starts,
+    SimFault, WithProgress, begin_events, begin_rows, beginning_of_rows, report_of_states, starts,
 };
 use rw_trace::{Row, read_in_parts};
 use std::alloc::{AllocError, Global};
@@ -134,7 +134,7 @@ fn run_rows_in_rounds<P: Progress, R: Threads + Wait + Clock + Sync>(
     let starts = starts(alloc, &photo)?;
     begin_rows(rows, others, progress);
     if alone {
-        let source = Telling {
+        let source = WithProgress {
             source,
             progress,
             given: 0,

@@ -20,6 +20,7 @@ pub mod Joining
 -- what is told under an outlook, and of a trace that is read as it is run
 pub mod Told
 pub mod Under
+pub mod Plain
 pub mod Ahead
 pub mod Feeding
 pub mod Finishing

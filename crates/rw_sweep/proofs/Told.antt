@@ -1,9 +1,6 @@
 -- What is told of the moments of a run tells of the run.
-use Rattle.std.proofs.Common.{◌≡◌, ℕ, suc, ◌+◌, ◌-◌, ◌*◌, List, [], ◌∷◌, Option, Some, None, Result, Ok, Err, Bor, refl, sym, ap, subst, ◌∙◌, arith, length, map, get_or}
-use Rattle.std.specs.Prelude.{IfOk, slice_get, unwrap_or}
-use Rattle.std.specs.Option.{option_copied}
-use Rattle.std.specs.Global.{Vec}
-use Rattle.std.proofs.lemmas.Option.{unwrap_or-slice_get}
+use Rattle.std.proofs.Common.{◌≡◌, ℕ, ◌+◌, ◌*◌, List, [], ◌∷◌, Option, None, refl, sym, ap, subst, ◌∙◌, arith, length, map}
+use Rattle.std.specs.Prelude.{unwrap_or}
 use Rattle.rw_vt.specs.Limits.{end_of_time}
 use Rattle.rw_vt.specs.Moments.{waiting_at}
 use Rattle.rw_vt.specs.System.{IsReady, map_from}
@@ -18,8 +15,7 @@ use Rattle.rw_report.specs.declared.format.Format.TheVariants as format
 use Rattle.rw_report.specs.declared.intervals.Outlook.{Outlook}
 use Rattle.rw_report.specs.declared.moments.Moment.{Moment}
 use Rattle.rw_report.specs.History.{IsHistory}
-use Rattle.rw_photo.specs.declared.counters.Counters.{Counters}
-use Rattle.rw_report.specs.Intervals.{counted_by_each, counted_from, last_counters, last_moment}
+use Rattle.rw_report.specs.Intervals.{last_counters}
 use Rattle.rw_report.proofs.Adding.{add_up}
 use Rattle.rw_report.proofs.Told.{last-counted, last_is, last_states}
 use Rattle.rw_sweep.specs.declared.choice.Choice.{Choice}
@@ -28,34 +24,6 @@ use Rattle.rw_sweep.specs.Parts.{text_of_lines}
 use Rattle.rw_sweep.specs.Facts.{facts_of}
 use Rattle.rw_sweep.specs.Table.{conditions, sweep_lines}
 use Rattle.rw_vt.specs.Words.{Count, Position}
-
--- ---- the last moment
-
-last-in : (m : Moment) (ms : List Moment) (k : ℕ) → k ≡ length ms - 1 → get_or ms k m ≡ last_moment m ms
-last-in m [] k is = refl
-last-in m (n ∷ []) k is = let none : k ≡ 0 = omega (arith, is) in ap (λ i. get_or (n ∷ []) i m) none
-last-in m (n ∷ (o ∷ os)) k is =
-    let next : k ≡ suc (length os) = omega (arith, is) in
-    ap (λ i. get_or (n ∷ (o ∷ os)) i m) next ∙ last-in m (o ∷ os) (length os) (let same : length os ≡ length (o ∷ os) - 1 = omega arith in same)
-
-unwrapped : (o : Option (Bor Moment)) (d : Bor Moment) → (unwrap_or o d).now ≡ unwrap_or (option_copied o) d.now
-unwrapped None d = refl
-unwrapped (Some x) d = refl
-
-pub last-moment : (o : Option (Bor Moment)) (d r : Bor Moment) (ms : List Moment) → option_copied o ≡ slice_get ms (length ms - 1) → r ≡ unwrap_or o d → r.now ≡ last_moment d.now ms
-last-moment o d r ms got is =
-    ap (λ x. x.now) is ∙ unwrapped o d ∙ ap (λ x. unwrap_or x d.now) got ∙ unwrap_or-slice_get ms (length ms - 1) d.now ∙ last-in d.now ms (length ms - 1) refl
-
--- what is counted since the first one
-pub counted-since : {E : Type 0} (r : Result (Vec Counters) E) (start : ℕ) (w : Option ℕ) (m last : Moment) (ms : List Moment) (ks ls : List Counters) → w ≡ Some start → last ≡ last_moment m ms → ks ≡ m.counters.items → ls ≡ last.counters.items
-    → IfOk r (λ v. v.items ≡ counted_by_each ks ls) → IfOk r (λ v. v.items ≡ counted_from w (m ∷ ms))
-counted-since (Err e) start w m last ms ks ls warm is first second h = tt
-counted-since (Ok v) start w m last ms ks ls warm is first second h =
-    h ∙ (λ i. counted_by_each (first i) (second i)) ∙ ap (λ l. counted_by_each m.counters.items l) (ap (λ x. x.counters.items) is ∙ sym (last-counted m ms)) ∙ sym (ap (λ o. counted_from o (m ∷ ms)) warm)
-
--- or at all
-pub counted-all : (w : Option ℕ) (m last : Moment) (ms : List Moment) (ls : List Counters) → w ≡ None → last ≡ last_moment m ms → ls ≡ last.counters.items → ls ≡ counted_from w (m ∷ ms)
-counted-all w m last ms ls cold is h = h ∙ ap (λ x. x.counters.items) is ∙ sym (last-counted m ms) ∙ sym (ap (λ o. counted_from o (m ∷ ms)) cold)
 
 -- a history by the marks of an outlook
 pub history-of : (c : Config) (rows : List Row) (start every : ℕ) (o : Outlook) (ms : List Moment) → start ≡ unwrap_or o.warm_up 0 → every ≡ unwrap_or o.every end_of_time → IsHistory (simulation c rows) start every ms

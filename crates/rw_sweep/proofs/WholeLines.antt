@@ -19,7 +19,7 @@ use Rattle.rw_sweep.specs.Joining.{IsLine, newline}
 use Rattle.rw_sweep.specs.Sweep.{AreLinesOf}
 use Rattle.rw_report.specs.Report.{totals}
 use Rattle.rw_sweep.specs.Facts.{facts_of, span_of}
-use Rattle.rw_sweep.specs.Table.{Conditions, choice_columns, conditions, conditions_columns, daily_writes, if_some, line_with, measured, policy_name, sweep_line}
+use Rattle.rw_sweep.specs.Table.{Conditions, choice_columns, conditions, conditions_columns, counted_span, daily_writes, if_some, line_with, measured, policy_name, sweep_line}
 
 -- the bytes of digits, letters, commas and points
 abbrev Plain : List ℕ → Type 0
@@ -109,7 +109,7 @@ some-decimals (Some n) = decimals n
 
 ending : (c : Config) (n : Conditions) (m : Measured) → Plain (conditions_columns c n m)
 ending c n m =
-    let daily = daily_writes n.ticks_a_second (span_of n.facts) m.flash_bytes m.written_bytes in
+    let daily = daily_writes n.ticks_a_second (counted_span n) m.flash_bytes m.written_bytes in
     let numbers = cond c.reclaim 1 0 ∷ unwrap_or n.warm_up 0 ∷ unwrap_or n.ticks_a_second 0 ∷ n.facts.rows ∷ span_of n.facts ∷ n.facts.digest ∷ [] in
     joined (codes "," ++ if_some daily) (columns_of numbers) (joined (codes ",") (if_some daily) comma (some-decimals daily)) (columns numbers)
 

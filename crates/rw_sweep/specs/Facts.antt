@@ -50,3 +50,7 @@ facts_of rows =
 -- the ticks from the earliest row to the latest; 0 of none
 abbrev pub span_of : Facts → Time
 span_of facts = facts.last - facts.first
+
+-- the same, of the rows from a time on
+abbrev pub span_from : Facts → Time → Time
+span_from facts start = facts.last - max facts.first start

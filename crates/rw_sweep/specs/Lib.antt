@@ -5,6 +5,7 @@ pub mod Table
 pub mod Sweep
 pub mod Parts
 pub mod OverTime
+pub mod InMemory
 pub mod Streams
 pub mod Joining
 pub mod Lists

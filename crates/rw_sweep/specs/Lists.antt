@@ -7,12 +7,11 @@ use Rattle.rw_sweep.specs.declared.axes.Axes.{Axes}
 use Rattle.rw_sweep.specs.declared.choice.Choice.{Choice}
 use Rattle.rw_sweep.specs.Grids.{combinations}
 use Rattle.rw_sweep.specs.Parts.{dealt, placed_line}
-use Rattle.rw_sweep.specs.Table.{choice_columns}
+use Rattle.rw_sweep.specs.Table.{choice_columns, choice_names}
 
 -- the names of the list's columns
 abbrev pub list_header : Text
-list_header =
-    codes "place,policy,sections,block,edge_blocks,origin_blocks,edges,origins,up,down,back\n"
+list_header = codes "place," ++ choice_names ++ codes "\n"
 
 -- the line of the configuration at a place
 abbrev pub listed_line : Position × Choice → Text

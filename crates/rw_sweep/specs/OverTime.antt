@@ -1,5 +1,5 @@
 -- Sweeps that tell of their runs over time, or from a time on.
-use Rattle.std.specs.Prelude.{◌≡◌, ◌≢◌, Bool, true, false, List, [], ◌∷◌, ◌++◌, codes, map, Ok, Err, Option, None, Some, unwrap_or}
+use Rattle.std.specs.Prelude.{◌≡◌, ◌≢◌, Bool, true, false, List, [], ◌++◌, codes, map, Ok, Err, Option, None, Some, unwrap_or}
 use Rattle.std.specs.List.{AllZip, Contains, concat}
 use Rattle.std.specs.Io.KnownBytes.{Appends}
 use Rattle.rw_vt.specs.Words.{Count, Position, Time}
@@ -31,11 +31,7 @@ use Rattle.rw_sweep.specs.Grids.{IsConfigOf, combinations, least_edges}
 use Rattle.rw_sweep.specs.Parts.{before_line, dealt, text_of_lines}
 use Rattle.rw_sweep.specs.Sweep.{AreLinesOf}
 use Rattle.rw_sweep.specs.Facts.{facts_of}
-use Rattle.rw_sweep.specs.Table.{Conditions, choice_columns, conditions, header_line, sweep_lines}
-
--- the names of the columns that say which configuration, each before a comma
-abbrev pub choice_names : Text
-choice_names = codes "policy,sections,block,edge_blocks,origin_blocks,edges,origins,up,down,back,"
+use Rattle.rw_sweep.specs.Table.{Conditions, choice_columns, choice_names, conditions, header_line, sweep_lines}
 
 -- the name of the column of places, where they are told
 abbrev pub before_header : Bool → Text
@@ -45,7 +41,8 @@ before_header true = codes "place,"
 -- the names of the columns: of a table over time where intervals are asked for
 abbrev pub header_under : Bool → Option Time → Text
 header_under is_placed None = before_header is_placed ++ header_line
-header_under is_placed (Some every) = before_header is_placed ++ choice_names ++ intervals_header
+header_under is_placed (Some every) =
+    before_header is_placed ++ choice_names ++ codes "," ++ intervals_header
 
 -- what stands before all lines: the names of the columns, but nothing of JSON, of which each line names them
 abbrev pub header_in : Format → Text → Text
@@ -66,17 +63,13 @@ in_format format.Json header lines = json_lines header lines
 abbrev pub before_interval : Option Position → Choice → Text
 before_interval place x = before_line place ++ choice_columns x ++ codes ","
 
--- what is told of a configuration, from the moments of its run, under these conditions
-abbrev pub told_under : Config → Choice → Conditions → Option Position → Option Time → Moment
-    → List Moment → Text
-told_under c x n place (Some every) m ms = lines_of c (before_interval place x) (m ∷ ms)
-told_under c x n place None m ms =
-    text_of_lines place (sweep_lines c x n (counted_from n.warm_up (m ∷ ms)))
-
+-- what is told of a configuration, from the moments of its run, under these conditions: the lines of its intervals,
+-- where they are asked for, or else its three lines
 abbrev pub told_of_choice : Config → Choice → Conditions → Option Position → Option Time
     → List Moment → Text
-told_of_choice c x n place every [] = []
-told_of_choice c x n place every (m ∷ ms) = told_under c x n place every m ms
+told_of_choice c x n place (Some every) ms = lines_of c (before_interval place x) ms
+told_of_choice c x n place None ms =
+    text_of_lines place (sweep_lines c x n (counted_from n.warm_up ms))
 
 -- the text is the three lines of a configuration at work on these rows, each behind its place, where that is told
 pub record HasLines (c : Config) (x : Choice) (ticks : Option Count) (place : Option Position)

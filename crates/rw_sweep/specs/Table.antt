@@ -10,16 +10,21 @@ use Rattle.rw_ripq.specs.declared.Policy.TheVariants.{Off, Lru, Slru}
 use Rattle.rw_report.specs.Report.{totals}
 use Rattle.rw_sweep.specs.declared.choice.Choice.{Choice}
 use Rattle.rw_sweep.specs.declared.facts.Facts.{Facts}
-use Rattle.rw_sweep.specs.Facts.{span_of}
+use Rattle.rw_sweep.specs.Facts.{span_from, span_of}
 use Rattle.rw_report.specs.declared.columns.Caches.{Caches}
 use Rattle.rw_report.specs.declared.columns.Measured.{Measured}
 use Rattle.rw_report.specs.declared.columns.Caches.TheVariants.{Edges, Origins, All}
-pub use Rattle.rw_report.specs.Columns.{caches_name, columns_of, counts_columns, counts_of, measured_columns, those_of, with_decimals}
+pub use Rattle.rw_report.specs.Columns.{caches_name, columns_of, counts_columns, counts_names, counts_of, measured_columns, those_of, with_decimals}
+
+-- the names of the columns that say which configuration
+abbrev pub choice_names : Text
+choice_names = codes "policy,sections,block,edge_blocks,origin_blocks,edges,origins,up,down,back"
 
 -- the names of the columns
 abbrev pub header_line : Text
 header_line =
-    codes "policy,sections,block,edge_blocks,origin_blocks,edges,origins,up,down,back,caches,requests,hits,misses,coalesced,late,bypassed,inserted,evicted,reinserted,promoted,writes,splits,merges,hit_bytes,request_bytes,hit_ratio,byte_hit_ratio,flash_bytes,written_bytes,backend_requests,backend_bytes,inserted_bytes,drive_writes_a_day,reclaim,warm_up,ticks_a_second,rows,span,digest\n"
+    choice_names ++ codes ",caches," ++ counts_names
+    ++ codes ",drive_writes_a_day,reclaim,warm_up,ticks_a_second,rows,span,digest\n"
 
 -- a policy as the command line names it
 abbrev pub policy_name : Policy → Text
@@ -66,6 +71,10 @@ abbrev pub conditions : Option Count → Option Time → Facts → Conditions
 conditions ticks_a_second warm_up facts =
     record { ticks_a_second = ticks_a_second; warm_up = warm_up; facts = facts }
 
+-- for how many ticks was counted: from the earliest row, or from when on was counted, to the latest row
+abbrev pub counted_span : Conditions → Time
+counted_span n = span_from n.facts (unwrap_or n.warm_up 0)
+
 -- how often a day caches write as many bytes as their flash has, in millionths, rounded down, if the ticks of a second
 -- are known, and there are flash and time; the bytes written in 86400000000 seconds stop at 2^128 - 1
 abbrev pub daily_writes : Option Count → Time → ℕ → ℕ → Option ℕ
@@ -85,7 +94,7 @@ if_some (Some millionths) = with_decimals millionths
 abbrev pub conditions_columns : Config → Conditions → Measured → Text
 conditions_columns c n m =
     codes ","
-    ++ if_some (daily_writes n.ticks_a_second (span_of n.facts) m.flash_bytes m.written_bytes)
+    ++ if_some (daily_writes n.ticks_a_second (counted_span n) m.flash_bytes m.written_bytes)
     ++ columns_of (cond c.reclaim 1 0 ∷ unwrap_or n.warm_up 0 ∷ unwrap_or n.ticks_a_second 0
     ∷ n.facts.rows ∷ span_of n.facts ∷ n.facts.digest ∷ [])
 

@@ -9,12 +9,8 @@ use rw_photo::NoMemory;
 use rw_report::Outlook;
 use std::alloc::Global;
 
-/// The configurations of a part, in order, told with their places.
-pub(crate) fn points_of_part(
-    alloc: Global,
-    points: &[Point],
-    part: Part,
-) -> Result<Vec<Point>, NoMemory>
+/// The configurations of a part, in order, with their places.
+fn points_of_part(alloc: Global, points: &[Point], part: Part) -> Result<Vec<Point>, NoMemory>
     ensures { IfOk result (λ own.
         own.items ≡ points_of_part part.index part.count points.now) }
 {
@@ -30,8 +26,7 @@ pub(crate) fn points_of_part(
     Ok(own)
 }
 
-/// The configurations of a grid, or of a part of it, in order, of each of which an outlook is told; those of a part with their
-/// places.
+/// The configurations of a grid, or of a part of it, in order, each with this outlook; those of a part with their places.
 pub(crate) fn points_under(
     alloc: Global,
     points: &[Point],
@@ -51,7 +46,7 @@ pub(crate) fn points_under(
     Ok(own)
 }
 
-/// The same configurations, each of a trace of which so much is said.
+/// The same configurations, each with the facts of the trace that it runs.
 pub(crate) fn points_of_trace(
     alloc: Global,
     points: &[Point],
@@ -67,7 +62,7 @@ pub(crate) fn points_of_trace(
 }
 
 /// The configurations of a grid, or of a part of it, in order; those of a part with their places.
-fn chosen_points(
+pub(crate) fn chosen_points(
     alloc: Global,
     points: &[Point],
     part: Option<Part>,

@@ -1,7 +1,7 @@
 // What a table says of the trace itself.
 ghost use Rattle.std.specs.Prelude.{◌≡◌, ◌<◌, ◌≤◌, ◌+◌, ◌-◌, ◌^◌, ◌++◌, ◌∷◌, [], List, length};
 ghost use Rattle.rw_trace.specs.declared.Row.{Row};
-ghost use Rattle.rw_sweep.specs.Facts.{digest_modulus, digest_with, facts_of, kind_number, absorbed, span_of};
+ghost use Rattle.rw_sweep.specs.Facts.{digest_modulus, digest_with, facts_of, kind_number, absorbed, span_from, span_of};
 
 use rw_trace::{Kind, Row};
 
@@ -68,11 +68,18 @@ impl Facts {
         }
     }
 
-    /// The ticks from the earliest row to the latest; none of no row.
+    /// The ticks from the earliest row to the latest; 0 where there is no row.
     pub(crate) fn span(self) -> u64
         ensures { result ≡ span_of self }
     {
         self.last.saturating_sub(self.first)
+    }
+
+    /// The ticks from the earliest row, or from `start` where that is later, to the latest row; 0 where all rows are before `start`.
+    pub(crate) fn span_from(self, start: u64) -> u64
+        ensures { result ≡ span_from self start }
+    {
+        self.last.saturating_sub(self.first.max(start))
     }
 }
 

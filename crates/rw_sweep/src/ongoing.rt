@@ -1,4 +1,4 @@
-// Runs of configurations that take rows in as these are read.
+// Runs of configurations that take rows as they are read.
 ghost use Rattle.std.specs.Prelude.{◌≡◌, ◌<◌, [], All, IfErr, IfOk, List, OnOk, map, unwrap_or};
 ghost use Rattle.std.specs.List.{Any};
 ghost use Rattle.rw_vt.specs.Limits.{end_of_time};
@@ -12,7 +12,7 @@ ghost use Rattle.rw_sweep.specs.Working.{IsTextOfPoint};
 
 use crate::facts::Facts;
 use crate::point::Point;
-use crate::telling::told_of_point;
+use crate::point_text::told_of_point;
 use rw_photo::NoMemory;
 use rw_report::{Marks, Outlook, Recording};
 use rw_trace::Row;
@@ -24,7 +24,7 @@ use std::thread::{Threads, for_each_mut};
 /// How many rows of a piece a run takes in at a time.
 const PART: usize = 1 << 14;
 
-/// A configuration whose run takes rows in as they are read.
+/// A configuration whose run takes rows as they are read.
 #[derive(Drop)]
 pub(crate) struct OngoingRun {
     pub(crate) point: Point,
@@ -32,7 +32,7 @@ pub(crate) struct OngoingRun {
     pub(crate) recording: Result<Recording, Refusal>,
 }
 
-/// A run of each configuration that has taken in no row, and is looked at at these marks.
+/// A run of each configuration that has taken no row, and is recorded at these marks.
 pub(crate) fn begin_all(
     alloc: Global,
     points: &[Point],
@@ -100,7 +100,7 @@ fn feed_in_parts(alloc: Global, recording: Recording, piece: &[Row]) -> Result<R
     recording.feed(alloc, rest)
 }
 
-/// Why the first of these runs has ended that has, if one has.
+/// The error of the first of these runs that has ended with one, if any has.
 pub(crate) fn first_refusal(runs: &[OngoingRun]) -> Result<(), Refusal>
     ensures not_ended { OnOk result (All HasNotEnded runs.now) }
     ensures ended { IfErr result (λ e. Any (λ g. g.recording ≡ Err e) runs.now) }
@@ -113,7 +113,8 @@ pub(crate) fn first_refusal(runs: &[OngoingRun]) -> Result<(), Refusal>
     Ok(())
 }
 
-/// A header, and behind it what an outlook asks for of each run, in order, once it has gone on to its end; of the trace so much is said.
+/// A header, and behind it what an outlook asks for of each run, in order, once it has gone on to its end. `facts` are those of the
+/// trace.
 pub(crate) fn text_of_runs(
     alloc: Global,
     runs: Vec<OngoingRun>,
@@ -145,7 +146,7 @@ pub(crate) fn text_of_runs(
     Ok(text)
 }
 
-/// What an outlook asks for of a run, which goes on to its end, of a trace of which so much is said.
+/// Goes on with a run to its end, and returns what an outlook asks for of it. `facts` are those of the trace.
 fn finish(
     alloc: Global,
     run: OngoingRun,

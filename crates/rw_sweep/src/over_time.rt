@@ -1,4 +1,4 @@
-// Sweeps that tell what an outlook asks for.
+// Sweeps over time, and sweeps of rows that are run as they come.
 ghost use Rattle.std.specs.Prelude.{◌≡◌, ◌≢◌, ◌≤◌, ◌^◌, ◌↔◌, ◌⊎◌, Err, IfErr, IfOk, OnOk};
 ghost use Rattle.rw_trace.specs.declared.TraceFault.{TraceFault};
 ghost use Rattle.rw_sweep.specs.Grids.{least_edges};
@@ -6,41 +6,20 @@ ghost use Rattle.rw_sweep.specs.OverTime.{HasBegunOverTime, HasSweptFirstOverTim
 ghost use Rattle.rw_sweep.specs.Streams.{HasBegunStream, HasBegunToSweepRows, HasSweptRows, HasSweptStream, IsRowsSweepFault, IsStreamSweepFault, TellsOfSweptRows};
 
 use crate::chosen::points_under;
-use crate::grid::Grid;
 use crate::ongoing::text_of_runs;
-use crate::part::Part;
 use crate::streaming::run_all_streamed;
-use crate::sweeping::{MAX_WORKERS, Table, sweep_points};
+use crate::sweeping::{MAX_WORKERS, Sweeping, Table, sweep_points};
 use crate::table::header_told;
 use rw_progress::Progress;
-use rw_report::{Out, Outlook, SimFault, Telling};
+use rw_report::{Out, SimFault, WithProgress};
 use rw_trace::{MAX_STREAMED_ROWS, OrderedRows, RowSource};
 use std::alloc::Global;
 use std::io::{Read, Write};
 use std::thread::Threads;
 
-/// What a sweep runs, by how many workers, and what it tells.
-#[derive(Clone, Copy)]
-pub struct Sweeping<'a> {
-    /// The configurations.
-    pub grid: &'a Grid,
-    /// Which of them, where they are not all; each line then begins with the place of its configuration.
-    pub part: Option<Part>,
-    /// How many run side by side, 1 to [`MAX_WORKERS`]; any other number is taken for the nearest of these.
-    pub workers: u32,
-    /// What is told of each.
-    pub outlook: Outlook,
-}
-
-/// Runs one trace under each configuration of a grid, or of a part of it, as [`sweep`](crate::sweep) and
-/// [`sweep_part`](crate::sweep_part) do, and writes what an outlook asks for: of each configuration, in order, the lines of its
-/// intervals, each behind the columns of its choice; or its three lines, of what was counted from a time on. As JSON each line is an
-/// object on a line of its own, which names its columns, and there is no header; as text and as CSV it is the same table.
-///
-/// # Errors
-///
-/// Those of [`sweep`](crate::sweep), and `Plan` where a number of the outlook is out of its range, and nothing was written then.
-pub fn sweep_over_time<W: Write, P: Progress, R: Threads + Sync>(
+/// Runs a trace in memory, and writes what the outlook asks for; where it asks for no more than the three lines of each
+/// configuration, those.
+pub(crate) fn sweep_over_time<W: Write, P: Progress, R: Threads + Sync>(
     rt: &R,
     alloc: Global,
     bytes: &[u8],
@@ -83,11 +62,11 @@ pub fn sweep_over_time<W: Write, P: Progress, R: Threads + Sync>(
     sweep_points(rt, alloc, bytes, table, progress, out)
 }
 
-/// Runs a trace in order of time, as it is read, under each configuration of a grid, or of a part of it, and writes what an outlook
-/// asks for, as [`sweep_over_time`] does; where it asks for nothing else, the table of [`sweep`](crate::sweep).
+/// Runs a trace in order of time, as it is read, under each configuration of a grid, or of a part of it, and writes the table that
+/// [`sweep`](crate::sweep) writes.
 ///
-/// The trace is read once, and its rows are run by all configurations before the next ones are read, by so many workers side by
-/// side, of which the calling thread is one. Tells `progress` how many rows are read.
+/// The trace is read once, piece by piece. All configurations run a piece before the next one is read, by so many workers side by
+/// side, of which the calling thread is one. Reports to `progress` how many rows are read.
 ///
 /// # Errors
 ///
@@ -115,12 +94,12 @@ pub fn sweep_stream<D: Read + Drop, W: Write, P: Progress, R: Threads + Sync>(
     ensures nothing { IfErr result (λ e. e ≢ SimFault.Output → out.new ≡ out.old) }
 {
     let rows = OrderedRows::open(alloc, bytes, sweeping.grid.edges(), MAX_STREAMED_ROWS)?;
-    let mut telling = Telling::new(rows, progress);
-    sweep_rows(rt, alloc, &mut telling, sweeping, out)
+    let mut source = WithProgress::new(rows, progress);
+    sweep_rows(rt, alloc, &mut source, sweeping, out)
 }
 
 /// Runs rows in order of time, as their source gives them, under each configuration of a grid, or of a part of it, and writes what
-/// [`sweep_stream`] writes of a trace. Tells how many rows it has taken, of a number that is not known.
+/// [`sweep_stream`] writes of a trace. Reports how many rows it has taken; how many there are is not known.
 ///
 /// # Errors
 ///
@@ -128,7 +107,7 @@ pub fn sweep_stream<D: Read + Drop, W: Write, P: Progress, R: Threads + Sync>(
 pub fn sweep_rows<S: RowSource, W: Write, P: Progress, R: Threads + Sync>(
     rt: &R,
     alloc: Global,
-    rows: &mut Telling<'_, S, P>,
+    rows: &mut WithProgress<'_, S, P>,
     sweeping: &Sweeping<'_>,
     out: &mut Out<W>,
 ) -> Result<(), SimFault>

@@ -6,14 +6,14 @@ use rw_report::Outlook;
 /// A choice and its configuration.
 #[derive(Clone, Copy)]
 pub(crate) struct Point {
-    /// Its place in the grid, where each of its lines begins with it.
+    /// Its place in the grid, if each of its lines begins with it.
     pub(crate) place: Option<u64>,
     pub(crate) choice: Choice,
     pub(crate) config: Config,
-    /// What is told of it, where that is not its three lines of the whole run.
+    /// What is reported of it, where that is not its three lines of the whole run.
     pub(crate) outlook: Option<Outlook>,
     /// How many ticks a second has, where that is known.
     pub(crate) ticks_a_second: Option<u64>,
-    /// What is said of the trace that it runs, once all rows of that are known.
+    /// The facts of the trace that it runs, once all its rows are known.
     pub(crate) facts: Facts,
 }

@@ -6,15 +6,15 @@ ghost use Rattle.rw_sweep.specs.OverTime.{HasLines, TellsOfChoice};
 ghost use Rattle.rw_sweep.specs.Working.{CanRun, IsExhaustedAt, IsResultOf};
 
 use crate::point::Point;
+use crate::point_text::told_of_point;
 use crate::table::lines;
-use crate::telling::told_of_point;
 use rw_progress::Silent;
 use rw_report::{Outlook, counters_of, last_states_of_rows, record_rows};
 use rw_trace::Row;
 use rw_vt::Refusal;
 use std::alloc::Global;
 
-/// Runs these rows on this thread under a configuration, and gives what is told of it.
+/// Runs these rows on this thread under a configuration, and returns the text of it.
 ///
 /// # Errors
 ///
@@ -29,7 +29,7 @@ pub(crate) fn run_one(alloc: Global, rows: &[Row], point: &Point) -> Result<Vec<
     }
 }
 
-/// Runs these rows under a configuration, and gives its three lines.
+/// Runs these rows under a configuration, and returns its three lines.
 fn lines_of(alloc: Global, rows: &[Row], point: &Point) -> Result<Vec<u8>, Refusal>
     requires { CanRun rows.now point.now }
     ensures text { IfOk result (λ text. HasLines point.now.config point.now.choice
@@ -37,13 +37,13 @@ fn lines_of(alloc: Global, rows: &[Row], point: &Point) -> Result<Vec<u8>, Refus
     ensures exhausted { IfErr result (λ refusal. refusal ≡ Refusal.Exhausted
         → IsExhaustedAt rows.now point.now) }
 {
-    let states = last_states_of_rows(alloc, rows, &point.config)?;
+    let states = last_states_of_rows(alloc, rows, &point.config, &mut Silent)?;
     let counters = counters_of(alloc, states.as_slice())?;
     let text = lines(alloc, point, None, counters.as_slice())?;
     Ok(text)
 }
 
-/// Runs these rows under a configuration, and gives what an outlook asks for.
+/// Runs these rows under a configuration, and returns what an outlook asks for.
 fn told_under(
     alloc: Global,
     rows: &[Row],

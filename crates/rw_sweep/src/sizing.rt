@@ -8,10 +8,11 @@ ghost use Rattle.rw_trace.specs.Laws.{IsRow};
 ghost use Rattle.rw_photo.specs.Cache.{is_exhausted};
 ghost use Rattle.rw_photo.specs.Simulation.{simulation};
 ghost use Rattle.rw_report.specs.Columns.{those_of};
+ghost use Rattle.rw_report.specs.Report.{totals};
 ghost use Rattle.rw_sweep.specs.Sizing.{AddsTry, AreCountersOf, IsCrossing, IsExhaustingSearch, IsSearch, IsTriedAt, IsTryOf, config_with, has_share, is_reached};
 
 use rw_photo::{Config, Counters, Shape};
-use rw_progress::Progress;
+use rw_progress::{Progress, Silent};
 use rw_report::{Caches, counters_of, last_states_of_rows, totals};
 use rw_trace::Row;
 use rw_vt::Refusal;
@@ -20,7 +21,7 @@ use std::alloc::Global;
 /// A whole, in millionths.
 const WHOLE: u64 = 1_000_000;
 
-/// How often a range of 65536 block counts is halved until one is left.
+/// How often a range of 65536 block counts can be halved until one is left.
 const HALVINGS: u64 = 16;
 
 /// The most runs of a search: one at each end, and one for each halving.
@@ -101,7 +102,14 @@ impl Search {
     pub fn is_reached(&self, all: &[Counters]) -> bool
         ensures { result ≡ is_reached self.now all.now }
     {
-        has_share(self.target, &totals(self.counted(all)))
+        has_share(self.target, &self.total(all))
+    }
+
+    /// Of what each cache has counted, that of the caches whose hit ratio counts, together. Takes no memory.
+    pub fn total(&self, all: &[Counters]) -> Counters
+        ensures { result ≡ totals (those_of self.now.config self.now.caches all.now) }
+    {
+        totals(self.counted(all))
     }
 
     /// Of what each cache has counted, that of the caches whose hit ratio counts.
@@ -138,7 +146,7 @@ fn has_share(target: u64, total: &Counters) -> bool
     0 < total.requests && asked <= u128::from(total.hits) * u128::from(WHOLE)
 }
 
-/// What each cache has counted once these rows are run under a configuration.
+/// What each cache has counted after a run of these rows under a configuration.
 fn counters_under(alloc: Global, rows: &[Row], config: &Config) -> Result<Vec<Counters>, Refusal>
     requires { All (IsRow config.now.edges) rows.now }
     ensures counted { IfOk result (λ counters.
@@ -146,12 +154,12 @@ fn counters_under(alloc: Global, rows: &[Row], config: &Config) -> Result<Vec<Co
     ensures exhausted { IfErr result (λ refusal. refusal ≡ Refusal.Exhausted
         → Meets (simulation config.now rows.now) end_of_time is_exhausted) }
 {
-    let states = last_states_of_rows(alloc, rows, config)?;
+    let states = last_states_of_rows(alloc, rows, config, &mut Silent)?;
     let counters = counters_of(alloc, states.as_slice())?;
     Ok(counters)
 }
 
-/// Runs the rows with so many blocks, and puts that to the tries. Whether the target is reached.
+/// Runs the rows with so many blocks, and adds that to the tries. Returns whether the target is reached.
 fn run(
     alloc: Global,
     rows: &[Row],
@@ -213,7 +221,7 @@ fn bisect<P: Progress>(
     Ok(reached)
 }
 
-/// The answer of a search, whose runs are put to the tries, of which there are none yet.
+/// The answer of a search, whose runs are added to the tries, of which there are none yet.
 fn crossing<P: Progress>(
     alloc: Global,
     rows: &[Row],
@@ -247,16 +255,16 @@ fn crossing<P: Progress>(
     Ok(Some(bisect(alloc, rows, search, tries, progress)?))
 }
 
-/// Searches for the least flash of a tier with which some caches reach a hit ratio: runs these rows, each time on this thread, with
-/// the fewest blocks, with the most, and then with those in the middle of what is left between a block count that misses the target
-/// and one that reaches it. The rows are in the ranges of a trace of the configuration's edges.
+/// Searches for the least flash of a tier with which some caches reach a hit ratio, by bisection. It runs these rows with the fewest
+/// blocks, with the most, and then with a block count in the middle between one that misses the target and one that reaches it. Each
+/// run is on this thread. The rows are in the ranges of a trace of the configuration's edges.
 ///
-/// The answer is a block count at which the hit ratio crosses the target: it was run and reaches it, and one block less was run and
-/// does not, unless there are no fewer. It is the least of all that reach it where the hit ratio never falls as the flash grows. That
-/// is not assumed, and so not said; what was run, the tries tell. At most 18 are run of up to 65536 block counts: where the fewest
-/// reach the target nothing else is run, and where the most do not nothing in between.
+/// The answer is a block count at which the hit ratio crosses the target: it was run and reaches the target, and one block less was
+/// run and does not, unless there are no fewer. If the hit ratio never falls as the flash grows, it is the least that reaches the
+/// target. That is not assumed; the tries tell what was run.
 ///
-/// `progress` is told how many of these 18 are run.
+/// There are at most 18 runs, of up to 65536 block counts. Where the fewest blocks reach the target, there is no other run; where the
+/// most do not, there is none in between. Reports to `progress` how many of the 18 are done.
 ///
 /// # Errors
 ///

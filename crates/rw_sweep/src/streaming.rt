@@ -10,12 +10,13 @@ use rw_trace::{RowSource, next_piece};
 use std::alloc::Global;
 use std::thread::Threads;
 
-/// How many rows are read at a time. All runs take turns at them, and while one does, its caches stay in those of the processor.
+/// How many rows are read at a time. The runs take a piece one after another, so that the caches of a run stay in those of the
+/// processor while it does.
 const PIECE: usize = 1 << 18;
 
 /// Runs the rows of a source under each of these configurations as they are read, by so many workers side by side, up to the time of
-/// the last row, and gives the runs and what is said of the rows. It needs the memory of a piece of rows, and of each run its caches and what is on its way, however many rows there
-/// are.
+/// the last row, and returns the runs and the facts of the rows. However many rows there are, it needs the memory of a piece of them,
+/// and for each run that of its caches and of what is on its way.
 ///
 /// # Errors
 ///

@@ -1,53 +1,40 @@
 ghost use Rattle.std.specs.Prelude.{◌≡◌, ◌<◌, ◌*◌, ◌^◌, ◌++◌, IfOk, OnOk, cond};
 ghost use Rattle.rw_sweep.specs.Lists.{list_header, listed_line};
 ghost use Rattle.rw_sweep.specs.OverTime.{before_interval, header_told, header_under};
-ghost use Rattle.rw_sweep.specs.Parts.{before_line, part_header, text_of_lines};
+ghost use Rattle.rw_sweep.specs.Parts.{before_line, text_of_lines};
 ghost use Rattle.rw_sweep.specs.Table.{asked, choice_columns, conditions, conditions_columns, daily_writes, fetched, flash_bytes, header_line, if_some, line_with, measured, policy_name, sweep_lines};
 
 use crate::choice::Choice;
-use crate::decimals::write_decimals;
 use crate::part::Part;
 use crate::point::Point;
 use rw_photo::{Config, Counters, NoMemory, Policy};
 use rw_report::{
-    Caches, Format, Measured, Outlook, caches_name, intervals_header, totals, write_columns,
-    write_counts, write_number,
+    Caches, Format, Measured, Outlook, caches_name, header_around_counts, intervals_header, totals,
+    write_columns, write_counts, write_decimals, write_number,
 };
 use std::alloc::Global;
 
-/// The names of the columns.
-const HEADER: &[u8] =
-    b"policy,sections,block,edge_blocks,origin_blocks,edges,origins,up,down,back,caches,requests,hits,misses,coalesced,late,bypassed,inserted,evicted,reinserted,promoted,writes,splits,merges,hit_bytes,request_bytes,hit_ratio,byte_hit_ratio,flash_bytes,written_bytes,backend_requests,backend_bytes,inserted_bytes,drive_writes_a_day,reclaim,warm_up,ticks_a_second,rows,span,digest\n";
+/// The names of the columns that say which configuration.
+const CHOICE_NAMES: &str =
+    "policy,sections,block,edge_blocks,origin_blocks,edges,origins,up,down,back";
+
+/// The names of the columns of a table, those first.
+const HEADER: &str = header_around_counts!(
+    "policy,sections,block,edge_blocks,origin_blocks,edges,origins,up,down,back,caches,",
+    ",drive_writes_a_day,reclaim,warm_up,ticks_a_second,rows,span,digest\n"
+);
+
+/// The name of the column before those of a part.
+const PLACE: &[u8] = b"place,";
 
 /// The line with the names of a table's columns. Takes no memory.
 pub fn header_text() -> &'static [u8]
     ensures { result.now ≡ header_line }
 {
-    HEADER
+    HEADER.as_bytes()
 }
 
-/// The name of the column before those of a part.
-const PLACE: &[u8] = b"place,";
-
-/// The names of the columns of a list.
-const LIST_HEADER: &[u8] =
-    b"place,policy,sections,block,edge_blocks,origin_blocks,edges,origins,up,down,back\n";
-
-/// The first line of a part.
-pub(crate) fn part_header(alloc: Global) -> Result<Vec<u8>, NoMemory>
-    ensures { IfOk result (λ text. text.items ≡ part_header) }
-{
-    let mut text = Vec::new(alloc);
-    text.extend_from_slice(PLACE)?;
-    text.extend_from_slice(HEADER)?;
-    Ok(text)
-}
-
-/// The names of the columns that say which configuration, before those of an interval.
-const CHOICE: &[u8] =
-    b"policy,sections,block,edge_blocks,origin_blocks,edges,origins,up,down,back,";
-
-/// What stands before all lines of a table, or of a part of one: its first line, but nothing of JSON.
+/// What stands before all lines of a table, or of a part of one: its header; nothing of JSON.
 pub(crate) fn header_told(
     alloc: Global,
     part: Option<Part>,
@@ -61,7 +48,7 @@ pub(crate) fn header_told(
     }
 }
 
-/// The first line of a table, or of a part of one, whose places are told: over time, where intervals are asked for.
+/// The header of a table, or of a part of one, which has the column of places: over time, where intervals are asked for.
 pub(crate) fn header_under(
     alloc: Global,
     is_placed: bool,
@@ -75,10 +62,11 @@ pub(crate) fn header_under(
     }
     match every {
         Some(_) => {
-            text.extend_from_slice(CHOICE)?;
+            text.extend_from_slice(CHOICE_NAMES.as_bytes())?;
+            text.push(b',')?;
             text.extend_from_slice(intervals_header())?;
         }
-        None => text.extend_from_slice(HEADER)?,
+        None => text.extend_from_slice(header_text())?,
     }
     Ok(text)
 }
@@ -88,7 +76,9 @@ pub(crate) fn list_header(alloc: Global) -> Result<Vec<u8>, NoMemory>
     ensures { IfOk result (λ text. text.items ≡ list_header) }
 {
     let mut text = Vec::new(alloc);
-    text.extend_from_slice(LIST_HEADER)?;
+    text.extend_from_slice(PLACE)?;
+    text.extend_from_slice(CHOICE_NAMES.as_bytes())?;
+    text.push(b'\n')?;
     Ok(text)
 }
 
@@ -243,8 +233,7 @@ fn fetched(caches: Caches, origins: &Counters) -> u64
     }
 }
 
-/// The columns that say under what conditions was counted: how often a day the flash is written, and then what the sweep and the trace
-/// have in common for all configurations.
+/// The columns behind what was counted: how often a day the flash is written, and then what all lines of the sweep have in common.
 fn write_conditions(
     text: &mut Vec<u8>,
     point: &Point,
@@ -255,14 +244,13 @@ fn write_conditions(
         (conditions point.now.ticks_a_second warm_up point.now.facts) measured) }
 {
     let facts = point.facts;
+    let start = warm_up.unwrap_or(0);
+    let counted = facts.span_from(start);
     text.push(b',')?;
-    write_if_some(
-        text,
-        daily_writes(point.ticks_a_second, facts.span(), measured),
-    )?;
+    write_if_some(text, daily_writes(point.ticks_a_second, counted, measured))?;
     let numbers = [
         reclaim_number(point.config.reclaim),
-        u128::from(warm_up.unwrap_or(0)),
+        u128::from(start),
         u128::from(point.ticks_a_second.unwrap_or(0)),
         u128::from(facts.rows),
         u128::from(facts.span()),
@@ -288,8 +276,8 @@ fn write_if_some(text: &mut Vec<u8>, millionths: Option<u128>) -> Result<(), NoM
     }
 }
 
-/// How often a day caches write as many bytes as their flash has, in millionths, rounded down; `None` where it is not known how long a
-/// tick is, where the trace takes no time, and where there is no flash.
+/// How often a day caches write as many bytes as their flash has, in millionths, rounded down, where they have written that much in
+/// `span` ticks. `None` where it is not known how long a tick is, where `span` is 0, and where there is no flash.
 ///
 /// The bytes that are written in 86400000000 seconds are taken for 2^128 - 1, where they are more.
 fn daily_writes(ticks_a_second: Option<u64>, span: u64, measured: Measured) -> Option<u128>

@@ -16,7 +16,7 @@ use std::alloc::Global;
 use std::io::Write;
 use std::thread::Threads;
 
-/// Writes a header, and then the lines of each configuration, in order; whether the writer took all of it.
+/// Writes a header, and then the lines of each configuration, in order. Returns whether the writer took all of it.
 ///
 /// The configurations are run in waves of as many as there are workers, and the lines of a wave are written, one configuration at
 /// a time, before the next wave begins.
@@ -65,7 +65,7 @@ pub(crate) fn write_all<W: Write, P: Progress, R: Threads + Sync>(
     Ok(true)
 }
 
-/// Runs some configurations side by side, and writes the lines of each, in order; whether the writer took all of them.
+/// Runs some configurations side by side, and writes the lines of each, in order. Returns whether the writer took all of them.
 fn write_wave<W: Write, P: Progress, R: Threads + Sync>(
     rt: &R,
     alloc: Global,
@@ -101,8 +101,8 @@ fn write_wave<W: Write, P: Progress, R: Threads + Sync>(
     Ok(whole)
 }
 
-/// Writes the lines of some configurations, in order, up to the first that has none or that the writer does not take; whether it
-/// took all of them.
+/// Writes the lines of some configurations, in order, up to the first that has none or that the writer does not take. Returns
+/// whether it took all of them.
 fn write_slots<W: Write>(
     alloc: Global,
     rows: &[Row],
@@ -134,7 +134,7 @@ fn write_slots<W: Write>(
     Ok(true)
 }
 
-/// Writes the lines of a configuration, in one text; whether the writer took it. Where its slot is empty it is run now.
+/// Writes the lines of a configuration, as one text. Returns whether the writer took it. Where its slot is empty, it is run now.
 fn write_point<W: Write>(
     alloc: Global,
     rows: &[Row],

@@ -13,16 +13,16 @@ use std::alloc::{AllocError, Global};
 use std::sync::atomic::{AtomicU64, AtomicUsize, Ordering};
 use std::thread::{Threads, join, map_indices};
 
-/// How far all workers have come. No proof rests on it: a configuration that is not taken up is run in the end, and of one
-/// that is taken up twice one result is kept.
+/// How far all workers have come. No proof rests on it: a configuration that no worker takes up is run in the end, and of one
+/// that two take up, one result is kept.
 #[derive(Drop)]
 struct Pace {
     next: AtomicUsize,
     done: AtomicU64,
 }
 
-/// Runs the configurations side by side by so many workers, the calling thread being one of them, and gives what became of each
-/// that was taken up. Where no thread can be made there are fewer workers.
+/// Runs the configurations side by side by so many workers, of which the calling thread is one, and returns what became of each
+/// that was taken up. Where a thread cannot be started there are fewer workers.
 pub(crate) fn run_all<P: Progress, R: Threads + Sync>(
     rt: &R,
     alloc: Global,
@@ -70,7 +70,7 @@ pub(crate) fn run_all<P: Progress, R: Threads + Sync>(
     Ok(slots)
 }
 
-/// Works in so many threads, none of which tells anybody how far it has come.
+/// Runs configurations in so many threads, which report no progress.
 fn work_beside<R: Threads + Sync>(
     rt: &R,
     alloc: Global,
@@ -91,7 +91,7 @@ fn work_beside<R: Threads + Sync>(
     )
 }
 
-/// Takes up configurations until none is left, and gives what became of each.
+/// Takes up configurations until none is left, and returns what became of each.
 fn work<P: Progress>(
     alloc: Global,
     rows: &[Row],

@@ -17,16 +17,16 @@ pub returns-clause-table : goal.returns-clause-table
 returns-clause-table g c =
     let s = c.args.sweeping.now in
     let known = g.D.Read.remaining c.args.bytes in
-    let is = subst (λ (rows : RowsAhead). IfSome known (λ xs. rows.ahead ≡ Some (ordered_trace_of (least_edges s.grid.now) most_streamed_rows (records_of xs)))) (sym c.new-telling.ensures)
+    let is = subst (λ (rows : RowsAhead). IfSome known (λ xs. rows.ahead ≡ Some (ordered_trace_of (least_edges s.grid.now) most_streamed_rows (records_of xs)))) (sym c.new-source.ensures)
     (known-ahead known c.in_ok-rows.rows.ahead c.edges.result (least_edges s.grid.now) c.edges.ensures c.in_ok-rows.ensures.ahead) in
-    on_ok c.sweep_rows.result (swept-known s.grid.now s.part s.outlook known c.new-telling.result.source.ahead is (g.W.Write.contents c.args.out.now.writer) (g.W.Write.contents c.sweep_rows.new.out.writer)) c.sweep_rows.ensures.table
+    on_ok c.sweep_rows.result (swept-known s.grid.now s.part s.outlook known c.new-source.result.source.ahead is (g.W.Write.contents c.args.out.now.writer) (g.W.Write.contents c.sweep_rows.new.out.writer)) c.sweep_rows.ensures.table
 
 pub returns-clause-fault : goal.returns-clause-fault
 returns-clause-fault g c =
     let s = c.args.sweeping.now in
     let known = g.D.Read.remaining c.args.bytes in
-    let ahead = c.new-telling.result.source.ahead in
-    let is = subst (λ (rows : RowsAhead). IfSome known (λ xs. rows.ahead ≡ Some (ordered_trace_of (least_edges s.grid.now) most_streamed_rows (records_of xs)))) (sym c.new-telling.ensures)
+    let ahead = c.new-source.result.source.ahead in
+    let is = subst (λ (rows : RowsAhead). IfSome known (λ xs. rows.ahead ≡ Some (ordered_trace_of (least_edges s.grid.now) most_streamed_rows (records_of xs)))) (sym c.new-source.ensures)
     (known-ahead known c.in_ok-rows.rows.ahead c.edges.result (least_edges s.grid.now) c.edges.ensures c.in_ok-rows.ensures.ahead) in
     IfErr-weaker c.sweep_rows.result (IsRowsSweepFault s.grid.now s.part s.outlook ahead) (IsStreamSweepFault s.grid.now s.part s.outlook known) (fault-known s.grid.now s.part s.outlook known ahead is) c.sweep_rows.ensures.fault
 
@@ -34,6 +34,6 @@ pub returns-clause-cut_off : goal.returns-clause-cut_off
 returns-clause-cut_off g c =
     let s = c.args.sweeping.now in
     let known = g.D.Read.remaining c.args.bytes in
-    let is = subst (λ (rows : RowsAhead). IfSome known (λ xs. rows.ahead ≡ Some (ordered_trace_of (least_edges s.grid.now) most_streamed_rows (records_of xs)))) (sym c.new-telling.ensures)
+    let is = subst (λ (rows : RowsAhead). IfSome known (λ xs. rows.ahead ≡ Some (ordered_trace_of (least_edges s.grid.now) most_streamed_rows (records_of xs)))) (sym c.new-source.ensures)
     (known-ahead known c.in_ok-rows.rows.ahead c.edges.result (least_edges s.grid.now) c.edges.ensures c.in_ok-rows.ensures.ahead) in
-    λ same. begun-known s.grid.now s.part s.outlook known c.new-telling.result.source.ahead is (g.W.Write.contents c.args.out.now.writer) (g.W.Write.contents c.sweep_rows.new.out.writer) (c.sweep_rows.ensures.cut_off same)
+    λ same. begun-known s.grid.now s.part s.outlook known c.new-source.result.source.ahead is (g.W.Write.contents c.args.out.now.writer) (g.W.Write.contents c.sweep_rows.new.out.writer) (c.sweep_rows.ensures.cut_off same)

@@ -1,4 +1,4 @@
-use Rattle.std.proofs.Common.{◌≡◌, ◌++◌, ◌∙◌, [], List, ap, length, sym, subst}
+use Rattle.std.proofs.Common.{◌≡◌, ◌∙◌, [], List, ap, length, sym, subst}
 use Rattle.std.specs.Prelude.{◌==◌}
 use Rattle.rw_vt.specs.declared.event.Event.{Event}
 use Rattle.rw_photo.specs.declared.body.Body.{Body}

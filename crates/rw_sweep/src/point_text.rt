@@ -1,18 +1,18 @@
-// What is told of a configuration, from the moments of its run.
-ghost use Rattle.std.specs.Prelude.{◌≡◌, ◌<◌, ◌^◌, ◌∷◌, IfOk};
-ghost use Rattle.rw_report.specs.Intervals.{counted_from, lines_of};
+// The text of a configuration, from the moments of its run.
+ghost use Rattle.std.specs.Prelude.{◌≡◌, ◌<◌, ◌^◌, IfOk};
+ghost use Rattle.rw_report.specs.Intervals.{lines_of};
 ghost use Rattle.std.specs.Option.{is_some};
 ghost use Rattle.rw_sweep.specs.OverTime.{before_interval, header_under, in_format, told_of_choice};
 ghost use Rattle.rw_sweep.specs.Table.{conditions};
 
 use crate::point::Point;
 use crate::table::{header_under, lines, write_before_interval};
-use rw_photo::{Counters, NoMemory};
-use rw_report::{Format, Moment, Outlook, count_each, json_lines, write_intervals};
+use rw_photo::NoMemory;
+use rw_report::{Format, Moment, Outlook, counted_from, json_lines, write_intervals};
 use std::alloc::Global;
 
-/// What an outlook asks to be told of a configuration, from the moments of its run, in its format: the lines of its intervals, or its
-/// three lines.
+/// What an outlook asks for of a configuration, from the moments of its run, in its format: the lines of its intervals, or its three
+/// lines.
 ///
 /// # Errors
 ///
@@ -54,19 +54,16 @@ fn lines_under(
         (conditions point.now.ticks_a_second outlook.warm_up point.now.facts)
         point.now.place outlook.every moments.now) }
 {
-    let Some((first, later)) = moments.split_first() else {
-        return Ok(Vec::new(alloc));
-    };
     match outlook.every {
         Some(_) => interval_lines(alloc, point, moments),
         None => {
-            let counted = counted_from(alloc, outlook.warm_up, first, later)?;
+            let counted = counted_from(alloc, outlook.warm_up, moments)?;
             lines(alloc, point, outlook.warm_up, counted.as_slice())
         }
     }
 }
 
-/// The lines of the intervals between some moments, each behind the place of the configuration, where that is told, and its choice.
+/// The lines of the intervals between some moments. Before each stand the place of the configuration, if it has one, and its choice.
 fn interval_lines(alloc: Global, point: &Point, moments: &[Moment]) -> Result<Vec<u8>, NoMemory>
     ensures { IfOk result (λ text. text.items ≡ lines_of point.now.config
         (before_interval point.now.place point.now.choice) moments.now) }
@@ -76,21 +73,4 @@ fn interval_lines(alloc: Global, point: &Point, moments: &[Moment]) -> Result<Ve
     let mut text = Vec::new(alloc);
     write_intervals(&mut text, &point.config, before.as_slice(), moments)?;
     Ok(text)
-}
-
-/// What each cache has counted by the last moment; from the first one on, where the caches warm up till then.
-fn counted_from(
-    alloc: Global,
-    warm_up: Option<u64>,
-    first: &Moment,
-    later: &[Moment],
-) -> Result<Vec<Counters>, NoMemory>
-    ensures { IfOk result (λ counted.
-        counted.items ≡ counted_from warm_up (first.now ∷ later.now)) }
-{
-    let last = later.last().unwrap_or(first);
-    match warm_up {
-        Some(_) => count_each(alloc, first.counters.as_slice(), last.counters.as_slice()),
-        None => Ok(Vec::from_slice(alloc, last.counters.as_slice())?),
-    }
 }

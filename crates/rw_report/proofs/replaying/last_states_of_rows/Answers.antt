@@ -13,7 +13,7 @@ use Rattle.rw_photo.specs.Cache.{Cache, IsWellFormed, is_exhausted}
 use Rattle.rw_photo.specs.Simulation.{simulation, starts_of}
 use Rattle.rw_report.proofs.Failing.{handed-on}
 use Rattle.rw_report.proofs.Runs.{ready, ready-at, runs-rows}
-use Rattle.rw_report.proofs.replaying.last_states_and_tell.Goals as goal
+use Rattle.rw_report.proofs.replaying.last_states_of_rows.Goals as goal
 
 pub last_states-requires : goal.last_states-requires
 last_states-requires g c = record { ready = ready-at c.args.config.now c.new-photo.result c.in_ok-starts.starts.items c.in_ok-starts.initial.items c.new-photo.ensures c.in_ok-starts.ensures.ready }

@@ -1,33 +1,33 @@
+// Progress of runs that take events or rows from a source.
 ghost use Rattle.std.specs.Prelude.{◌≡◌};
 
-// Runs that tell how far they have come.
 use rw_photo::Body;
 use rw_progress::Progress;
 use rw_serial::Source;
 use rw_trace::{Row, RowSource, RowsFault};
 use rw_vt::Event;
 
-/// Of so many events or rows one is told of, so that reading a clock each time costs nothing to speak of.
+/// Progress is reported for one in so many events or rows, since reading the clock for each would cost as much as executing it.
 const STEP: u64 = 256;
 
-/// A source that hands on what another one gives, and tells how far a run has come that takes it in order: of events, to the time of
-/// the one that it gives; of rows, how many it gave before. Of 256 it tells of one, the first.
+/// A source that gives what another one gives, in the same order, and reports progress: of events, the time of the one that it
+/// gives; of rows, how many it has given before. It reports for the first of every 256.
 #[derive(Drop)]
-pub struct Telling<'a, S, P> {
-    /// Whose events or rows it hands on.
+pub struct WithProgress<'a, S, P> {
+    /// The source of the events or rows.
     pub source: S,
-    /// Who is told.
+    /// Where progress is reported.
     pub progress: &'a mut P,
     /// How many it has given, modulo 2^64.
     pub given: u64,
 }
 
-impl<'a, S, P> Telling<'a, S, P> {
+impl<'a, S, P> WithProgress<'a, S, P> {
     /// A source that has given nothing so far.
-    pub fn new(source: S, progress: &'a mut P) -> Telling<'a, S, P>
+    pub fn new(source: S, progress: &'a mut P) -> WithProgress<'a, S, P>
         ensures { result.source ≡ source }
     {
-        Telling {
+        WithProgress {
             source,
             progress,
             given: 0,
@@ -35,7 +35,7 @@ impl<'a, S, P> Telling<'a, S, P> {
     }
 }
 
-impl<'a, S: Source<Body>, P: Progress> Source<Body> for Telling<'a, S, P> {
+impl<'a, S: Source<Body>, P: Progress> Source<Body> for WithProgress<'a, S, P> {
     ghost left = { λ t. S.left t.source };
 
     fn next(&mut self) -> Option<Event<Body>> {
@@ -48,7 +48,7 @@ impl<'a, S: Source<Body>, P: Progress> Source<Body> for Telling<'a, S, P> {
     }
 }
 
-impl<'a, S: RowSource, P: Progress> RowSource for Telling<'a, S, P> {
+impl<'a, S: RowSource, P: Progress> RowSource for WithProgress<'a, S, P> {
     ghost rest = { λ t. S.rest t.source };
 
     fn next_row(&mut self) -> Result<Option<Row>, RowsFault> {
@@ -61,16 +61,16 @@ impl<'a, S: RowSource, P: Progress> RowSource for Telling<'a, S, P> {
     }
 }
 
-/// Tells from which time to which the rows of a trace go that stand in order, of which `others`
-/// follow `rows`; of no rows, or where only `others` has any, it tells nothing.
+/// Begins the progress of a run of rows that stand in order of time, from the time of the first to that of the last. `others` follow
+/// `rows`. Reports nothing where `rows` is empty.
 pub fn begin_rows<P: Progress>(rows: &[Row], others: &[Row], progress: &mut P) {
     if let (Some(first), Some(last)) = (rows.first(), others.last().or(rows.last())) {
         progress.begin(first.time, last.time);
     }
 }
 
-/// Tells from which time to which events go, in whatever order they stand; of no events it tells
-/// nothing.
+/// Begins the progress of a run of events, which may stand in any order, from the least of their times to the greatest. Reports
+/// nothing where there are none.
 pub fn begin_events<P: Progress>(events: &[Event<Body>], progress: &mut P) {
     let Some(first) = events.first() else {
         return;
