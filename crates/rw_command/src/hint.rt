@@ -5,6 +5,7 @@ use crate::source::{Source, SourceFault};
 use clap::ArgMatches;
 use csv::{ByteRecord, Reader, ReaderBuilder};
 use rw_import::format_of;
+use rw_photo::Config;
 use rw_plot::PlotFault;
 use rw_report::SimFault;
 use rw_sweep::JoinFault;
@@ -101,15 +102,7 @@ fn of_trace<S: Source>(
                 format_args!("{row}: time {found} is over {MAX_TIME}"),
             )
         }
-        TraceFault::EdgeRange(row) => {
-            let row = row_of(alloc, path, row, source)?;
-            let edge = row.number(1)?;
-            let edges = edge.checked_add(1)?;
-            said(
-                alloc,
-                format_args!("{row}: edge {edge} needs --edges {edges}"),
-            )
-        }
+        TraceFault::EdgeRange(row) => of_edge(alloc, path, row, source),
         TraceFault::SizeRange(row) => {
             let row = row_of(alloc, path, row, source)?;
             let found = row.field(3);
@@ -137,6 +130,47 @@ fn of_trace<S: Source>(
         }
         TraceFault::Memory => None,
     }
+}
+
+/// More of an edge that the options do not have: how many edges the whole trace asks for.
+fn of_edge<S: Source>(alloc: Global, path: &str, row: u64, source: &mut S) -> Option<String> {
+    let row = row_of(alloc, path, row, source)?;
+    let edge = row.number(1)?;
+    let greatest = greatest_edge(alloc, path, source)?.max(edge);
+    if greatest >= u64::from(Config::MAX_EDGES) {
+        let most = Config::MAX_EDGES;
+        return said(
+            alloc,
+            format_args!(
+                "{row}: edge {edge}; the trace has an edge {greatest}, and --edges is at most {most}"
+            ),
+        );
+    }
+    let edges = greatest.checked_add(1)?;
+    said(
+        alloc,
+        format_args!("{row}: edge {edge}; the trace has edges up to {greatest}: --edges {edges}"),
+    )
+}
+
+/// The greatest edge of a trace in a file; 0 where it has none. Reads as many rows as a trace in memory may have.
+fn greatest_edge<S: Source>(alloc: Global, path: &str, source: &mut S) -> Option<u64> {
+    let reader = source.open(path).ok()?;
+    let mut records: Reader<S::Reader> = ReaderBuilder::new()
+        .has_headers(true)
+        .flexible(true)
+        .from_reader(alloc, reader);
+    let mut fields = ByteRecord::new(alloc);
+    let mut greatest = 0;
+    for _record in 0..MAX_ROWS {
+        if !records.read_byte_record(&mut fields).ok()? {
+            break;
+        }
+        if let Some(edge) = fields.get(1) {
+            greatest = rw_trace::number(edge).unwrap_or(0).max(greatest);
+        }
+    }
+    Some(greatest)
 }
 
 /// More of a fault of a table that is drawn.

@@ -156,7 +156,7 @@ impl Source for Shelf {
 }
 
 /// The files that the tests read.
-const FILES: [(&str, &[u8]); 7] = [
+const FILES: [(&str, &[u8]); 9] = [
     ("trace", APART),
     (
         "study",
@@ -167,6 +167,8 @@ const FILES: [(&str, &[u8]); 7] = [
         "late",
         b"time,edge,object,size\n5,0,7,4\n\"6\n\",3,8,4\n7,3,8,4\n",
     ),
+    ("far", b"time,edge,object,size\n5,1,7,4\n6,3,8,4\n7,2,8,4\n"),
+    ("wide", b"time,edge,object,size\n5,1,7,4\n6,300,8,4\n"),
     ("packed", b"\x1f\x8b\x08\x00\x00"),
     ("other", b"a;b\n1;2\n"),
     ("empty", b""),
@@ -224,7 +226,7 @@ fn a_file_says_options(rt: HostRuntime) -> Result<(), AllocError> {
 }
 
 /// Command lines that fail, each with its exit status and what is told of it on a terminal.
-const HINTS: [(&str, u8, &str); 9] = [
+const HINTS: [(&str, u8, &str); 11] = [
     (
         "ripqwarp serial --quiet nowhere",
         4,
@@ -244,6 +246,16 @@ const HINTS: [(&str, u8, &str); 9] = [
         "ripqwarp serial --quiet late",
         3,
         "trace: row 1 column 0: number\nhint: late line 3: `6?` is not a number of 1 to 20 digits, below 2^64\n",
+    ),
+    (
+        "ripqwarp serial --quiet far",
+        3,
+        "trace: row 0: edge\nhint: far line 2: edge 1; the trace has edges up to 3: --edges 4\n",
+    ),
+    (
+        "ripqwarp serial --quiet wide",
+        3,
+        "trace: row 0: edge\nhint: wide line 2: edge 1; the trace has an edge 300, and --edges is at most 256\n",
     ),
     (
         "ripqwarp warp --quiet packed",
