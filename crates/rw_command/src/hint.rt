@@ -23,8 +23,8 @@ const OF_TABLES: &str = "that of a table of sweep, or of serial or sweep with --
 /// The header of a part of a sweep.
 const OF_PARTS: &str = "that of a part, as sweep --part writes it";
 
-/// More of a fault of the command that these words ask for, if there is more to say. A file is read again for it; standard input is
-/// not.
+/// More of a fault of the command that these words ask for, if there is more to say. A file is read again for it; standard input and
+/// pipes are not.
 pub(crate) fn hint<S: Source>(
     alloc: Global,
     fault: &Fault,
@@ -155,7 +155,7 @@ fn of_edge<S: Source>(alloc: Global, path: &str, row: u64, source: &mut S) -> Op
 
 /// The greatest edge of a trace in a file; 0 where it has none. Reads as many rows as a trace in memory may have.
 fn greatest_edge<S: Source>(alloc: Global, path: &str, source: &mut S) -> Option<u64> {
-    let reader = source.open(path).ok()?;
+    let reader = source.reopen(path)?;
     let mut records: Reader<S::Reader> = ReaderBuilder::new()
         .has_headers(true)
         .flexible(true)
@@ -259,10 +259,10 @@ fn of_header<S: Source>(
     expected: &str,
     source: &mut S,
 ) -> Option<String> {
-    if path == "-" {
+    let Some(mut reader) = source.reopen(path) else {
         return said(alloc, format_args!("the header should be {expected}"));
-    }
-    let beginning = Beginning::read(&mut source.open(path).ok()?);
+    };
+    let beginning = Beginning::read(&mut reader);
     if let Some(format) = format_of(beginning.as_bytes()) {
         return said(alloc, format_args!("{path} is {format}"));
     }
@@ -377,10 +377,7 @@ fn row_of<'a, S: Source>(
     row: u64,
     source: &mut S,
 ) -> Option<Row<'a>> {
-    if path == "-" {
-        return None;
-    }
-    let reader = source.open(path).ok()?;
+    let reader = source.reopen(path)?;
     let mut records: Reader<S::Reader> = ReaderBuilder::new()
         .has_headers(false)
         .flexible(true)

@@ -40,22 +40,38 @@ impl<R: Files + Input + AllocGlobal> Source for Inputs<'_, R> {
         }
     }
 
+    fn reopen(&mut self, path: &str) -> Option<Reader<R::File, R::Reader>> {
+        if path == "-" || !is_regular(self.rt, path) {
+            return None;
+        }
+        self.open(path).ok()
+    }
+
     fn why_not(&mut self, path: &str) -> Option<&'static str> {
         if path == "-" {
             return None;
         }
-        let opened = fs::open(self.rt, path);
-        let error = match opened {
-            Ok(mut file) => file.read(&mut [0]).err()?,
+        let error = match fs::metadata(self.rt, path) {
+            Ok(metadata) if metadata.is_dir() => return Some("this is a directory"),
+            // To open a pipe may wait for ever.
+            Ok(metadata) if !metadata.is_file() => return None,
+            Ok(_) => fs::open(self.rt, path).err()?,
             Err(error) => error,
         };
         match error.kind() {
             ErrorKind::NotFound => Some("no such file"),
             ErrorKind::PermissionDenied => Some("permission denied"),
-            ErrorKind::IsADirectory => Some("this is a directory"),
             ErrorKind::NotADirectory => Some("a part of the path is no directory"),
             _ => None,
         }
+    }
+}
+
+/// Whether there is a regular file at a path, or at the end of a link there.
+fn is_regular<R: Files>(rt: &R, path: &str) -> bool {
+    match fs::metadata(rt, path) {
+        Ok(metadata) => metadata.is_file(),
+        Err(_) => false,
     }
 }
 

@@ -12,6 +12,12 @@ pub trait Source {
     /// All bytes at a path, or of standard input where the path is `-`.
     fn bytes(&mut self, alloc: Global, path: &str) -> Result<Vec<u8>, SourceFault>;
 
+    /// A reader of the bytes at a path from which a reader was had before. `None` where they are gone by then, as those of a pipe, and
+    /// where the path cannot be read.
+    fn reopen(&mut self, path: &str) -> Option<Self::Reader> {
+        self.open(path).ok()
+    }
+
     /// Why a path cannot be read, in words, if that is known.
     fn why_not(&mut self, _path: &str) -> Option<&'static str> {
         None
