@@ -33,7 +33,7 @@ const DENSE_PLANS: [&str; 3] = ["warp --workers 2", "warp --workers 4", "warp --
 enum Requests {
     /// 40 to 119 requests at 1 to 4 edges, one in two ticks: most runs are too short for several workers.
     Few,
-    /// 4000 requests at 4 edges, one in four ticks.
+    /// 20,000 requests at 4 edges, one in four ticks.
     Sparse,
     /// 16,000 requests at 32 edges, 512 in each tick.
     Dense,
@@ -200,7 +200,7 @@ fn trace(
     let mut trace = String::from_str(alloc, "time,edge,object,size\n")?;
     match requests {
         Requests::Few => push_few(dice, edges, &mut trace)?,
-        Requests::Sparse => push_many(dice, edges, 4000, 1, 4, &mut trace)?,
+        Requests::Sparse => push_many(dice, edges, 20_000, 1, 4, &mut trace)?,
         Requests::Dense => push_many(dice, edges, 16_000, 512, 1, &mut trace)?,
     }
     Ok(trace)

@@ -5,14 +5,23 @@ ghost use Rattle.std.specs.Prelude.{◌≡◌, true};
 use rw_rounds::{Plan, Traffic};
 use std::time::Clock;
 
-/// How many initial events a segment takes in, where it is the shortest of its kind.
+/// How many initial events the shortest segment of rounds takes in. Those that it does not execute are handed out again by the next.
 const FEW_EVENTS: u64 = 2048;
+
+/// How many initial events the shortest segment of windows takes in. With fewer, waking the threads would be most of what is measured.
+const FEW_EVENTS_IN_WINDOWS: u64 = 16384;
+
+/// How often that doubles at most: all of these events are dealt out before the segment starts.
+const MOST_GROWTH_OF_EVENTS_IN_WINDOWS: u32 = 3;
 
 /// How many rounds of all workers the shortest segment of rounds has.
 const FEW_ROUNDS: u64 = 8;
 
-/// How many times as long as the events that wait are apart the shortest segment of windows is.
-const FEW_TIMES: u64 = 4;
+/// The length of the shortest segment of windows, as a multiple of the time that the waiting events span.
+const FEW_TIMES: u64 = 8;
+
+/// How many rounds of one worker the shortest run in order has, where it is measured. The first events meet empty caches and cost less.
+const FEW_IN_ORDER: u64 = 16;
 
 /// How often segments of one kind, one after another, grow to twice the length.
 const MOST_GROWTH: u32 = 5;
@@ -24,6 +33,15 @@ const LEAST_PATIENCE: u64 = 16;
 const MOST_PATIENCE: u64 = 256;
 
 const PATIENCE_IN_ORDER: u64 = 64;
+
+/// Rounds are first tried after this many times the time that it takes to hand all processes over, since they seldom pay.
+const PATIENCE_BEFORE_ROUNDS: u64 = 64;
+
+/// Segments of a kind go on while an event costs at most this, in percent of what it costs in order.
+const LIMIT: u64 = 100;
+
+/// The same for windows. All workers wait for the slowest, so another program on the machine makes windows look dearer than they are.
+const LIMIT_IN_WINDOWS: u64 = 125;
 
 /// About how long it takes to hand a process to a worker, for the shortest segment of rounds, and to take it back, in nanoseconds.
 const HAND_OVER: u64 = 3000;
@@ -91,16 +109,19 @@ struct Cost {
     since: u64,
     /// How many times as long as a trial that has to be before the next one.
     patience: u64,
+    /// How much an event may cost at most, in percent of what it costs in order.
+    limit: u64,
 }
 
 impl Cost {
     /// Nothing is known but how long the first segment is expected to take.
-    fn new(trial: u64, patience: u64) -> Cost {
+    fn new(trial: u64, patience: u64, limit: u64) -> Cost {
         Cost {
             mean: None,
             trial,
             since: 0,
             patience,
+            limit,
         }
     }
 
@@ -125,17 +146,17 @@ impl Cost {
         self.since = self.since.saturating_add(nanoseconds);
     }
 
-    /// Whether the events of this kind cost no more than those of the other.
-    fn pays(&self, other: &Cost) -> bool {
-        match (self.mean, other.mean) {
-            (Some(mean), Some(other)) => mean <= other,
+    /// Whether the events of this kind cost no more than they may, by what those in order cost.
+    fn pays(&self, in_order: &Cost) -> bool {
+        match (self.mean, in_order.mean) {
+            (Some(mean), Some(other)) => mean <= other.saturating_mul(self.limit) / 100,
             _ => true,
         }
     }
 
-    /// The last segment of this kind paid beside the other, or did not: then the next trial comes later.
-    fn note_trial(&mut self, other: &Cost) {
-        self.patience = if self.pays(other) {
+    /// The last segment of this kind paid beside the run in order, or did not: then the next trial comes later.
+    fn note_trial(&mut self, in_order: &Cost) {
+        self.patience = if self.pays(in_order) {
             LEAST_PATIENCE
         } else {
             self.patience.saturating_mul(2).min(MOST_PATIENCE)
@@ -148,7 +169,7 @@ impl Cost {
 /// The first segment is a short run in order, which tells how dense events are. Where they are so dense that each worker finds its
 /// grain of them in a window of the lookahead, windows are tried, in which nothing is rolled back and no event waits that could be
 /// executed; else rounds, in which the workers run ahead, once the run has gone on for long enough that a trial costs little
-/// beside it. What costs more than the run in order is tried again only after many times the time of the trial. Nothing is measured where
+/// beside it. What costs more than it may is tried again only after many times the time of the trial. Nothing is measured where
 /// the grain is 0 or 1: all workers go on then, whatever it costs. Once the plan's rounds are made, the run goes on in order, but where
 /// it has nothing to compare: it is given up then. No theorem rests on this.
 #[derive(Clone, Copy)]
@@ -162,6 +183,8 @@ pub(crate) struct Controller {
     grain: u64,
     /// Whether all workers go on only where that costs less than the run in order.
     is_measured: bool,
+    /// Whether there was a segment of windows. The first one is not counted, since its threads are new.
+    has_windows: bool,
     /// Whether a worker may find its grain in a round.
     has_rounds: bool,
     /// Whether the last segment had as many; `None` before the first one, but in a plan of a single round, which is not spent on
@@ -189,13 +212,14 @@ impl Controller {
             lookahead,
             grain: grain.saturating_mul(u64::from(plan.workers)),
             is_measured: grain > 1,
+            has_windows: false,
             has_rounds: grain < u64::from(plan.turns).saturating_mul(u64::from(plan.batch)),
             is_dense: (plan.max_rounds == 1).then_some(false),
             last: Kind::InOrder,
             growth: 0,
-            in_order: Cost::new(0, PATIENCE_IN_ORDER),
-            in_windows: Cost::new(0, LEAST_PATIENCE),
-            in_rounds: Cost::new(hand_over, LEAST_PATIENCE),
+            in_order: Cost::new(0, PATIENCE_IN_ORDER, LIMIT),
+            in_windows: Cost::new(0, LEAST_PATIENCE, LIMIT_IN_WINDOWS),
+            in_rounds: Cost::new(hand_over, PATIENCE_BEFORE_ROUNDS, LIMIT),
             reached: 0,
             begun: 0,
         }
@@ -222,21 +246,26 @@ impl Controller {
     pub(crate) fn next(&self) -> Option<Segment> {
         let kind = self.next_kind();
         let growth = if kind == self.last { self.growth } else { 0 };
-        let events = grown(FEW_EVENTS, growth) as usize;
         match kind {
             Kind::Rounds if self.rounds_left == 0 => None,
             Kind::Rounds => {
                 let rounds = grown(FEW_ROUNDS, growth).min(u64::from(self.rounds_left));
                 Some(Segment::Rounds(RoundsSize {
-                    events,
+                    events: grown(FEW_EVENTS, growth) as usize,
                     rounds: rounds as u32,
                 }))
             }
-            Kind::Windows => Some(Segment::Windows(WindowsSize {
-                events,
-                times: grown(FEW_TIMES, growth),
-            })),
-            Kind::InOrder => Some(Segment::InOrder(grown(1, growth))),
+            Kind::Windows => {
+                let events_growth = growth.min(MOST_GROWTH_OF_EVENTS_IN_WINDOWS);
+                Some(Segment::Windows(WindowsSize {
+                    events: grown(FEW_EVENTS_IN_WINDOWS, events_growth) as usize,
+                    times: grown(FEW_TIMES, growth),
+                }))
+            }
+            Kind::InOrder => {
+                let few = if self.is_measured { FEW_IN_ORDER } else { 1 };
+                Some(Segment::InOrder(grown(few, growth)))
+            }
         }
     }
 
@@ -303,8 +332,11 @@ impl Controller {
                 self.in_rounds.note_other(nanoseconds);
             }
             Kind::Windows => {
-                self.in_windows.note(nanoseconds, events);
-                self.in_windows.note_trial(&self.in_order);
+                if self.has_windows {
+                    self.in_windows.note(nanoseconds, events);
+                    self.in_windows.note_trial(&self.in_order);
+                }
+                self.has_windows = true;
                 self.in_order.note_other(nanoseconds);
                 self.in_rounds.note_other(nanoseconds);
             }

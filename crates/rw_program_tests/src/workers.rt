@@ -1,5 +1,5 @@
 // What several workers do with a trace, by the very call that the command `warp` makes: in windows where requests are dense, else in
-// rounds that run ahead and take back. The report is that of one thread each time.
+// rounds that run ahead and take back. The report is that of one thread each time. The first 16,384 events are executed in order.
 use rw_photo::{Config, Policy, Shape};
 use rw_ripqwarp::{Mode, Out, Plan, Traffic, simulate};
 use std::alloc::Global;
@@ -13,11 +13,11 @@ use std::time::Clock;
 /// How dense the requests of a trace are.
 #[derive(Clone, Copy)]
 enum Density {
-    /// 4000 requests at 4 edges, one in 4 ticks.
+    /// 20,000 requests at 4 edges, one in 4 ticks.
     Sparse,
-    /// 4000 requests at 32 edges, 64 in each tick.
+    /// 20,000 requests at 32 edges, 64 in each tick.
     Dense,
-    /// 8000 requests at 32 edges, 512 in each tick.
+    /// 20,000 requests at 32 edges, 512 in each tick.
     Denser,
     /// 120,000 requests at 200 edges, 512 in each tick.
     Long,
@@ -27,8 +27,7 @@ impl Density {
     /// How many requests there are.
     fn requests(self) -> u64 {
         match self {
-            Density::Sparse | Density::Dense => 4000,
-            Density::Denser => 8000,
+            Density::Sparse | Density::Dense | Density::Denser => 20_000,
             Density::Long => 120_000,
         }
     }

@@ -39,8 +39,7 @@ pub(crate) fn rounds_text<P: Progress, R: Threads + Wait + Clock + Sync>(
     ensures fault { IfErr result (IsRunFault (Mode.Warp plan) config.now bytes.now) }
     ensures unwritten { IfErr result (λ e. e ≢ SimFault.Output) }
 {
-    let readers = readers_of(config, &plan);
-    let (rows, others) = read_in_parts(rt, alloc, bytes, config.edges(), readers)?;
+    let (rows, others) = read_in_parts(rt, alloc, bytes, config.edges(), plan.workers)?;
     let parts = RowParts {
         rows: rows.as_slice(),
         others: others.as_slice(),
@@ -71,16 +70,6 @@ pub fn why_it_stopped(stop: Stop) -> SimFault
 /// which is too little to hand over to another thread.
 fn goes_alone(config: &Config, plan: &Plan) -> bool {
     plan.workers == 1 || matches!(config.policy, Policy::Off)
-}
-
-/// How many threads read the trace, the calling one among them. With those that go on with the run, no more threads are started
-/// than the plan has workers: two read where all workers may go on, and up to four where one goes on alone.
-fn readers_of(config: &Config, plan: &Plan) -> u32 {
-    if goes_alone(config, plan) {
-        plan.workers
-    } else {
-        2
-    }
 }
 
 /// The rows of a trace in two parts, as [`read_in_parts`] gives them.

@@ -16,11 +16,13 @@ use std::test::Fail;
 use std::thread::Threads;
 use std::time::Clock;
 
-/// 200 balls among 16 processes, half of which go to a drawn one, after 8 ticks or more, up to tick 4000.
-fn many_balls(alloc: Global) -> Result<(Phold, Vec<Holder>, Vec<Event<Ball>>), Fail>
+/// 200 balls among 16 processes, half of which go to a drawn one, after 8 ticks or more, up to tick 4000. Each event makes `work`
+/// further draws.
+fn many_balls(alloc: Global, work: u32) -> Result<(Phold, Vec<Holder>, Vec<Event<Ball>>), Fail>
     ensures ready { IfOk result (λ r. IsReady of_phold.ghosts r.0 r.1.items r.2.items) }
 {
-    let phold = Phold::new(16, 32768, 8, 24, 4000).ok_or("setting")?;
+    let setting = Phold::new(16, 32768, 8, 24, 4000).ok_or("setting")?;
+    let phold = setting.with_work(work);
     let (starts, initial) = beginning(alloc, &phold, 200, 7)?;
     Ok((phold, starts, initial))
 }
@@ -29,9 +31,10 @@ fn many_balls(alloc: Global) -> Result<(Phold, Vec<Holder>, Vec<Event<Ball>>), F
 fn reported<R: Threads + Wait + Clock + Sync>(
     rt: &R,
     alloc: Global,
+    work: u32,
     how: How,
 ) -> Result<Report, Fail> {
-    let (model, states, initial) = many_balls(alloc)?;
+    let (model, states, initial) = many_balls(alloc, work)?;
     let start = Start {
         model,
         states,
@@ -73,21 +76,35 @@ fn balls_come_to_the_same_in_order_and_in_rounds(rt: HostRuntime) -> Result<(), 
         }),
     ];
     for (row, how) in ways.iter().enumerate() {
-        assert!(rt; reported(&rt, rt.alloc(), *how)? == expected, "way {row}");
+        assert!(rt;
+            reported(&rt, rt.alloc(), 0, *how)? == expected,
+            "way {row}"
+        );
+    }
+    Ok(())
+}
+
+// Rounds are first tried after some milliseconds, so the run has to take longer.
+#[test]
+fn balls_with_work_come_to_the_same_in_rounds(rt: HostRuntime) -> Result<(), Fail> {
+    let expected = reported(&rt, rt.alloc(), 1000, How::InOrder)?;
+    for (row, plan) in [plan(3, false), plan(2, true)].iter().enumerate() {
+        let report = reported(&rt, rt.alloc(), 1000, How::InRounds(*plan))?;
+        assert!(rt; report == expected, "way {row}");
     }
     Ok(())
 }
 
 /// How many events one worker by itself counts, and what it does.
 fn counted_alone(alloc: Global) -> Result<(u64, Traffic), Fail> {
-    let (phold, starts, initial) = many_balls(alloc)?;
+    let (phold, starts, initial) = many_balls(alloc, 0)?;
     let (states, traffic) = run_alone(alloc, &phold, starts, initial, plan(1, false))?;
     Ok((report_of(states.as_slice()).events, traffic))
 }
 
 /// The same where its events come from a source, and the plan is of one round.
 fn counted_in_one_round(alloc: Global) -> Result<(u64, Traffic), Fail> {
-    let (phold, starts, initial) = many_balls(alloc)?;
+    let (phold, starts, initial) = many_balls(alloc, 0)?;
     let one = Plan {
         max_rounds: 1,
         ..plan(1, false)
@@ -114,7 +131,7 @@ fn one_worker_makes_as_many_rounds_as_events_need(rt: HostRuntime) -> Result<(),
 
 /// The checksum and the number of events of a run that is given up beyond a limit.
 fn checksum_within(alloc: Global, limit: u64) -> Result<Option<(u64, u64)>, Fail> {
-    let (phold, starts, initial) = many_balls(alloc)?;
+    let (phold, starts, initial) = many_balls(alloc, 0)?;
     match last_states_within(alloc, &phold, starts, initial, limit)? {
         Some((states, executed)) => Ok(Some((report_of(states.as_slice()).checksum, executed))),
         None => Ok(None),
@@ -123,7 +140,7 @@ fn checksum_within(alloc: Global, limit: u64) -> Result<Option<(u64, u64)>, Fail
 
 /// Whether a run is given up beyond a limit, where its events come from a source.
 fn is_given_up(alloc: Global, limit: u64) -> Result<bool, Fail> {
-    let (phold, starts, initial) = many_balls(alloc)?;
+    let (phold, starts, initial) = many_balls(alloc, 0)?;
     let source = Sorted::new(initial)?;
     Ok(last_states_within_from(alloc, &phold, starts, source, limit)?.is_none())
 }
