@@ -1,21 +1,21 @@
 // Completions of the command line for shells.
 use crate::arguments::{Argument, Form};
-use crate::entries::{ENTRIES, Entry};
+use crate::entries::{Entry, entries};
 use std::fmt::{self, Display, Formatter, Write};
 
 /// Appends completions for bash.
 pub(crate) fn write_bash<W: Write>(text: &mut W) -> fmt::Result {
     text.write_str(BASH_BEGIN)?;
-    for entry in &ENTRIES {
+    for entry in entries() {
         write!(text, " {}", entry.name)?;
     }
     text.write_str("'\n    else\n        case $command$previous in\n")?;
-    for entry in &ENTRIES {
+    for entry in entries() {
         write_bash_values(text, entry.name, entry.own)?;
         write_bash_values(text, entry.name, entry.shared)?;
     }
     text.write_str(BASH_MIDDLE)?;
-    for entry in &ENTRIES {
+    for entry in entries() {
         write!(text, "            {}) words='--help", entry.name)?;
         write_bash_options(text, entry.own)?;
         write_bash_options(text, entry.shared)?;
@@ -88,11 +88,11 @@ fn write_words<W: Write>(text: &mut W, words: &[&str]) -> fmt::Result {
 /// Appends completions for zsh.
 pub(crate) fn write_zsh<W: Write>(text: &mut W) -> fmt::Result {
     text.write_str(ZSH_BEGIN)?;
-    for entry in &ENTRIES {
+    for entry in entries() {
         writeln!(text, "        '{}:{}'", entry.name, Quoted(entry.about))?;
     }
     text.write_str(ZSH_MIDDLE)?;
-    for entry in &ENTRIES {
+    for entry in entries() {
         write_zsh_command(text, entry)?;
     }
     text.write_str(ZSH_END)
@@ -155,7 +155,7 @@ fn write_zsh_arguments<W: Write>(text: &mut W, arguments: &[Argument]) -> fmt::R
 
 /// Appends completions for fish.
 pub(crate) fn write_fish<W: Write>(text: &mut W) -> fmt::Result {
-    for entry in &ENTRIES {
+    for entry in entries() {
         write_fish_command(text, entry)?;
     }
     Ok(())

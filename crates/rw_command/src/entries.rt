@@ -34,18 +34,21 @@ pub(crate) const ABOUT: &str = "Simulates edge and origin photo caches from a tr
 /// The version of the program.
 pub(crate) const VERSION: &str = "1.0.0";
 
-/// The commands, in the order of the help.
-pub(crate) const ENTRIES: [Entry; 9] = [
-    serial::ENTRY,
-    warp::ENTRY,
-    journal::ENTRY,
-    import::ENTRY,
-    sweep::ENTRY,
-    size::ENTRY,
-    join::ENTRY,
-    plot::ENTRY,
-    generate::ENTRY,
-];
+/// The commands, in the order of the help. Each is a `static`: a constant would be built in the frame of each function that goes over
+/// them, and to prove one static of all takes too many steps.
+pub(crate) fn entries() -> [&'static Entry; 9] {
+    [
+        serial::entry(),
+        warp::entry(),
+        journal::entry(),
+        import::entry(),
+        sweep::entry(),
+        size::entry(),
+        join::entry(),
+        plot::entry(),
+        generate::entry(),
+    ]
+}
 
 /// The program with its commands, as `clap` knows it, under its name whatever its file is called. The fault is memory that was
 /// refused.
@@ -62,7 +65,7 @@ pub(crate) fn program<'a>(alloc: Global) -> Result<Command<'a>, AllocError> {
 
 /// Whether a hint follows each fault of the command of this name.
 pub(crate) fn always_hints(name: &str) -> bool {
-    for entry in &ENTRIES {
+    for entry in entries() {
         if entry.name == name {
             return matches!(entry.hints, Hints::Always);
         }
@@ -73,7 +76,7 @@ pub(crate) fn always_hints(name: &str) -> bool {
 /// The commands as `clap` knows them.
 fn commands<'a>(alloc: Global) -> Result<Vec<Command<'a>>, AllocError> {
     let mut commands = Vec::new(alloc);
-    for entry in &ENTRIES {
+    for entry in entries() {
         entry.add_to(alloc, &mut commands)?;
     }
     Ok(commands)

@@ -15,7 +15,7 @@ use std::fmt;
 use std::io::Write;
 
 /// The command.
-pub(crate) const ENTRY: Entry = Entry {
+static ENTRY: Entry = Entry {
     name: "generate",
     about: "Prints the manual page, or completions for a shell",
     examples: "Examples:
@@ -30,6 +30,11 @@ pub(crate) const ENTRY: Entry = Entry {
     }],
     shared: &[],
 };
+
+/// The command.
+pub(crate) fn entry() -> &'static Entry {
+    &ENTRY
+}
 
 /// Writes what the options ask for.
 ///

@@ -29,7 +29,7 @@ use std::random::RandomSource;
 use std::time::Clock;
 
 /// The command.
-pub(crate) const ENTRY: Entry = Entry {
+static ENTRY: Entry = Entry {
     name: "import",
     about: "Reads a log and prints it as a trace",
     examples: "Examples:
@@ -40,6 +40,11 @@ pub(crate) const ENTRY: Entry = Entry {
     own: &LOG,
     shared: &[],
 };
+
+/// The command.
+pub(crate) fn entry() -> &'static Entry {
+    &ENTRY
+}
 
 /// The log, how to read it, and how its rows become those of a trace.
 const LOG: [Argument; 21] = [

@@ -14,7 +14,7 @@ use std::alloc::Global;
 use std::io::Write;
 
 /// The command.
-pub(crate) const ENTRY: Entry = Entry {
+static ENTRY: Entry = Entry {
     name: "join",
     about: "Puts the parts of a sweep together and prints the table that sweep prints",
     examples: "Examples:
@@ -25,6 +25,11 @@ pub(crate) const ENTRY: Entry = Entry {
     own: &PARTS,
     shared: &[],
 };
+
+/// The command.
+pub(crate) fn entry() -> &'static Entry {
+    &ENTRY
+}
 
 /// The parts of a sweep.
 const PARTS: [Argument; 2] = [

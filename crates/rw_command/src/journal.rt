@@ -19,7 +19,7 @@ use std::thread::Threads;
 use std::time::Clock;
 
 /// The command.
-pub(crate) const ENTRY: Entry = Entry {
+static ENTRY: Entry = Entry {
     name: "journal",
     about: "Runs a trace by a schedule of steps and prints what was refused and what is final",
     examples: "Steps of a schedule, with one space between two of them:
@@ -35,6 +35,11 @@ Examples:
     own: &[SCHEDULE, TRACE],
     shared: &CACHES,
 };
+
+/// The command.
+pub(crate) fn entry() -> &'static Entry {
+    &ENTRY
+}
 
 /// The steps by which the trace is run.
 const SCHEDULE: Argument = Argument {

@@ -1,6 +1,6 @@
 // The manual page, in the macros of man(7).
 use crate::arguments::{Argument, Form, Given};
-use crate::entries::{ABOUT, ENTRIES, Entry, VERSION};
+use crate::entries::{ABOUT, Entry, VERSION, entries};
 use std::fmt::{self, Display, Formatter, Write};
 
 /// Appends the manual page.
@@ -8,11 +8,11 @@ pub(crate) fn write_manual<W: Write>(page: &mut W) -> fmt::Result {
     writeln!(page, ".TH RIPQWARP 1 \"\" \"ripqwarp {VERSION}\"")?;
     writeln!(page, ".SH NAME\nripqwarp \\- {}", Text(ABOUT))?;
     page.write_str(".SH SYNOPSIS\n")?;
-    for entry in &ENTRIES {
+    for entry in entries() {
         write_synopsis(page, entry)?;
     }
     page.write_str(".SH COMMANDS\n")?;
-    for entry in &ENTRIES {
+    for entry in entries() {
         write_command(page, entry)?;
     }
     page.write_str(END)

@@ -3,7 +3,7 @@ ghost use Rattle.std.specs.Prelude.{◌≢◌, IfErr};
 ghost use Rattle.rw_command.specs.Status.{status_of};
 
 use crate::arguments::{Argument, Given, Value};
-use crate::entries::ENTRIES;
+use crate::entries::entries;
 use crate::fault::Fault;
 use crate::source::Source;
 use crate::values::invalid;
@@ -150,7 +150,7 @@ fn option_of(word: &str) -> Option<&str> {
 
 /// Whether an option of a command takes a value.
 fn takes_value(command: &str, name: &str) -> bool {
-    for entry in &ENTRIES {
+    for entry in entries() {
         if entry.name == command {
             return is_with_value(entry.own, name) || is_with_value(entry.shared, name);
         }

@@ -16,7 +16,7 @@ use std::alloc::Global;
 use std::io::Write;
 
 /// The command.
-pub(crate) const ENTRY: Entry = Entry {
+static ENTRY: Entry = Entry {
     name: "plot",
     about: "Draws what sweep printed over the size of the flash, or a table over time, as SVG",
     examples: "Examples:
@@ -26,6 +26,11 @@ pub(crate) const ENTRY: Entry = Entry {
     own: &DRAWING,
     shared: &[],
 };
+
+/// The command.
+pub(crate) fn entry() -> &'static Entry {
+    &ENTRY
+}
 
 /// What is drawn of a table.
 const DRAWING: [Argument; 7] = [

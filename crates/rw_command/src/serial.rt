@@ -20,7 +20,7 @@ use std::io::Write;
 use std::time::Clock;
 
 /// The command.
-pub(crate) const ENTRY: Entry = Entry {
+static ENTRY: Entry = Entry {
     name: "serial",
     about: "Runs a trace on one thread and prints the counters of each cache",
     examples: "Examples:
@@ -35,6 +35,11 @@ pub(crate) const ENTRY: Entry = Entry {
     ],
     shared: &CACHES,
 };
+
+/// The command.
+pub(crate) fn entry() -> &'static Entry {
+    &ENTRY
+}
 
 /// Runs the trace that the options name on one thread, through the caches that they say, and writes the report, or a table over
 /// time where they ask for one. A log in the oracle-general format is read as it is run; then a line on `err` says how many of its

@@ -29,7 +29,7 @@ use std::io::Write;
 use std::time::Clock;
 
 /// The command.
-pub(crate) const ENTRY: Entry = Entry {
+static ENTRY: Entry = Entry {
     name: "size",
     about: "Finds the least flash of a range that reaches a hit ratio, by bisection, and prints each size tried",
     examples: "Examples:
@@ -40,6 +40,11 @@ pub(crate) const ENTRY: Entry = Entry {
     own: &SIZING,
     shared: &[],
 };
+
+/// The command.
+pub(crate) fn entry() -> &'static Entry {
+    &ENTRY
+}
 
 /// What is searched, and in which caches.
 const SIZING: [Argument; 20] = [

@@ -31,7 +31,7 @@ use std::thread::{Threads, available_parallelism};
 use std::time::Clock;
 
 /// The command.
-pub(crate) const ENTRY: Entry = Entry {
+static ENTRY: Entry = Entry {
     name: "sweep",
     about: "Runs a trace through every combination of some settings and prints a table, as CSV",
     examples: "Examples:
@@ -44,6 +44,11 @@ pub(crate) const ENTRY: Entry = Entry {
     own: &GRID,
     shared: &[],
 };
+
+/// The command.
+pub(crate) fn entry() -> &'static Entry {
+    &ENTRY
+}
 
 /// What a sweep varies, as lists, and what all its runs share.
 const GRID: [Argument; 28] = [

@@ -23,7 +23,7 @@ use std::thread::Threads;
 use std::time::Clock;
 
 /// The command.
-pub(crate) const ENTRY: Entry = Entry {
+static ENTRY: Entry = Entry {
     name: "warp",
     about: "Runs a trace on several threads, optimistically, and prints the report that serial prints",
     examples: "Examples:
@@ -36,6 +36,11 @@ executed and undone events, and messages through rings.",
     own: &ROUNDS,
     shared: &CACHES,
 };
+
+/// The command.
+pub(crate) fn entry() -> &'static Entry {
+    &ENTRY
+}
 
 /// The trace, how rounds share out their work, and how far they go.
 const ROUNDS: [Argument; 9] = [
