@@ -6,22 +6,40 @@ use std::fmt::{self, Display, Formatter, Write};
 /// Appends completions for bash.
 pub(crate) fn write_bash<W: Write>(text: &mut W) -> fmt::Result {
     text.write_str(BASH_BEGIN)?;
+    write_bash_names(text)?;
+    text.write_str(BASH_VALUES)?;
+    write_bash_choices(text)?;
+    text.write_str(BASH_OPTIONS)?;
+    write_bash_commands(text)?;
+    text.write_str(BASH_END)
+}
+
+/// Appends the names of commands.
+fn write_bash_names<W: Write>(text: &mut W) -> fmt::Result {
     for entry in entries() {
         write!(text, " {}", entry.name)?;
     }
-    text.write_str("'\n    else\n        case $command$previous in\n")?;
+    Ok(())
+}
+
+/// Appends, for each command, the words that its options may be.
+fn write_bash_choices<W: Write>(text: &mut W) -> fmt::Result {
     for entry in entries() {
         write_bash_values(text, entry.name, entry.own)?;
         write_bash_values(text, entry.name, entry.shared)?;
     }
-    text.write_str(BASH_MIDDLE)?;
+    Ok(())
+}
+
+/// Appends, for each command, the names of its options.
+fn write_bash_commands<W: Write>(text: &mut W) -> fmt::Result {
     for entry in entries() {
         write!(text, "            {}) words='--help", entry.name)?;
         write_bash_options(text, entry.own)?;
         write_bash_options(text, entry.shared)?;
         text.write_str("' ;;\n")?;
     }
-    text.write_str(BASH_END)
+    Ok(())
 }
 
 /// What completions for bash begin with, up to the names of commands.
@@ -31,8 +49,14 @@ const BASH_BEGIN: &str = "_ripqwarp() {
     if [ \"$COMP_CWORD\" -lt 2 ]; then
         words='--help --version help";
 
-/// What stands between the values and the names of options.
-const BASH_MIDDLE: &str = "        *)
+/// What stands between the names of commands and the words that options may be.
+const BASH_VALUES: &str = "'
+    else
+        case $command$previous in
+";
+
+/// What stands between the words that options may be and the names of options.
+const BASH_OPTIONS: &str = "        *)
             case $current in
             -*) ;;
             *) COMPREPLY=($(compgen -f -- \"$current\")); return ;;
