@@ -12,11 +12,13 @@ use Rattle.rw_vt.specs.declared.event.Event.{Event}
 use Rattle.rw_vt.specs.declared.model.Model.{Ghosts}
 use Rattle.rw_vt.specs.Rest.{AreLastStates, EndsAs, IsRestOf, MayCome}
 use Rattle.rw_vt.specs.System.{IsReady, rules, system}
-use Rattle.rw_vt.proofs.Laws.{Laws, lawful}
+use Rattle.rw_vt.proofs.Laws.{Laws, lawful, rules_lawful}
 use Rattle.rw_vt.proofs.Rest.{ends_chain, ends_itself, rest_empty}
 use Rattle.rw_pending.specs.Later.{IsLeastTime}
 use Rattle.rw_pending.proofs.Cited.{All-back, All-front}
+use Rattle.rw_serial.specs.Counts.{events_below}
 use Rattle.rw_serial.proofs.Onward.{rest_permuted}
+use Rattle.rw_serial.proofs.Permuted.{same_events}
 use Rattle.rw_world.specs.Calls.{Simulation, system_of}
 use Rattle.rw_rounds.specs.Segments.{IsSameSystem}
 use Rattle.rw_engine.specs.Segments.{GoesOn}
@@ -83,6 +85,9 @@ module _ {M S B U : Type 0} (model : Ghosts M S B U) (order : B → B → Orderi
   module _ (laws : Laws model order) where
     pub moved_ends : {m : M} {states last : List S} {events moved : List (Event B)} → IsReady model m states events → IsPermutation events moved → AreLastStates (system model order m states moved) last → AreLastStates (system model order m states events) last
     moved_ends {m} {states} {last} {events} {moved} ready parts = rest_permuted (system model order m states events) (lawful laws m states events ready) moved parts last
+
+    pub moved_counts : (m : M) (states : List S) {events moved : List (Event B)} → IsPermutation events moved → (t : Time) → events_below (system model order m states moved) t ≡ events_below (system model order m states events) t
+    moved_counts m states {events} {moved} parts t = sym (same_events (rules model order m) (rules_lawful laws m).exact states events moved parts t)
 
     -- a stretch takes some of the events that wait; the others, none of them before all that is final, wait with what it leaves
     pub goes_by_rest : {m m' : M} {states left : List S} {events rest events' : List (Event B)} {t until : Time} (taken kept : List (Event B)) → IsReady model m states events → IsPermutation events (taken ++ kept) → All (λ e. until ≤ e.time) kept → t ≤ until

@@ -1,6 +1,9 @@
 -- What rounds of one worker come to.
 use Rattle.std.specs.Prelude.{◌≡◌, ◌≤◌, ◌*◌}
 use Rattle.rw_vt.specs.Words.{Count}
+use Rattle.rw_vt.specs.Limits.{end_of_time}
+use Rattle.rw_vt.specs.System.{System}
+use Rattle.rw_serial.specs.Counts.{events_below}
 use Rattle.rw_rounds.specs.declared.plan.Plan.{Plan}
 use Rattle.rw_rounds.specs.declared.traffic.Traffic.{Traffic}
 use Rattle.rw_rounds.specs.declared.stop.Stop.{Stop}
@@ -20,6 +23,10 @@ pub record IsTrafficAlone (plan : Plan) (events : Count) (traffic : Traffic) : T
   pub executed : traffic.executed ≡ events
   pub undone : traffic.undone ≡ 0
   pub letters : (traffic.ring ≡ 0) × (traffic.kept ≡ 0)
+
+-- what rounds of one worker did that made the whole run of y
+abbrev pub IsTrafficOfRun : {S B : Type 0} → Plan → System S B → Traffic → Type 0
+IsTrafficOfRun plan y traffic = IsTrafficAlone plan (events_below y end_of_time) traffic
 
 -- what rounds of one worker may stop for: that rounds are used up or that there is no thread is no reason, and want of
 -- memory may come anywhere

@@ -16,6 +16,7 @@ use Rattle.rw_world.specs.WorldState.{opening_world}
 use Rattle.rw_world.specs.Steps.{answers, run}
 use Rattle.rw_world.specs.Calls.{MeetsAt, Simulation}
 use Rattle.rw_world.specs.Sound.{IsInOrder, Sound}
+use Rattle.rw_engine.specs.Alone.{IsTrafficOfRun}
 use Rattle.rw_engine.specs.Segments.{MayStopInRounds}
 use Rattle.rw_engine.specs.declared.how.How.{How}
 use Rattle.rw_engine.specs.declared.how.How.TheVariants.{InOrder, InRounds}
@@ -40,6 +41,12 @@ pub record IsSteppedTo {M S B U : Type 0} (model : Ghosts M S B U) (order : B �
       (opening_world (system model order m starts initial)) steps
   pub sound : Sound (system model order m starts initial) x.world
   pub in_order : IsInOrder (system model order m starts initial) x.world
+
+-- rounds of one worker tell what they did
+abbrev pub CountsAlone : {S B : Type 0} → System S B → How → Traffic → Type 0
+CountsAlone y InOrder traffic = Unit {0}
+CountsAlone y (InRounds plan) traffic =
+    plan.workers ≡ 1 → IsTrafficOfRun plan y traffic
 
 -- the run is in rounds by a plan of which some field is out of its range
 abbrev pub IsByBadPlan : How → Type 0

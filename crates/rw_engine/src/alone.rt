@@ -76,7 +76,7 @@ pub fn run_alone_from<M: Model, S: Source<M::Body>>(
 }
 
 /// Refuses a plan of which a field is out of its range.
-fn check(plan: &Plan) -> Result<(), Stop>
+pub(crate) fn check(plan: &Plan) -> Result<(), Stop>
     ensures ok { OnOk result (IsInRanges plan.now) }
     ensures plan { IfErr result (λ stop. (stop ≡ BadPlan) × (IsInRanges plan.now → ⊥)) }
 {

@@ -1,11 +1,11 @@
-ghost use Rattle.std.specs.Prelude.{◌≡◌, IfOk, OnErr, OnOk};
+ghost use Rattle.std.specs.Prelude.{◌≡◌, ◌↔◌, Err, IfErr, IfOk, OnErr, OnOk};
 ghost use Rattle.rw_vt.specs.Limits.{end_of_time};
 ghost use Rattle.rw_vt.specs.declared.event.Event.{Event};
 ghost use Rattle.rw_vt.specs.System.{IsReady, system};
 ghost use Rattle.rw_models.specs.Committed.{executed_below};
 ghost use Rattle.rw_models.specs.Recorded.{states_of};
 ghost use Rattle.rw_engine.specs.Outputs.{TookEach};
-ghost use Rattle.rw_engine.specs.Runs.{AreLastStates, IsByBadPlan};
+ghost use Rattle.rw_engine.specs.Runs.{AreLastStates, IsByBadPlan, MayStopFor, no_traffic};
 
 use crate::how::How;
 use crate::running::run_in;
@@ -60,8 +60,13 @@ where
         (system M.Model M.Body.cmp start.model start.states.items start.initial.items)
         end_of_time) output.new) }
     ensures nothing { OnErr result (output.new ≡ output.old) }
-    ensures plan { result ≡ Err Stop.BadPlan → IsByBadPlan how }
+    ensures still { how ≡ How.InOrder → IfOk result (λ r. r.1 ≡ no_traffic) }
+    ensures plan { (result ≡ Err Stop.BadPlan) ↔ IsByBadPlan how }
+    ensures stops { IfErr result (MayStopFor
+        (system M.Model M.Body.cmp start.model start.states.items start.initial.items)
+        (M.is_exhausted start.model) how) }
 {
+    how.check()?;
     let Start {
         model,
         states,

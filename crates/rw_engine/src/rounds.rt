@@ -2,6 +2,7 @@ ghost use Rattle.std.specs.Prelude.{◌≡◌, ◌≢◌, ◌↔◌, [], true, E
 ghost use Rattle.rw_vt.specs.System.{IsReady, system};
 ghost use Rattle.rw_rounds.specs.Plans.{IsInRanges};
 ghost use Rattle.rw_rounds.specs.declared.stop.Stop.TheVariants.{BadPlan};
+ghost use Rattle.rw_engine.specs.Alone.{IsTrafficOfRun};
 ghost use Rattle.rw_engine.specs.Runs.{AreLastStates};
 ghost use Rattle.rw_engine.specs.Segments.{GoesOn, MayStopInRounds};
 
@@ -45,6 +46,8 @@ where
     requires ready { IsReady M.Model start.model start.states.items start.initial.items }
     ensures states { IfOk result (λ r. AreLastStates
         (system M.Model M.Body.cmp start.model start.states.items start.initial.items) r.0.items) }
+    ensures alone { plan.workers ≡ 1 → IfOk result (λ r. IsTrafficOfRun plan
+        (system M.Model M.Body.cmp start.model start.states.items start.initial.items) r.1) }
     ensures plan { (result ≡ Err BadPlan) ↔ (IsInRanges plan → ⊥) }
     ensures stops { IfErr result (MayStopInRounds
         (system M.Model M.Body.cmp start.model start.states.items start.initial.items)
@@ -88,7 +91,7 @@ where
 /// `BadPlan` exactly where a field of the plan is out of its range; else `Memory`, `Exhausted`, `RoundsUsed` or `NoThread`.
 /// `RoundsUsed` comes where the plan's rounds were made and there is no other way to choose: by a plan of one round, or of a model
 /// whose grain is 0 or 1. Nothing is handed back then. One worker stops as [`run_alone_from`] does, and so never for `RoundsUsed` or
-/// `NoThread`.
+/// `NoThread`, and it tells the same counts.
 pub fn run_in_rounds_from<M, S, P, R>(
     rt: &R,
     alloc: Global,
@@ -108,6 +111,8 @@ where
     ensures states { IfOk result (λ r. AreLastStates
         (system M.Model M.Body.cmp start.model start.states.items (S.left start.initial))
         r.0.items) }
+    ensures alone { plan.workers ≡ 1 → IfOk result (λ r. IsTrafficOfRun plan
+        (system M.Model M.Body.cmp start.model start.states.items (S.left start.initial)) r.1) }
     ensures plan { (result ≡ Err BadPlan) ↔ (IsInRanges plan → ⊥) }
     ensures stops { IfErr result (MayStopInRounds
         (system M.Model M.Body.cmp start.model start.states.items (S.left start.initial))

@@ -1,6 +1,6 @@
 ghost use Rattle.std.specs.Prelude.{◌≡◌, ◌↔◌, Err, IfErr, IfOk};
 ghost use Rattle.rw_vt.specs.System.{IsReady, system};
-ghost use Rattle.rw_engine.specs.Runs.{AreLastStates, IsByBadPlan, IsSteppedTo, MayStopBySteps, MayStopFor, MayStopInOrder, no_traffic};
+ghost use Rattle.rw_engine.specs.Runs.{AreLastStates, IsByBadPlan, CountsAlone, IsSteppedTo, MayStopBySteps, MayStopFor, MayStopInOrder, no_traffic};
 
 use crate::how::How;
 use crate::rounds::run_in_rounds;
@@ -45,6 +45,8 @@ where
     ensures states { IfOk result (λ r. AreLastStates
         (system M.Model M.Body.cmp start.model start.states.items start.initial.items) r.0.items) }
     ensures still { how ≡ How.InOrder → IfOk result (λ r. r.1 ≡ no_traffic) }
+    ensures alone { IfOk result (λ r. CountsAlone
+        (system M.Model M.Body.cmp start.model start.states.items start.initial.items) how r.1) }
     ensures plan { (result ≡ Err Stop.BadPlan) ↔ IsByBadPlan how }
     ensures stops { IfErr result (MayStopFor
         (system M.Model M.Body.cmp start.model start.states.items start.initial.items)

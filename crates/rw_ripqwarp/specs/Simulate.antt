@@ -14,6 +14,8 @@ use Rattle.rw_world.specs.Steps.{answers, run}
 use Rattle.rw_world.specs.Calls.{MeetsAt}
 use Rattle.rw_rounds.specs.Plans.{IsInRanges}
 use Rattle.rw_rounds.specs.declared.plan.Plan.{Plan}
+use Rattle.rw_rounds.specs.declared.traffic.Traffic.{Traffic}
+use Rattle.rw_engine.specs.Alone.{IsTrafficOfRun}
 use Rattle.rw_report.specs.Replay.{IsReportOf, IsExhaustingInOrder}
 use Rattle.rw_report.specs.Journal.{journal_text}
 use Rattle.rw_ripqwarp.specs.declared.mode.Mode.{Mode}
@@ -73,6 +75,14 @@ HasThreads _ = ⊥
 abbrev pub IsWarp : Mode → Type 0
 IsWarp (Warp plan) = Unit {0}
 IsWarp _ = ⊥
+
+-- rounds of one worker tell what they did: of the trace in these bytes, if it is accepted, each event was executed once
+abbrev pub CountsOneWorker : Mode → Config → Text → Traffic → Type 0
+CountsOneWorker (Warp plan) c bytes traffic =
+    plan.workers ≡ 1 → (rows : List Row)
+    → trace_of c.edges most_rows (records_of bytes) ≡ Ok rows
+    → IsTrafficOfRun plan (simulation c rows) traffic
+CountsOneWorker _ c bytes traffic = Unit {0}
 
 -- the trace is run in rounds by a plan of which some field is out of its range
 abbrev pub HasBadPlan : Mode → Type 0

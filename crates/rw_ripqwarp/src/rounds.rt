@@ -3,11 +3,12 @@ ghost use Rattle.rw_photo.specs.Cache.{is_exhausted};
 ghost use Rattle.rw_photo.specs.Simulation.{simulation};
 ghost use Rattle.rw_trace.specs.Laws.{IsRow};
 ghost use Rattle.rw_trace.specs.Limits.{most_rows};
+ghost use Rattle.rw_engine.specs.Alone.{IsTrafficOfRun};
 ghost use Rattle.rw_engine.specs.Runs.{AreLastStates};
 ghost use Rattle.rw_engine.specs.Segments.{MayStopInRounds};
 ghost use Rattle.rw_ripqwarp.specs.Faults.{sim_stop_of};
 ghost use Rattle.rw_report.specs.Replay.{IsReportOf};
-ghost use Rattle.rw_ripqwarp.specs.Simulate.{HasGoodPlan, IsRunFault};
+ghost use Rattle.rw_ripqwarp.specs.Simulate.{CountsOneWorker, HasGoodPlan, IsRunFault};
 
 use crate::mode::Mode;
 use rw_engine::{
@@ -35,6 +36,8 @@ pub(crate) fn rounds_text<P: Progress, R: Threads + Wait + Clock + Sync>(
     progress: &mut P,
 ) -> Result<(Vec<u8>, Traffic), SimFault>
     ensures text { IfOk result (λ r. IsReportOf config.now bytes.now r.0.items) }
+    ensures alone { IfOk result (λ r.
+        CountsOneWorker (Mode.Warp plan) config.now bytes.now r.1) }
     ensures in_range { OnOk result (HasGoodPlan (Mode.Warp plan)) }
     ensures fault { IfErr result (IsRunFault (Mode.Warp plan) config.now bytes.now) }
     ensures unwritten { IfErr result (λ e. e ≢ SimFault.Output) }
@@ -98,6 +101,8 @@ fn run_rows_in_rounds<P: Progress, R: Threads + Wait + Clock + Sync>(
     requires few { length parts.rows.now + length parts.others.now ≤ most_rows }
     ensures outcome { IfOk result (λ r. AreLastStates
         (simulation config.now (parts.entry.rows.now ++ parts.entry.others.now)) r.0.items) }
+    ensures alone { plan.workers ≡ 1 → IfOk result (λ r. IsTrafficOfRun plan
+        (simulation config.now (parts.entry.rows.now ++ parts.entry.others.now)) r.1) }
     ensures in_range { OnOk result (HasGoodPlan (Mode.Warp plan)) }
     ensures stops { IfErr result (MayStopInRounds
         (simulation config.now (parts.entry.rows.now ++ parts.entry.others.now))

@@ -2,7 +2,7 @@ ghost use Rattle.std.specs.Prelude.{◌≡◌, ◌≢◌, ◌↔◌, Err, IfOk, 
 ghost use Rattle.std.specs.Io.KnownBytes.{Appends};
 ghost use Rattle.rw_report.specs.Sink.{AppendsBeginning};
 ghost use Rattle.rw_engine.specs.Runs.{no_traffic};
-ghost use Rattle.rw_ripqwarp.specs.Simulate.{HasGoodPlan, IsRunFault, IsTextOf, IsWarp};
+ghost use Rattle.rw_ripqwarp.specs.Simulate.{CountsOneWorker, HasGoodPlan, IsRunFault, IsTextOf, IsWarp};
 ghost use Rattle.rw_ripqwarp.specs.Headline.{HasWritten, HasWrittenBeginning};
 
 use crate::mode::Mode;
@@ -19,7 +19,7 @@ use std::thread::Threads;
 use std::time::Clock;
 
 /// Runs a trace and writes its report, or its journal: what the mode says. Tells what the rounds of a run in mode `Warp`
-/// did; in the other modes all counts are 0, and no thread is started.
+/// did; in the other modes all counts are 0, and no thread is started. One worker executes each event once and undoes none.
 ///
 /// The report of a run in rounds is the one that the run on one thread has: [`one_report`](crate::one_report).
 ///
@@ -37,6 +37,7 @@ pub fn simulate<W: Write, R: Threads + Wait + Clock + Sync>(
     ensures report { OnOk result (HasWritten mode config.now bytes.now
         (W.contents out.old.writer) (W.contents out.new.writer)) }
     ensures still { IfOk result (λ traffic. (IsWarp mode → ⊥) → traffic ≡ no_traffic) }
+    ensures alone { IfOk result (CountsOneWorker mode config.now bytes.now) }
     ensures in_range { OnOk result (HasGoodPlan mode) }
     ensures fault { IfErr result (IsRunFault mode config.now bytes.now) }
     ensures output { (result ≡ Err SimFault.Output) ↔ (out.new.failures ≢ out.old.failures) }
@@ -76,6 +77,8 @@ pub fn simulate_with_progress<W: Write, P: Progress, R: Threads + Wait + Clock +
     ensures report { OnOk result (HasWritten run.entry.mode run.entry.config.now run.entry.bytes.now
         (W.contents out.old.writer) (W.contents out.new.writer)) }
     ensures still { IfOk result (λ traffic. (IsWarp run.entry.mode → ⊥) → traffic ≡ no_traffic) }
+    ensures alone { IfOk result
+        (CountsOneWorker run.entry.mode run.entry.config.now run.entry.bytes.now) }
     ensures in_range { OnOk result (HasGoodPlan run.entry.mode) }
     ensures fault { IfErr result
         (IsRunFault run.entry.mode run.entry.config.now run.entry.bytes.now) }
@@ -104,6 +107,8 @@ fn text_of<P: Progress, R: Threads + Wait + Clock + Sync>(
     ensures text { IfOk result (λ r.
         IsTextOf run.entry.mode run.entry.config.now run.entry.bytes.now r.0.items) }
     ensures still { IfOk result (λ r. (IsWarp run.entry.mode → ⊥) → r.1 ≡ no_traffic) }
+    ensures alone { IfOk result (λ r.
+        CountsOneWorker run.entry.mode run.entry.config.now run.entry.bytes.now r.1) }
     ensures in_range { OnOk result (HasGoodPlan run.entry.mode) }
     ensures fault { IfErr result
         (IsRunFault run.entry.mode run.entry.config.now run.entry.bytes.now) }

@@ -13,3 +13,6 @@ returns-then-plan-eq1-clause-states g c = c.run_alone_from.ensures.states
 
 pub returns-then-plan-eq1-clause-plan : goal.returns-then-plan-eq1-clause-plan
 returns-then-plan-eq1-clause-plan g c = c.run_alone_from.ensures.plan
+
+pub returns-then-plan-eq1-clause-alone : goal.returns-then-plan-eq1-clause-alone
+returns-then-plan-eq1-clause-alone g c one = c.run_alone_from.ensures.traffic

@@ -7,6 +7,7 @@ use Rattle.rw_trace.specs.declared.Row.{Row}
 use Rattle.rw_trace.specs.Trace.{trace_of}
 use Rattle.rw_trace.specs.Unread.{records_of}
 use Rattle.rw_report.specs.declared.sim_fault.SimFault.TheVariants as sim
+use Rattle.rw_engine.specs.Alone.{IsTrafficOfRun}
 use Rattle.rw_engine.specs.Segments.{MayStopInRounds}
 use Rattle.rw_photo.specs.Cache.{Cache, is_exhausted}
 use Rattle.rw_photo.specs.Simulation.{simulation}
@@ -74,3 +75,18 @@ returns-in_err-text-in-Ok-clause-unwritten g c = handed-on c.from_residual-in_er
 
 pub returns-in-Ok-clause-in_range : goal.returns-in-Ok-clause-in_range
 returns-in-Ok-clause-in_range g c = c.in-Ok.ensures.in_range
+
+pub returns-in-Ok-clause-alone : goal.returns-in-Ok-clause-alone
+returns-in-Ok-clause-alone g c one told accepted =
+    let rows : List Row = c.in_ok-rows.rows.items ++ c.in_ok-rows.others.items in
+    let both : c.as_slice.result.now ++ c.as_slice-2.result.now ≡ rows =
+    ap (λ l. l ++ c.as_slice-2.result.now) c.as_slice.ensures.value ∙ ap (λ l. c.in_ok-rows.rows.items ++ l) c.as_slice-2.ensures.value in
+    let these = subst (λ n. trace_of n (2 ^ 24) (records_of c.args.bytes.now) ≡ Ok rows) c.edges.ensures c.in_ok-rows.ensures.rows in
+    let same : rows ≡ told = cc in
+    subst (λ rs. IsTrafficOfRun c.args.plan (simulation c.args.config.now rs) c.in-Ok.traffic) (both ∙ same) (c.in-Ok.ensures.alone one)
+
+pub returns-in_err-rows-clause-alone : goal.returns-in_err-rows-clause-alone
+returns-in_err-rows-clause-alone g c = IfOk-from_err c.from_residual.result _ c.from_residual.ensures.0
+
+pub returns-in_err-text-in-Ok-clause-alone : goal.returns-in_err-text-in-Ok-clause-alone
+returns-in_err-text-in-Ok-clause-alone g c = IfOk-from_err c.from_residual-in_err-text-in-Ok.result _ c.from_residual-in_err-text-in-Ok.ensures.0

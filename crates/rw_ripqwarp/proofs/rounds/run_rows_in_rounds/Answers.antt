@@ -9,6 +9,7 @@ use Rattle.rw_vt.specs.System.{System, map_from}
 use Rattle.rw_photo.specs.declared.body.Body.{Body}
 use Rattle.rw_photo.specs.Events.{event_of}
 use Rattle.rw_rounds.specs.declared.stop.Stop.TheVariants as stop
+use Rattle.rw_engine.specs.Alone.{IsTrafficOfRun}
 use Rattle.rw_engine.specs.Runs.{AreLastStates}
 use Rattle.rw_engine.specs.Segments.{MayStopInRounds}
 use Rattle.rw_engine.proofs.Stopping.{alone_in_rounds}
@@ -134,3 +135,38 @@ returns-clause-stops g c =
     subst (λ (y : System Cache Body). IfErr c.run_in_rounds_from.result (MayStopInRounds y is_exhausted c.args.plan))
     (runs-rows c.args.config.now c.new-photo.result (c.args.parts.rows.now ++ c.args.parts.others.now) c.in_ok-starts-2.starts.items c.in-Some.source c.new-photo.ensures (c.in_ok-starts-2.ensures.states ∙ ap starts_of c.new-photo.ensures) c.in-Some.ensures.events)
     c.run_in_rounds_from.ensures.stops
+
+pub returns-in_default-clause-alone : goal.returns-in_default-clause-alone
+returns-in_default-clause-alone g c one =
+    let made = c.in_ok-starts.ensures in
+    let all = c.as_slice.ensures.value ∙ c.in_ok-rows.ensures in
+    subst (λ (y : System Cache Body). IfOk c.run_in_rounds.result (λ r. IsTrafficOfRun c.args.plan y r.1))
+    (runs-rows c.args.config.now c.new-photo.result (c.args.parts.rows.now ++ c.args.parts.others.now) c.in_ok-starts.starts.items c.in_ok-starts.initial.items c.new-photo.ensures made.starts (made.initial ∙ ap (map_from 0 event_of) all)) (c.run_in_rounds.ensures.alone one)
+
+pub returns-then-alone-clause-alone : goal.returns-then-alone-clause-alone
+returns-then-alone-clause-alone g c one =
+    let made = c.in_ok-starts.ensures in
+    let all = c.as_slice.ensures.value ∙ c.in_ok-rows.ensures in
+    subst (λ (y : System Cache Body). IfOk c.run_alone.result (λ r. IsTrafficOfRun c.args.plan y r.1))
+    (runs-rows c.args.config.now c.new-photo.result (c.args.parts.rows.now ++ c.args.parts.others.now) c.in_ok-starts.starts.items c.in_ok-starts.initial.items c.new-photo.ensures made.starts (made.initial ∙ ap (map_from 0 event_of) all)) c.run_alone.ensures.traffic
+
+pub returns-then-alone-2-clause-alone : goal.returns-then-alone-2-clause-alone
+returns-then-alone-2-clause-alone g c one =
+    subst (λ (y : System Cache Body). IfOk c.run_alone_from.result (λ r. IsTrafficOfRun c.args.plan y r.1))
+    (runs-rows c.args.config.now c.new-photo.result (c.args.parts.rows.now ++ c.args.parts.others.now) c.in_ok-starts-2.starts.items c.in-Some.source c.new-photo.ensures (c.in_ok-starts-2.ensures.states ∙ ap starts_of c.new-photo.ensures) c.in-Some.ensures.events)
+    c.run_alone_from.ensures.traffic
+
+pub returns-clause-alone : goal.returns-clause-alone
+returns-clause-alone g c one =
+    subst (λ (y : System Cache Body). IfOk c.run_in_rounds_from.result (λ r. IsTrafficOfRun c.args.plan y r.1))
+    (runs-rows c.args.config.now c.new-photo.result (c.args.parts.rows.now ++ c.args.parts.others.now) c.in_ok-starts-2.starts.items c.in-Some.source c.new-photo.ensures (c.in_ok-starts-2.ensures.states ∙ ap starts_of c.new-photo.ensures) c.in-Some.ensures.events)
+    (c.run_in_rounds_from.ensures.alone one)
+
+pub returns-in_err-rows-clause-alone : goal.returns-in_err-rows-clause-alone
+returns-in_err-rows-clause-alone g c one = IfOk-from_err c.from_residual.result _ c.from_residual.ensures.0
+
+pub returns-in_err-starts-clause-alone : goal.returns-in_err-starts-clause-alone
+returns-in_err-starts-clause-alone g c one = IfOk-from_err c.from_residual-in_err-starts.result _ c.from_residual-in_err-starts.ensures.0
+
+pub returns-in_err-starts-2-clause-alone : goal.returns-in_err-starts-2-clause-alone
+returns-in_err-starts-2-clause-alone g c one = IfOk-from_err c.from_residual-in_err-starts-2.result _ c.from_residual-in_err-starts-2.ensures.0
