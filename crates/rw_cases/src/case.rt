@@ -1,3 +1,4 @@
+use crate::given::Given;
 use crate::run::Run;
 use anyhow::Result;
 use serde_json::Value;
@@ -34,7 +35,11 @@ impl Case {
         alloc: Global,
     ) -> Result<bool, AllocError> {
         let words = self.words(alloc)?;
-        let run = Run::of(rt, alloc, words, self.text("stdin").as_bytes());
+        let given = Given {
+            bytes: self.text("stdin").as_bytes(),
+            files: self.value.get("files"),
+        };
+        let run = Run::of(rt, alloc, words, given);
         Ok(self.expects(&run))
     }
 
@@ -45,9 +50,20 @@ impl Case {
             Some(text) => run.err.as_slice() == text.as_bytes(),
             None => true,
         };
-        status == Some(u64::from(run.status))
-            && run.out.as_slice() == self.text("stdout").as_bytes()
-            && same_err
+        status == Some(u64::from(run.status)) && self.has_written(run.out.as_slice()) && same_err
+    }
+
+    /// Whether this is what the case says of the output: the whole of it, or some texts that stand in it.
+    fn has_written(&self, out: &[u8]) -> bool {
+        let Some(texts) = self.value.get("holds").and_then(Value::as_array) else {
+            return out == self.text("stdout").as_bytes();
+        };
+        let Ok(out) = str::from_utf8(out) else {
+            return false;
+        };
+        texts
+            .iter()
+            .all(|text| out.contains(text.as_str().unwrap_or("")))
     }
 
     /// The program's words, its name first.

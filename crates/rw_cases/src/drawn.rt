@@ -1,4 +1,5 @@
 //! Drawn runs: a trace and the options of its caches come from a seed, and it is run by several workers and on one thread.
+use crate::given::Given;
 use crate::run::Run;
 use crate::tally::Tally;
 use std::alloc::{AllocError, Global};
@@ -135,7 +136,11 @@ impl Drawn {
         command: &str,
     ) -> Result<Run, AllocError> {
         let words = self.words(alloc, command)?;
-        Ok(Run::of(rt, alloc, words, self.trace.as_bytes()))
+        let given = Given {
+            bytes: self.trace.as_bytes(),
+            files: None,
+        };
+        Ok(Run::of(rt, alloc, words, given))
     }
 
     /// The program's words, its name first.

@@ -1,15 +1,15 @@
 #![tactic(auto)]
-//! Runs the cases of `cases.jsonl` through the program's command, with input and output in memory, and
-//! compares output and exit status with the case. Prints each case that differs and the number of cases
-//! that agree.
+//! Runs the cases of `cases.jsonl`, and then those of `options.jsonl`, through the program's command, with input and output
+//! in memory, and compares output and exit status with the case. Prints each case that differs and the number of cases that
+//! agree. In `options.jsonl` each option of each command decides what some case expects: `checks/options` tells which.
 //!
 //! Then runs random traces through random caches with several workers, under several plans, and
 //! compares each report with that of the sequential run. Some traces are short; in the long ones
 //! workers roll back or run in windows. Prints how many agree.
 //!
 //! A case is a line with its name, the program's arguments (`args`), the bytes of standard input
-//! (`stdin`), all of standard output (`stdout`), the exit status and, where it is fixed, standard error
-//! (`stderr`).
+//! (`stdin`), texts by the names of their files (`files`), all of standard output (`stdout`) or texts that stand in it
+//! (`holds`), the exit status and, where it is fixed, standard error (`stderr`).
 
 mod case;
 mod drawn;
@@ -36,8 +36,14 @@ const LONG: u64 = 6;
 fn main(rt: HostRuntime) -> Result<()> {
     let alloc = rt.alloc();
     let text = fs::read_to_string(&rt, "cases.jsonl").context("reading cases.jsonl")?;
-    let stored = stored(&rt, alloc, &text)?;
-    println!(rt; "{} agree, {} differ", stored.agree, stored.differ)?;
+    let cases = stored(&rt, alloc, &text)?;
+    println!(rt; "{} agree, {} differ", cases.agree, cases.differ)?;
+    let text = fs::read_to_string(&rt, "options.jsonl").context("reading options.jsonl")?;
+    let options = stored(&rt, alloc, &text)?;
+    println!(rt;
+        "{} runs of options agree, {} differ",
+        options.agree, options.differ
+    )?;
     let short = drawn::compare_short(&rt, alloc, SHORT)?;
     println!(rt; "{} drawn runs agree, {} differ", short.agree, short.differ)?;
     let long = drawn::compare_long(&rt, alloc, LONG)?;

@@ -15,14 +15,14 @@ pub struct Run {
 }
 
 impl Run {
-    /// Runs the program with these words, its name first, and these bytes on standard input.
+    /// Runs the program with these words, its name first, on what is given.
     pub fn of<R: Threads + Wait + Clock + RandomSource + Sync>(
         rt: &R,
         alloc: Global,
         words: Vec<String>,
-        bytes: &[u8],
+        given: Given<'_>,
     ) -> Run {
-        let mut given = Given { bytes };
+        let mut given = given;
         let mut out = Out::new(Vec::new(alloc));
         let mut err = Vec::new(alloc);
         let status = command(rt, alloc, words, &mut given, &mut out, &mut err);
