@@ -124,41 +124,6 @@ pub(crate) fn is_answer(answered: Option<(u8, usize)>, (status, written): (u8, u
     matches!(answered, Some((ended, bytes)) if ended == status && bytes == written)
 }
 
-/// Runs in rounds, each with what it tells of them.
-const IN_ROUNDS: [(&str, &[u8], &str); 4] = [
-    (
-        "ripqwarp warp - --policy off",
-        b"time,edge,object,size\n",
-        "traffic rounds 1 executed 0 undone 0 ring 0 kept 0\n",
-    ),
-    (
-        "ripqwarp warp - --policy off --workers 1",
-        TRACE,
-        "traffic rounds 1 executed 3 undone 0 ring 0 kept 0\n",
-    ),
-    (
-        "ripqwarp warp - --policy off --workers 1 --turns 3 --batch 1",
-        TRACE,
-        "traffic rounds 1 executed 3 undone 0 ring 0 kept 0\n",
-    ),
-    (
-        "ripqwarp warp - --policy off --workers 1 --turns 1 --batch 1",
-        TRACE,
-        "traffic rounds 3 executed 3 undone 0 ring 0 kept 0\n",
-    ),
-];
-
-#[test]
-fn a_run_in_rounds_tells_what_they_did(rt: HostRuntime) {
-    let alloc = rt.alloc();
-    for (words, trace, told) in &IN_ROUNDS {
-        assert!(rt;
-            is_answered(&rt, alloc, words, trace, (0, 409), told),
-            "for {words}"
-        );
-    }
-}
-
 /// Sweeps over lists with an item that is none, each with what is told of it.
 const NO_LISTS: [(&str, &str); 5] = [
     (
@@ -221,56 +186,6 @@ fn a_plot_of_what_edges_never_ask_is_told(rt: HostRuntime) {
 
 /// A log of two rows, of which the second is half a unit behind the first.
 const LOG: &[u8] = b"10,a,5\n10.5,b,6\n";
-
-/// Imports of it as it is read, each with its exit status, the bytes that are written and what is told of it.
-const STREAMED: [(&str, (u8, usize), &str); 7] = [
-    (
-        "ripqwarp import --stream --time 0 --object 1 --size 2 -",
-        (0, 40),
-        "import kept 2 clamped 0 left out: length 0 time 0 edge 0 object 0 size 0 kind 0\n",
-    ),
-    (
-        "ripqwarp import --stream --epoch 10.25 --max-left-out 50 --time 0 --object 1 --size 2 -",
-        (0, 32),
-        "import kept 1 clamped 0 left out: length 0 time 1 edge 0 object 0 size 0 kind 0\n",
-    ),
-    (
-        "ripqwarp import --stream --strict --time 0 --object 1 --size 0 -",
-        (3, 0),
-        "log: row 1 column 0: size\n",
-    ),
-    (
-        "ripqwarp import --stream --epoch x --time 0 --object 1 --size 2 -",
-        (2, 0),
-        "error: invalid value 'x' for '--epoch': a time as the log has them, with up to 9 decimals\n",
-    ),
-    (
-        "ripqwarp import --epoch 10 --time 0 --object 1 --size 2 -",
-        (2, 0),
-        "error: --epoch: only with --stream\n",
-    ),
-    (
-        "ripqwarp import --stream nothing",
-        (4, 0),
-        "file: cannot read\n",
-    ),
-    (
-        "ripqwarp import --stream -",
-        (3, 0),
-        "log: no column time\n",
-    ),
-];
-
-#[test]
-fn a_log_is_imported_as_it_is_read(rt: HostRuntime) {
-    let alloc = rt.alloc();
-    for (words, answer, told) in &STREAMED {
-        assert!(rt;
-            is_answered(&rt, alloc, words, LOG, *answer, told),
-            "for {words}"
-        );
-    }
-}
 
 /// Two requests of 4 bytes each. Each misses at the edge, and 3 ticks later at the origin; its answer comes 13 ticks after that, and
 /// nothing is stored.

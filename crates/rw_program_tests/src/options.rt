@@ -14,8 +14,8 @@ const UNITS: [(&str, &str); 9] = [
         "ripqwarp serial - --policy lru --block 1024",
     ),
     (
-        "ripqwarp serial - --policy lru --block 2MiB --edge-flash 4M --origin-flash 1G",
-        "ripqwarp serial - --policy lru --block 2097152 --edge-blocks 2 --origin-blocks 512",
+        "ripqwarp sweep - --policy lru --block 2MiB --edge-flash 4M --origin-flash 1G",
+        "ripqwarp sweep - --policy lru --block 2097152 --edge-blocks 2 --origin-blocks 512",
     ),
     (
         "ripqwarp warp - --policy lru --block 10 --edge-flash 30",
@@ -30,8 +30,8 @@ const UNITS: [(&str, &str); 9] = [
         "ripqwarp serial - --warm-up 60",
     ),
     (
-        "ripqwarp serial - --ticks-a-second 1 --up 2s --down 1m --back 1h",
-        "ripqwarp serial - --up 2 --down 60 --back 3600",
+        "ripqwarp sweep - --ticks-a-second 1 --up 2s --down 1m --back 1h",
+        "ripqwarp sweep - --ticks-a-second 1 --up 2 --down 60 --back 3600",
     ),
     (
         "ripqwarp sweep - --block 1K..4Kx2 --edge-blocks 8",
@@ -195,12 +195,12 @@ fn on_terminal<R: Threads + Wait + Clock + RandomSource + Sync>(
 /// Command lines with a file of options, each with one that says the same without.
 const STUDIES: [(&str, &str); 4] = [
     (
-        "ripqwarp serial --options study",
-        "ripqwarp serial --policy lru --block 10 --edge-blocks 3 --quiet trace",
+        "ripqwarp serial --options study --format csv",
+        "ripqwarp serial --policy lru --block 10 --edge-blocks 3 --quiet --format csv trace",
     ),
     (
-        "ripqwarp serial --block=20 --options=study --edge-flash 40",
-        "ripqwarp serial --policy lru --block 20 --edge-blocks 2 --quiet trace",
+        "ripqwarp sweep --block=20 --options=study --edge-flash 40",
+        "ripqwarp sweep --policy lru --block 20 --edge-blocks 2 --quiet trace",
     ),
     (
         "ripqwarp serial --quiet --policy off --options study --every 50",
@@ -221,6 +221,37 @@ fn a_file_says_options(rt: HostRuntime) -> Result<(), AllocError> {
         assert!(rt; status == 0 && expected_status == 0, "for {with}");
         assert!(rt; written.as_slice() == expected.as_slice(), "for {with}");
         assert!(rt; told.as_slice() == expected_told.as_slice(), "for {with}");
+    }
+    Ok(())
+}
+
+/// Command lines that ask for quiet, each with what is told on a terminal.
+const QUIET: [(&str, &str); 5] = [
+    ("ripqwarp serial --quiet --policy off --stream trace", ""),
+    (
+        "ripqwarp warp --quiet --policy off --workers 1 trace",
+        "traffic rounds 1 executed 6 undone 0 ring 0 kept 0\n",
+    ),
+    (
+        "ripqwarp import --quiet trace",
+        "import kept 2 clamped 0 left out: length 0 time 0 edge 0 object 0 size 0 kind 0\n",
+    ),
+    ("ripqwarp sweep --quiet --policy off trace", ""),
+    (
+        "ripqwarp size --quiet --policy off --target 0 --edge-blocks 1..2 trace",
+        "",
+    ),
+];
+
+#[test]
+fn quiet_shows_no_progress(rt: HostRuntime) -> Result<(), AllocError> {
+    let alloc = rt.alloc();
+    for (words, told) in &QUIET {
+        let (status, _, said) = on_terminal(&rt, alloc, words)?;
+        assert!(rt;
+            status == 0 && said.as_slice() == told.as_bytes(),
+            "for {words}"
+        );
     }
     Ok(())
 }
