@@ -1,10 +1,12 @@
 -- Where columns stand, and what is known of them.
-use Rattle.std.proofs.Common.{◌≡◌, ◌≢◌, ℕ, Bool, Option, Some, None, Result, Ok, Err, refl, sym, ap, ◌∙◌}
-use Rattle.std.specs.Prelude.{IfErr, false, is_some}
+use Rattle.std.proofs.Common.{◌≡◌, ◌≢◌, ℕ, Bool, List, Option, Some, None, Result, Ok, Err, true, inr, refl, sym, ap, ◌∙◌}
+use Rattle.std.specs.Prelude.{IfErr, IfSome, false, is_some, option_map}
 use Rattle.std.specs.List.{position}
 use Rattle.std.specs.Option.{ok_or}
-use Rattle.rw_trace.specs.Words.{Fields}
-use Rattle.rw_import.specs.Csv.{◌>>=◌, edges_named, edges_of, is_same_text, place_if, place_in, places_in}
+use Rattle.rw_trace.specs.Pieces.{GivesNone}
+use Rattle.rw_trace.specs.Words.{Fields, Text}
+use Rattle.rw_import.specs.Csv.{◌>>=◌, columns_found, edges_named, edges_of, has_header, is_same_text, log_records, place_if, place_in, places_in}
+use Rattle.rw_import.specs.CsvStream.{IsColumnsFault}
 use Rattle.rw_import.specs.Streamed.{IsOfLog}
 use Rattle.rw_import.specs.declared.fault.ImportFault.{ImportFault}
 use Rattle.rw_import.specs.declared.fault.ImportFault.TheVariants as fault
@@ -133,3 +135,15 @@ kind-missing (Some column) e = absurd (cc e)
 
 pub kinds-behind : (header : Fields) (l : Layout) (p : Places) → places_in header l ≡ Ok p → is_some l.kind ≡ false → p.kind ≡ None
 kinds-behind header l p is off = kind-found header l p is (kind-missing l.kind off)
+
+-- where the header has to name columns, a log with no record has none
+pub header-missing : (l : Layout) (ahead : Option (List Fields)) → GivesNone ahead → has_header l ≡ true → IfSome ahead (λ records. IsColumnsFault l records fault.Header)
+unfolding columns_found
+header-missing l None none named = tt
+header-missing l (Some records) none named = inr (rw (none, named) refl)
+
+-- a fault of the records is one of the bytes that they are read from
+pub fault-of-bytes : (l : Layout) (known : Option Text) (e : ImportFault) → IfSome (option_map (log_records l) known) (λ records. IsColumnsFault l records e)
+    → IfSome known (λ bytes. IsColumnsFault l (log_records l bytes) e)
+fault-of-bytes l None e h = tt
+fault-of-bytes l (Some bytes) e h = h

@@ -87,3 +87,8 @@ module _ {M S B U : Type 0} (model : Ghosts M S B U) (order : B → B → Orderi
     pub held_balance : (u : Option (Undone B)) (a : Answer) → TookBack model (event_cmp order) x z u → IsPendingAgain (event_cmp order) u ps a qs → ks ≡ hs ++ held_by u → Balance (rules model order x.model) x.number (process_of x ps ds hs).process (process_of z qs ds ks).process [] []
     held_balance None a back again more = unchanged (rules model order x.model) o x.number (process_of x ps ds hs).process (process_of z qs ds ks).process (as_before a ks back again (more ∙ append-nil hs))
     held_balance (Some u) a back again more = lazy_undoing_balanced (rules model order x.model) o x.number (process_of x ps ds hs).process (process_of z qs ds ks).process z.processed u.event back.last (as_undone_lazily u a back again more)
+
+-- what takes an event back leaves the process of that model and number
+pub same_back : {M S B U : Type 0} (model : Ghosts M S B U) (cmp : Event B → Event B → Ordering) (x z : HistoryState M S B) (undone : Option (Undone B)) → TookBack model cmp x z undone → (z.model ≡ x.model) × (z.number ≡ x.number)
+same_back model cmp x z None back = (ap (λ h. h.model) back.1, ap (λ h. h.number) back.1)
+same_back model cmp x z (Some u) back = (ap (λ h. h.model) back.rest, ap (λ h. h.number) back.rest)

@@ -2,6 +2,8 @@
 use Rattle.std.proofs.Common.{◌≡◌, Result, Ok, Err, sym, subst}
 use Rattle.std.specs.Prelude.{IfOk, OnOk}
 use Rattle.std.specs.Result.{IfErr, IsErrAnd}
+use Rattle.rw_vt.specs.declared.refusal.Refusal.{Refusal}
+use Rattle.rw_vt.specs.declared.refusal.Refusal.TheVariants.{Exhausted, Memory}
 
 -- what holds of an error holds where that one was handed on
 pub handed-on : {T E : Type 0} (r : Result T E) (e : E) (P : E → Type 0) → IsErrAnd r (λ y. y ≡ e) → P e → IfErr r P
@@ -21,3 +23,8 @@ if_err_weaker (Err e) P Q f p = f e p
 pub any_ok : {T E : Type 0} (r : Result T E) (P : Type 0) → P → OnOk r P
 any_ok (Ok t) P p = p
 any_ok (Err e) P p = tt
+
+-- where memory was refused, no cache was exhausted
+pub only_memory : {T : Type 0} (r : Result T Refusal) (P : Type 0) → IsErrAnd r (λ e. e ≡ Memory) → IfErr r (λ e. e ≡ Exhausted → P)
+only_memory (Ok t) P is = tt
+only_memory (Err e) P is = λ same. absurd (cc)

@@ -3,7 +3,7 @@ use Rattle.std.proofs.Common.{◌≡◌, ◌<◌, ◌≤◌, ◌+◌, ◌-◌, �
 use native.Mathlib.Numerals.{unary_clauses}
 use Rattle.std.specs.List.{Any}
 use Rattle.std.proofs.lemmas.List.{get_or_append_left, length_push}
-use Rattle.std.proofs.lemmas.List.Elements.{All-push}
+use Rattle.std.proofs.lemmas.List.Elements.{All-nil, All-push}
 use Rattle.std.proofs.lemmas.List.Quantifiers.{Any-push}
 use Rattle.rw_trace.specs.declared.Row.{Row}
 use Rattle.rw_photo.specs.declared.config.Config.{Config}
@@ -38,6 +38,11 @@ tried-now s rows n b old new h =
 pub all-tries : (s : Search) (rows : List Row) (n : ℕ) (b : Bool) (old new : List Try) → AddsTry s rows n b old new → All (IsTryOf s rows) old → All (IsTryOf s rows) new
 all-tries s rows n b old new h all =
     subst (λ ts. All (IsTryOf s rows) ts) (sym h.after_is) (All-push (IsTryOf s rows) old h.added all h.is_try)
+
+-- the first try is one of them
+pub first-try : (s : Search) (rows : List Row) (n : ℕ) (b : Bool) (old new : List Try) → old ≡ [] → AddsTry s rows n b old new → All (IsTryOf s rows) new
+first-try s rows n b old new none h =
+    all-tries s rows n b old new h (subst (All (IsTryOf s rows)) (sym none) (All-nil (IsTryOf s rows)))
 
 -- there is one more
 pub one-more : (s : Search) (rows : List Row) (n : ℕ) (b : Bool) (old new : List Try) → AddsTry s rows n b old new → length new ≡ length old + 1

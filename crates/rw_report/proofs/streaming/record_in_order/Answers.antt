@@ -102,3 +102,15 @@ returns-clause-exhausted g c =
     if_err_weaker c.finish.result _ _
     (λ e met is. subst (λ (x : Config). Meets (simulation x c.args.rows.now) end_of_time is_exhausted) inv.3 (subst (λ rs. Meets (simulation r.run.config rs) end_of_time is_exhausted) (sym whole) (met is inv.0 inv.2)))
     c.finish.ensures.exhausted
+
+pub feed-requires-clause-few : goal.feed-requires-clause-few
+feed-requires-clause-few g c =
+    let inv = c.pieces.invariant in
+    let piece : List Row = c.split_at.result.0.now in
+    let later : List Row = c.split_at.result.1.now in
+    let both : piece ++ later ≡ c.pieces.rest.now = (λ i. c.split_at.ensures.front i ++ c.split_at.ensures.back i) ∙ take-append-drop _ c.pieces.rest.now in
+    let whole = ap length inv.1 ∙ length-append inv.0 c.pieces.rest.now in
+    let parts = ap length (sym both) ∙ length-append piece later in
+    let taken = inv.2.run.taken in
+    let few = c.requires.few in
+    omega (arith, whole, parts, taken, few)

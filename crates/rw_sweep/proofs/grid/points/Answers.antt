@@ -35,3 +35,6 @@ returns-clause-in_range c =
     let choices : List Choice = c.args.choices.now in
     let all : take c.loop-choice.choice-index choices ≡ choices = take_all c.loop-choice.choice-index choices c.loop-choice-test.false in
     All-same IsInGridRanges choices _ (sym (c.loop-choice.invariant.choices ∙ all)) (choices-in-range a c.loop-choice.points.items c.loop-choice.invariant.each)
+
+pub returns-clause-choices : goal.returns-clause-choices
+returns-clause-choices c = c.loop-choice.invariant.choices ∙ take_all c.loop-choice.choice-index c.args.choices.now c.loop-choice-test.false

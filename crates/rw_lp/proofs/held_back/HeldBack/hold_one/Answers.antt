@@ -1,4 +1,4 @@
-use Rattle.std.proofs.Common.{◌≡◌, ◌∷◌, [], length, take, arith, sym, ap, ◌∙◌, subst}
+use Rattle.std.proofs.Common.{◌≡◌, ◌++◌, ◌∷◌, [], length, take, arith, sym, ap, ◌∙◌, subst}
 use Rattle.std.proofs.lemmas.List.{take-append-le, take_all}
 use Rattle.std.specs.Prelude.{All}
 use Rattle.rw_vt.specs.Order.{event_cmp, copies, AtMost}
@@ -31,3 +31,14 @@ invariant_of-self-in_default g c =
       subst (AreFalling cmp) (sym c.in_ok-push.ensures.items) (falling_more o c.args.event (c.args.message ∷ []) hs c.self.invariant.0 last),
       counted_put o c.self.inside.messages c.put.new.self hs c.push.new.self.items (record { undone = c.args.event; message = c.args.message }) c.self.invariant.1 c.in_default.ensures.ok c.in_ok-push.ensures.items,
     )
+
+pub invariant_of-self : goal.invariant_of-self
+invariant_of-self g c =
+    let cmp = event_cmp g.M.Body.Ord.cmp in
+    let same = sym c.in_err-push.ensures.items in
+    (subst (AreFalling cmp) same c.self.invariant.0, λ m. c.self.invariant.1 m ∙ ap (λ l. copies cmp m (held_messages l)) same)
+
+pub returns : goal.returns
+returns g c =
+    let one : Held g.row.M-Body.Denot = record { undone = c.args.event; message = c.args.message } in
+    record { held = c.in_ok-push.ensures.items ∙ ap (λ l. l ++ one ∷ []) c.self.view_is }

@@ -74,3 +74,9 @@ returns-clause-balance g c =
       turn.1 ∙ ap (λ l. l ++ turn.0) known.out ∙ append_assoc c.args.out.now.items known.given turn.0,
       arrival_balanced (rules g.M.Model g.M.Body.Ord.cmp c.args.self.model) o c.args.self.number c.args.way c.args.self.process x.process z.process c.in_ok-lp._answer c.args.letter known.given turn.0 known.going.count known.going.undone (open_accepts o c.args.letter x.process c.is_barred.ensures.order free).taken turn.2 last,
     )
+
+pub undo_by-requires : goal.undo_by-requires
+undo_by-requires g c = record { model = c.requires.model ∙ sym c.undoing.invariant.model }
+
+pub deliver-requires-clause-valid : goal.deliver-requires-clause-valid
+deliver-requires-clause-valid g c = subst (λ m. g.M.Model.is_valid m c.args.letter.event ≡ true) (sym c.undoing.invariant.model) c.requires.valid

@@ -176,3 +176,11 @@ returns-clause-balance g c =
     let kept : IsKept g.M.Model (event_cmp g.M.Body.Ord.cmp) p = subst (IsKept g.M.Model (event_cmp g.M.Body.Ord.cmp)) (sym c.deref_mut.ensures.value) c.lp.invariant.0 in
     subst (λ (w : LogicalProcess g.row.M.Denot g.row.M-State.Denot g.row.M-Body.Denot). (given : List (Letter g.row.M-Body.Denot)) × (c.execute.new.out.items ≡ c.args.out.now.items ++ given) × Balance (rules g.M.Model g.M.Body.Ord.cmp w.model) w.number w.process now [] given) seen
     (given, sent, execution_balanced y o x.number before now e head.0 given (linked_after g.M.Model o x p.records kept.linked) head.1 is refl)
+
+pub returns-clause-same : goal.returns-clause-same
+returns-clause-same g c =
+    let seen : process_of (seen_of c.deref_mut.result.now) c.lp.inside.pending c.lp.inside.debts c.lp.inside.held.value ≡ c.args.self = ap (λ (v : Past g.row.M.Denot g.row.M-State.Denot g.row.M-Body.Denot g.row.M-Undo.Denot). process_of (seen_of v) c.lp.inside.pending c.lp.inside.debts c.lp.inside.held.value) c.deref_mut.ensures.value ∙ c.lp.view_is in
+    let after = c.in_ok-execute.ensures.after in (
+      ap (λ (h : HistoryState g.row.M.Denot g.row.M-State.Denot g.row.M-Body.Denot). h.model) after ∙ ap (λ (w : LogicalProcess g.row.M.Denot g.row.M-State.Denot g.row.M-Body.Denot). w.model) seen,
+      ap (λ (h : HistoryState g.row.M.Denot g.row.M-State.Denot g.row.M-Body.Denot). h.number) after ∙ ap (λ (w : LogicalProcess g.row.M.Denot g.row.M-State.Denot g.row.M-Body.Denot). w.number) seen,
+    )

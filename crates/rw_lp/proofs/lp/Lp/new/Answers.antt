@@ -1,5 +1,5 @@
-use Rattle.std.proofs.Common.{◌≡◌, ◌<◌, [], sym, ◌∙◌, subst}
-use Rattle.rw_vt.specs.Order.{event_cmp, copies, AtMost, Each}
+use Rattle.std.proofs.Common.{◌≡◌, ◌<◌, [], sym, ap, ◌∙◌, subst}
+use Rattle.rw_vt.specs.Order.{event_cmp, copies, in_order, AtMost, Each}
 use Rattle.rw_vt.proofs.EventOrder.{events_exact}
 use Rattle.rw_vt.proofs.Sorting.{IsExactOrder, each_of_all, copies-in_order}
 use Rattle.rw_vt.proofs.Bags.{Each-nil}
@@ -8,8 +8,9 @@ use Rattle.std.proofs.lemmas.List.Elements.{All-nil}
 use Rattle.rw_vt.specs.System.{rules}
 use Rattle.rw_lp.specs.declared.held.Held.{Held}
 use Rattle.rw_lp.specs.Sound.{IsHeldFor}
+use Rattle.rw_lp.specs.Calls.{process_of}
 use Rattle.rw_lp.specs.Cut.{seen_of}
-use Rattle.rw_lp.specs.Past.{HistoryState, IsFor, done_in}
+use Rattle.rw_lp.specs.Past.{HistoryState, IsFor, done_in, history_of}
 use Rattle.rw_lp.proofs.lp.Lp.new.Goals as goal
 
 pub invariant_of-result : goal.invariant_of-result
@@ -28,3 +29,13 @@ invariant_of-result g c =
         late = subst (All (λ (h : Held g.row.M-Body.Denot). Each (event_cmp g.M.Body.Ord.cmp) (λ e. AtMost (event_cmp g.M.Body.Ord.cmp) e h.undone) (done_in x))) (sym none) (All-nil (λ (h : Held g.row.M-Body.Denot). Each (event_cmp g.M.Body.Ord.cmp) (λ e. AtMost (event_cmp g.M.Body.Ord.cmp) e h.undone) (done_in x)));
       },
     )
+
+pub returns-clause-opened : goal.returns-clause-opened
+returns-clause-opened g c =
+    let past : HistoryState g.row.M.Denot g.row.M-State.Denot g.row.M-Body.Denot = history_of c.args.model.now c.args.number c.args.start [] [] c.args.start in
+    let debts = c.in_ok-debts.debts in
+    let held = c.in_ok-held.held.value in
+    ap (λ (h : HistoryState g.row.M.Denot g.row.M-State.Denot g.row.M-Body.Denot). process_of h c.in_ok-pending.pending debts held) c.in_ok-history.ensures.is
+    ∙ ap (λ l. process_of past l debts held) c.in_ok-pending.ensures.all
+    ∙ ap (λ l. process_of past (in_order (event_cmp g.M.Body.Ord.cmp) c.args.initial.items) l held) c.in_ok-debts.ensures
+    ∙ ap (process_of past (in_order (event_cmp g.M.Body.Ord.cmp) c.args.initial.items) []) (c.in_ok-held.ensures.ok ∙ c.new-3.ensures)

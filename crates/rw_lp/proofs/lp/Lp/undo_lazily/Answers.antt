@@ -13,7 +13,7 @@ use Rattle.rw_lp.specs.PendingAgain.{held_by}
 use Rattle.rw_lp.specs.Process.{ProcessState, undo_lazily}
 use Rattle.rw_lp.specs.Calls.{LogicalProcess, process_of, Took}
 use Rattle.rw_lp.specs.Sound.{Balance}
-use Rattle.rw_lp.proofs.Undoing.{no_held_less, held_own, held_turn, held_balance}
+use Rattle.rw_lp.proofs.Undoing.{same_back, no_held_less, held_own, held_turn, held_balance}
 use Rattle.rw_lp.proofs.lp.Lp.undo_lazily.Goals as goal
 
 pub undo-requires-clause-kept : goal.undo-requires-clause-kept
@@ -59,3 +59,9 @@ returns-clause-balance g c =
     let now : ProcessState g.row.M-State.Denot g.row.M-Body.Denot = (process_of (seen_of c.undo.new.self) c.hold_undone.new.pending c.lp.inside.debts c.hold_undone.new.held).process in
     subst (λ (w : LogicalProcess g.row.M.Denot g.row.M-State.Denot g.row.M-Body.Denot). Balance (rules g.M.Model g.M.Body.Ord.cmp w.model) w.number w.process now [] []) seen
     (held_balance g.M.Model g.M.Body.Ord.cmp o (seen_of p) (seen_of c.undo.new.self) c.lp.inside.pending c.lp.inside.debts c.hold_undone.new.pending c.lp.inside.held.value c.hold_undone.new.held c.in_ok-undone.undone c.in_ok-answer.answer c.in_ok-undone.ensures.back c.in_ok-answer.ensures.pending more)
+
+pub returns-clause-same : goal.returns-clause-same
+returns-clause-same g c =
+    let seen : process_of (seen_of c.deref_mut.result.now) c.lp.inside.pending c.lp.inside.debts c.lp.inside.held.value ≡ c.args.self = ap (λ (v : Past g.row.M.Denot g.row.M-State.Denot g.row.M-Body.Denot g.row.M-Undo.Denot). process_of (seen_of v) c.lp.inside.pending c.lp.inside.debts c.lp.inside.held.value) c.deref_mut.ensures.value ∙ c.lp.view_is in
+    let same = same_back g.M.Model (event_cmp g.M.Body.Ord.cmp) _ _ c.in_ok-undone.undone c.in_ok-undone.ensures.back in
+    (same.0 ∙ ap (λ (w : LogicalProcess g.row.M.Denot g.row.M-State.Denot g.row.M-Body.Denot). w.model) seen, same.1 ∙ ap (λ (w : LogicalProcess g.row.M.Denot g.row.M-State.Denot g.row.M-Body.Denot). w.number) seen)

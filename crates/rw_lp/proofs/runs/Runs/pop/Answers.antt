@@ -1,4 +1,4 @@
-use Rattle.std.proofs.Common.{◌≡◌, ◌<◌, ◌≤◌, ◌++◌, [], length, sym, ap, ◌∙◌, subst, arith, append-nil, length-append}
+use Rattle.std.proofs.Common.{◌≡◌, ◌<◌, ◌≤◌, ◌++◌, ◌∷◌, [], length, sym, ap, ◌∙◌, subst, arith, append-nil, append_assoc, length-append}
 use Rattle.std.specs.Option.{option_to_list}
 use Rattle.rw_lp.specs.Limits.{longest_run}
 use Rattle.rw_lp.specs.Runs.{AreFilled, values_of}
@@ -24,3 +24,8 @@ returns g c =
     sym c.self.view_is ∙ ap (λ l. values_of older ++ l) none ∙ append-nil (values_of older) ∙ ap values_of c.in_ok-self-inside.ensures.items ∙ values_push c.pop_back.new.self.items run in
     let some : 0 < length run.items = last.1 in
     pop_is c.pop-2.result c.pop-2.new.self.len run.len run.items c.pop-2.new.self.items (values_of c.pop_back.new.self.items) c.args.self.now c.pop-2.ensures.cases (omega (arith, some, run.ok)) c.pop-2.ensures.items joined
+
+pub returns-in-Some : goal.returns-in-Some
+returns-in-Some g c =
+    let older = values_of c.self.inside.older.items in
+    sym c.self.view_is ∙ ap (λ l. older ++ l) c.in-Some.ensures.items ∙ sym (append_assoc older c.pop.new.self.items (c.in-Some.value ∷ []))

@@ -1,4 +1,4 @@
-use Rattle.std.proofs.Common.{◌≡◌, ◌≤◌, ◌<◌, ◌++◌, ℕ, List, Result, Ok, Err, append-nil, length, subst, sym, ◌∙◌, ap, arith}
+use Rattle.std.proofs.Common.{◌≡◌, ◌≤◌, ◌<◌, ◌++◌, ℕ, List, Result, Ok, Err, append-nil, length, refl, subst, sym, ◌∙◌, ap, arith}
 use Rattle.std.specs.Prelude.{IfErr, IfOk}
 use Rattle.std.proofs.lemmas.Result.{err_from_is_err_and}
 use Rattle.rw_vt.specs.System.{Meets}
@@ -11,6 +11,7 @@ use Rattle.rw_photo.specs.Cache.{is_exhausted}
 use Rattle.rw_photo.specs.Simulation.{simulation}
 use Rattle.rw_report.specs.History.{IsRecordingOf, RecordingState, next_mark}
 use Rattle.rw_report.specs.Run.{IsRunOn}
+use Rattle.rw_report.proofs.Failing.{only_memory}
 use Rattle.rw_report.proofs.Recorded.{goes_recorded, meets_sooner, records_on, rising_last, some_rows, waits_for_some, within_latest}
 use Rattle.rw_report.proofs.Streamed.{none_left}
 use Rattle.rw_report.proofs.recording.Recording.feed_piece.Goals as goal
@@ -99,3 +100,11 @@ returns-clause-exhausted c =
     let now = c.time.ensures ∙ ap (λ (v : RecordingState). v.run.time) c.self.view_is in
     let until = c.latest-until.ensures ∙ ap (last_time c.time.result) c.as_slice-piece.ensures.value ∙ ap (λ t. last_time t c.args.rows.items) now in
     met c.args.self c.marks.recording c.args.rows.items c.marks.invariant.fed c.marks.invariant.config c.latest-until.result (last_time c.args.self.run.time c.args.rows.items) until c.run_until.result c.run_until.ensures.exhausted
+
+pub returns-then-is_empty-clause-time : goal.returns-then-is_empty-clause-time
+returns-then-is_empty-clause-time c =
+    let none = sym c.as_slice-piece.ensures.value ∙ none_left c.is_empty.result c.as_slice-piece.result.now c.is_empty.ensures c.if-is_empty.true in
+    subst (λ rs. c.args.self.run.time ≡ last_time c.args.self.run.time rs) (sym none) refl
+
+pub returns-in_err-recording-clause-exhausted : goal.returns-in_err-recording-clause-exhausted
+returns-in_err-recording-clause-exhausted c = only_memory c.from_residual.result _ c.from_residual.ensures.1

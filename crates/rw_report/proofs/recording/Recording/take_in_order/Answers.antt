@@ -1,4 +1,4 @@
-use Rattle.std.proofs.Common.{◌≤◌, ◌+◌, ◌-◌, ◌^◌, sym, subst, arith, length}
+use Rattle.std.proofs.Common.{◌≡◌, ◌≤◌, ◌+◌, ◌-◌, ◌^◌, ◌⊎◌, [], sym, subst, arith, length}
 use Rattle.std.specs.Prelude.{All}
 use Rattle.rw_photo.proofs.ValidRows.{valid-rows}
 use Rattle.rw_trace.specs.Laws.{IsRow}
@@ -16,3 +16,12 @@ returns-clause-taken c = λ before recording.
     let ranges = subst (λ (v : RecordingState). All (IsRow v.run.config.edges) c.args.rows.items) (sym c.self.view_is) c.requires.ranges in
     let few = subst (λ (v : RecordingState). v.run.taken + length c.args.rows.items ≤ 2 ^ 64 - 1) (sym c.self.view_is) c.requires.few in
     takes_recorded r before c.args.rows.items is (valid-rows was.run.config was.run.taken c.args.rows.items (omega (arith, few)) ranges) late (passed was.run.time was.marks.start was.marks.every was.next was.moments.items c.self.invariant.0 c.self.invariant.2) c.in_ok-run.run' c.in_ok-run.ensures.config (c.in_ok-run.ensures.taken before is.run)
+
+pub invariant_of-result : goal.invariant_of-result
+invariant_of-result c =
+    let was = c.self.inside in
+    let time = sym c.in_ok-run.ensures.time in (
+      c.self.invariant.0,
+      subst (λ t. t ≤ was.next) time c.self.invariant.1,
+      subst (λ t. (was.moments.items ≡ []) ⊎ (was.next ≤ t + was.marks.every)) time c.self.invariant.2,
+    )

@@ -8,6 +8,7 @@ use Rattle.rw_photo.specs.contracts.photo.PhotoVtModel.TheImpl as model
 use Rattle.rw_photo.specs.Cache.{is_exhausted}
 use Rattle.rw_photo.specs.Simulation.{simulation}
 use Rattle.rw_report.specs.Run.{IsRunOn, RunState}
+use Rattle.rw_report.proofs.Failing.{only_memory}
 use Rattle.rw_report.proofs.Taking.{caches, goes_on, meets_on}
 use Rattle.rw_report.proofs.run.Run.run_until.Goals as goal
 
@@ -17,6 +18,9 @@ run_until-requires c =
     record {
       ready = ready_permuted model.ghosts was.photo was.states.items (was.pending.events ++ was.first.items) c.hand_over.new.pending.events c.in_ok-hand_over.ensures.moved c.self.invariant.0;
     }
+
+pub returns-in_err-hand_over-clause-exhausted : goal.returns-in_err-hand_over-clause-exhausted
+returns-in_err-hand_over-clause-exhausted c = only_memory c.from_residual.result _ c.from_residual.ensures.1
 
 pub returns-in_err-run_until-clause-exhausted : goal.returns-in_err-run_until-clause-exhausted
 returns-in_err-run_until-clause-exhausted c =
