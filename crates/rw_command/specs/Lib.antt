@@ -1,3 +1,4 @@
 pub mod Status
 pub mod Written
 pub mod Left
+pub mod Said

@@ -9,7 +9,8 @@
 //! Which statuses [`command`] can answer, when it answers that the output failed, and what it has
 //! written where it answers neither that nor 0 are its clauses. `specs/Status.antt` is the table of
 //! faults and statuses, `specs/Left.antt` what a command that fails may have written, and
-//! `specs/Written.antt` what [`run_serial`] has written.
+//! `specs/Written.antt` what [`run_serial`] has written. What numbers the options of a plan say is in
+//! `specs/Said.antt`.
 //!
 //! Worked examples: `rw_program_tests/src/commands.rt`, and the cases of `rw_cases`.
 

@@ -1,6 +1,7 @@
 // One trace through many configurations.
-ghost use Rattle.std.specs.Prelude.{◌≡◌, ◌≢◌, ◌↔◌, ◌⊎◌, IfErr, IsErrAnd};
+ghost use Rattle.std.specs.Prelude.{◌≡◌, ◌≢◌, ◌↔◌, ◌⊎◌, IfErr, IsErrAnd, codes};
 ghost use Rattle.rw_command.specs.Left.{LeavesLines};
+ghost use Rattle.rw_command.specs.Said.{IsSaidCount};
 ghost use Rattle.rw_command.specs.Status.{status_of};
 
 use crate::arguments::{Argument, Given, Value};
@@ -319,7 +320,9 @@ fn fault_of_grid(fault: GridFault) -> Fault
 }
 
 /// How many runs go side by side: as the options say, or as many as there are processors.
-fn workers<R: Threads>(rt: &R, options: &ArgMatches<'_>) -> u32 {
+fn workers<R: Threads>(rt: &R, options: &ArgMatches<'_>) -> u32
+    ensures said { IsSaidCount options.now (codes "workers") result }
+{
     if let Some(workers) = options.get_one("workers") {
         return workers;
     }

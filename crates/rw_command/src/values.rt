@@ -1,5 +1,6 @@
 // The values of options: numbers, sizes in bytes, times in ticks, and lists of them.
-ghost use Rattle.std.specs.Prelude.{◌≡◌, ◌≢◌, IfErr, IfOk, None, codes};
+ghost use Rattle.std.specs.Prelude.{◌≡◌, ◌≢◌, IfErr, IfOk, IfSome, None, codes};
+ghost use Rattle.rw_command.specs.Said.{IsSaidNumber, SaysNumber, number_said};
 ghost use Rattle.rw_command.specs.Status.{status_of};
 ghost use Rattle.rw_command.specs.Written.{HasNoValue};
 
@@ -54,16 +55,29 @@ impl Quantity {
     }
 
     /// The number that a text says, if it is in range. Takes no memory.
-    pub(crate) fn read(self, text: &str) -> Option<u64> {
-        let (digits, unit) = parts(text);
-        let number: u64 = digits.parse().ok()?;
-        let number = match self.unit {
-            _ if unit.is_empty() => number,
-            Unit::Thing => return None,
-            Unit::Byte => bytes(number, unit)?,
-            Unit::Tick(a_second) => ticks(number, unit, a_second?)?,
+    pub(crate) fn read(self, text: &str) -> Option<u64>
+        ensures digits { SaysNumber 64 text.now → IfSome result (λ n. n ≡ number_said text.now) }
+    {
+        // For `parse` a plus is a sign, and no fault.
+        if text.starts_with('+') {
+            return None;
+        }
+        let number = match text.parse() {
+            Ok(number) => number,
+            Err(_) => self.read_with_unit(text)?,
         };
         (1 <= number && number <= self.most).then_some(number)
+    }
+
+    /// The number that digits and a unit say.
+    fn read_with_unit(self, text: &str) -> Option<u64> {
+        let (digits, unit) = parts(text);
+        let number = digits.parse().ok()?;
+        match self.unit {
+            Unit::Thing => None,
+            Unit::Byte => bytes(number, unit),
+            Unit::Tick(a_second) => ticks(number, unit, a_second?),
+        }
     }
 }
 
@@ -133,6 +147,7 @@ pub(crate) fn number(
     name: &str,
     quantity: Quantity,
 ) -> Result<u64, Fault>
+    ensures said { IfOk result (IsSaidNumber options.now name.now) }
     ensures unwritten { IfErr result (λ e. status_of e ≢ 8) }
 {
     number_if_given(alloc, options, name, quantity)?.ok_or(Fault::Plan)
@@ -150,6 +165,7 @@ pub(crate) fn number_if_given(
     quantity: Quantity,
 ) -> Result<Option<u64>, Fault>
     ensures none { HasNoValue options.now (name.now) → IfOk result (λ n. n ≡ None) }
+    ensures said { IfOk result (λ r. IfSome r (IsSaidNumber options.now name.now)) }
     ensures unwritten { IfErr result (λ e. status_of e ≢ 8) }
 {
     let Some(text) = options.get_str(name) else {

@@ -1,6 +1,8 @@
 // A trace on several threads, optimistically.
-ghost use Rattle.std.specs.Prelude.{◌≡◌, ◌≢◌, ◌↔◌, IfErr, IsErrAnd};
+ghost use Rattle.std.specs.Prelude.{◌≡◌, ◌≢◌, ◌↔◌, IfErr, IfOk, IsErrAnd, codes, false, true};
+ghost use Rattle.rw_command.specs.Said.{IsSaidCount, IsSaidNumber, IsSet};
 ghost use Rattle.rw_command.specs.Status.{status_of};
+ghost use Rattle.rw_command.specs.Written.{IsUnset};
 
 use crate::arguments::{Argument, Given, Value};
 use crate::caches::{CACHES, config, ticks_a_second};
@@ -125,6 +127,14 @@ pub(crate) fn warp<S: Source, W: Write, E: Write, R: Threads + Wait + Clock + Sy
 
 /// The plan that the options say.
 fn plan(alloc: Global, options: &ArgMatches<'_>) -> Result<Plan, Fault>
+    ensures workers { IfOk result (λ p. IsSaidCount options.now (codes "workers") p.workers) }
+    ensures turns { IfOk result (λ p. IsSaidCount options.now (codes "turns") p.turns) }
+    ensures batch { IfOk result (λ p. IsSaidCount options.now (codes "batch") p.batch) }
+    ensures window { IfOk result (λ p. IsSaidNumber options.now (codes "window") p.window) }
+    ensures ring { IfOk result (λ p. IsSaidCount options.now (codes "ring") p.ring) }
+    ensures rounds { IfOk result (λ p. IsSaidCount options.now (codes "rounds") p.max_rounds) }
+    ensures eager { IsUnset options.now (codes "lazy") → IfOk result (λ p. p.lazy ≡ false) }
+    ensures lazy { IsSet options.now (codes "lazy") → IfOk result (λ p. p.lazy ≡ true) }
     ensures unwritten { IfErr result (λ e. status_of e ≢ 8) }
 {
     let window = Quantity::ticks(END, ticks_a_second(options));
